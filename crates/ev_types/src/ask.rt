@@ -1,0 +1,58 @@
+//! Asks.
+
+use zx_base::{Bytes, Seq};
+
+/// A range of keys, in the order of their bytes (API reference, `RangeRequest`).
+#[derive(Debug, Drop)]
+pub struct RangeReq {
+    /// The first key.
+    pub key: Bytes,
+    /// The end of the range, which is not in it. Empty: the range is the one key.
+    pub end: Bytes,
+    /// The revision that the range is read at. 0: the present.
+    pub revision: i64,
+    /// How many keys are given at most. 0: no limit.
+    pub limit: i64,
+    /// Whether values are left out.
+    pub keys_only: bool,
+}
+
+/// A compare: the key's mod_revision is this one, 0 for a key that is not there (`Compare` with target MOD, result EQUAL).
+#[derive(Debug, Drop)]
+pub struct Guard {
+    pub key: Bytes,
+    pub mod_revision: i64,
+}
+
+/// An operation of a transaction (`RequestOp`).
+#[derive(Debug, Drop)]
+pub enum Act {
+    /// Lease 0: the key has no lease.
+    Put {
+        key: Bytes,
+        value: Bytes,
+        lease: i64,
+    },
+    Delete {
+        key: Bytes,
+    },
+    Range(RangeReq),
+}
+
+/// A transaction: where all guards hold the success list is carried out, otherwise the failure list (`TxnRequest`).
+#[derive(Debug, Drop)]
+pub struct TxnReq {
+    pub guards: Seq<Guard>,
+    pub success: Seq<Act>,
+    pub failure: Seq<Act>,
+}
+
+#[derive(Debug, Drop)]
+pub enum Ask {
+    Txn(TxnReq),
+    Range(RangeReq),
+    /// A lease of this number and so many seconds (`LeaseGrantRequest`).
+    Grant { id: i64, ttl: i64 },
+    /// A keepalive of a lease (`LeaseKeepAliveRequest`).
+    Alive { id: i64 },
+}

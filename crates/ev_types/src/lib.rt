@@ -1,0 +1,11 @@
+//! What etcd is asked, and what it answers: the messages of the v3 API as far as this workspace uses them (etcd API
+//! reference, "KV", "Lease"). `specs/Store.antt` says what an etcd does with an ask.
+//!
+//! Numbers of etcd (revisions, versions, lease ids, seconds) are `i64` as in its protobuf messages, and never negative.
+#![tactic(auto)]
+
+mod answer;
+mod ask;
+
+pub use answer::{ActAns, Answer, Kv, RangeAns};
+pub use ask::{Act, Ask, Guard, RangeReq, TxnReq};
