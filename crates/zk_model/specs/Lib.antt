@@ -1,0 +1,13 @@
+pub mod Paths
+pub mod Numbers
+pub mod JuteValues
+pub mod JuteReading
+pub mod JuteWriting
+pub mod Records
+pub mod Requests
+pub mod Connects
+pub mod Replies
+pub mod Results
+pub mod Sending
+pub mod Frames
+pub mod Packets

@@ -1,0 +1,84 @@
+//! What may happen in a run, one value for each line of a script.
+
+use zx_base::Bytes;
+
+/// Numbers of connections, proxies and strays, and milliseconds, are those of the line. Session ids are at least 1.
+#[derive(Debug, Drop)]
+pub enum Happening {
+    /// A connection opens at a proxy, with the number and password of a new session.
+    Open {
+        connection: u32,
+        proxy: u32,
+        id: i64,
+        passwd: [u8; 16],
+    },
+    /// A whole frame arrives.
+    Frame {
+        connection: u32,
+        bytes: Bytes,
+    },
+    /// Bytes arrive.
+    Arrive {
+        connection: u32,
+        bytes: Bytes,
+    },
+    /// The store carries out the ask that is out.
+    Exec {
+        connection: u32,
+    },
+    /// Its answer is delivered.
+    Answer {
+        connection: u32,
+    },
+    /// The link fails; an ask not carried out may be carried out later.
+    Cut {
+        connection: u32,
+    },
+    /// The link fails, and the ask is never carried out.
+    Refuse {
+        connection: u32,
+    },
+    /// An ask that was cut is carried out.
+    Stray {
+        number: u32,
+    },
+    /// The next entry is delivered.
+    Entry {
+        connection: u32,
+    },
+    /// The connection lags behind the entries that are kept.
+    Lag {
+        connection: u32,
+    },
+    /// The client's stream ends.
+    End {
+        connection: u32,
+    },
+    /// All activities of a proxy end.
+    Restart {
+        proxy: u32,
+    },
+    /// A lease lapses.
+    Lapse {
+        id: i64,
+    },
+    /// Another user puts a key.
+    Foreign {
+        key: Bytes,
+        value: Bytes,
+    },
+    /// A reaper of a session starts.
+    Reap {
+        connection: u32,
+        proxy: u32,
+        id: i64,
+    },
+    /// Milliseconds pass.
+    Tick {
+        millis: u32,
+    },
+    /// What waits is carried out and answered.
+    Settle {
+        connection: u32,
+    },
+}
