@@ -1,9 +1,9 @@
 -- The first frame of a connection.
-use Rattle.std.specs.Prelude.{◌≡◌, ℕ, ◌==◌, Option, Some, None, Bool, List, [], ◌∷◌, ◌++◌, length, drop, Result, Ok, Err, IsErr, if◌then◌else◌}
+use Rattle.std.specs.Prelude.{ℕ, ◌==◌, Option, Some, None, Bool, List, [], ◌∷◌, ◌++◌, length, drop, Result, Ok, Err, if◌then◌else◌}
 use Rattle.zk_model.specs.declared.connect.ConnectRequest.{ConnectRequest}
 use Rattle.zk_model.specs.JuteValues.{Value, int, long, boolean, buffer, Kind, an_int, a_long, a_boolean, a_buffer, Spelled, Spells}
 use Rattle.zk_model.specs.Records.{value_in, number_in, flag_in, bytes_in}
-use Rattle.zk_model.specs.JuteReading.{Read, ◌>>=◌, value_at, values_at}
+use Rattle.zk_model.specs.JuteReading.{◌>>=◌, value_at, values_at}
 
 abbrev pub connect_fields : List Kind
 connect_fields = an_int ∷ a_long ∷ an_int ∷ a_long ∷ a_buffer ∷ []

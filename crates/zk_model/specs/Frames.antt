@@ -1,11 +1,15 @@
 -- A stream as frames: a length of four bytes, and that many bytes.
-use Rattle.std.specs.Prelude.{◌≡◌, ℕ, ◌+◌, ◌≤◌, ℤ, pos, negsuc, Option, Some, None, List, [], ◌∷◌, ◌++◌, length, take, drop, Result, Ok, Err, nat_lt, if◌then◌else◌}
+use Rattle.std.specs.Prelude.{◌≡◌, ℕ, ◌≤◌, ℤ, pos, negsuc, Option, Some, None, List, ◌++◌, length, take, drop, Ok, Err, nat_lt, if◌then◌else◌}
 use Rattle.zk_model.specs.JuteValues.{IsInt, Spelled}
 use Rattle.zk_model.specs.JuteReading.{Read, ◌>>=◌, int_at}
 
+-- the most bytes of a frame (`jute.maxbuffer`)
+abbrev pub most_frame : ℕ
+most_frame = 1048575
+
 -- a whole frame, with its length before it
 abbrev pub IsFrame : List ℕ → List ℕ → Type 0
-IsFrame frame bytes = (front : List ℕ) × IsInt (pos (length frame)) front × (length frame ≤ 1_048_575) × (bytes ≡ front ++ frame)
+IsFrame frame bytes = (front : List ℕ) × IsInt (pos (length frame)) front × (length frame ≤ most_frame) × (bytes ≡ front ++ frame)
 
 -- no frame stands at the front: less than a whole one does, or a length out of range
 abbrev pub IsRest : List ℕ → Type 0
@@ -17,7 +21,7 @@ Framed bytes frames rest = (front : List ℕ) × Spelled IsFrame frames front ×
 
 -- the length at the front, where it is out of range
 abbrev pub out_of_range : ℤ → Option ℤ
-out_of_range (pos n) = if nat_lt 1_048_575 n then Some (pos n) else None
+out_of_range (pos n) = if nat_lt most_frame n then Some (pos n) else None
 out_of_range (negsuc n) = Some (negsuc n)
 
 abbrev pub out_of_range_in : Read ℤ → Option ℤ
@@ -29,7 +33,7 @@ bad_length bytes = out_of_range_in (int_at bytes)
 
 -- the frame at the front and the bytes after it
 abbrev pub frame_of : ℕ → ℤ → List ℕ → Read (List ℕ)
-frame_of left (pos n) rest = if nat_lt 1_048_575 n then Err left else (if nat_lt (length rest) n then Err left else Ok (take n rest, drop n rest))
+frame_of left (pos n) rest = if nat_lt most_frame n then Err left else (if nat_lt (length rest) n then Err left else Ok (take n rest, drop n rest))
 frame_of left (negsuc n) rest = Err left
 
 abbrev pub frame_at : List ℕ → Read (List ℕ)

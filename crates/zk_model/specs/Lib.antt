@@ -11,3 +11,15 @@ pub mod Results
 pub mod Sending
 pub mod Frames
 pub mod Packets
+pub mod Codes
+pub mod Znodes
+pub mod Single
+pub mod Multi
+pub mod Watches
+pub mod History
+pub mod Legal
+pub mod Answers
+pub mod Conversations
+pub mod Transcripts
+pub mod Scripts
+pub mod Runs

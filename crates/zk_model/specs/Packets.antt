@@ -1,7 +1,7 @@
 -- The packets that a server sends: a length, and a reply, a notification or the answer to the connect (zookeeper.jute,
 -- `ReplyHeader`, `WatcherEvent`, `ConnectResponse`, `MultiHeader`).
-use Rattle.std.specs.Prelude.{ℕ, ℤ, pos, negsuc, Bool, true, false, Option, Some, None, List, [], ◌∷◌, ◌++◌, length}
-use Rattle.std.specs.List.{flat_map}
+use Rattle.std.specs.Prelude.{ℕ, ◌<◌, ◌^◌, ℤ, pos, negsuc, true, false, Option, Some, None, List, [], ◌∷◌, ◌++◌, length}
+use Rattle.std.specs.List.{flat_map, AllByRecursion}
 use Rattle.zk_model.specs.declared.connect.ConnectResponse.{ConnectResponse}
 use Rattle.zk_model.specs.declared.opcode.PartKind.{PartKind}
 use Rattle.zk_model.specs.declared.reply.Body.{Body}
@@ -13,7 +13,7 @@ use Rattle.zk_model.specs.declared.reply.Reply.TheVariants as replies
 use Rattle.zk_model.specs.Numbers.{part_number}
 use Rattle.zk_model.specs.Records.{Fields}
 use Rattle.zk_model.specs.JuteValues.{Value, int, long, boolean, buffer, ustring}
-use Rattle.zk_model.specs.JuteWriting.{written}
+use Rattle.zk_model.specs.JuteWriting.{written, AllCanBeWritten}
 use Rattle.zk_model.specs.Connects.{optional}
 use Rattle.zk_model.specs.Replies.{reply_values}
 use Rattle.zk_model.specs.Results.{result_of}
@@ -61,3 +61,18 @@ connect_response_values r = int (pos 0) ∷ int r.timeout ∷ long r.session ∷
 
 unfoldable pub connect_packet : ConnectResponse → List ℕ
 connect_packet r = with_length (written (connect_response_values r))
+
+-- ---- what can be written: lengths and counts fit their int
+
+abbrev pub BodyCanBeWritten : Body → Type 0
+BodyCanBeWritten (bodies.Parts results) = AllByRecursion (λ r. AllCanBeWritten (result_values (result_of r))) results
+BodyCanBeWritten body = AllCanBeWritten (reply_values body)
+
+abbrev pub ReplyCanBeWritten : Reply → Type 0
+ReplyCanBeWritten (replies.Refused code) = Unit {0}
+ReplyCanBeWritten (replies.Good body) = BodyCanBeWritten body
+
+-- the length of a reply's frame is the same whatever its xid and zxid
+pub record CanBeSent (reply : Reply) : Type 0 where
+  pub fields : ReplyCanBeWritten reply
+  pub size : length (reply_bytes (pos 0) (pos 0) reply) < 2 ^ 31

@@ -1,6 +1,6 @@
 -- Paths (Programmer's Guide 3.4, "The ZooKeeper Data Model"): absolute, slash-separated, and canonical. The bounds on
 -- characters and lengths are this project's.
-use Rattle.std.specs.Prelude.{ℕ, ◌+◌, ◌/◌, ◌%◌, ◌==◌, zero, suc, Bool, true, false, cond, not, ◌&&◌, ◌||◌, List, [], ◌∷◌, ◌++◌, length, nat_lt, nat_le, Option, Some, None, drop, if◌then◌else◌}
+use Rattle.std.specs.Prelude.{ℕ, ◌+◌, ◌/◌, ◌%◌, ◌==◌, zero, suc, Bool, false, cond, not, ◌&&◌, ◌||◌, List, [], ◌∷◌, ◌++◌, length, nat_lt, nat_le, Option, Some, None, drop, if◌then◌else◌}
 use Rattle.std.specs.Str.{is_utf8, chars}
 use Rattle.std.specs.List.{list_all}
 use Rattle.zx_base.specs.Maps.{Bytes, same}

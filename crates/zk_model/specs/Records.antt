@@ -1,5 +1,6 @@
 -- The records of the protocol: the kinds of their fields, and a record's values in order.
-use Rattle.std.specs.Prelude.{◌≡◌, ℕ, zero, suc, ℤ, pos, negsuc, Bool, true, false, List, [], ◌∷◌, ◌++◌, map}
+use Rattle.std.specs.Prelude.{◌≡◌, ℕ, zero, suc, ℤ, pos, Bool, true, false, List, [], ◌∷◌, ◌++◌, map}
+use Rattle.std.specs.List.{flat_map}
 use Rattle.zk_model.specs.declared.request.Acl.{Acl}
 use Rattle.zk_model.specs.declared.request.Part.{Part}
 use Rattle.zk_model.specs.declared.request.Part.TheVariants as parts
@@ -117,6 +118,19 @@ body_of request = plain (record { kind = opcode_of request; values = values_of r
 abbrev pub body_number : Body → ℤ
 body_number (plain fields) = number_of fields.kind
 body_number (multi parts) = pos 14
+
+-- the data that a request carries
+abbrev pub part_contents : Part → List (List ℕ)
+part_contents (parts.Create path content acl flags) = content ∷ []
+part_contents (parts.Delete path version) = []
+part_contents (parts.SetData path content version) = content ∷ []
+part_contents (parts.Check path version) = []
+
+abbrev pub contents_of : Request → List (List ℕ)
+contents_of (requests.Create path content acl flags) = content ∷ []
+contents_of (requests.SetData path content version) = content ∷ []
+contents_of (requests.Multi ps) = flat_map part_contents ps
+contents_of _ = []
 
 -- ---- the record of given values
 

@@ -1,11 +1,11 @@
 -- The bodies of replies.
-use Rattle.std.specs.Prelude.{List, [], ◌∷◌, ◌++◌}
+use Rattle.std.specs.Prelude.{List, [], ◌∷◌}
 use Rattle.zk_model.specs.declared.node.Stat.{Stat}
 use Rattle.zk_model.specs.declared.reply.Body.{Body}
 use Rattle.zk_model.specs.declared.reply.Body.TheVariants as bodies
 use Rattle.zk_model.specs.declared.opcode.Opcode.{Opcode}
 use Rattle.zk_model.specs.declared.opcode.Opcode.TheVariants as opcodes
-use Rattle.zk_model.specs.JuteValues.{Value, int, long, boolean, buffer, ustring, ustrings, acls, Kind, an_int, a_long, a_boolean, a_buffer, a_ustring, some_ustrings, some_acls, open_acl, the_open_acl}
+use Rattle.zk_model.specs.JuteValues.{Value, int, long, buffer, ustring, ustrings, Kind, an_int, a_long, a_buffer, a_ustring, some_ustrings, open_acl, the_open_acl}
 
 abbrev pub stat_fields : List Kind
 stat_fields = a_long ∷ a_long ∷ a_long ∷ a_long ∷ an_int ∷ an_int ∷ an_int ∷ a_long ∷ an_int ∷ an_int ∷ a_long ∷ []

@@ -1,12 +1,11 @@
 -- Reading requests.
-use Rattle.std.specs.Prelude.{◌≡◌, ℕ, zero, suc, ◌+◌, ◌-◌, ◌<◌, ◌==◌, ℤ, pos, negsuc, Bool, true, false, Option, Some, None, List, [], ◌∷◌, ◌++◌, length, drop, Result, Ok, Err, nat_lt, if◌then◌else◌}
+use Rattle.std.specs.Prelude.{ℕ, zero, suc, ◌-◌, ◌==◌, ℤ, Bool, true, false, Option, Some, None, List, [], ◌∷◌, length, drop, Result, Ok, Err, nat_lt, if◌then◌else◌}
 use Rattle.zk_model.specs.declared.request.Request.{Request}
 use Rattle.zk_model.specs.declared.opcode.Opcode.{Opcode}
 use Rattle.zk_model.specs.declared.opcode.Opcode.TheVariants as opcodes
 use Rattle.zk_model.specs.declared.opcode.PartKind.{PartKind}
-use Rattle.zk_model.specs.declared.opcode.PartKind.TheVariants as kinds
-use Rattle.zk_model.specs.Numbers.{number_of, part_number, part_numbered, opcode_numbered}
-use Rattle.zk_model.specs.JuteValues.{Value, int, Kind, an_int, Spelled, Spells}
+use Rattle.zk_model.specs.Numbers.{part_numbered, opcode_numbered}
+use Rattle.zk_model.specs.JuteValues.{Kind}
 use Rattle.zk_model.specs.JuteReading.{Read, ◌>>=◌, front_int, int_at, boolean_at, values_at}
 use Rattle.zk_model.specs.Records.{Fields, Body, plain, multi, fields_of, part_fields, request_from}
 

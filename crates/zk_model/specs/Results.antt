@@ -1,11 +1,11 @@
 -- The results of a multi's parts.
-use Rattle.std.specs.Prelude.{◌≡◌, ℕ, ℤ, pos, negsuc, Bool, true, false, ◌&&◌, Option, Some, None, List, [], ◌∷◌, length, Result, Ok, Err, if◌then◌else◌}
+use Rattle.std.specs.Prelude.{ℕ, ℤ, pos, negsuc, Bool, true, false, ◌&&◌, Option, Some, None, List, [], ◌∷◌, length, Ok, Err, if◌then◌else◌}
 use Rattle.std.specs.Ordering.{int_eq}
 use Rattle.zk_model.specs.declared.reply.PartResult.{PartResult}
 use Rattle.zk_model.specs.declared.reply.PartResult.TheVariants as results
 use Rattle.zk_model.specs.declared.opcode.PartKind.{PartKind}
 use Rattle.zk_model.specs.declared.opcode.PartKind.TheVariants as kinds
-use Rattle.zk_model.specs.JuteValues.{Value, int, ustring, Kind, a_ustring}
+use Rattle.zk_model.specs.JuteValues.{int, ustring, Kind, a_ustring}
 use Rattle.zk_model.specs.JuteReading.{Read, ◌>>=◌, int_at, boolean_at, values_at}
 use Rattle.zk_model.specs.Numbers.{part_numbered}
 use Rattle.zk_model.specs.Records.{Fields}

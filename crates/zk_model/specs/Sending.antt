@@ -1,12 +1,12 @@
 -- The frames that are written.
-use Rattle.std.specs.Prelude.{◌≡◌, ℕ, ◌<◌, ◌^◌, ◌-◌, ℤ, pos, negsuc, Bool, true, false, List, [], ◌∷◌, ◌++◌, length}
+use Rattle.std.specs.Prelude.{ℕ, ℤ, pos, negsuc, Bool, true, false, List, [], ◌∷◌, ◌++◌, length}
 use Rattle.std.specs.List.{AllByRecursion, flat_map}
 use Rattle.std.specs.Int.{w32}
 use Rattle.std.specs.Int.RustNames.{FitsSigned}
 use Rattle.zk_model.specs.declared.request.Request.{Request}
 use Rattle.zk_model.specs.declared.opcode.PartKind.{PartKind}
 use Rattle.zk_model.specs.JuteValues.{Value, int, boolean}
-use Rattle.zk_model.specs.JuteWriting.{int_bytes, written, written_after, CanBeWritten, AllCanBeWritten, IsValue}
+use Rattle.zk_model.specs.JuteWriting.{int_bytes, written, written_after, AllCanBeWritten, IsValue}
 use Rattle.zk_model.specs.Numbers.{part_number}
 use Rattle.zk_model.specs.Records.{Fields, Body, plain, multi, body_of, body_number}
 

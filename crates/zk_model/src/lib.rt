@@ -25,5 +25,5 @@ pub use opcode::{Opcode, PartKind};
 pub use path::{Path, PathFault};
 pub use reply::{Body, Notice, PartResult, Reply};
 pub use request::{Acl, Part, Request};
-pub use script::Happening;
+pub use script::{Happening, Unread, Why};
 pub use transcript::{Cause, Conversation, Ended, TranscriptLine, UpdateKind, UpdateRec};

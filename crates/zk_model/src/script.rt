@@ -82,3 +82,25 @@ pub enum Happening {
         connection: u32,
     },
 }
+
+/// Why a script cannot be read on.
+#[derive(Clone, Copy, Debug, PartialEq, Eq)]
+pub enum Unread {
+    /// The line is of no form, or longer than 2,200,000 bytes.
+    Unreadable,
+    /// The script has more than 100,000,000 bytes.
+    TooLong,
+}
+
+/// Why a happening is not possible, or, until all requests are built, that it is not built.
+#[derive(Clone, Copy, Debug, PartialEq, Eq)]
+pub enum Why {
+    /// The number is that of another connection or reaper.
+    NumberInUse,
+    NoSuchConnection,
+    /// A frame of more than 1,048,575 bytes.
+    TooLong,
+    /// The clock would pass 9,000,000,000,000,000 milliseconds.
+    ClockLimit,
+    NotBuilt,
+}

@@ -1,0 +1,84 @@
+-- The text of a transcript (this project's own format): a line for each thing that happened, its words separated by blanks.
+use Rattle.std.specs.Prelude.{ℕ, ℤ, nat_abs, zero, suc, ◌+◌, ◌/◌, ◌%◌, List, [], ◌∷◌, ◌++◌, flat_map, nat_lt, if◌then◌else◌, codes, decimal}
+use Rattle.std.specs.Fmt.{signed_decimal}
+use Rattle.zk_model.specs.declared.transcript.Cause.{Cause}
+use Rattle.zk_model.specs.declared.transcript.Cause.TheVariants as cause
+use Rattle.zk_model.specs.declared.transcript.Ended.{Ended}
+use Rattle.zk_model.specs.declared.transcript.Ended.TheVariants as ended
+use Rattle.zk_model.specs.declared.transcript.UpdateKind.{UpdateKind}
+use Rattle.zk_model.specs.declared.transcript.UpdateKind.TheVariants.{Begin, Session, Attach, Asked, Closed, Reaped}
+use Rattle.zk_model.specs.declared.transcript.TranscriptLine.{TranscriptLine}
+use Rattle.zk_model.specs.declared.transcript.TranscriptLine.TheVariants.{Update, Open, Frame, Send, Lapse, Close}
+
+abbrev pub hex_digit : ℕ → ℕ
+hex_digit n = if nat_lt n 10 then 48 + n else 87 + n
+
+abbrev pub hex_pair : ℕ → List ℕ
+hex_pair b = hex_digit (b / 16) ∷ hex_digit (b % 16) ∷ []
+
+-- bytes as hex, `-` for none
+abbrev pub hex : List ℕ → List ℕ
+hex [] = 45 ∷ []
+hex (b ∷ bs) = flat_map hex_pair (b ∷ bs)
+
+-- a session's number as 16 digits
+abbrev pub hex_id : ℕ → ℕ → List ℕ
+hex_id zero n = []
+hex_id (suc k) n = hex_id k (n / 16) ++ hex_digit (n % 16) ∷ []
+
+abbrev pub id_text : ℤ → List ℕ
+id_text id = hex_id 16 (nat_abs id)
+
+-- words with a blank between each two
+abbrev pub spaced : List (List ℕ) → List ℕ
+spaced [] = []
+spaced (w ∷ []) = w
+spaced (w ∷ v ∷ ws) = w ++ (32 ∷ spaced (v ∷ ws))
+
+abbrev pub kind_words : UpdateKind → List (List ℕ)
+kind_words (Begin now) = codes "begin" ∷ decimal now ∷ []
+kind_words (Session id c) = codes "session" ∷ id_text id ∷ decimal c ∷ []
+kind_words (Attach id c) = codes "attach" ∷ id_text id ∷ decimal c ∷ []
+kind_words (Asked c i now) = codes "asked" ∷ decimal c ∷ decimal i ∷ decimal now ∷ []
+kind_words (Closed id c i) = codes "closed" ∷ id_text id ∷ decimal c ∷ decimal i ∷ []
+kind_words (Reaped id) = codes "reaped" ∷ id_text id ∷ []
+
+abbrev pub cause_words : Cause → List (List ℕ)
+cause_words cause.Closed = codes "closed" ∷ []
+cause_words (cause.ClientEnd place) = codes "client" ∷ decimal place ∷ []
+cause_words cause.ReadFault = codes "read" ∷ []
+cause_words cause.WriteFault = codes "write" ∷ []
+cause_words (cause.BadLength place length) = codes "length" ∷ decimal place ∷ signed_decimal length ∷ []
+cause_words (cause.NoHeader place) = codes "noheader" ∷ decimal place ∷ []
+cause_words cause.AuthRefused = codes "auth" ∷ []
+cause_words cause.Unknown = codes "unknown" ∷ []
+cause_words (cause.ZxidAhead client head) = codes "ahead" ∷ signed_decimal client ∷ signed_decimal head ∷ []
+cause_words (cause.Taken rev) = codes "taken" ∷ signed_decimal rev ∷ []
+cause_words (cause.Expired rev) = codes "expired" ∷ signed_decimal rev ∷ []
+cause_words (cause.Moved mine found) = codes "moved" ∷ signed_decimal mine ∷ signed_decimal found ∷ []
+cause_words cause.LinkFault = codes "link" ∷ []
+cause_words (cause.Lagged cursor floor) = codes "lagged" ∷ signed_decimal cursor ∷ signed_decimal floor ∷ []
+cause_words cause.FeedClosed = codes "feed" ∷ []
+cause_words (cause.Damaged key value) = codes "damaged" ∷ hex key ∷ hex value ∷ []
+cause_words cause.Restart = codes "restart" ∷ []
+cause_words cause.Memory = codes "memory" ∷ []
+
+abbrev pub end_words : Ended → List (List ℕ)
+end_words (ended.Cause x) = cause_words x
+end_words (ended.Reaped z) = codes "reaped" ∷ signed_decimal z ∷ []
+end_words (ended.Kept rev) = codes "kept" ∷ signed_decimal rev ∷ []
+end_words (ended.Gone rev) = codes "gone" ∷ signed_decimal rev ∷ []
+
+abbrev pub line_words : TranscriptLine → List (List ℕ)
+line_words (Update u) = codes "update" ∷ signed_decimal u.zxid ∷ kind_words u.kind
+line_words (Open c p id pw) = codes "open" ∷ decimal c ∷ decimal p ∷ id_text id ∷ hex pw ∷ []
+line_words (Frame c i z bytes) = codes "frame" ∷ decimal c ∷ decimal i ∷ signed_decimal z ∷ hex bytes ∷ []
+line_words (Send c bytes) = codes "send" ∷ decimal c ∷ hex bytes ∷ []
+line_words (Lapse rev id) = codes "lapse" ∷ signed_decimal rev ∷ id_text id ∷ []
+line_words (Close c end) = codes "close" ∷ decimal c ∷ end_words end
+
+abbrev pub line_text : TranscriptLine → List ℕ
+line_text l = spaced (line_words l) ++ 10 ∷ []
+
+unfoldable pub transcript_text : List TranscriptLine → List ℕ
+transcript_text lines = flat_map line_text lines

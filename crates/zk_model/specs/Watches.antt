@@ -1,0 +1,89 @@
+-- Watches (Programmer's Guide, "ZooKeeper Watches"). A connection has data watches and child watches, each a set of paths.
+-- A watch fires once. Notices are the record WatcherEvent of zookeeper.jute.
+use Rattle.std.specs.Prelude.{ℕ, ℤ, pos, Bool, true, false, ◌||◌, ◌&&◌, ◌==◌, List, [], ◌∷◌, ◌++◌, Option, Some, None, if◌then◌else◌, int_lt}
+use Rattle.zk_model.specs.declared.node.Node.{Node}
+use Rattle.zk_model.specs.declared.reply.Notice.{Notice}
+use Rattle.zk_model.specs.declared.node.Trigger.{Trigger}
+use Rattle.zk_model.specs.declared.node.Trigger.TheVariants.{Created, Deleted, Changed, Children}
+use Rattle.std.specs.FinMap.{get, insert, remove, empty, len, contains_key}
+use Rattle.zx_base.specs.Maps.{Bytes, Map}
+use Rattle.zk_model.specs.Paths.{is_path}
+use Rattle.zk_model.specs.Znodes.{Tree}
+
+-- a finite set of paths
+abbrev pub PathSet : Type 0
+PathSet = Map (Unit {0})
+
+pub record Watches : Type 0 where
+  pub on_data : PathSet
+  pub on_children : PathSet
+
+abbrev pub no_watches : Watches
+no_watches = record { on_data = empty; on_children = empty }
+
+abbrev pub is_unarmed : Watches → Bool
+is_unarmed w = (len w.on_data == 0) && (len w.on_children == 0)
+
+abbrev pub arm_data : Watches → Bytes → Watches
+arm_data w p = record w { on_data = insert w.on_data p tt }
+
+abbrev pub arm_children : Watches → Bytes → Watches
+arm_children w p = record w { on_children = insert w.on_children p tt }
+
+-- the watches with the path's data watch gone, its child watch, or both
+abbrev pub fired_data : Watches → Bytes → Watches
+fired_data w p = record w { on_data = remove w.on_data p }
+
+abbrev pub fired_children : Watches → Bytes → Watches
+fired_children w p = record w { on_children = remove w.on_children p }
+
+abbrev pub note : Bool → ℕ → Bytes → List Notice
+note hit kind p = if hit then record { kind = pos kind; path = p } ∷ [] else []
+
+-- what a change leaves armed, and the notice that it gives
+abbrev pub fire : Watches → Trigger → Watches × List Notice
+fire w (Created p) = (fired_data w p, note (contains_key w.on_data p) 1 p)
+fire w (Deleted p) = (fired_children (fired_data w p) p, note (contains_key w.on_data p || contains_key w.on_children p) 2 p)
+fire w (Changed p) = (fired_data w p, note (contains_key w.on_data p) 3 p)
+fire w (Children p) = (fired_children w p, note (contains_key w.on_children p) 4 p)
+
+-- the same of several changes in turn
+unfoldable pub fire_all : Watches → List Trigger → Watches × List Notice
+fire_all w [] = (w, [])
+fire_all w (t ∷ ts) = let first = fire w t in let rest = fire_all first.0 ts in (rest.0, first.1 ++ rest.1)
+
+-- ---- setWatches: what happened since the relative zxid is told at once, and the rest is armed
+
+pub record Seen : Type 0 where
+  pub watches : Watches
+  pub notices : List Notice
+
+abbrev pub tell : Seen → ℕ → Bytes → Seen
+tell s kind p = record s { notices = s.notices ++ note true kind p }
+
+abbrev pub see_data : ℤ → Seen → Bytes → Option Node → Seen
+see_data since s p None = tell s 2 p
+see_data since s p (Some n) = if int_lt since n.mzxid then tell s 3 p else record s { watches = arm_data s.watches p }
+
+abbrev pub see_exist : Bool → Seen → Bytes → Option Node → Seen
+see_exist valid s p (Some n) = tell s 1 p
+see_exist true s p None = record s { watches = arm_data s.watches p }
+see_exist false s p None = s
+
+abbrev pub see_children : ℤ → Seen → Bytes → Option Node → Seen
+see_children since s p None = tell s 2 p
+see_children since s p (Some n) = if int_lt since n.pzxid then tell s 4 p else record s { watches = arm_children s.watches p }
+
+-- a path that isn't valid counts as absent, and arms nothing
+abbrev pub valid_at : Bytes → Tree → Option Node
+valid_at p t = if is_path p then get t p else None
+
+abbrev pub see_all : (Seen → Bytes → Seen) → Seen → List (Bytes) → Seen
+see_all f s [] = s
+see_all f s (p ∷ ps) = see_all f (f s p) ps
+
+unfoldable pub set_watches : Tree → ℤ → List (Bytes) → List (Bytes) → List (Bytes) → Watches → Seen
+set_watches t since datas exists children w =
+    let first = see_all (λ s p. see_data since s p (valid_at p t)) (record { watches = w; notices = [] }) datas in
+    let second = see_all (λ s p. see_exist (is_path p) s p (valid_at p t)) first exists in
+    see_all (λ s p. see_children since s p (valid_at p t)) second children

@@ -1,0 +1,4 @@
+pub mod Keys
+pub mod Records
+pub mod StandsFor
+pub mod Begin

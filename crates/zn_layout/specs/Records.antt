@@ -1,0 +1,84 @@
+-- The values under the service's keys: a byte 1, and a record's fields, big-endian. Within its bounds a record has one value
+-- and a value one record.
+use Rattle.std.specs.Prelude.{◌≡◌, ℤ, pos, ◌≤◌, ◌≤ℤ◌, List, ◌∷◌, ◌++◌, length, All, IsTrue}
+use Rattle.std.specs.List.Sorted.{IsStrictlySortedBy}
+use Rattle.std.specs.Ordering.{nat_cmp}
+use Rattle.std.specs.Cmp.Lexicographic.{slice_cmp}
+use Rattle.zk_model.specs.declared.node.Trigger.{Trigger}
+use Rattle.zk_model.specs.declared.node.Trigger.TheVariants.{Created, Deleted, Changed, Children}
+use Rattle.zk_model.specs.JuteWriting.{int_bytes, long_bytes, string_bytes, vector_bytes}
+use Rattle.zk_model.specs.Frames.{most_frame}
+use Rattle.zk_model.specs.Paths.{is_path}
+use Rattle.zk_model.specs.Single.{most_creates, most_version}
+use Rattle.zx_base.specs.Maps.{Bytes}
+use Rattle.zn_layout.specs.declared.record.NodeRec.{NodeRec}
+use Rattle.zn_layout.specs.declared.record.CountRec.{CountRec}
+use Rattle.zn_layout.specs.declared.record.LeaseRec.{LeaseRec}
+
+-- ---- the bytes
+
+unfoldable pub node_value : NodeRec → Bytes
+node_value r = 1 ∷ (long_bytes r.czxid ++ int_bytes r.version ++ long_bytes r.ctime ++ long_bytes r.mtime ++ long_bytes r.owner ++ r.content)
+
+unfoldable pub counts_value : CountRec → Bytes
+counts_value r = 1 ∷ (int_bytes r.creates ++ int_bytes r.children)
+
+unfoldable pub session_value : List Bytes → Bytes
+session_value paths = 1 ∷ vector_bytes string_bytes paths
+
+unfoldable pub lease_value : LeaseRec → Bytes
+lease_value r = 1 ∷ (int_bytes r.timeout ++ long_bytes r.attaches ++ r.passwd)
+
+abbrev pub trigger_bytes : Trigger → Bytes
+trigger_bytes (Created p) = 1 ∷ string_bytes p
+trigger_bytes (Deleted p) = 2 ∷ string_bytes p
+trigger_bytes (Changed p) = 3 ∷ string_bytes p
+trigger_bytes (Children p) = 4 ∷ string_bytes p
+
+unfoldable pub head_value : List Trigger → Bytes
+head_value ts = 1 ∷ vector_bytes trigger_bytes ts
+
+-- ---- the bounds of a record
+
+-- the greatest number of 64 bits with sign
+abbrev pub most_long : ℤ
+most_long = pos 9223372036854775807
+
+-- a number that isn't negative and fits 64 bits with sign
+pub record IsLongCount (n : ℤ) : Type 0 where
+  pub least : pos 0 ≤ℤ n
+  pub most : n ≤ℤ most_long
+
+pub record IsNodeRec (r : NodeRec) : Type 0 where
+  pub czxid : IsLongCount r.czxid
+  pub version_least : pos 0 ≤ℤ r.version
+  pub version_most : r.version ≤ℤ most_version
+  pub ctime : IsLongCount r.ctime
+  pub mtime : IsLongCount r.mtime
+  pub owner : IsLongCount r.owner
+  pub content : length r.content ≤ most_frame
+
+pub record IsCountRec (r : CountRec) : Type 0 where
+  pub children : pos 0 ≤ℤ r.children
+  pub fewer : r.children ≤ℤ r.creates
+  pub creates : r.creates ≤ℤ most_creates
+
+pub record IsSessionRec (paths : List Bytes) : Type 0 where
+  pub valid : All (λ p. IsTrue (is_path p)) paths
+  pub rising : IsStrictlySortedBy (slice_cmp nat_cmp) paths
+
+pub record IsLeaseRec (r : LeaseRec) : Type 0 where
+  pub least : pos 4000 ≤ℤ r.timeout
+  pub most : r.timeout ≤ℤ pos 40000
+  pub attached : pos 1 ≤ℤ r.attaches
+  pub attaches : r.attaches ≤ℤ most_long
+  pub passwd : length r.passwd ≡ 16
+
+abbrev pub trigger_path : Trigger → Bytes
+trigger_path (Created p) = p
+trigger_path (Deleted p) = p
+trigger_path (Changed p) = p
+trigger_path (Children p) = p
+
+pub record IsHeadRec (ts : List Trigger) : Type 0 where
+  pub valid : All (λ t. IsTrue (is_path (trigger_path t))) ts
