@@ -1,5 +1,5 @@
 -- What reads and writes in a row make of the bytes that are told.
-use Rattle.std.proofs.Common.{◌≡◌, ℕ, ◌+◌, List, [], ◌++◌, take, drop, Option, Some, None, IfSome, refl, sym, ap, ◌∙◌, subst, append_assoc, append-nil}
+use Rattle.std.proofs.Common.{◌≡◌, ℕ, ◌+◌, List, [], ◌++◌, take, drop, Option, Some, None, IfSome, refl, sym, ap, ◌∙◌, append_assoc, append-nil}
 use Rattle.std.proofs.Math.Seq.{take-add}
 use Rattle.std.proofs.lemmas.List.{take-append-drop, drop-drop}
 use Rattle.std.proofs.KnownBytes.{prepend_known-nil}
@@ -27,15 +27,17 @@ Gives-nil given left = record { grown = sym (append_known-nil given); shrunk = s
 pub Gives-append : (first second : List ℕ) (given given' given'' left left' left'' : Option (List ℕ)) → Gives first given given' left left' → Gives second given' given'' left' left''
     → Gives (first ++ second) given given'' left left''
 Gives-append first second given given' given'' left left' left'' early late = record {
-    grown = late.grown ∙ ap (λ known. append_known known second) early.grown ∙ append_known-append given first second;
-    shrunk = early.shrunk ∙ ap (prepend_known first) late.shrunk ∙ prepend_known-append left'' first second }
+  grown = late.grown ∙ ap (λ known. append_known known second) early.grown ∙ append_known-append given first second;
+  shrunk = early.shrunk ∙ ap (prepend_known first) late.shrunk ∙ prepend_known-append left'' first second;
+}
 
 -- reads that gave some bytes, and then one that gave none
 pub Gives-none : (bytes : List ℕ) (given given' given'' left left' left'' : Option (List ℕ)) → Gives bytes given given' left left' → GivesNone given' given'' left' left''
     → Gives bytes given given'' left left''
 Gives-none bytes given given' given'' left left' left'' early late = record {
-    grown = late.given_stays ∙ early.grown;
-    shrunk = early.shrunk ∙ ap (prepend_known bytes) (sym late.left_stays) }
+  grown = late.given_stays ∙ early.grown;
+  shrunk = early.shrunk ∙ ap (prepend_known bytes) (sym late.left_stays);
+}
 
 -- reads up to the end gave all that was left
 pub Gives-all : (bytes : List ℕ) (given given' left left' : Option (List ℕ)) → Gives bytes given given' left left' → IsAtEnd left' → IfSome left (λ all. bytes ≡ all)
@@ -60,9 +62,16 @@ pub Gives-next : (bytes piece given left : List ℕ) (at count : ℕ) → take a
 Gives-next bytes piece given left at count front rest same =
     let piece_is : piece ≡ take count left = same ∙ ap (take count) rest in
     record {
-    grown = ap Some (take-next bytes given left at count front rest ∙ ap (λ xs. given ++ xs) (sym piece_is));
-    shrunk = ap Some (sym (take-append-drop count left) ∙ ap (λ xs. xs ++ drop count left) (sym piece_is) ∙ ap (λ xs. piece ++ xs) (sym (drop-next bytes left at count rest))) }
+      grown = ap Some (take-next bytes given left at count front rest ∙ ap (λ xs. given ++ xs) (sym piece_is));
+      shrunk = ap Some (sym (take-append-drop count left) ∙ ap (λ xs. xs ++ drop count left) (sym piece_is) ∙ ap (λ xs. piece ++ xs) (sym (drop-next bytes left at count rest)));
+    }
 
 -- writes that took some bytes, and then writes that took more
 pub Takes-append : (first second : List ℕ) (taken taken' taken'' : Option (List ℕ)) → Takes first taken taken' → Takes second taken' taken'' → Takes (first ++ second) taken taken''
 Takes-append first second taken taken' taken'' early late = late ∙ ap (λ known. append_known known second) early ∙ append_known-append taken first second
+
+-- writes that took a piece up to a place, and then one that took the next bytes of it
+pub Takes-next : (piece : List ℕ) (at count : ℕ) (taken taken' taken'' : Option (List ℕ)) → Takes (take at piece) taken taken' → Takes (take count (drop at piece)) taken' taken''
+    → Takes (take (at + count) piece) taken taken''
+Takes-next piece at count taken taken' taken'' early late =
+    Takes-append (take at piece) (take count (drop at piece)) taken taken' taken'' early late ∙ ap (append_known taken) (sym (take-add at count piece))

@@ -1,5 +1,5 @@
 -- What reads make of the bytes and the counts that a source tells. In each pair the value before comes first.
-use Rattle.std.specs.Prelude.{◌≡◌, ℕ, ◌<◌, ◌≤◌, List, [], length, take, ⊤, Option, Some}
+use Rattle.std.specs.Prelude.{◌≡◌, ℕ, ◌<◌, ◌≤◌, List, take, ⊤, Option}
 use Rattle.std.specs.Io.KnownBytes.{prepend_known, append_known, IsAtEnd}
 use Rattle.zx_outside.specs.Counts.{Rose}
 use Rattle.zx_outside.specs.declared.source.Got.{Got}

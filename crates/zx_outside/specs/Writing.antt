@@ -1,5 +1,5 @@
 -- What writes make of the bytes and the count that a sink tells. In each pair the value before comes first.
-use Rattle.std.specs.Prelude.{◌≡◌, ℕ, ◌<◌, ◌≤◌, List, length, take, ⊤, Option}
+use Rattle.std.specs.Prelude.{◌≡◌, ℕ, ◌<◌, ◌≤◌, List, take, ⊤, Option}
 use Rattle.std.specs.Io.KnownBytes.{append_known}
 use Rattle.zx_outside.specs.Counts.{Rose}
 use Rattle.zx_outside.specs.declared.sink.Took.{Took}

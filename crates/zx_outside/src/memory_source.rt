@@ -26,13 +26,14 @@ impl Model for MemSource {
     ghost Value = { Scheduled };
 
     ghost view = { λ s. record {
-        given = take s.at s.bytes.items;
-        left = drop s.at s.bytes.items;
-        pieces = s.pieces.items;
-        failing = s.failing.items;
-        calls = s.calls;
-        faults = s.faults;
-        idles = s.idles } };
+      given = take s.at s.bytes.items;
+      left = drop s.at s.bytes.items;
+      pieces = s.pieces.items;
+      failing = s.failing.items;
+      calls = s.calls;
+      faults = s.faults;
+      idles = s.idles;
+    } };
 
     ghost invariant = { λ s. s.at ≤ length s.bytes.items };
 }
