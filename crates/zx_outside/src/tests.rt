@@ -1,6 +1,6 @@
 //! The forms of a source and a sink as a driver meets them: through the traits.
 
-ghost use Rattle.std.specs.Prelude.{◌≡◌, ◌≤◌, List, [], ◌++◌, IfOk, OnOk, IfSome, length, drop};
+ghost use Rattle.std.specs.Prelude.{◌≡◌, ◌≢◌, ◌≤◌, List, [], ◌++◌, IfOk, OnOk, IfSome, length, drop};
 ghost use Rattle.std.specs.Bool.{OnTrue, OnFalse};
 ghost use Rattle.zx_outside.specs.Counts.{Rose};
 ghost use Rattle.zx_outside.specs.Reading.{Gives};
@@ -47,6 +47,17 @@ fn write_all<K: Sink>(sink: &mut K, piece: &[u8]) -> bool
     true
 }
 
+/// What a steady source of these bytes gives, read to its end.
+fn gather_steady(alloc: Global, bytes: Vec<u8>) -> Result<(Got, Vec<u8>), AllocError>
+    ensures all { IfOk result (λ r. r.0 ≡ Got.End → r.1.items ≡ bytes.items) }
+    ensures no_fault { IfOk result (λ r. r.0 ≢ Got.Failed) }
+{
+    let mut source = SteadySource::new(bytes);
+    let mut gathered = Vec::new(alloc);
+    let answer = gather(&mut source, 9, &mut gathered)?;
+    Ok((answer, gathered))
+}
+
 /// One read of at most four bytes: the answer, and the bytes of it.
 fn read_four<S: Source>(alloc: Global, source: &mut S) -> Result<(Got, Vec<u8>), AllocError> {
     let mut buf = [0u8; 4];
@@ -86,9 +97,8 @@ fn a_schedule_has_pieces_idle_turns_and_faults(rt: HostRuntime) -> Result<(), Fa
 #[test]
 fn a_steady_source_gives_all(rt: HostRuntime) -> Result<(), Fail> {
     let alloc = rt.alloc();
-    let mut source = SteadySource::new(Vec::from_slice(alloc, b"a watch fires once")?);
-    let mut gathered = Vec::new(alloc);
-    assert_eq!(rt; gather(&mut source, 6, &mut gathered)?, Got::End);
+    let (answer, gathered) = gather_steady(alloc, Vec::from_slice(alloc, b"a watch fires once")?)?;
+    assert_eq!(rt; answer, Got::End);
     assert_eq!(rt; gathered.as_slice(), b"a watch fires once".as_slice());
     Ok(())
 }
