@@ -1,2 +1,5 @@
 pub mod Keys
 pub mod Depth
+pub mod Fits
+pub mod Applied
+pub mod Stands
