@@ -3,3 +3,6 @@ pub mod Depth
 pub mod Fits
 pub mod Applied
 pub mod Stands
+pub mod Found
+pub mod Transactions
+pub mod Denials

@@ -4,3 +4,4 @@ pub mod StandsFor
 pub mod Begin
 pub mod Changes
 pub mod Fits
+pub mod Commits
