@@ -6,3 +6,4 @@ pub mod Stands
 pub mod Found
 pub mod Transactions
 pub mod Denials
+pub mod Commits

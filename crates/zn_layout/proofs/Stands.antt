@@ -80,18 +80,20 @@ head_over z ts (Some kv) old new fits next h = record {
 }
 
 -- the changes of an update and the head's put
-abbrev all_of : List Change → List Trigger → List Change
+abbrev pub all_of : List Change → List Trigger → List Change
 all_of cs ts = cs ++ head_put ts ∷ []
 
 all_applied : (z : ℤ) (cs : List Change) (ts : List Trigger) (keys : Keys) → acts_applied z keys (acts_of (all_of cs ts)) ≡ one_more z (head_put ts) (acts_applied z keys (acts_of cs))
 all_applied z cs ts keys = ap (acts_applied z keys) (map-append act_of cs (head_put ts ∷ [])) ∙ acts_applied-append z keys (acts_of cs) (acts_of (head_put ts ∷ []))
 
--- the head that is left: over what it was, since no change before wrote it
-pub head_left : (z : ℤ) (cs : List Change) (ts : List Trigger) (keys : Keys) → last cs HeadKey ≡ None → at (acts_applied z keys (acts_of (all_of cs ts))) HeadKey ≡ Some (put_over z (key_bytes HeadKey) (head_value ts) (pos 0) (at keys HeadKey))
+-- the head that was put last
+pub head_there : (z : ℤ) (cs : List Change) (ts : List Trigger) (keys : Keys) → at (acts_applied z keys (acts_of (all_of cs ts))) HeadKey ≡ Some (put_over z (key_bytes HeadKey) (head_value ts) (pos 0) (at (acts_applied z keys (acts_of cs)) HeadKey))
+head_there z cs ts keys = ap (λ (m : Keys). at m HeadKey) (all_applied z cs ts keys) ∙ get-insert_same (acts_applied z keys (acts_of cs)) (key_bytes HeadKey) _
+
+-- it is put over what it was, since no change before wrote it
+head_left : (z : ℤ) (cs : List Change) (ts : List Trigger) (keys : Keys) → last cs HeadKey ≡ None → at (acts_applied z keys (acts_of (all_of cs ts))) HeadKey ≡ Some (put_over z (key_bytes HeadKey) (head_value ts) (pos 0) (at keys HeadKey))
 head_left z cs ts keys none =
-    ap (λ (m : Keys). at m HeadKey) (all_applied z cs ts keys)
-    ∙ get-insert_same (acts_applied z keys (acts_of cs)) (key_bytes HeadKey) _
-    ∙ ap (λ (o : Option Kv). Some (put_over z (key_bytes HeadKey) (head_value ts) (pos 0) o)) (at-unwritten z cs keys HeadKey none)
+    head_there z cs ts keys ∙ ap (λ (o : Option Kv). Some (put_over z (key_bytes HeadKey) (head_value ts) (pos 0) o)) (at-unwritten z cs keys HeadKey none)
 
 -- ---- all keys
 
