@@ -35,7 +35,7 @@ one_key : (k : Bytes) (m : Keys) → retain_keys m (is_within k []) ≡ alone k 
 unfolding is_within
 one_key k m = ext _ _ (λ q. ⊎_elim
     (λ e. subst (λ (x : Bytes). get (retain_keys m (is_within k [])) x ≡ get (alone k (get m k)) x) (sym e)
-      (get-retain m (is_within k []) k ∙ ap (λ b. cond b (get m k) None) (same-refl k) ∙ sym (alone_same k (get m k))))
+    (get-retain m (is_within k []) k ∙ ap (λ b. cond b (get m k) None) (same-refl k) ∙ sym (alone_same k (get m k))))
     (λ n. get-retain m (is_within k []) q ∙ ap (λ b. cond b (get m q) None) (same-false q k n) ∙ sym (alone_other k q (get m k) n))
     (either q k))
 

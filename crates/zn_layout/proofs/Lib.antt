@@ -7,3 +7,7 @@ pub mod Found
 pub mod Transactions
 pub mod Denials
 pub mod Commits
+pub mod Paths
+pub mod Numbers
+pub mod Nodes
+pub mod Lookups

@@ -47,9 +47,9 @@ module _ (z : ℤ) (low : pos 1 ≤ℤ z) (high : z ≤ℤ last_revision) where
   layout_written : (c : Change) (keys : Keys) → AreLayout keys → AreLayout (write z (key_bytes c.key) c.put keys)
   layout_written c keys a = record {
     no_other = λ rest kv h. ⊎_elim
-      (λ e. (c.key, e))
-      (λ n. a.no_other rest kv (sym (write_other z c.put keys (key_bytes c.key) _ n) ∙ h))
-      (either (122 ∷ 107 ∷ 47 ∷ rest) (key_bytes c.key));
+        (λ e. (c.key, e))
+        (λ n. a.no_other rest kv (sym (write_other z c.put keys (key_bytes c.key) _ n) ∙ h))
+        (either (122 ∷ 107 ∷ 47 ∷ rest) (key_bytes c.key));
     least = revisions_kept (λ r. pos 1 ≤ℤ r) low c keys a.least;
     most = revisions_kept (λ r. r ≤ℤ last_revision) high c keys a.most;
   }
