@@ -11,3 +11,4 @@ pub mod Paths
 pub mod Numbers
 pub mod Nodes
 pub mod Lookups
+pub mod First

@@ -101,12 +101,17 @@ head_left z cs ts keys none =
 pub update_applied : (z : ℤ) (cs : List Change) (ts : List Trigger) (keys : Keys) → acts_applied z keys (update_acts cs ts) ≡ acts_applied z keys (acts_of (all_of cs ts))
 update_applied z cs ts keys = acts_applied-append z keys (acts_of (all_of cs ts)) (read_key (key_bytes HeadKey) ∷ [])
 
+-- the head's put makes a head of the new state, and what each key means and the layout are carried on
+pub stands_over : (z : ℤ) (cs : List Change) (ts : List Trigger) (keys : Keys) (old new : State) → pos 1 ≤ℤ z → z ≤ℤ last_revision → last cs HeadKey ≡ None → IsHead (put_over z (key_bytes HeadKey) (head_value ts) (pos 0) (at keys HeadKey)) new → ((k : Key) → Means old k (stored_of (at keys k))) → AreLayout keys → Fits z cs old new → StandsFor (acts_applied z keys (update_acts cs ts)) new
+stands_over z cs ts keys old new low high none head means layout fits =
+    let all = all_of cs ts in
+    subst (λ (m : Keys). StandsFor m new) (sym (update_applied z cs ts keys)) (record {
+      head = subst (λ (o : Option Kv). HeadMeans o new) (sym (head_left z cs ts keys none)) head;
+      each = each_means z all keys old new (fits_head z cs ts old new fits) means;
+      layout = layout_kept z low high all keys layout;
+    })
+
 -- keys that stood for a state stand for the next one
 pub stands_after : (z : ℤ) (cs : List Change) (ts : List Trigger) (keys : Keys) (old new : State) → pos 1 ≤ℤ z → z ≤ℤ last_revision → IsHeadRec ts → last cs HeadKey ≡ None → IsNext z ts old new → StandsFor keys old → Fits z cs old new → StandsFor (acts_applied z keys (update_acts cs ts)) new
 stands_after z cs ts keys old new low high bounds none next stands fits =
-    let all = all_of cs ts in
-    subst (λ (m : Keys). StandsFor m new) (sym (update_applied z cs ts keys)) (record {
-      head = subst (λ (o : Option Kv). HeadMeans o new) (sym (head_left z cs ts keys none)) (head_over z ts (at keys HeadKey) old new bounds next stands.head);
-      each = each_means z all keys old new (fits_head z cs ts old new fits) stands.each;
-      layout = layout_kept z low high all keys stands.layout;
-    })
+    stands_over z cs ts keys old new low high none (head_over z ts (at keys HeadKey) old new bounds next stands.head) stands.each stands.layout fits

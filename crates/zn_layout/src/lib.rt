@@ -6,6 +6,8 @@
 //! of it; the layout is this project's own.
 #![tactic(auto)]
 
+mod act;
+mod begin;
 mod fault;
 mod key;
 mod laws;
@@ -14,6 +16,8 @@ mod record;
 mod write;
 mod writer;
 
+pub use act::{delete_counts, delete_node, get_head, get_key, put_counts, put_head, put_node};
+pub use begin::begin_ask;
 pub use fault::RecordFault;
 pub use key::{counts_key, data_key, head_key};
 pub use laws::{
