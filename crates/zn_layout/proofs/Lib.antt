@@ -12,3 +12,4 @@ pub mod Numbers
 pub mod Nodes
 pub mod Lookups
 pub mod First
+pub mod FirstUpdate
