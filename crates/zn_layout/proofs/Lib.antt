@@ -13,3 +13,4 @@ pub mod Nodes
 pub mod Lookups
 pub mod First
 pub mod FirstUpdate
+pub mod Digits
