@@ -14,3 +14,4 @@ pub mod Lookups
 pub mod First
 pub mod FirstUpdate
 pub mod Digits
+pub mod Leases

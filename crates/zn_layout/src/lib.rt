@@ -25,6 +25,6 @@ pub use laws::{
     node_value_is_injective, one_key_is_found, reads_are_allowed, stands_after, update_commits,
     update_is_allowed,
 };
-pub use read::{read_counts, read_node};
+pub use read::{read_counts, read_lease, read_node};
 pub use record::{CountRec, HeadRec, LeaseRec, NodeRec, SessionRec};
-pub use write::{write_counts, write_head, write_node};
+pub use write::{write_counts, write_head, write_lease, write_node, write_session};
