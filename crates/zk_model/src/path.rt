@@ -164,19 +164,6 @@ fn bad_text(path: &[u8]) -> Option<Defect>
     }
 }
 
-fn too_long(len: usize, most: usize) -> Option<Defect>
-    ensures { result ≡ at (nat_lt most len) most TooLong }
-{
-    if most < len {
-        Some(Defect {
-            place: most,
-            fault: PathFault::TooLong,
-        })
-    } else {
-        None
-    }
-}
-
 /// The same of a text that is UTF-8 up to so many bytes.
 fn bad_text_before(path: &[u8], valid: usize) -> Option<Defect>
     requires { IsValidUpTo path.now valid }
@@ -188,6 +175,19 @@ fn bad_text_before(path: &[u8], valid: usize) -> Option<Defect>
             fault: PathFault::BadText,
         })),
         Err(_) => unreachable!(),
+    }
+}
+
+fn too_long(len: usize, most: usize) -> Option<Defect>
+    ensures { result ≡ at (nat_lt most len) most TooLong }
+{
+    if most < len {
+        Some(Defect {
+            place: most,
+            fault: PathFault::TooLong,
+        })
+    } else {
+        None
     }
 }
 
