@@ -1,1 +1,4 @@
 pub mod PieceLaws
+pub mod WrittenWords
+pub mod LineReading
+pub mod TranscriptLaws

@@ -1,6 +1,7 @@
 -- The text of a transcript (this project's own format): a line for each thing that happened, its words separated by blanks.
-use Rattle.std.specs.Prelude.{ℕ, ℤ, nat_abs, ◌+◌, ◌/◌, ◌%◌, List, [], ◌∷◌, ◌++◌, flat_map, nat_lt, if◌then◌else◌, codes, decimal}
+use Rattle.std.specs.Prelude.{ℕ, ℤ, pos, nat_abs, ◌+◌, ◌/◌, ◌%◌, ◌^◌, ◌<◌, ◌≤ℤ◌, ⊤, List, [], ◌∷◌, ◌++◌, flat_map, nat_lt, if◌then◌else◌, codes, decimal}
 use Rattle.std.specs.Fmt.{signed_decimal}
+use Rattle.std.specs.List.{AllByRecursion}
 use Rattle.std.specs.Int.{to_be_bytes, w64}
 use Rattle.zk_model.specs.declared.transcript.Cause.{Cause}
 use Rattle.zk_model.specs.declared.transcript.Cause.TheVariants as cause
@@ -86,3 +87,52 @@ line_text l = spaced (line_words l) ++ 10 ∷ []
 
 unfoldable pub transcript_text : List TranscriptLine → List ℕ
 transcript_text lines = flat_map line_text lines
+
+-- ---- lines whose text has one reading: their numbers have 64 bits, their sessions' numbers aren't negative, and their bytes
+-- are bytes
+
+abbrev pub IsNumber : ℕ → Type 0
+IsNumber n = n < 2 ^ 64
+
+abbrev pub IsSignedNumber : ℤ → Type 0
+IsSignedNumber z = nat_abs z < 2 ^ 64
+
+abbrev pub IsSessionNumber : ℤ → Type 0
+IsSessionNumber id = (pos 0 ≤ℤ id) × (nat_abs id < 2 ^ 64)
+
+abbrev pub AreBytes : List ℕ → Type 0
+AreBytes bytes = AllByRecursion (λ b. b < 256) bytes
+
+abbrev pub IsWellFormedKind : UpdateKind → Type 0
+IsWellFormedKind (Begin now) = IsNumber now
+IsWellFormedKind (Session id c) = IsSessionNumber id × IsNumber c
+IsWellFormedKind (Attach id c) = IsSessionNumber id × IsNumber c
+IsWellFormedKind (Asked c i now) = IsNumber c × IsNumber i × IsNumber now
+IsWellFormedKind (Closed id c i) = IsSessionNumber id × IsNumber c × IsNumber i
+IsWellFormedKind (Reaped id) = IsSessionNumber id
+
+abbrev pub IsWellFormedCause : Cause → Type 0
+IsWellFormedCause (cause.ClientEnd place) = IsNumber place
+IsWellFormedCause (cause.BadLength place length) = IsNumber place × IsSignedNumber length
+IsWellFormedCause (cause.NoHeader place) = IsNumber place
+IsWellFormedCause (cause.ZxidAhead client head) = IsSignedNumber client × IsSignedNumber head
+IsWellFormedCause (cause.Taken rev) = IsSignedNumber rev
+IsWellFormedCause (cause.Expired rev) = IsSignedNumber rev
+IsWellFormedCause (cause.Moved mine found) = IsSignedNumber mine × IsSignedNumber found
+IsWellFormedCause (cause.Lagged cursor floor) = IsSignedNumber cursor × IsSignedNumber floor
+IsWellFormedCause (cause.Damaged key value) = AreBytes key × AreBytes value
+IsWellFormedCause _ = ⊤
+
+abbrev pub IsWellFormedEnd : Ended → Type 0
+IsWellFormedEnd (ended.Cause x) = IsWellFormedCause x
+IsWellFormedEnd (ended.Reaped z) = IsSignedNumber z
+IsWellFormedEnd (ended.Kept rev) = IsSignedNumber rev
+IsWellFormedEnd (ended.Gone rev) = IsSignedNumber rev
+
+abbrev pub IsWellFormed : TranscriptLine → Type 0
+IsWellFormed (Update u) = IsSignedNumber u.zxid × IsWellFormedKind u.kind
+IsWellFormed (Open c p id pw) = IsNumber c × IsNumber p × IsSessionNumber id × AreBytes pw
+IsWellFormed (Frame c i z bytes) = IsNumber c × IsNumber i × IsSignedNumber z × AreBytes bytes
+IsWellFormed (Send c bytes) = IsNumber c × AreBytes bytes
+IsWellFormed (Lapse rev id) = IsSignedNumber rev × IsSessionNumber id
+IsWellFormed (Close c end) = IsNumber c × IsWellFormedEnd end
