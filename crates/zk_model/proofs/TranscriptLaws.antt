@@ -16,10 +16,10 @@ use Rattle.zk_model.specs.declared.transcript.UpdateKind.{UpdateKind}
 use Rattle.zk_model.specs.declared.transcript.UpdateKind.TheVariants as kind
 use Rattle.zk_model.specs.declared.transcript.TranscriptLine.{TranscriptLine}
 use Rattle.zk_model.specs.declared.transcript.TranscriptLine.TheVariants as line
-use Rattle.zk_model.specs.Scripts.{pieces}
+use Rattle.zk_model.specs.Scripts.{Lacks, pieces}
 use Rattle.zk_model.specs.Transcripts.{IsWellFormed, cause_words, end_words, kind_words, line_text, line_words, spaced, transcript_text}
 use Rattle.zk_model.proofs.LineReading.{line_of, line_of-words}
-use Rattle.zk_model.proofs.PieceLaws.{Lacks, pieces-first, pieces-none, pieces-some}
+use Rattle.zk_model.proofs.PieceLaws.{pieces-first, pieces-none, pieces-some}
 use Rattle.zk_model.proofs.WrittenWords.{decimal-is_word, hex_text-is_word, id_text-is_word, is_word, signed_decimal-is_word}
 
 -- ---- the words of a line

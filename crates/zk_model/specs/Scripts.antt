@@ -1,6 +1,6 @@
 -- The text of a script (this project's own format): a line for each thing that is to happen, its words separated by blanks.
-use Rattle.std.specs.Prelude.{ℕ, ℤ, pos, ◌+◌, ◌*◌, ◌-◌, ◌^◌, Bool, true, false, ◌&&◌, List, [], ◌∷◌, length, nat_lt, nat_le, ◌==◌, bytes_eq, codes, Option, Some, None, option_map, option_and_then, take, if◌then◌else◌}
-use Rattle.std.specs.List.{slice_split}
+use Rattle.std.specs.Prelude.{◌≡◌, ℕ, ℤ, pos, ◌+◌, ◌*◌, ◌-◌, ◌^◌, Bool, true, false, ◌&&◌, List, [], ◌∷◌, length, nat_lt, nat_le, ◌==◌, bytes_eq, codes, Option, Some, None, option_map, option_and_then, take, if◌then◌else◌}
+use Rattle.std.specs.List.{All, slice_split}
 use Rattle.zk_model.specs.declared.script.Happening.{Happening}
 use Rattle.zk_model.specs.declared.script.Happening.TheVariants as line
 use Rattle.zk_model.specs.declared.script.Unread.{Unread}
@@ -11,6 +11,10 @@ use Rattle.zk_model.specs.declared.script.Unread.TheVariants.{Unreadable, TooLon
 -- the pieces before, between and behind the bytes c
 abbrev pub pieces : ℕ → List ℕ → List (List ℕ)
 pieces c bytes = slice_split (λ b. b == c) bytes
+
+-- no byte is c
+abbrev pub Lacks : ℕ → List ℕ → Type 0
+Lacks c bytes = All (λ b. (b == c) ≡ false) bytes
 
 infixl 10 ◌>>=◌
 abbrev pub ◌>>=◌ : {A B : Type 0} → Option A → (A → Option B) → Option B
@@ -219,7 +223,7 @@ lines_from is_cut n (line ∷ []) = last_line is_cut n line
 lines_from is_cut n (line ∷ more ∷ lines) = then_script n (line_read line) (lines_from is_cut (n + 1) (more ∷ lines))
 
 -- what line n and those behind it say, if no more than room bytes are read
-abbrev pub script_from : ℕ → ℕ → List ℕ → Script
+unfoldable pub script_from : ℕ → ℕ → List ℕ → Script
 script_from n room bytes = lines_from (nat_lt room (length bytes)) n (pieces 10 (take room bytes))
 
 unfoldable pub script : List ℕ → Script

@@ -30,9 +30,3 @@ encode_lower-hex_digits (b ∷ bs) fits =
     let high = digit (b / 16) (omega arith) in
     let low = digit (b % 16) (omega arith) in
     rw (high, low) (ap (λ (ds : List ℕ). hex_digit_text (b / 16) ∷ hex_digit_text (b % 16) ∷ ds) rest)
-
--- what was written over the room behind a list
-pub take_written : (old digits more behind : List ℕ) (n : ℕ) → n ≡ length old + length digits → take n (old ++ (digits ++ more) ++ behind) ≡ old ++ digits
-take_written old digits more behind n long =
-    let whole : old ++ (digits ++ more) ++ behind ≡ (old ++ digits) ++ (more ++ behind) = simp append_assoc in
-    ap (take n) whole ∙ take_at (old ++ digits) (more ++ behind) n (omega (arith, length-append old digits))

@@ -4,21 +4,19 @@ ghost use Rattle.std.specs.Prelude.{◌≡◌, ◌∷◌, option_copied};
 ghost use Rattle.zk_model.specs.Scripts.{pieces, one_word as one_word_of, two_words as two_words_of, three_words as three_words_of, four_words as four_words_of};
 ghost use Rattle.zt_text.specs.Words.{words_of, seen_two, seen_three, seen_four};
 
+use crate::cut::cut;
+
 const BLANK: u8 = b' ';
 
 /// What stands behind a blank: one word or more. None, where there is no blank, is no word.
 pub(crate) type Words<'a> = Option<&'a [u8]>;
 
 /// The first word of a line, and the words behind it.
+#[tactic(auto, using(crate::proofs::WordCounts::words_of_cut))]
 pub(crate) fn first_word(line: &[u8]) -> (&[u8], Words<'_>)
     ensures { pieces 32 line.now ≡ result.0.now ∷ words_of result.1 }
 {
-    for (at, byte) in line.iter().enumerate() {
-        if *byte == BLANK {
-            return (&line[..at], Some(&line[at + 1..]));
-        }
-    }
-    (line, None)
+    cut(line, BLANK)
 }
 
 /// The word, if it is one.
