@@ -1,0 +1,4 @@
+pub mod JuteFields
+pub mod Items
+pub mod Framing
+pub mod RequestLaws
