@@ -2,3 +2,4 @@ pub mod JuteFields
 pub mod Items
 pub mod Framing
 pub mod RequestLaws
+pub mod Lengths

@@ -26,9 +26,15 @@
 
 mod cutter;
 mod fault;
+mod packets;
 mod reader;
+mod reply_fields;
+mod request_fields;
 mod requests;
+mod sink;
+mod writer;
 
 pub use cutter::{CutFault, Cutter};
 pub use fault::WireFault;
+pub use packets::{write_connect, write_notice, write_reply, write_request};
 pub use requests::read_request;
