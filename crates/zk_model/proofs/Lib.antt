@@ -6,3 +6,8 @@ pub mod WrittenWords
 pub mod LineReading
 pub mod TranscriptLaws
 pub mod ScriptLaws
+pub mod JuteFields
+pub mod Items
+pub mod Framing
+pub mod RequestLaws
+pub mod Lengths
