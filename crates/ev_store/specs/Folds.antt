@@ -1,0 +1,25 @@
+-- What one key has after changes, without the other keys, as the store's look-ups compute it: a version stands still at
+-- the greatest i64. No public contract names these words; `proofs/Folding.antt` ties them to the store's keys.
+use Rattle.std.specs.Prelude.{ℕ, ◌+◌, Bool, ℤ, pos, ◌+ℤ◌, List, [], ◌∷◌, fold, if◌then◌else◌, Option, Some, None}
+use Rattle.std.specs.Int.{saturate_signed, w64}
+use Rattle.ev_types.specs.declared.answer.Kv.{Kv}
+use Rattle.ev_types.specs.Store.{Change, Puts, Removes}
+use Rattle.zx_base.specs.Maps.{Bytes, same}
+
+-- a key after a put at revision r over what it had
+abbrev pub kv_after_put : ℤ → Bytes → Bytes → ℤ → Option Kv → Kv
+kv_after_put r k v lease None = record { key = k; value = v; create_revision = r; mod_revision = r; version = pos 1; lease = lease }
+kv_after_put r k v lease (Some old) = record { key = k; value = v; create_revision = old.create_revision; mod_revision = r; version = saturate_signed w64 (old.version +ℤ pos 1); lease = lease }
+
+abbrev pub key_after_change : ℤ → Bytes → Option Kv → Change → Option Kv
+key_after_change r q old (Puts k v lease) = if same k q then Some (kv_after_put r k v lease old) else old
+key_after_change r q old (Removes k) = if same k q then None else old
+
+abbrev pub key_after_changes : ℤ → Bytes → Option Kv → List Change → Option Kv
+key_after_changes r q old [] = old
+key_after_changes r q old (c ∷ cs) = key_after_changes r q (key_after_change r q old c) cs
+
+-- the first of the revisions has number r
+abbrev pub key_after_revisions : ℕ → Bytes → Option Kv → List (List Change) → Option Kv
+key_after_revisions r q old [] = old
+key_after_revisions r q old (cs ∷ css) = key_after_revisions (r + 1) q (key_after_changes (pos r) q old cs) css
