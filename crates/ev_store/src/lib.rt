@@ -10,11 +10,10 @@ mod change;
 mod fault;
 mod key;
 mod leases;
-
+mod operations;
 mod range;
-
-
-
-
+mod refusal;
+mod store;
 
 pub use fault::{Denied, StoreFault};
+pub use store::Store;
