@@ -1,5 +1,5 @@
 -- Tests joined by or and and, and lists of them.
-use Rattle.std.proofs.Common.{◌≡◌, ℕ, zero, suc, ◌+◌, ◌<◌, ◌&&◌, ◌||◌, not, Bool, true, false, List, [], ◌∷◌, length, get_or, drop, drop-cons, add-one, refl, sym, ap, ◌∙◌, subst, ◌⊎◌, inl, inr}
+use Rattle.std.proofs.Common.{◌≡◌, ℕ, zero, suc, ◌+◌, ◌<◌, ◌&&◌, ◌||◌, not, Bool, true, false, List, [], ◌∷◌, length, get_or, take, drop, drop-cons, add-one, refl, sym, ap, ◌∙◌, subst, ◌⊎◌, inl, inr}
 use Rattle.std.specs.List.{list_any, list_all}
 
 pub or_first : (a b : Bool) → (a || b) ≡ false → a ≡ false
@@ -60,3 +60,8 @@ any-cons p x xs h = or_right (p x) (list_any p xs) h
 pub any_at : {A : Type 0} (p : A → Bool) (xs : List A) (i : ℕ) (x : A) → i < length xs → x ≡ get_or xs i x → p x ≡ true → list_any p xs ≡ true
 any_at p xs i x within here passes =
     from_drop (list_any p) (any-cons p) xs i (ap (list_any p) (front_of xs i x within here) ∙ or_left (p x) (list_any p (drop (i + 1) xs)) passes)
+
+pub all-take : {A : Type 0} (p : A → Bool) (n : ℕ) (xs : List A) → list_all p xs ≡ true → list_all p (take n xs) ≡ true
+all-take p zero xs h = refl
+all-take p (suc n) [] h = refl
+all-take p (suc n) (x ∷ xs) h = and_both (p x) (list_all p (take n xs)) (and_first _ _ h) (all-take p n xs (and_second _ _ h))

@@ -3,6 +3,7 @@
 ghost use Rattle.std.specs.Prelude.{◌≡◌, ◌+ℤ◌, ◌++◌, ◌∷◌, [], pos, nat_abs, true, false, is_some, take, IfOk, OnOk, Option};
 ghost use Rattle.std.specs.List.{list_all};
 ghost use Rattle.std.specs.FinMap.{get};
+ghost use Rattle.std.specs.Ordering.{int_eq};
 ghost use Rattle.ev_types.specs.Store as etcd;
 ghost use Rattle.ev_types.specs.Ranges.{found};
 ghost use Rattle.ev_types.specs.Denials.{writes_twice};
@@ -38,7 +39,7 @@ impl Store {
         ensures { result ≡ etcd.holds (etcd.present self.now) guard.now }
     {
         let found = after_revisions(self.history(), guard.key.as_slice());
-        mod_of(&found) == guard.mod_revision
+        is_at(&found, guard.mod_revision)
     }
 
     pub(crate) fn all_hold(&self, guards: &[Guard]) -> bool
@@ -53,7 +54,7 @@ impl Store {
         ensures { IfOk result (λ a. a ≡ found range.now (etcd.looked_at self.now (etcd.after_changes (etcd.revision self.now +ℤ pos 1) (etcd.present self.now) changes.now) range.now.revision)) }
     {
         let history = self.history();
-        if range.revision == 0 {
+        if is_present(range.revision) {
             look(self.alloc(), history, changes, range)
         } else {
             look(self.alloc(), first(history, range.revision), &[], range)
@@ -99,6 +100,13 @@ impl Store {
     }
 }
 
+/// Whether a key's last put was at this revision, which is 0 for a key that is not there.
+fn is_at(found: &Option<Found<'_>>, revision: i64) -> bool
+    ensures { result ≡ int_eq (etcd.mod_of found.now) revision }
+{
+    mod_of(found) == revision
+}
+
 /// The revision of a key's last put, or 0.
 fn mod_of(found: &Option<Found<'_>>) -> i64
     ensures { result ≡ etcd.mod_of found.now }
@@ -107,6 +115,13 @@ fn mod_of(found: &Option<Found<'_>>) -> i64
         Some(found) => found.mod_revision(),
         None => 0,
     }
+}
+
+/// Whether a range that names this revision is read at the present.
+fn is_present(revision: i64) -> bool
+    ensures { result ≡ int_eq revision (pos 0) }
+{
+    revision == 0
 }
 
 /// The first so many revisions, or all where there are fewer.
