@@ -14,6 +14,7 @@ mod operations;
 mod range;
 mod refusal;
 mod store;
+mod transaction;
 
 pub use fault::{Denied, StoreFault};
 pub use store::Store;

@@ -13,7 +13,7 @@ ghost use Rattle.ev_store.specs.Changes.{puts_once};
 use crate::change::Change;
 use crate::fault::{Denied, StoreFault};
 use crate::leases::Leases;
-use ev_types::{Answer, Ask, RangeReq, TxnReq};
+use ev_types::{Answer, Ask, RangeReq};
 use std::alloc::Global;
 use std::marker::Model;
 use zx_base::{Memory, Seq};
@@ -118,5 +118,73 @@ impl Store {
         }
         self.revisions.push(changes)?;
         Ok(())
+    }
+
+    /// A range outside a transaction.
+    #[tactic(auto, using(crate::proofs::Denying::range_carried), unfolding(crate::specs::Causes::is_cause))]
+    fn read(&self, range: &RangeReq) -> Result<Answer, StoreFault>
+        ensures carried { IfOk result (λ a. carry self.now (Ask.Range range.now) ≡ Some (self.now, a)) }
+        ensures cause { IfErr result (λ e. if_denied (is_cause self.now (Ask.Range range.now)) e ≡ true) }
+    {
+        self.check_range(range)?;
+        let found = self.find(&[], range)?;
+        Ok(Answer::Range {
+            revision: self.revision(),
+            found,
+        })
+    }
+
+    #[tactic(auto, using(crate::proofs::Denying::grant_carried), unfolding(crate::specs::Causes::is_cause))]
+    fn grant(&mut self, id: i64, ttl: i64) -> Result<Answer, StoreFault>
+        ensures carried { IfOk result (λ a. carry self.old (Ask.Grant id ttl) ≡ Some (self.new, a)) }
+        ensures cause { IfErr result (λ e. if_denied (is_cause self.old (Ask.Grant id ttl)) e ≡ true) }
+        ensures stays { OnErr result (self.new ≡ self.old) }
+    {
+        if self.has_lease(id) {
+            return Err(StoreFault::Denied(Denied::LeaseExists { id }));
+        }
+        self.leases.grant(id, ttl)?;
+        Ok(Answer::Granted {
+            revision: self.revision(),
+            id,
+            ttl,
+        })
+    }
+
+    #[tactic(auto, using(crate::proofs::Denying::alive_carried))]
+    fn alive(&self, id: i64) -> Answer
+        ensures { carry self.now (Ask.Alive id) ≡ Some (self.now, result) }
+    {
+        Answer::Alive {
+            revision: self.revision(),
+            id,
+            ttl: self.leases.get(id).unwrap_or(0),
+        }
+    }
+
+    /// Carries out one ask. The first of its causes, in the order that `refusal.rt` gives, is the one that a denial names.
+    #[tactic(auto, using(crate::proofs::Denying::none_by_fault, crate::proofs::Denying::denies_exactly))]
+    pub fn carry_out(&mut self, ask: &Ask) -> Result<Answer, StoreFault>
+        requires { IsGrantable ask.now }
+        ensures carried { IfOk result (λ a. carry self.old ask.now ≡ Some (self.new, a)) }
+        ensures denied { (d : Denial) → result ≡ Err (StoreFault.Denied d) → carry self.old ask.now ≡ None }
+        ensures cause { (d : Denial) → result ≡ Err (StoreFault.Denied d) → is_cause self.old ask.now d ≡ true }
+        ensures exact { result ≢ Err StoreFault.Memory → denies result ≡ is_denied self.old ask.now }
+        ensures stays { OnErr result (self.new ≡ self.old) }
+    {
+        self.answer_to(ask)
+    }
+
+    fn answer_to(&mut self, ask: &Ask) -> Result<Answer, StoreFault>
+        ensures carried { IfOk result (λ a. carry self.old ask.now ≡ Some (self.new, a)) }
+        ensures cause { IfErr result (λ e. if_denied (is_cause self.old ask.now) e ≡ true) }
+        ensures stays { OnErr result (self.new ≡ self.old) }
+    {
+        match ask {
+            Ask::Txn(txn) => self.transact(txn),
+            Ask::Range(range) => self.read(range),
+            Ask::Grant { id, ttl } => self.grant(*id, *ttl),
+            Ask::Alive { id } => Ok(self.alive(*id)),
+        }
     }
 }
