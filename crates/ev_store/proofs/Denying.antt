@@ -117,6 +117,36 @@ txn_denied s t (denied.Future asked r) h = by_acts s t (denied.Future asked r) h
 txn_denied s t (denied.Compacted asked floor) h = by_acts s t (denied.Compacted asked floor) h
 txn_denied s t (denied.LeaseExists id) h = by_acts s t (denied.LeaseExists id) h
 
+-- an operation is no cause of what only lists can be
+never : (p : Act → Bool) → ((a : Act) → p a ≡ false) → (acts : List Act) → list_any p acts ≡ true → ⊥
+never p none [] h = cc
+never p none (a ∷ acts) h = ⊎_elim (λ t. let n = none a in cc) (λ t. never p none acts t) (or_cases (p a) (list_any p acts) h)
+
+no_crowd : (s : Store) (n : ℕ) (a : Act) → is_act_cause s (denied.TooMany n) a ≡ false
+no_crowd s n (act.Put k v lease) = refl
+no_crowd s n (act.Delete k) = refl
+no_crowd s n (act.Range q) = refl
+
+no_repeat : (s : Store) (key : Bytes) (a : Act) → is_act_cause s (denied.Twice key) a ≡ false
+no_repeat s key (act.Put k v lease) = refl
+no_repeat s key (act.Delete k) = refl
+no_repeat s key (act.Range q) = refl
+
+no_end : (s : Store) (r : ℤ) (a : Act) → is_act_cause s (denied.Full r) a ≡ false
+no_end s r (act.Put k v lease) = refl
+no_end s r (act.Delete k) = refl
+no_end s r (act.Range q) = refl
+
+-- a cause of the chosen operations is one of the transaction
+pub txn_by_acts : (s : Store) (t : TxnReq) (d : Denied) → list_any (is_act_cause s d) (chosen_acts s t) ≡ true → is_txn_cause s t d ≡ true
+txn_by_acts s t (denied.TooMany n) h = absurd (never (is_act_cause s (denied.TooMany n)) (no_crowd s n) (chosen_acts s t) h)
+txn_by_acts s t (denied.Twice k) h = absurd (never (is_act_cause s (denied.Twice k)) (no_repeat s k) (chosen_acts s t) h)
+txn_by_acts s t (denied.Full r) h = absurd (never (is_act_cause s (denied.Full r)) (no_end s r) (chosen_acts s t) h)
+txn_by_acts s t (denied.NoLease id) h = h
+txn_by_acts s t (denied.Future asked r) h = h
+txn_by_acts s t (denied.Compacted asked floor) h = h
+txn_by_acts s t (denied.LeaseExists id) h = h
+
 grant_denied : (s : Store) (id : ℤ) (d : Denied) → is_grant_cause s id d ≡ true → has_lease s id ≡ true
 grant_denied s id (denied.LeaseExists named) h = and_second _ _ h
 grant_denied s id (denied.NoLease named) h = cc

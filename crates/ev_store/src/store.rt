@@ -163,7 +163,6 @@ impl Store {
     }
 
     /// Carries out one ask. The first of its causes, in the order that `refusal.rt` gives, is the one that a denial names.
-    #[tactic(auto, using(crate::proofs::Denying::none_by_fault, crate::proofs::Denying::denies_exactly))]
     pub fn carry_out(&mut self, ask: &Ask) -> Result<Answer, StoreFault>
         requires { IsGrantable ask.now }
         ensures carried { IfOk result (λ a. carry self.old ask.now ≡ Some (self.new, a)) }
