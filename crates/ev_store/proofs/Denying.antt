@@ -91,7 +91,7 @@ crowd_long t n h =
     let own : (m : ℕ) → nat_eq n m ≡ true → nat_lt most_operations m ≡ true = λ m e. subst (λ (k : ℕ). nat_lt most_operations k ≡ true) (eqb-true n m e) long in
     ⊎_elim
     (λ u. or_left _ (is_long t.failure) (⊎_elim (λ v. or_left (is_long t.guards) (is_long t.success) (own (length t.guards) v)) (λ v. or_right (is_long t.guards) (is_long t.success) (own (length t.success) v))
-      (or_cases (nat_eq n (length t.guards)) (nat_eq n (length t.success)) u)))
+    (or_cases (nat_eq n (length t.guards)) (nat_eq n (length t.success)) u)))
     (λ u. or_right (is_long t.guards || is_long t.success) (is_long t.failure) (own (length t.failure) u))
     (or_cases (nat_eq n (length t.guards) || nat_eq n (length t.success)) (nat_eq n (length t.failure)) (and_second _ _ h))
 
@@ -110,7 +110,7 @@ txn_denied : (s : Store) (t : TxnReq) (d : Denied) → is_txn_cause s t d ≡ tr
 txn_denied s t (denied.TooMany n) h = by_early s t (or_left _ (writes_twice t.failure) (or_left (has_long_list t) (writes_twice t.success) (crowd_long t n h)))
 txn_denied s t (denied.Twice k) h =
     by_early s t (⊎_elim (λ u. or_left _ (writes_twice t.failure) (or_right (has_long_list t) (writes_twice t.success) (writes_twice-doubles k t.success u)))
-      (λ u. or_right (has_long_list t || writes_twice t.success) (writes_twice t.failure) (writes_twice-doubles k t.failure u)) (or_cases (doubles k t.success) (doubles k t.failure) h))
+    (λ u. or_right (has_long_list t || writes_twice t.success) (writes_twice t.failure) (writes_twice-doubles k t.failure u)) (or_cases (doubles k t.success) (doubles k t.failure) h))
 txn_denied s t (denied.Full r) h = or_right _ (is_full s (worked s (chosen_acts s t)).changes) (and_first _ _ (and_first _ _ h))
 txn_denied s t (denied.NoLease id) h = by_acts s t (denied.NoLease id) h
 txn_denied s t (denied.Future asked r) h = by_acts s t (denied.Future asked r) h
@@ -197,7 +197,7 @@ unfolding is_denied carried_out txn_done
 txn_passed s t changes parts short once once_too h =
     let full : is_full s (worked s (chosen_acts s t)).changes ≡ false = ap (is_full s) (sym h.changed) ∙ h.room in
     let none : txn_is_denied s t ≡ false =
-      or_false _ _ (or_false _ _ (or_false _ _ (or_false _ _ (or_false _ _ (or_false _ _ short once) once_too) h.lease) h.ahead) h.below) full in
+    or_false _ _ (or_false _ _ (or_false _ _ (or_false _ _ (or_false _ _ (or_false _ _ short once) once_too) h.lease) h.ahead) h.below) full in
     carry-done s (ask.Txn t) none
     ∙ (λ i. Some (grown s (sym h.changed i), answer.Txn (revision (grown s (sym h.changed i))) (succeeds s t) (sym h.answered i)))
 
@@ -206,7 +206,7 @@ pub txn_carried : (s : Store) (t : TxnReq) (b : Bool) (changes : List Change) (p
     carry s (ask.Txn t) ≡ Some (grown s changes, answer.Txn (revision (grown s changes)) b parts)
 txn_carried s t b changes parts is short once once_too =
     subst (λ (x : Bool). IsPassed s t x changes parts → carry s (ask.Txn t) ≡ Some (grown s changes, answer.Txn (revision (grown s changes)) x parts))
-      (sym is) (txn_passed s t changes parts short once once_too)
+    (sym is) (txn_passed s t changes parts short once once_too)
 
 pub range_carried : (s : Store) (q : RangeReq) (found_now : RangeAns) → is_future s q.revision ≡ false → is_compacted s q.revision ≡ false →
     found_now ≡ found q (looked_at s (present s) q.revision) → carry s (ask.Range q) ≡ Some (s, answer.Range (revision s) found_now)

@@ -83,8 +83,8 @@ pub doubles-cons : (k : Bytes) (a : Act) (acts : List Act) → doubles k acts �
 doubles-cons k a acts h =
     counted k a acts
     ∙ ⊎_elim (λ t. twice (cond (puts k a) 1 0 + count_by (puts k) acts) ((puts k a || list_any (puts k) acts) && (deletes k a || list_any (deletes k) acts)) (no_less (puts k) (puts k a) 2 (count_by (puts k) acts) t))
-      (λ t. mixed (cond (puts k a) 1 0 + count_by (puts k) acts) (puts k a || list_any (puts k) acts) (deletes k a || list_any (deletes k) acts) (or_right (puts k a) (list_any (puts k) acts) t.0) (or_right (deletes k a) (list_any (deletes k) acts) t.1))
-      (doubles_cases (count_by (puts k) acts) (list_any (puts k) acts) (list_any (deletes k) acts) h)
+    (λ t. mixed (cond (puts k a) 1 0 + count_by (puts k) acts) (puts k a || list_any (puts k) acts) (deletes k a || list_any (deletes k) acts) (or_right (puts k a) (list_any (puts k) acts) t.0) (or_right (deletes k a) (list_any (deletes k) acts) t.1))
+    (doubles_cases (count_by (puts k) acts) (list_any (puts k) acts) (list_any (deletes k) acts) h)
 
 two_of : (b : Bool) (n : ℕ) → b ≡ true → 1 ≤ n → 2 ≤ cond b 1 0 + n
 two_of true n h l = omega arith
@@ -101,8 +101,8 @@ again-doubles (Put x v lease) later k h =
     let found : list_any (writes k) later ≡ true = subst (λ (y : Bytes). list_any (writes y) later ≡ true) c.1 c.0 in
     counted k (Put x v lease) later
     ∙ ⊎_elim (λ t. twice (cond (same k x) 1 0 + count_by (puts k) later) _ (two_of (same k x) (count_by (puts k) later) own (count_from_any (puts k) later t)))
-      (λ t. mixed (cond (same k x) 1 0 + count_by (puts k) later) (same k x || list_any (puts k) later) (list_any (deletes k) later) (or_left (same k x) (list_any (puts k) later) own) t)
-      (any-writes k later found)
+    (λ t. mixed (cond (same k x) 1 0 + count_by (puts k) later) (same k x || list_any (puts k) later) (list_any (deletes k) later) (or_left (same k x) (list_any (puts k) later) own) t)
+    (any-writes k later found)
 again-doubles (Delete x) later k h =
     let c = chosen_key (list_any (puts x) later) x k h in
     let own : same k x ≡ true = subst (λ (y : Bytes). same y x ≡ true) c.1 (same-refl x) in
@@ -129,7 +129,7 @@ writes_twice-doubles k (Put x v lease ∷ acts) h = by_put (λ t. writes_twice-d
         (nat_lt 1 (cond b 1 0 + count_by (puts k) acts) || ((b || list_any (puts k) acts) && list_any (deletes k) acts)) ≡ true → (list_any (writes x) acts || writes_twice acts) ≡ true
     by_put rest true e h =
         let found : list_any (writes k) acts ≡ true = ⊎_elim (λ t. any_mono (puts k) (writes k) (put_writes k) acts (any_from_count (puts k) acts (omega (arith, t))))
-          (λ t. any_mono (deletes k) (writes k) (delete_writes k) acts t.1) (doubles_cases (1 + count_by (puts k) acts) true (list_any (deletes k) acts) h) in
+        (λ t. any_mono (deletes k) (writes k) (delete_writes k) acts t.1) (doubles_cases (1 + count_by (puts k) acts) true (list_any (deletes k) acts) h) in
         or_left (list_any (writes x) acts) (writes_twice acts) (subst (λ (y : Bytes). list_any (writes y) acts ≡ true) (same-true k x e) found)
     by_put rest false e h =
         or_right (list_any (writes x) acts) (writes_twice acts) (rest (ap (λ n. nat_lt 1 n || (list_any (puts k) acts && list_any (deletes k) acts)) (sym (zero-add (count_by (puts k) acts))) ∙ h))

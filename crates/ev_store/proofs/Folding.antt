@@ -97,9 +97,10 @@ after_put : (r : ℤ) (m : Keys) (k v : Bytes) (lease : ℤ) (q : Bytes) (n : �
     × IsBounded (n + cond b 1 0) (cond b (Some (kv_after_put r k v lease (get m q))) (get m q))
 after_put r m k v lease q n true e bound room =
     let is : put_over r k v lease (get m k) ≡ kv_after_put r k v lease (get m q) =
-      ap (λ x. put_over r k v lease (get m x)) (same-true k q e) ∙ sym (kv_after_put-is r k v lease (get m q) n bound room) in
-    (get-insert_at m k _ q ∙ ap (λ b. cond b (Some (put_over r k v lease (get m k))) (get m q)) e ∙ ap Some is,
-      subst (λ x. IsBounded (n + 1) (Some x)) (sym (kv_after_put-is r k v lease (get m q) n bound room)) (put_over-bounded r k v lease (get m q) n bound))
+    ap (λ x. put_over r k v lease (get m x)) (same-true k q e) ∙ sym (kv_after_put-is r k v lease (get m q) n bound room) in (
+      get-insert_at m k _ q ∙ ap (λ b. cond b (Some (put_over r k v lease (get m k))) (get m q)) e ∙ ap Some is,
+      subst (λ x. IsBounded (n + 1) (Some x)) (sym (kv_after_put-is r k v lease (get m q) n bound room)) (put_over-bounded r k v lease (get m q) n bound),
+    )
 after_put r m k v lease q n false e bound room =
     (get-insert_at m k _ q ∙ ap (λ b. cond b (Some (put_over r k v lease (get m k))) (get m q)) e, bounded-more n (n + 0) (get m q) (omega arith) bound)
 

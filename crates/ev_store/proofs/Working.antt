@@ -29,7 +29,7 @@ done_more s r m cs ps a acts =
     let here = one_act s (after_changes r m cs) a in
     let later = acts_from s r (after_changes r (after_changes r m cs) here.changes) acts in
     let regrouped : then_done (record { changes = cs; parts = ps }) (then_done here later) ≡ then_done (record { changes = cs ++ here.changes; parts = ps ++ here.parts }) later =
-      λ i. record { changes = sym (append_assoc cs here.changes later.changes) i; parts = sym (append_assoc ps here.parts later.parts) i } in
+    λ i. record { changes = sym (append_assoc cs here.changes later.changes) i; parts = sym (append_assoc ps here.parts later.parts) i } in
     regrouped ∙ ap (λ n. then_done (record { changes = cs ++ here.changes; parts = ps ++ here.parts }) (acts_from s r n acts)) (sym (after_changes-append r m cs here.changes))
 
 -- a step of the loop

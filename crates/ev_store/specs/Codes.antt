@@ -27,4 +27,4 @@ change_code = code_by ChangeParts (coded× (coded_list coded_ℕ) (coded_option 
 abbrev pub store_code : Coded Store
 store_code =
     code_by (List (List Change) × (map.FinMap int_cmp ℤ × ℤ)) (coded× (coded_list (coded_list change_code)) (coded× (map.code coded_ℤ coded_ℤ) coded_ℤ))
-      (λ s. (s.revisions, (s.leases, s.floor))) (λ p. record { revisions = p.0; leases = p.1.0; floor = p.1.1 }) (λ _. refl)
+    (λ s. (s.revisions, (s.leases, s.floor))) (λ p. record { revisions = p.0; leases = p.1.0; floor = p.1.1 }) (λ _. refl)

@@ -14,6 +14,8 @@ mod operations;
 mod range;
 mod refusal;
 mod store;
+#[cfg(test)]
+mod tests;
 mod transaction;
 
 pub use fault::{Denied, StoreFault};

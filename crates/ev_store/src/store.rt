@@ -37,7 +37,6 @@ impl Model for Store {
     ghost use Rattle.std.specs.List.{list_all};
     ghost use Rattle.ev_types.specs.Store as etcd;
     ghost use Rattle.ev_store.specs.Changes.{puts_once};
-
     ghost use Rattle.ev_store.specs.Codes.{store_code};
 
     ghost Value = { etcd.Store };
@@ -45,9 +44,9 @@ impl Model for Store {
     ghost coded = { store_code };
 
     ghost view = { λ s. record {
-        revisions = s.revisions.items;
-        leases = s.leases;
-        floor = s.floor;
+      revisions = s.revisions.items;
+      leases = s.leases;
+      floor = s.floor;
     } };
 
     ghost invariant = { λ s. (length s.revisions.items ≤ 4611686018427387903) × (list_all puts_once s.revisions.items ≡ true) };

@@ -7,5 +7,5 @@ abbrev pub invariant-loop-act : goal.invariant-loop-act
 invariant-loop-act l = record {
   lease : list_any (names_no_lease l.self) (drop l.act-index l.acts) ≡ list_any (names_no_lease l.self) l.acts;
   ahead : list_any (looks_ahead l.self) (drop l.act-index l.acts) ≡ list_any (looks_ahead l.self) l.acts;
-  below : list_any (looks_below l.self) (drop l.act-index l.acts) ≡ list_any (looks_below l.self) l.acts
+  below : list_any (looks_below l.self) (drop l.act-index l.acts) ≡ list_any (looks_below l.self) l.acts;
 }

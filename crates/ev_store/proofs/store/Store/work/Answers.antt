@@ -11,8 +11,8 @@ use Rattle.ev_store.proofs.store.Store.work.Goals as goal
 pub loop-act-init : goal.loop-act-init
 loop-act-init c = record {
   done = ap (λ cs. done_with c.args.self.now (revision c.args.self.now +ℤ pos 1) (present c.args.self.now) cs c.new-parts.result c.args.acts.now) c.new-changes.ensures
-    ∙ ap (λ ps. done_with c.args.self.now (revision c.args.self.now +ℤ pos 1) (present c.args.self.now) [] ps c.args.acts.now) c.new-parts.ensures;
-  distinct = ap (λ cs. are_distinct (put_keys cs ++ act_keys c.args.acts.now)) c.new-changes.ensures ∙ distinct-acts c.args.acts.now c.requires
+      ∙ ap (λ ps. done_with c.args.self.now (revision c.args.self.now +ℤ pos 1) (present c.args.self.now) [] ps c.args.acts.now) c.new-parts.ensures;
+  distinct = ap (λ cs. are_distinct (put_keys cs ++ act_keys c.args.acts.now)) c.new-changes.ensures ∙ distinct-acts c.args.acts.now c.requires;
 }
 
 pub act-requires : goal.act-requires
@@ -27,8 +27,8 @@ loop-act-preserved c =
     let front : all ≡ c.act-item.result ∷ rest = front_of c.args.acts.now c.loop-act.act-index c.act-item.result c.loop-act-test.true c.act-item.is in
     record {
       done = done_step s r (present s) _ c.loop-act.changes c.act.new.changes c.loop-act.parts c.push.new.self c.act-item.result c.in_ok-part.part all rest
-        front c.in_ok-part.ensures.changes c.in_ok-part.ensures.part c.in_ok-push.ensures.ok c.loop-act.invariant.done;
-      distinct = keys_step s (after_changes r (present s) c.loop-act.changes) c.loop-act.changes c.act.new.changes c.act-item.result all rest front c.in_ok-part.ensures.changes c.loop-act.invariant.distinct
+          front c.in_ok-part.ensures.changes c.in_ok-part.ensures.part c.in_ok-push.ensures.ok c.loop-act.invariant.done;
+      distinct = keys_step s (after_changes r (present s) c.loop-act.changes) c.loop-act.changes c.act.new.changes c.act-item.result all rest front c.in_ok-part.ensures.changes c.loop-act.invariant.distinct;
     }
 
 pub returns-clause-changes : goal.returns-clause-changes

@@ -11,5 +11,5 @@ invariant-loop-act l =
     let r = revision s +ℤ pos 1 in
     record {
       done : done_with s r (present s) l.changes l.parts (drop l.act-index l.acts) ≡ acts_from s r (present s) l.acts;
-      distinct : are_distinct (put_keys l.changes ++ act_keys (drop l.act-index l.acts)) ≡ true
+      distinct : are_distinct (put_keys l.changes ++ act_keys (drop l.act-index l.acts)) ≡ true;
     }
