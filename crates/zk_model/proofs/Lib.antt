@@ -1,0 +1,7 @@
+pub mod Appending
+pub mod Lookups
+pub mod Walks
+pub mod Longer
+pub mod Counts
+pub mod Placed
+pub mod Happened
