@@ -5,3 +5,5 @@ pub mod Longer
 pub mod Counts
 pub mod Placed
 pub mod Happened
+pub mod Quiet
+pub mod Choices

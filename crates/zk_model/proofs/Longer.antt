@@ -8,7 +8,8 @@ use Rattle.zk_model.specs.Requests.{Frame, read_request}
 use Rattle.zk_model.specs.History.{after}
 use Rattle.zk_model.specs.Watches.{Watches, is_unarmed}
 use Rattle.zk_model.specs.Answers.{Told, plain_reply, xid_of, session_reply}
-use Rattle.zk_model.specs.Conversations.{Walker, Choice, Tell, Plain, Answer, Due, move, walk, told_update, next_update, placed_frame, plain_answer, later_of, answer_plainly, answered, answered_if, no_more, answer_seen, carried_told, response_at, ends, answer_as_of, has_header, answer_framed, answer_past, fired_above, carried, then_due}
+use Rattle.zk_model.specs.Conversations.{carried_shown, Walker, Choice, Tell, Plain, Answer, Due, move, walk, told_update, next_update, placed_frame, plain_answer, later_of, answer_plainly, answered, answered_if, no_more, answer_seen, carried_told, response_at, ends, answer_as_of, has_header, answer_framed, answer_past, fired_above, carried, then_due}
+use Rattle.zk_model.proofs.Lookups.{first_place-skip}
 use Rattle.zk_model.proofs.Walks.{move-push, tell-push, plain-push, unless-push}
 
 -- ---- the next frame: an answer takes one, and telling an update takes none
@@ -156,3 +157,8 @@ walk-more lines c id w (z ∷ xs) x r y h m = go (move lines c id w z) refl (λ 
         let s = then_due-next u.1 (walk lines c id u.0 xs) r t in
         let n : move lines c id s.0.0 x ≡ Some y = rw s.2 m in
         rw (later u.0 s.0 s.1 n) (ap (λ l. Some (y.0, l)) (sym (append_assoc u.1 s.0.1 y.1) ∙ ap (λ l. l ++ y.1) s.3))
+
+-- a line that carries out none of them
+pub stays-line : (lines : List TranscriptLine) (l : TranscriptLine) (c n : ℕ) → ((j : ℕ) → j < n → carried_shown c j l ≡ None) → Stays lines (l ∷ []) c n
+unfolding Stays
+stays-line lines l c n none = λ j small. first_place-skip (carried_shown c j) 0 lines l (none j small)

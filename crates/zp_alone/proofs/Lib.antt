@@ -1,0 +1,4 @@
+pub mod Walked
+pub mod Built
+pub mod Updated
+pub mod Talked
