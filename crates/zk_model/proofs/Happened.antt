@@ -126,6 +126,14 @@ punctual-happens r r' h legal ticks punctual happens =
 pub within-happens : (r r' : Run) (h : Happening) → Happens r h r' → AreWithin r'.ticks r'.lines
 within-happens r r' h happens = subst (λ (x : Run). AreWithin x.ticks x.lines) (sym happens.leaves) (within-push r.ticks (r.lines ++ happens.added) (clock_after r.clock h))
 
+pub within-new : (lines : List TranscriptLine) → AreWithin [] lines
+unfolding AreWithin
+within-new lines = omega arith
+
+pub within-runs : (r r' : Run) (hs : List Happening) → RunsFrom r hs r' → AreWithin r.ticks r.lines → AreWithin r'.ticks r'.lines
+within-runs r r' [] runs h = subst (λ (x : Run). AreWithin x.ticks x.lines) (sym runs) h
+within-runs r r' (g ∷ hs) runs h = within-runs runs.0 r' hs runs.2 (within-happens r runs.0 g runs.1)
+
 -- ---- what frames show
 
 no_frame_of : (c clock : ℕ) (lines added : List TranscriptLine) (j d i : ℕ) (z : ℤ) (bytes : List ℕ) → Settles c clock lines added → slice_get added j ≡ Some (FrameLine d i z bytes) → ⊥

@@ -38,6 +38,15 @@ first_shown-skip {A} show (x ∷ ls) l h =
       | None ↦ first_shown-skip show ls l h
     ]
 
+pub first_shown-new : {A : Type 0} (show : TranscriptLine → Option A) (ls : List TranscriptLine) (l : TranscriptLine)
+    → first_shown show ls ≡ None → first_shown show (ls ++ l ∷ []) ≡ show l
+first_shown-new {A} show [] l n = elim (show l) as (λ o. ◌≡◌ {A = Option A} (elim o [ Some y ↦ Some y | None ↦ None ]) o) [ Some y ↦ refl | None ↦ refl ]
+first_shown-new {A} show (x ∷ ls) l n =
+    elim (show x) as (λ o. ◌≡◌ {A = Option A} (elim o [ Some y ↦ Some y | None ↦ first_shown show ls ]) None → ◌≡◌ {A = Option A} (elim o [ Some y ↦ Some y | None ↦ first_shown show (ls ++ l ∷ []) ]) (show l)) [
+      | Some y ↦ λ e. absurd (cc)
+      | None ↦ λ e. first_shown-new show ls l e
+    ] n
+
 -- what stands at the first place is what is shown first
 pub first_shown-place : {A : Type 0} (show : TranscriptLine → Option A) (k : ℕ) (ls : List TranscriptLine) (x : ℕ × A)
     → first_place show k ls ≡ Some x → first_shown show ls ≡ Some x.1

@@ -118,7 +118,7 @@ counted-send c lines packet next h = record {
 
 -- ---- a frame of c
 
-one_frame : (c i : ℕ) (z : ℤ) (bytes : List ℕ) → frames_of c (FrameLine c i z bytes ∷ []) ≡ 1
+pub one_frame : (c i : ℕ) (z : ℤ) (bytes : List ℕ) → frames_of c (FrameLine c i z bytes ∷ []) ≡ 1
 one_frame c i z bytes = rw (same_number c) refl
 
 shown-frame : (c i : ℕ) (z : ℤ) (bytes : List ℕ) → frame_shown c i (FrameLine c i z bytes) ≡ Some bytes
