@@ -7,3 +7,7 @@ pub mod Placed
 pub mod Happened
 pub mod Quiet
 pub mod Choices
+pub mod JuteFields
+pub mod Items
+pub mod Framing
+pub mod RequestLaws
