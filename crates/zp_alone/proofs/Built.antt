@@ -1,5 +1,5 @@
 -- What is true of the requests that are built.
-use Rattle.std.proofs.Common.{◌≡◌, ℤ, Bool, true, false, refl, List}
+use Rattle.std.proofs.Common.{◌≡◌, ℕ, ◌≤◌, ℤ, Bool, true, false, refl, List, length, All, arith}
 use Rattle.std.specs.Prelude.{Option, Some, None, if◌then◌else◌, not}
 use Rattle.zk_model.specs.declared.reply.Reply.{Reply}
 use Rattle.zk_model.specs.declared.reply.Reply.TheVariants as reply
@@ -11,7 +11,12 @@ use Rattle.zk_model.specs.Single.{form_refusal, path_refusal, or_else, is_sequen
 use Rattle.zk_model.specs.Answers.{plain_request, refused_reply, path_reply}
 use Rattle.zk_model.specs.Legal.{is_within_parts}
 use Rattle.zk_model.specs.Conversations.{is_auth_refusal}
-use Rattle.zk_model.specs.Runs.{is_built_request}
+use Rattle.zk_model.specs.Runs.{is_built, is_built_request}
+use Rattle.zk_model.specs.Records.{contents_of}
+use Rattle.zk_model.specs.Requests.{Asks, read_request}
+use Rattle.zk_model.specs.Frames.{most_frame}
+use Rattle.zk_model.specs.History.{when}
+use Rattle.zp_alone.specs.World.{IsReadBuilt}
 
 -- ---- none of them ends its connection
 
@@ -37,3 +42,15 @@ built-goes_on _ answer built h = absurd (cc)
 pub built-parts : (r : Request) → is_built_request r ≡ true → is_within_parts (Some r) ≡ true
 built-parts (req.Multi parts) built = absurd (cc)
 built-parts _ built = refl
+
+-- ---- reading them
+
+kept_if : (frame : List ℕ) (xid : ℤ) (r : Request) (b : Bool) → read_request frame ≡ Asks xid r → length frame ≤ most_frame
+    → All (λ content. length content ≤ length frame) (contents_of r) → is_built_request r ≡ b → IsReadBuilt frame (when b (xid, r))
+unfolding is_built
+kept_if frame xid r true read small contents b = (read, record { built = b; short = λ k d less. omega (arith, contents k d less) })
+kept_if frame xid r false read small contents b = rw (read, b) refl
+
+pub built_read : (frame : List ℕ) (xid : ℤ) (r : Request) → read_request frame ≡ Asks xid r → length frame ≤ most_frame
+    → All (λ content. length content ≤ length frame) (contents_of r) → IsReadBuilt frame (when (is_built_request r) (xid, r))
+built_read frame xid r read small contents = kept_if frame xid r (is_built_request r) read small contents refl

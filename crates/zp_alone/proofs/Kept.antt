@@ -28,11 +28,11 @@ use Rattle.zp_alone.specs.declared.waiting.Waiting.{Waiting}
 use Rattle.zp_alone.specs.World.{World, IsLinked}
 use Rattle.zp_alone.specs.Talking.{Talks, AreQueued, IsQueued, StandsAt}
 use Rattle.zp_alone.specs.Reached.{IsKeptIn, IsNew, IsTalking, KeepsTo, IsKept}
-use Rattle.zp_alone.specs.Effects.{opened, framed, ticked, answered, answer_lines, zxid_of, asked_next, AnswersOne, AnswersSome}
+use Rattle.zp_alone.specs.Effects.{asked_line, opened, framed, ticked, answered, answer_lines, zxid_of, asked_next, AnswersOne, AnswersSome}
 use Rattle.zp_alone.proofs.Linked.{linked-push, linked-open}
 use Rattle.zp_alone.proofs.Talked.{talks-open, talks-frame, talks-plain, talks-looked, talks-updated}
 use Rattle.zp_alone.proofs.Walked.{one_frame}
-use Rattle.zp_alone.proofs.Updated.{asked_line, asked_commit-of, kept-asked}
+use Rattle.zp_alone.proofs.Updated.{asked_commit-of, kept-asked}
 
 -- a line that changes nothing
 kept_in-quiet : (store : Store) (lines : List TranscriptLine) (l : TranscriptLine) → IsQuiet l → IsKeptIn store lines → IsKeptIn store (lines ++ l ∷ [])
@@ -169,12 +169,12 @@ answer_lines-each c clock q told (Updated reply zxid) =
     All-cons (IsAnswerLine c clock) (asked_line c q.index clock zxid) (Send c (reply_packet q.xid zxid reply) ∷ []) (refl, refl) (send-each c clock (reply_packet q.xid zxid reply))
 
 pub answers-none : (c : ℕ) (w : World) → AnswersSome c w w
-answers-none c w = record { kept = λ k. k; connection = refl; clock = refl; added = []; lines = sym (append-nil w.lines); each = All-nil (IsAnswerLine c w.clock) }
+answers-none c w = record { kept = λ linked k. k; connection = refl; clock = refl; added = []; lines = sym (append-nil w.lines); each = All-nil (IsAnswerLine c w.clock) }
 
-answers-then : (c : ℕ) (first mid : World) (q : Waiting) (qs : List Waiting) (store : Store) (a : Answered) → first.connection ≡ Some c → AnswersSome c first mid
+answers-then : (c : ℕ) (first mid : World) (q : Waiting) (qs : List Waiting) (store : Store) (a : Answered) → AnswersSome c first mid
     → mid.waiting ≡ q ∷ qs → Answers mid.store store q.request mid.clock a → AnswersSome c first (answered mid c q qs store a)
-answers-then c first mid q qs store a linked some oldest answers = record {
-  kept = λ k. kept-answered c mid q qs store a (some.connection ∙ linked) oldest answers (some.kept k);
+answers-then c first mid q qs store a some oldest answers = record {
+  kept = λ linked k. kept-answered c mid q qs store a (some.connection ∙ linked) oldest answers (some.kept linked k);
   connection = some.connection;
   clock = some.clock;
   added = some.added ++ answer_lines c mid.clock q mid.told a;
@@ -183,6 +183,6 @@ answers-then c first mid q qs store a linked some oldest answers = record {
     (subst (λ (n : ℕ). All (IsAnswerLine c n) (answer_lines c mid.clock q mid.told a)) some.clock (answer_lines-each c mid.clock q mid.told a));
 }
 
-pub answers-more : (c : ℕ) (first mid last : World) → first.connection ≡ Some c → AnswersSome c first mid → AnswersOne c mid last → AnswersSome c first last
-answers-more c first mid last linked some one =
-    subst (AnswersSome c first) (sym one.leaves) (answers-then c first mid one.request one.later one.store one.answer linked some one.oldest one.answers)
+pub answers-more : (c : ℕ) (first mid last : World) → AnswersSome c first mid → AnswersOne c mid last → AnswersSome c first last
+answers-more c first mid last some one =
+    subst (AnswersSome c first) (sym one.leaves) (answers-then c first mid one.request one.later one.store one.answer some one.oldest one.answers)

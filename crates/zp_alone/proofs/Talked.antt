@@ -25,9 +25,10 @@ use Rattle.zk_model.proofs.Quiet.{open_quiet, frame_quiet, send_quiet, after-qui
 use Rattle.zk_model.proofs.Choices.{MayAnswer, AsksNext, answered_now, answered_plainly, answer-looked, answer-carried, answer-plain, plain-due, after_update-bound}
 use Rattle.zp_alone.specs.declared.waiting.Waiting.{Waiting}
 use Rattle.zp_alone.specs.Talking.{IsQueued, AreQueued, IsWalked, StandsAt, AreCounted, AreBelow, Talks}
+use Rattle.zp_alone.specs.Effects.{asked_line}
 use Rattle.zp_alone.proofs.Built.{built-goes_on}
 use Rattle.zp_alone.proofs.Walked.{walked-push, walked-send, stands-push, queued-push, queued-frame, counted-push, counted-send, counted-frame, below-later, below-push, uncarried}
-use Rattle.zp_alone.proofs.Updated.{asked_line, after-asked}
+use Rattle.zp_alone.proofs.Updated.{after-asked}
 use Rattle.zk_model.proofs.Lookups.{first_place-new}
 use Rattle.zk_model.specs.Legal.{index_shown, is_below}
 

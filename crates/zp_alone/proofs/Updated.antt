@@ -21,11 +21,8 @@ use Rattle.zn_layout.specs.StandsFor.{StandsFor}
 use Rattle.zp_alone.specs.declared.waiting.Waiting.{Waiting}
 use Rattle.zp_alone.specs.Talking.{IsQueued, AreBelow}
 use Rattle.zp_alone.specs.Reached.{IsKeptIn}
+use Rattle.zp_alone.specs.Effects.{asked_line}
 use Rattle.zp_alone.proofs.Built.{built-parts}
-
--- the line of an update that c asked
-abbrev pub asked_line : ℕ → ℕ → ℕ → ℤ → TranscriptLine
-asked_line c i now zxid = Update (record { zxid = zxid; kind = Asked c i now })
 
 request-of : (c i : ℕ) (lines : List TranscriptLine) (place : ℕ) (bytes : List ℕ) (xid : ℤ) (r : Request)
     → placed_frame c i lines ≡ Some (place, bytes) → read_request bytes ≡ Asks xid r → request c i lines ≡ Some r
