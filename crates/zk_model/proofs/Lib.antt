@@ -6,6 +6,15 @@ pub mod WrittenWords
 pub mod LineReading
 pub mod TranscriptLaws
 pub mod ScriptLaws
+pub mod Appending
+pub mod Lookups
+pub mod Walks
+pub mod Longer
+pub mod Counts
+pub mod Placed
+pub mod Happened
+pub mod Quiet
+pub mod Choices
 pub mod JuteFields
 pub mod Items
 pub mod Framing
