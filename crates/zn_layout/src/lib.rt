@@ -6,6 +6,8 @@
 //! of it; the layout is this project's own.
 #![tactic(auto)]
 
+mod key;
 mod record;
 
+pub use key::{counts_key, data_key, head_key};
 pub use record::{CountRec, HeadRec, LeaseRec, NodeRec, SessionRec};
