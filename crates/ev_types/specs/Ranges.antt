@@ -1,6 +1,6 @@
 -- Ranges of keys (etcd API reference, `RangeRequest`, `RangeResponse`).
-use Rattle.std.specs.Prelude.{ℤ, pos, nat_abs, Bool, not, ◌&&◌, List, [], length, take, map, nat_lt, if◌then◌else◌}
-use Rattle.std.specs.Ordering.{int_eq, is_lt, nat_cmp}
+use Rattle.std.specs.Prelude.{ℤ, pos, nat_abs, Bool, not, ◌&&◌, List, [], length, take, map, nat_lt, int_lt, if◌then◌else◌}
+use Rattle.std.specs.Ordering.{is_lt, nat_cmp}
 use Rattle.std.specs.Cmp.Lexicographic.{slice_cmp}
 use Rattle.std.specs.FinMap.{retain_keys, values}
 use Rattle.ev_types.specs.declared.answer.Kv.{Kv}
@@ -27,9 +27,9 @@ in_range r m = values (retain_keys m (is_within r.key r.end))
 abbrev pub shown : Bool → Kv → Kv
 shown keys_only kv = if keys_only then record kv { value = [] } else kv
 
--- the first so many; 0 is no limit
+-- the first so many; a limit that isn't above 0 is none
 abbrev pub limited : ℤ → List Kv → List Kv
-limited limit kvs = if int_eq limit (pos 0) then kvs else take (nat_abs limit) kvs
+limited limit kvs = if int_lt (pos 0) limit then take (nat_abs limit) kvs else kvs
 
 abbrev pub found_among : RangeReq → List Kv → RangeAns
 found_among r all = record {

@@ -1,0 +1,64 @@
+-- A sorted map of std as a finite map: the leases, and the keys that a range met.
+use Rattle.std.proofs.Common.{◌≡◌, Bool, true, false, cond, ◌&&◌, Option, Some, None, List, [], ◌∷◌, map, refl, sym, ap, ◌∙◌, subst}
+use Rattle.std.specs.Prelude.{T}
+use Rattle.std.specs.declared.cmp.Ordering.{Ordering}
+use Rattle.std.specs.declared.cmp.Ordering.TheVariants.{Less}
+use Rattle.std.specs.Ordering.{is_lt, is_eq, eq_by_cmp, nat_cmp}
+use Rattle.std.specs.Cmp.{IsTotalOrder, eq_by_cmp_equiv}
+use Rattle.std.specs.Cmp.Lexicographic.{slice_cmp, nat_list_cmp_total}
+use Rattle.std.specs.List.{AllByRecursion}
+use Rattle.std.specs.List.Sorted.{IsStrictlySortedBy}
+use Rattle.std.specs.Map.{lookup, keys_of, values_of}
+use Rattle.std.specs.BTreeMap.{is_at}
+use Rattle.std.specs.FinMap.{FinMap, IsAntisymmetric, find, is_sorted, get, insert, entries, retain_keys, values, from_entries, from_sorted, same_map, get-from_entries, get-insert, get-from_sorted, entries-from_sorted}
+use Rattle.std.specs.FinMap.Entries.{below_all}
+use Rattle.std.proofs.lemmas.Map.Lookups.{exact_bytes}
+use Rattle.zx_base.specs.Maps.{Bytes, Map}
+use Rattle.zx_base.proofs.MapLaws.{get-retain}
+use Rattle.ev_types.specs.declared.answer.Kv.{Kv}
+use Rattle.ev_types.specs.declared.ask.RangeReq.{RangeReq}
+use Rattle.ev_types.specs.Ranges.{Keys, is_within, in_range}
+
+both : (a b : Bool) → T a → T b → T (a && b)
+both true b p q = q
+both false b p q = p
+
+module _ {K X : Type 0} (R : K → K → Ordering) where
+  find-lookup : (q : K) (es : List (K × X)) → find R q es ≡ lookup (is_at (R q)) es
+  find-lookup q [] = refl
+  find-lookup q (e ∷ es) = ap (cond (eq_by_cmp R q e.0) (Some e.1)) (find-lookup q es)
+
+  below_all-from_sorted : (k : K) (es : List (K × X)) → AllByRecursion (λ y. R k y ≡ Less) (keys_of es) → T (below_all R k es)
+  below_all-from_sorted k [] h = tt
+  below_all-from_sorted k (e ∷ es) h = both _ _ (subst (λ (o : Ordering). T (is_lt o)) (sym h.0) tt) (below_all-from_sorted k es h.1)
+
+  is_sorted-from_keys : (es : List (K × X)) → IsStrictlySortedBy R (keys_of es) → T (is_sorted R es)
+  unfolding IsStrictlySortedBy
+  is_sorted-from_keys [] h = tt
+  is_sorted-from_keys (e ∷ es) h = both _ _ (below_all-from_sorted e.0 es h.0) (is_sorted-from_keys es h.1)
+
+module _ {K X : Type 0} {R : K → K → Ordering} (o : IsTotalOrder R) where
+  pub get-lookup : (es : List (K × X)) (q : K) → get (from_entries {R = R} es) q ≡ lookup (is_at (R q)) es
+  get-lookup es q = get-from_entries o es q ∙ find-lookup R q es
+
+  -- a key that took a value
+  pub from_entries-update : IsAntisymmetric R → (es fs : List (K × X)) (k : K) (v : X) →
+      ((q : K) → lookup (is_at (R q)) fs ≡ cond (is_at (R k) q) (Some v) (lookup (is_at (R q)) es)) → from_entries {R = R} fs ≡ insert (from_entries es) k v
+  from_entries-update exact es fs k v updates = same_map o exact _ _ (λ q.
+      get-lookup fs q ∙ updates q ∙ ap (λ b. cond b (Some v) (lookup (is_at (R q)) es)) ((eq_by_cmp_equiv o).symm k q)
+      ∙ ap (cond (eq_by_cmp R q k) (Some v)) (sym (get-lookup es q)) ∙ sym (get-insert o (from_entries es) k v q))
+
+  -- entries in order that answer as a map does are the map's
+  pub entries_from_gets : IsAntisymmetric R → (m : FinMap R X) (es : List (K × X)) → IsStrictlySortedBy R (keys_of es) →
+      ((q : K) → lookup (is_at (R q)) es ≡ get m q) → es ≡ entries m
+  entries_from_gets exact m es ordered gets =
+      let sorted : T (is_sorted R es) = is_sorted-from_keys R es ordered in
+      sym (entries-from_sorted R es sorted)
+      ∙ ap entries (same_map o exact (from_sorted es) m (λ q. get-from_sorted R es q sorted ∙ find-lookup R q es ∙ gets q))
+
+-- the keys in a range, in order, where each of them was looked up
+pub values-in_range : (r : RangeReq) (m : Keys) (es : List (Bytes × Kv)) → IsStrictlySortedBy (slice_cmp nat_cmp) (keys_of es) →
+    ((q : Bytes) → lookup (is_at (slice_cmp nat_cmp q)) es ≡ cond (is_within r.key r.end q) (get m q) None) → values_of es ≡ in_range r m
+unfolding in_range
+values-in_range r m es ordered gets =
+    ap (map (λ (e : Bytes × Kv). e.1)) (entries_from_gets nat_list_cmp_total exact_bytes (retain_keys m (is_within r.key r.end)) es ordered (λ q. gets q ∙ sym (get-retain m (is_within r.key r.end) q)))

@@ -1,0 +1,28 @@
+//! What a revision did to one key.
+
+use std::marker::Model;
+use zx_base::Bytes;
+
+/// What a put wrote.
+#[derive(Debug, Drop)]
+pub struct Content {
+    pub value: Bytes,
+    /// The lease that the key then has, or 0.
+    pub lease: i64,
+}
+
+/// One key with what was put, or with nothing where it was removed.
+#[derive(Debug, Drop)]
+pub struct Change {
+    pub key: Bytes,
+    pub content: Option<Content>,
+}
+
+impl Model for Change {
+    ghost use Rattle.ev_types.specs.Store as etcd;
+    ghost use Rattle.ev_store.specs.Changes.{change_of};
+
+    ghost Value = { etcd.Change };
+
+    ghost view = { λ c. change_of c.key c.content };
+}

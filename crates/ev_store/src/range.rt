@@ -1,0 +1,207 @@
+//! Ranges: the keys between two, in the order of their bytes.
+
+ghost use Rattle.std.specs.Prelude.{◌≡◌, ◌<◌, ◌≤◌, ◌^◌, ◌+◌, pos, true, List, length, map, take, IfOk, OnOk, Option};
+ghost use Rattle.std.specs.BTreeMap as tree;
+ghost use Rattle.std.specs.FinMap.{empty};
+ghost use Rattle.std.specs.List.{list_all};
+ghost use Rattle.std.specs.Ordering.{nat_cmp};
+ghost use Rattle.std.specs.Cmp.Lexicographic.{slice_cmp};
+ghost use Rattle.ev_types.specs.declared.answer.Kv.{Kv};
+ghost use Rattle.ev_types.specs.Ranges.{is_within, shown, limited, found, found_among};
+ghost use Rattle.ev_types.specs.Store.{keys_from, after_changes as keys_after_changes};
+ghost use Rattle.ev_store.specs.Changes.{puts_once};
+ghost use Rattle.ev_store.specs.Folds.{within_change, within_changes, within_revisions};
+ghost use Rattle.zx_base.specs.Maps.{Bytes as ByteList};
+
+use crate::change::Change;
+use crate::key::{Found, after_put};
+use ev_types::{Kv, RangeAns, RangeReq};
+use std::alloc::Global;
+use std::cmp::Ordering;
+use std::collections::BTreeMap;
+use std::marker::Model;
+use zx_base::{Bytes, Memory, Seq};
+
+/// A key's bytes, in their order.
+#[derive(Drop)]
+pub struct Name<'a> {
+    bytes: &'a [u8],
+}
+
+impl<'a> Model for Name<'a> {
+    ghost use Rattle.std.specs.Prelude.{List, ℕ};
+
+    ghost Value = { List ℕ };
+
+    ghost view = { λ n. n.bytes.now };
+}
+
+impl<'a> PartialEq for Name<'a> {
+    ghost use Rattle.std.specs.Prelude.{nat_eq};
+    ghost use Rattle.std.specs.Cmp.Lexicographic.{pointwise};
+    ghost use Rattle.std.specs.Cmp.Rules.{comparing};
+    ghost use Rattle.std.proofs.Common.{rules};
+
+    ghost eq = { pointwise nat_eq };
+
+    ghost laws = { Prim.search (comparing, rules) };
+
+    fn eq(&self, other: &Name<'a>) -> bool {
+        self.bytes == other.bytes
+    }
+}
+
+impl<'a> Eq for Name<'a> {
+    ghost use Rattle.std.specs.Cmp.Rules.{comparing};
+    ghost use Rattle.std.proofs.Common.{rules};
+
+    ghost laws = { Prim.search (comparing, rules) };
+}
+
+impl<'a> Ord for Name<'a> {
+    ghost use Rattle.std.specs.Ordering.{nat_cmp};
+    ghost use Rattle.std.specs.Cmp.Lexicographic.{slice_cmp};
+    ghost use Rattle.std.specs.Cmp.Rules.{comparing};
+    ghost use Rattle.std.proofs.Common.{rules};
+
+    ghost cmp = { slice_cmp nat_cmp };
+
+    ghost total = { Prim.search (comparing, rules) };
+
+    ghost matches_partial_cmp = { Prim.search (comparing, rules) };
+
+    ghost matches_eq = { Prim.search (comparing, rules) };
+
+    fn cmp(&self, other: &Name<'a>) -> Ordering {
+        self.bytes.cmp(other.bytes)
+    }
+}
+
+impl<'a> PartialOrd for Name<'a> {
+    ghost use Rattle.std.specs.Ordering.{nat_cmp, as_partial_cmp};
+    ghost use Rattle.std.specs.Cmp.{partial_order_from_own_ties};
+    ghost use Rattle.std.specs.Cmp.Lexicographic.{slice_cmp};
+    ghost use Rattle.std.specs.Cmp.Rules.{comparing};
+    ghost use Rattle.std.proofs.Common.{rules};
+
+    ghost partial_cmp = { as_partial_cmp (slice_cmp nat_cmp) };
+
+    ghost laws = { partial_order_from_own_ties (Prim.search (comparing, rules)) (Prim.search (comparing, rules)) };
+
+    fn partial_cmp(&self, other: &Name<'a>) -> Option<Ordering> {
+        Some(self.cmp(other))
+    }
+}
+
+/// The keys of a range that are there.
+type Held<'a> = BTreeMap<Name<'a>, Found<'a>>;
+
+/// Whether a key is in the range.
+#[tactic(auto, unfolding(ev_types::specs::Ranges::is_within))]
+fn has(range: &RangeReq, key: &[u8]) -> bool
+    ensures { result ≡ is_within range.now.key range.now.end key.now }
+{
+    if range.end.is(&[]) {
+        range.key.is(key)
+    } else {
+        !key.cmp(range.key.as_slice()).is_lt() && key.cmp(range.end.as_slice()).is_lt()
+    }
+}
+
+/// Takes one change into what is held of the range.
+fn hold<'a>(held: &mut Held<'a>, range: &RangeReq, revision: i64, change: &'a Change) -> Result<(), Memory>
+    ensures { OnOk result ((q : ByteList) → tree.get (slice_cmp nat_cmp) held.new q ≡ within_change range.now revision q (tree.get (slice_cmp nat_cmp) held.old q) change.now) }
+{
+    if !has(range, change.key.as_slice()) {
+        return Ok(());
+    }
+    let name = Name {
+        bytes: change.key.as_slice(),
+    };
+    match &change.content {
+        Some(content) => {
+            let found = after_put(revision, held.get(&name), &change.key, content);
+            held.insert(name, found)?;
+        }
+        None => {
+            held.remove(&name);
+        }
+    }
+    Ok(())
+}
+
+/// Takes the changes of one revision into what is held of the range.
+fn hold_changes<'a>(held: &mut Held<'a>, range: &RangeReq, revision: i64, changes: &'a [Change]) -> Result<(), Memory>
+    ensures { OnOk result ((q : ByteList) → tree.get (slice_cmp nat_cmp) held.new q ≡ within_changes range.now revision q (tree.get (slice_cmp nat_cmp) held.old q) changes.now) }
+{
+    for change in changes {
+        hold(held, range, revision, change)?;
+    }
+    Ok(())
+}
+
+/// The keys of the range after these revisions, of which the first is revision 1.
+fn held_after<'a>(alloc: Global, revisions: &'a [Seq<Change>], range: &RangeReq) -> Result<Held<'a>, Memory>
+    requires { length revisions.now < 2 ^ 62 }
+    ensures { IfOk result (λ held. (q : ByteList) → tree.get (slice_cmp nat_cmp) held q ≡ within_revisions range.now 1 q Option.None revisions.now) }
+{
+    let mut held = BTreeMap::new(alloc);
+    for (index, changes) in revisions.iter().enumerate() {
+        hold_changes(&mut held, range, index as i64 + 1, changes.as_slice())?;
+    }
+    Ok(held)
+}
+
+/// How many of so many keys are shown.
+fn shown_count(limit: i64, all: usize) -> usize
+    ensures first { (kvs : List Kv) → length kvs ≡ all → take result kvs ≡ limited limit kvs }
+    ensures most { result ≤ all }
+{
+    if limit > 0 {
+        all.min(limit as usize)
+    } else {
+        all
+    }
+}
+
+/// Copies of the first so many keys.
+fn copies(alloc: Global, held: &Held<'_>, most: usize, keys_only: bool) -> Result<Seq<Kv>, Memory>
+    ensures { IfOk result (λ kvs. kvs ≡ map (shown keys_only) (take most (tree.values held.now))) }
+{
+    let mut kvs = Seq::from_vec(Vec::with_capacity(alloc, most)?);
+    let mut left = most;
+    for found in held.values() {
+        if left == 0 {
+            break;
+        }
+        kvs.push(found.to_kv(alloc, keys_only)?)?;
+        left -= 1;
+    }
+    Ok(kvs)
+}
+
+/// What a range answers over all that it has.
+fn answer(alloc: Global, held: &Held<'_>, range: &RangeReq) -> Result<RangeAns, Memory>
+    ensures found { IfOk result (λ a. a ≡ found_among range.now (tree.values held.now)) }
+    ensures in_order { tree.IsOrdered (slice_cmp nat_cmp) held.now }
+{
+    let all = held.len();
+    let most = shown_count(range.limit, all);
+    Ok(RangeAns {
+        kvs: copies(alloc, held, most, range.keys_only)?,
+        more: most < all,
+        count: all as i64,
+    })
+}
+
+/// What a range finds after these revisions and some changes of the next one.
+pub fn look(alloc: Global, revisions: &[Seq<Change>], changes: &[Change], range: &RangeReq) -> Result<RangeAns, Memory>
+    requires short { length revisions.now < 2 ^ 62 }
+    requires once { list_all puts_once revisions.now ≡ true }
+    requires next_once { puts_once changes.now ≡ true }
+    ensures { IfOk result (λ a. a ≡ found range.now (keys_after_changes (pos (length revisions.now + 1)) (keys_from 1 empty revisions.now) changes.now)) }
+{
+    let mut held = held_after(alloc, revisions, range)?;
+    hold_changes(&mut held, range, revisions.len() as i64 + 1, changes)?;
+    answer(alloc, &held, range)
+}
