@@ -49,7 +49,7 @@ any_writes : (k : Key) (cs : List Change) (read : Bytes) → list_any (writes (k
 any_writes k [] read = refl
 any_writes k (c ∷ cs) read = λ i. writes-act_of k c i || any_writes k cs read i
 
-none_of : (a b : Bool) → (a || b) ≡ false → (a ≡ false) × (b ≡ false)
+pub none_of : (a b : Bool) → (a || b) ≡ false → (a ≡ false) × (b ≡ false)
 none_of true b h = absurd cc
 none_of false b h = (refl, h)
 

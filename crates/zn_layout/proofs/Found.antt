@@ -16,8 +16,8 @@ use Rattle.zn_layout.specs.Commits.{one_found}
 abbrev pub key_range : Bytes → RangeReq
 key_range k = record { key = k; end = []; revision = pos 0; limit = pos 0; keys_only = false }
 
-entries-empty : entries (empty {X = Kv} {R = slice_cmp nat_cmp}) ≡ []
-entries-empty = nil_from_length _ (sym (len-entries _) ∙ len-empty (slice_cmp nat_cmp) Kv)
+pub entries-empty : {X : Type 0} → entries (empty {X = X} {R = slice_cmp nat_cmp}) ≡ []
+entries-empty {X = X} = nil_from_length _ (sym (len-entries _) ∙ len-empty (slice_cmp nat_cmp) X)
 
 abbrev alone : Bytes → Option Kv → Keys
 alone k None = empty
@@ -35,7 +35,7 @@ one_key : (k : Bytes) (m : Keys) → retain_keys m (is_within k []) ≡ alone k 
 unfolding is_within
 one_key k m = ext _ _ (λ q. ⊎_elim
     (λ e. subst (λ (x : Bytes). get (retain_keys m (is_within k [])) x ≡ get (alone k (get m k)) x) (sym e)
-      (get-retain m (is_within k []) k ∙ ap (λ b. cond b (get m k) None) (same-refl k) ∙ sym (alone_same k (get m k))))
+    (get-retain m (is_within k []) k ∙ ap (λ b. cond b (get m k) None) (same-refl k) ∙ sym (alone_same k (get m k))))
     (λ n. get-retain m (is_within k []) q ∙ ap (λ b. cond b (get m q) None) (same-false q k n) ∙ sym (alone_other k q (get m k) n))
     (either q k))
 
@@ -44,8 +44,8 @@ listed None = []
 listed (Some kv) = kv ∷ []
 
 values-alone : (k : Bytes) (o : Option Kv) → values (alone k o) ≡ listed o
-values-alone k None = ap (map (λ (e : Bytes × Kv). e.1)) entries-empty
-values-alone k (Some kv) = ap (map (λ (e : Bytes × Kv). e.1)) (entries-insert nat_list_cmp_total empty k kv ∙ ap (λ (es : List (Bytes × Kv)). put (slice_cmp nat_cmp) k kv es) entries-empty)
+values-alone k None = ap (map (λ (e : Bytes × Kv). e.1)) (entries-empty {X = Kv})
+values-alone k (Some kv) = ap (map (λ (e : Bytes × Kv). e.1)) (entries-insert nat_list_cmp_total empty k kv ∙ ap (λ (es : List (Bytes × Kv)). put (slice_cmp nat_cmp) k kv es) (entries-empty {X = Kv}))
 
 found_listed : (k : Bytes) (o : Option Kv) → found_among (key_range k) (listed o) ≡ one_found o
 found_listed k None = refl

@@ -6,3 +6,9 @@ pub mod Stands
 pub mod Found
 pub mod Transactions
 pub mod Denials
+pub mod Commits
+pub mod Paths
+pub mod Numbers
+pub mod Nodes
+pub mod Lookups
+pub mod First

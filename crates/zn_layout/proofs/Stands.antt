@@ -47,9 +47,9 @@ module _ (z : ℤ) (low : pos 1 ≤ℤ z) (high : z ≤ℤ last_revision) where
   layout_written : (c : Change) (keys : Keys) → AreLayout keys → AreLayout (write z (key_bytes c.key) c.put keys)
   layout_written c keys a = record {
     no_other = λ rest kv h. ⊎_elim
-      (λ e. (c.key, e))
-      (λ n. a.no_other rest kv (sym (write_other z c.put keys (key_bytes c.key) _ n) ∙ h))
-      (either (122 ∷ 107 ∷ 47 ∷ rest) (key_bytes c.key));
+        (λ e. (c.key, e))
+        (λ n. a.no_other rest kv (sym (write_other z c.put keys (key_bytes c.key) _ n) ∙ h))
+        (either (122 ∷ 107 ∷ 47 ∷ rest) (key_bytes c.key));
     least = revisions_kept (λ r. pos 1 ≤ℤ r) low c keys a.least;
     most = revisions_kept (λ r. r ≤ℤ last_revision) high c keys a.most;
   }
@@ -80,18 +80,20 @@ head_over z ts (Some kv) old new fits next h = record {
 }
 
 -- the changes of an update and the head's put
-abbrev all_of : List Change → List Trigger → List Change
+abbrev pub all_of : List Change → List Trigger → List Change
 all_of cs ts = cs ++ head_put ts ∷ []
 
 all_applied : (z : ℤ) (cs : List Change) (ts : List Trigger) (keys : Keys) → acts_applied z keys (acts_of (all_of cs ts)) ≡ one_more z (head_put ts) (acts_applied z keys (acts_of cs))
 all_applied z cs ts keys = ap (acts_applied z keys) (map-append act_of cs (head_put ts ∷ [])) ∙ acts_applied-append z keys (acts_of cs) (acts_of (head_put ts ∷ []))
 
--- the head that is left: over what it was, since no change before wrote it
-pub head_left : (z : ℤ) (cs : List Change) (ts : List Trigger) (keys : Keys) → last cs HeadKey ≡ None → at (acts_applied z keys (acts_of (all_of cs ts))) HeadKey ≡ Some (put_over z (key_bytes HeadKey) (head_value ts) (pos 0) (at keys HeadKey))
+-- the head that was put last
+pub head_there : (z : ℤ) (cs : List Change) (ts : List Trigger) (keys : Keys) → at (acts_applied z keys (acts_of (all_of cs ts))) HeadKey ≡ Some (put_over z (key_bytes HeadKey) (head_value ts) (pos 0) (at (acts_applied z keys (acts_of cs)) HeadKey))
+head_there z cs ts keys = ap (λ (m : Keys). at m HeadKey) (all_applied z cs ts keys) ∙ get-insert_same (acts_applied z keys (acts_of cs)) (key_bytes HeadKey) _
+
+-- it is put over what it was, since no change before wrote it
+head_left : (z : ℤ) (cs : List Change) (ts : List Trigger) (keys : Keys) → last cs HeadKey ≡ None → at (acts_applied z keys (acts_of (all_of cs ts))) HeadKey ≡ Some (put_over z (key_bytes HeadKey) (head_value ts) (pos 0) (at keys HeadKey))
 head_left z cs ts keys none =
-    ap (λ (m : Keys). at m HeadKey) (all_applied z cs ts keys)
-    ∙ get-insert_same (acts_applied z keys (acts_of cs)) (key_bytes HeadKey) _
-    ∙ ap (λ (o : Option Kv). Some (put_over z (key_bytes HeadKey) (head_value ts) (pos 0) o)) (at-unwritten z cs keys HeadKey none)
+    head_there z cs ts keys ∙ ap (λ (o : Option Kv). Some (put_over z (key_bytes HeadKey) (head_value ts) (pos 0) o)) (at-unwritten z cs keys HeadKey none)
 
 -- ---- all keys
 
@@ -99,12 +101,17 @@ head_left z cs ts keys none =
 pub update_applied : (z : ℤ) (cs : List Change) (ts : List Trigger) (keys : Keys) → acts_applied z keys (update_acts cs ts) ≡ acts_applied z keys (acts_of (all_of cs ts))
 update_applied z cs ts keys = acts_applied-append z keys (acts_of (all_of cs ts)) (read_key (key_bytes HeadKey) ∷ [])
 
+-- the head's put makes a head of the new state, and what each key means and the layout are carried on
+pub stands_over : (z : ℤ) (cs : List Change) (ts : List Trigger) (keys : Keys) (old new : State) → pos 1 ≤ℤ z → z ≤ℤ last_revision → last cs HeadKey ≡ None → IsHead (put_over z (key_bytes HeadKey) (head_value ts) (pos 0) (at keys HeadKey)) new → ((k : Key) → Means old k (stored_of (at keys k))) → AreLayout keys → Fits z cs old new → StandsFor (acts_applied z keys (update_acts cs ts)) new
+stands_over z cs ts keys old new low high none head means layout fits =
+    let all = all_of cs ts in
+    subst (λ (m : Keys). StandsFor m new) (sym (update_applied z cs ts keys)) (record {
+      head = subst (λ (o : Option Kv). HeadMeans o new) (sym (head_left z cs ts keys none)) head;
+      each = each_means z all keys old new (fits_head z cs ts old new fits) means;
+      layout = layout_kept z low high all keys layout;
+    })
+
 -- keys that stood for a state stand for the next one
 pub stands_after : (z : ℤ) (cs : List Change) (ts : List Trigger) (keys : Keys) (old new : State) → pos 1 ≤ℤ z → z ≤ℤ last_revision → IsHeadRec ts → last cs HeadKey ≡ None → IsNext z ts old new → StandsFor keys old → Fits z cs old new → StandsFor (acts_applied z keys (update_acts cs ts)) new
 stands_after z cs ts keys old new low high bounds none next stands fits =
-    let all = all_of cs ts in
-    subst (λ (m : Keys). StandsFor m new) (sym (update_applied z cs ts keys)) (record {
-      head = subst (λ (o : Option Kv). HeadMeans o new) (sym (head_left z cs ts keys none)) (head_over z ts (at keys HeadKey) old new bounds next stands.head);
-      each = each_means z all keys old new (fits_head z cs ts old new fits) stands.each;
-      layout = layout_kept z low high all keys stands.layout;
-    })
+    stands_over z cs ts keys old new low high none (head_over z ts (at keys HeadKey) old new bounds next stands.head) stands.each stands.layout fits

@@ -5,3 +5,4 @@ pub mod Begin
 pub mod Changes
 pub mod Fits
 pub mod Commits
+pub mod Reading
