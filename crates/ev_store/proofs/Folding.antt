@@ -12,29 +12,8 @@ use Rattle.ev_types.specs.declared.answer.Kv.{Kv}
 use Rattle.ev_types.specs.Ranges.{Keys}
 use Rattle.ev_types.specs.Store.{Change, Puts, Removes, put_over, changed, after_changes, keys_from}
 use Rattle.ev_store.specs.Changes.{put_keys, are_distinct, puts_once}
+use Rattle.ev_store.proofs.Tests.{or_first, or_second, and_first, and_second, not_true}
 use Rattle.ev_store.specs.Folds.{kv_after_put, key_after_change, key_after_changes, key_after_revisions}
-
--- ---- tests
-
-pub or_first : (a b : Bool) → (a || b) ≡ false → a ≡ false
-or_first true b h = cc
-or_first false b h = refl
-
-pub or_second : (a b : Bool) → (a || b) ≡ false → b ≡ false
-or_second true b h = cc
-or_second false b h = h
-
-pub and_first : (a b : Bool) → (a && b) ≡ true → a ≡ true
-and_first true b h = refl
-and_first false b h = h
-
-pub and_second : (a b : Bool) → (a && b) ≡ true → b ≡ true
-and_second true b h = h
-and_second false b h = cc
-
-pub not_true : (b : Bool) → not b ≡ true → b ≡ false
-not_true true h = cc
-not_true false h = refl
 
 pub same-symm : (p q : Bytes) → same p q ≡ same q p
 same-symm p q = nat_list_eq_equiv.symm p q
@@ -118,9 +97,10 @@ after_put : (r : ℤ) (m : Keys) (k v : Bytes) (lease : ℤ) (q : Bytes) (n : �
     × IsBounded (n + cond b 1 0) (cond b (Some (kv_after_put r k v lease (get m q))) (get m q))
 after_put r m k v lease q n true e bound room =
     let is : put_over r k v lease (get m k) ≡ kv_after_put r k v lease (get m q) =
-      ap (λ x. put_over r k v lease (get m x)) (same-true k q e) ∙ sym (kv_after_put-is r k v lease (get m q) n bound room) in
-    (get-insert_at m k _ q ∙ ap (λ b. cond b (Some (put_over r k v lease (get m k))) (get m q)) e ∙ ap Some is,
-      subst (λ x. IsBounded (n + 1) (Some x)) (sym (kv_after_put-is r k v lease (get m q) n bound room)) (put_over-bounded r k v lease (get m q) n bound))
+    ap (λ x. put_over r k v lease (get m x)) (same-true k q e) ∙ sym (kv_after_put-is r k v lease (get m q) n bound room) in (
+      get-insert_at m k _ q ∙ ap (λ b. cond b (Some (put_over r k v lease (get m k))) (get m q)) e ∙ ap Some is,
+      subst (λ x. IsBounded (n + 1) (Some x)) (sym (kv_after_put-is r k v lease (get m q) n bound room)) (put_over-bounded r k v lease (get m q) n bound),
+    )
 after_put r m k v lease q n false e bound room =
     (get-insert_at m k _ q ∙ ap (λ b. cond b (Some (put_over r k v lease (get m k))) (get m q)) e, bounded-more n (n + 0) (get m q) (omega arith) bound)
 

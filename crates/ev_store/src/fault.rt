@@ -2,6 +2,7 @@
 
 ghost use Rattle.std.specs.Prelude.{◌≡◌};
 
+use std::alloc::AllocFailed;
 use zx_base::{Bytes, Memory};
 
 /// Why an etcd denies an ask. A denied ask changes nothing.
@@ -36,6 +37,28 @@ impl From<Memory> for StoreFault {
     ghost from_gives = { λ _ e. e ≡ Memory };
 
     fn from(_refused: Memory) -> StoreFault {
+        StoreFault::Memory
+    }
+}
+
+impl From<Denied> for StoreFault {
+    ghost use Rattle.std.specs.Prelude.{◌≡◌};
+    ghost use Rattle.ev_store.specs.declared.fault.StoreFault.TheVariants as fault;
+
+    ghost from_gives = { λ d e. e ≡ fault.Denied d };
+
+    fn from(denied: Denied) -> StoreFault {
+        StoreFault::Denied(denied)
+    }
+}
+
+impl<T: Drop> From<AllocFailed<T>> for StoreFault {
+    ghost use Rattle.std.specs.Prelude.{◌≡◌};
+    ghost use Rattle.ev_store.specs.declared.fault.StoreFault.TheVariants.{Memory};
+
+    ghost from_gives = { λ _ e. e ≡ Memory };
+
+    fn from(_refused: AllocFailed<T>) -> StoreFault {
         StoreFault::Memory
     }
 }

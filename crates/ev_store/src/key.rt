@@ -28,12 +28,12 @@ impl<'a> Model for Found<'a> {
     ghost Value = { Kv };
 
     ghost view = { λ f. record {
-        key = f.key.now;
-        value = f.value.now;
-        create_revision = f.create_revision;
-        mod_revision = f.mod_revision;
-        version = f.version;
-        lease = f.lease;
+      key = f.key.now;
+      value = f.value.now;
+      create_revision = f.create_revision;
+      mod_revision = f.mod_revision;
+      version = f.version;
+      lease = f.lease;
     } };
 }
 
@@ -48,7 +48,11 @@ impl<'a> Found<'a> {
     pub fn to_kv(&self, alloc: Global, keys_only: bool) -> Result<Kv, Memory>
         ensures { IfOk result (λ kv. kv ≡ shown keys_only self.now) }
     {
-        let value = if keys_only { &[] } else { self.value.as_slice() };
+        let value = if keys_only {
+            &[]
+        } else {
+            self.value.as_slice()
+        };
         Ok(Kv {
             key: Bytes::copy_of(alloc, self.key.as_slice())?,
             value: Bytes::copy_of(alloc, value)?,
@@ -61,7 +65,12 @@ impl<'a> Found<'a> {
 }
 
 /// A key after a put at this revision over what it had.
-pub fn after_put<'a>(revision: i64, before: Option<&Found<'_>>, key: &'a Bytes, content: &'a Content) -> Found<'a>
+pub fn after_put<'a>(
+    revision: i64,
+    before: Option<&Found<'_>>,
+    key: &'a Bytes,
+    content: &'a Content,
+) -> Found<'a>
     ensures { result ≡ kv_after_put revision key.now content.now.value content.now.lease (option_copied before.entry) }
 {
     let (create_revision, version) = match before {
@@ -79,7 +88,12 @@ pub fn after_put<'a>(revision: i64, before: Option<&Found<'_>>, key: &'a Bytes, 
 }
 
 /// What a key has after one change at this revision.
-fn after_change<'a>(revision: i64, before: Option<Found<'a>>, change: &'a Change, key: &[u8]) -> Option<Found<'a>>
+fn after_change<'a>(
+    revision: i64,
+    before: Option<Found<'a>>,
+    change: &'a Change,
+    key: &[u8],
+) -> Option<Found<'a>>
     ensures { result ≡ key_after_change revision key.now before.entry change.now }
 {
     match &change.content {
@@ -90,18 +104,17 @@ fn after_change<'a>(revision: i64, before: Option<Found<'a>>, change: &'a Change
                 before
             }
         }
-        None => {
-            if change.key.is(key) {
-                None
-            } else {
-                before
-            }
-        }
+        None => { if change.key.is(key) { None } else { before } }
     }
 }
 
 /// What a key has after the changes of one revision.
-pub fn after_changes<'a>(revision: i64, before: Option<Found<'a>>, changes: &'a [Change], key: &[u8]) -> Option<Found<'a>>
+pub fn after_changes<'a>(
+    revision: i64,
+    before: Option<Found<'a>>,
+    changes: &'a [Change],
+    key: &[u8],
+) -> Option<Found<'a>>
     ensures { result ≡ key_after_changes revision key.now before.entry changes.now }
 {
     let mut found = before;

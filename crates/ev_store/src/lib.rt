@@ -10,11 +10,13 @@ mod change;
 mod fault;
 mod key;
 mod leases;
-
+mod operations;
 mod range;
-
-
-
-
+mod refusal;
+mod store;
+#[cfg(test)]
+mod tests;
+mod transaction;
 
 pub use fault::{Denied, StoreFault};
+pub use store::Store;

@@ -109,7 +109,12 @@ fn has(range: &RangeReq, key: &[u8]) -> bool
 }
 
 /// Takes one change into what is held of the range.
-fn hold<'a>(held: &mut Held<'a>, range: &RangeReq, revision: i64, change: &'a Change) -> Result<(), Memory>
+fn hold<'a>(
+    held: &mut Held<'a>,
+    range: &RangeReq,
+    revision: i64,
+    change: &'a Change,
+) -> Result<(), Memory>
     ensures { OnOk result ((q : ByteList) → tree.get (slice_cmp nat_cmp) held.new q ≡ within_change range.now revision q (tree.get (slice_cmp nat_cmp) held.old q) change.now) }
 {
     if !has(range, change.key.as_slice()) {
@@ -131,7 +136,12 @@ fn hold<'a>(held: &mut Held<'a>, range: &RangeReq, revision: i64, change: &'a Ch
 }
 
 /// Takes the changes of one revision into what is held of the range.
-fn hold_changes<'a>(held: &mut Held<'a>, range: &RangeReq, revision: i64, changes: &'a [Change]) -> Result<(), Memory>
+fn hold_changes<'a>(
+    held: &mut Held<'a>,
+    range: &RangeReq,
+    revision: i64,
+    changes: &'a [Change],
+) -> Result<(), Memory>
     ensures { OnOk result ((q : ByteList) → tree.get (slice_cmp nat_cmp) held.new q ≡ within_changes range.now revision q (tree.get (slice_cmp nat_cmp) held.old q) changes.now) }
 {
     for change in changes {
@@ -141,7 +151,11 @@ fn hold_changes<'a>(held: &mut Held<'a>, range: &RangeReq, revision: i64, change
 }
 
 /// The keys of the range after these revisions, of which the first is revision 1.
-fn held_after<'a>(alloc: Global, revisions: &'a [Seq<Change>], range: &RangeReq) -> Result<Held<'a>, Memory>
+fn held_after<'a>(
+    alloc: Global,
+    revisions: &'a [Seq<Change>],
+    range: &RangeReq,
+) -> Result<Held<'a>, Memory>
     requires { length revisions.now < 2 ^ 62 }
     ensures { IfOk result (λ held. (q : ByteList) → tree.get (slice_cmp nat_cmp) held q ≡ within_revisions range.now 1 q Option.None revisions.now) }
 {
@@ -195,7 +209,12 @@ fn answer(alloc: Global, held: &Held<'_>, range: &RangeReq) -> Result<RangeAns, 
 }
 
 /// What a range finds after these revisions and some changes of the next one.
-pub fn look(alloc: Global, revisions: &[Seq<Change>], changes: &[Change], range: &RangeReq) -> Result<RangeAns, Memory>
+pub fn look(
+    alloc: Global,
+    revisions: &[Seq<Change>],
+    changes: &[Change],
+    range: &RangeReq,
+) -> Result<RangeAns, Memory>
     requires short { length revisions.now < 2 ^ 62 }
     requires once { list_all puts_once revisions.now ≡ true }
     requires next_once { puts_once changes.now ≡ true }

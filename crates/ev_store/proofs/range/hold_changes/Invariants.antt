@@ -9,5 +9,5 @@ use Rattle.ev_store.proofs.range.hold_changes.Given as goal
 abbrev pub invariant-loop-change : goal.invariant-loop-change
 invariant-loop-change l =
     (q : Bytes) →
-      within_changes l.range l.revision q (tree.get (slice_cmp nat_cmp) l.held q) (drop l.change-index l.changes)
-      ≡ within_changes l.range l.revision q (tree.get (slice_cmp nat_cmp) l.fn.held q) l.changes
+    within_changes l.range l.revision q (tree.get (slice_cmp nat_cmp) l.held q) (drop l.change-index l.changes)
+    ≡ within_changes l.range l.revision q (tree.get (slice_cmp nat_cmp) l.fn.held q) l.changes

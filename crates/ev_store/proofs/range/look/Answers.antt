@@ -12,7 +12,7 @@ returns c =
     let r = pos (length c.args.revisions.now + 1) in
     let number : to_z w64 (of_z w64 (to_z w64 (length c.args.revisions.now) +ℤ pos 1)) ≡ pos (length c.args.revisions.now + 1) = search rules in
     subst (λ (f : RangeAns). IfOk c.answer.result (λ a. a ≡ f))
-      (looked-values c.args.range.now r c.args.revisions.now c.args.changes.now c.in_ok-held.held.entries c.hold_changes.new.held.entries c.requires.once c.requires.short c.requires.next_once
-        c.answer.ensures.in_order c.in_ok-held.ensures
-        (λ q. c.in_ok-hold_changes.ensures q ∙ ap (λ n. within_changes c.args.range.now n q (tree.get (slice_cmp nat_cmp) c.in_ok-held.held q) c.args.changes.now) number))
-      c.answer.ensures.found
+    (looked-values c.args.range.now r c.args.revisions.now c.args.changes.now c.in_ok-held.held.entries c.hold_changes.new.held.entries c.requires.once c.requires.short c.requires.next_once
+    c.answer.ensures.in_order c.in_ok-held.ensures
+    (λ q. c.in_ok-hold_changes.ensures q ∙ ap (λ n. within_changes c.args.range.now n q (tree.get (slice_cmp nat_cmp) c.in_ok-held.held q) c.args.changes.now) number))
+    c.answer.ensures.found
