@@ -1,3 +1,7 @@
+pub mod Paths
+pub mod Children
+pub mod Owned
+pub mod Sound
 pub mod PathDefects
 pub mod PathScans
 pub mod ValidPaths
