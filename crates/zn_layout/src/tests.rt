@@ -1,5 +1,9 @@
 //! The stored layout, byte by byte.
 
+ghost use Rattle.std.specs.Prelude.{IfOk, IsTrue};
+ghost use Rattle.zk_model.specs.Paths.{is_path};
+ghost use Rattle.zn_layout.specs.Records.{IsSessionRec};
+
 use crate::{
     CountRec, HeadRec, LeaseRec, NodeRec, RecordFault, SessionRec, begin_ask, counts_key, data_key,
     delete_counts, delete_node, get_key, head_key, lease_key, read_counts, read_lease, read_node,
@@ -9,7 +13,7 @@ use ev_types::{Act, Ask};
 use std::alloc::Global;
 use std::test::Fail;
 use zk_model::{Path, Trigger};
-use zx_base::{Bytes, Seq};
+use zx_base::{Bytes, Memory, Seq};
 
 #[test]
 fn names_keys(rt: HostRuntime) -> Result<(), Fail> {
@@ -100,20 +104,13 @@ fn writes_and_reads_counts(rt: HostRuntime) -> Result<(), Fail> {
 }
 
 #[test]
-fn writes_lists(rt: HostRuntime) -> Result<(), Fail> {
+fn writes_the_head(rt: HostRuntime) -> Result<(), Fail> {
     let alloc = rt.alloc();
     let empty: [u8; 5] = [1, 0, 0, 0, 0];
     let none = HeadRec {
         triggers: Seq::new(alloc),
     };
     assert_eq!(rt; write_head(alloc, &none)?.as_slice(), empty.as_slice());
-    let nothing = SessionRec {
-        paths: Seq::new(alloc),
-    };
-    assert_eq!(rt;
-        write_session(alloc, &nothing)?.as_slice(),
-        empty.as_slice()
-    );
 
     let mut head = none;
     head.triggers
@@ -128,13 +125,38 @@ fn writes_lists(rt: HostRuntime) -> Result<(), Fail> {
         write_head(alloc, &head)?.as_slice(),
         b"\x01\x00\x00\x00\x04\x01\x00\x00\x00\x02/a\x02\x00\x00\x00\x02/b\x03\x00\x00\x00\x02/c\x04\x00\x00\x00\x01/".as_slice()
     );
+    Ok(())
+}
 
-    let mut session = nothing;
-    session.paths.push(Path::read(alloc, b"/a", false)?)?;
-    session.paths.push(Path::read(alloc, b"/a/b", false)?)?;
+fn owner_of_none(alloc: Global) -> SessionRec
+    ensures { IsSessionRec result.paths }
+{
+    SessionRec {
+        paths: Seq::new(alloc),
+    }
+}
+
+fn owner_of_one(alloc: Global, path: Path) -> Result<SessionRec, Memory>
+    requires { IsTrue (is_path path) }
+    ensures { IfOk result (λ s. IsSessionRec s.paths) }
+{
+    let mut paths = Seq::new(alloc);
+    paths.push(path)?;
+    Ok(SessionRec { paths })
+}
+
+#[test]
+fn writes_a_sessions_nodes(rt: HostRuntime) -> Result<(), Fail> {
+    let alloc = rt.alloc();
+    let none = owner_of_none(alloc);
     assert_eq!(rt;
-        write_session(alloc, &session)?.as_slice(),
-        b"\x01\x00\x00\x00\x02\x00\x00\x00\x02/a\x00\x00\x00\x04/a/b".as_slice()
+        write_session(alloc, &none)?.as_slice(),
+        [1, 0, 0, 0, 0].as_slice()
+    );
+    let one = owner_of_one(alloc, Path::read(alloc, b"/a", false)?)?;
+    assert_eq!(rt;
+        write_session(alloc, &one)?.as_slice(),
+        b"\x01\x00\x00\x00\x01\x00\x00\x00\x02/a".as_slice()
     );
     Ok(())
 }
