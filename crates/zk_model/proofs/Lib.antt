@@ -1,3 +1,4 @@
 pub mod PathDefects
 pub mod PathScans
+pub mod SequencePaths
 pub mod ValidPaths
