@@ -4,6 +4,7 @@ pub mod Owned
 pub mod Sound
 pub mod PathDefects
 pub mod PathScans
+pub mod SequencePaths
 pub mod ValidPaths
 pub mod PieceLaws
 pub mod WrittenWords

@@ -1,0 +1,10 @@
+//! The service's machine as a plain program over a sorted list of nodes: slow and obvious.
+//!
+//! Each function's contract is the definition of `zk_model` that it runs, so that a worked example run here is a run of
+//! the definition. Nothing of the service itself stands on this crate.
+#![tactic(auto)]
+
+mod node;
+mod tree;
+
+pub use tree::Tree;
