@@ -1,9 +1,9 @@
 -- What is known of a script that comes piece by piece: some bytes more, a whole line more, and each end of the reading.
-use Rattle.std.proofs.Common.{◌≡◌, ℕ, zero, suc, ◌+◌, ◌-◌, ◌<◌, ◌≤◌, ◌==◌, Bool, true, false, ◌⊎◌, inl, inr, List, [], ◌∷◌, ◌++◌, length, take, Option, Some, None, if◌then◌else◌, refl, sym, ap, ◌∙◌, arith}
+use Rattle.std.proofs.Common.{◌≡◌, ℕ, suc, ◌+◌, ◌-◌, ◌<◌, ◌≤◌, ◌==◌, Bool, true, false, inl, inr, List, [], ◌∷◌, ◌++◌, length, take, Option, Some, None, if◌then◌else◌, refl, sym, ap, ◌∙◌, arith}
 use Rattle.std.specs.Prelude.{nat_lt, Contains}
 use Rattle.std.proofs.Math.Seq.{take-append-add}
 use Rattle.std.proofs.lemmas.Bool.{cases_Bool, cases_eq, cases_lt, eq-eqb, eqb-true, false≢true, le-ltb, lt-ltb}
-use Rattle.std.proofs.lemmas.List.{append_assoc, append-nil, length-append, length_push, take_all, take-append-le, take_at}
+use Rattle.std.proofs.lemmas.List.{append_assoc, append-nil, length-append, length_push, take_all, take_at}
 use Rattle.std.proofs.lemmas.List.Elements.{All-append, All-contains, All-cons, All-nil, All-push}
 use Rattle.zk_model.specs.declared.script.Happening.{Happening}
 use Rattle.zk_model.specs.declared.script.Unread.{Unread}
@@ -77,15 +77,15 @@ script_from-long n room line (b ∷ rest) lacks long fits =
           let test = lt-ltb most_line (length line) long in
           script_from-cut n room line (b ∷ rest) lacks full (omega arith) ∙ ap (λ (t : Bool). ([], Some (n, if t then Unreadable else TooLong))) test
       | inr room_left ↦ elim (cases_Bool (b == 10)) [
-          | inl feed ↦
-              let none = line_read-long line long in
-              let same = eqb-true b 10 feed in
-              rw same (script_from-line n room line rest lacks (omega arith) ∙ rw none refl)
-          | inr other ↦
-              let more = length_push line b in
-              ap (script_from n room) (sym (append_assoc line (b ∷ []) rest))
-              ∙ script_from-long n room (line ++ b ∷ []) rest (All-push (λ x. (x == 10) ≡ false) line b lacks other) (omega arith) (omega arith)
-        ]
+        | inl feed ↦
+            let none = line_read-long line long in
+            let same = eqb-true b 10 feed in
+            rw same (script_from-line n room line rest lacks (omega arith) ∙ rw none refl)
+        | inr other ↦
+            let more = length_push line b in
+            ap (script_from n room) (sym (append_assoc line (b ∷ []) rest))
+            ∙ script_from-long n room (line ++ b ∷ []) rest (All-push (λ x. (x == 10) ≡ false) line b lacks other) (omega arith) (omega arith)
+      ]
     ]
 
 -- ---- a script that comes piece by piece
@@ -169,12 +169,12 @@ scripting-line bytes pending before h s readable within =
       unbroken = All-nil (λ b. (b == 10) ≡ false);
       within = omega arith;
       read = λ rest.
-        ap script (append_assoc bytes (10 ∷ []) rest)
-        ∙ script-fed bytes pending before rest s within
-        ∙ ap (λ (r : Option Happening). behind before (then_script (length before + 1) r (script_from (length before + 1 + 1) (most_script - length s.lines - (length pending + 1)) rest))) readable
-        ∙ ap (λ (k : ℕ). behind before (then_script (length before + 1) (Some h) (script_from k (most_script - length s.lines - (length pending + 1)) rest))) number
-        ∙ ap (λ (left : ℕ). behind before (then_script (length before + 1) (Some h) (script_from (length (before ++ h ∷ []) + 1) left rest))) room
-        ∙ behind-push before h (script_from (length (before ++ h ∷ []) + 1) (most_script - length (bytes ++ 10 ∷ [])) rest);
+          ap script (append_assoc bytes (10 ∷ []) rest)
+          ∙ script-fed bytes pending before rest s within
+          ∙ ap (λ (r : Option Happening). behind before (then_script (length before + 1) r (script_from (length before + 1 + 1) (most_script - length s.lines - (length pending + 1)) rest))) readable
+          ∙ ap (λ (k : ℕ). behind before (then_script (length before + 1) (Some h) (script_from k (most_script - length s.lines - (length pending + 1)) rest))) number
+          ∙ ap (λ (left : ℕ). behind before (then_script (length before + 1) (Some h) (script_from (length (before ++ h ∷ []) + 1) left rest))) room
+          ∙ behind-push before h (script_from (length (before ++ h ∷ []) + 1) (most_script - length (bytes ++ 10 ∷ [])) rest);
     }
 
 -- ---- the ends of the reading
