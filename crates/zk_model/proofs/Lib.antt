@@ -3,3 +3,5 @@ pub mod Items
 pub mod Framing
 pub mod RequestLaws
 pub mod Lengths
+pub mod Stats
+pub mod ReplyLaws
