@@ -5,3 +5,14 @@ pub mod RequestLaws
 pub mod Lengths
 pub mod Stats
 pub mod ReplyLaws
+pub mod Numbered
+pub mod Conforming
+pub mod Listing
+pub mod JuteCanonical
+pub mod Lists
+pub mod PartLaws
+pub mod Headers
+pub mod ConnectLaws
+pub mod ResultLaws
+pub mod RoundTrips
+pub mod Contents
