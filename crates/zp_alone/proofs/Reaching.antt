@@ -221,3 +221,10 @@ reached-begin store b = record {
     keeps = record { lines = refl; idle = refl; none = refl; told = refl };
   };
 }
+
+-- the world over it, from its parts
+pub reached-begun : (store : Store) (w : World) → IsBegun store → w.store ≡ store → w.lines ≡ begin_line ∷ [] → w.clock ≡ 0 → w.connection ≡ None → w.frames ≡ 0 → w.waiting ≡ [] → w.told ≡ pos 2 → Reached [] w
+reached-begun store w b same lines clock connection frames waiting told =
+    let is : w ≡ begun store = λ i. record {
+      store = same i; lines = lines i; clock = clock i; connection = connection i; frames = frames i; waiting = waiting i; told = told i } in
+    subst (Reached []) (sym is) (reached-begin store b)

@@ -181,7 +181,10 @@ impl Alone {
     fn is_open(&self, connection: u32) -> bool
         ensures { result ≡ is_open connection self.now.lines }
     {
-        self.connection == Some(connection)
+        match self.connection {
+            Some(open) => connection == open,
+            None => false,
+        }
     }
 
     fn has_connection(&self) -> bool
