@@ -67,3 +67,13 @@ module _ (lines : List TranscriptLine) (clock : ℕ) where
   pub settle-possible : (c : ℕ) → is_open c lines ≡ true → refusal_of lines clock (line.Settle c) ≡ None
   unfolding refusal_of
   settle-possible c opens = rw opens refl
+
+-- the happenings that aren't built
+pub unbuilt : (lines : List TranscriptLine) (clock : ℕ) (h : Happening) → ((c p : ℕ) (id : ℤ) (pw : List ℕ) → h ≡ line.Open c p id pw → ⊥) → ((c : ℕ) (bytes : List ℕ) → h ≡ line.Frame c bytes → ⊥)
+    → ((millis : ℕ) → h ≡ line.Tick millis → ⊥) → ((c : ℕ) → h ≡ line.Settle c → ⊥) → refusal_of lines clock h ≡ Some why.NotBuilt
+unfolding refusal_of
+unbuilt lines clock (line.Open c p id pw) opens frames ticks settles = absurd (opens c p id pw refl)
+unbuilt lines clock (line.Frame c bytes) opens frames ticks settles = absurd (frames c bytes refl)
+unbuilt lines clock (line.Tick millis) opens frames ticks settles = absurd (ticks millis refl)
+unbuilt lines clock (line.Settle c) opens frames ticks settles = absurd (settles c refl)
+unbuilt lines clock _ opens frames ticks settles = refl
