@@ -45,10 +45,10 @@ abbrev pub check_values : List ℕ → ℤ → List Value
 check_values path version = ustring path ∷ int version ∷ []
 
 -- Stat
-abbrev pub stat_fields : List Kind
+unfoldable pub stat_fields : List Kind
 stat_fields = a_long ∷ a_long ∷ a_long ∷ a_long ∷ an_int ∷ an_int ∷ an_int ∷ a_long ∷ an_int ∷ an_int ∷ a_long ∷ []
 
-abbrev pub stat_values : Stat → List Value
+unfoldable pub stat_values : Stat → List Value
 stat_values s =
     long s.czxid ∷ long s.mzxid ∷ long s.ctime ∷ long s.mtime ∷ int s.version ∷ int s.cversion ∷ int s.aversion
     ∷ long s.ephemeral_owner ∷ int s.data_length ∷ int s.num_children ∷ long s.pzxid ∷ []

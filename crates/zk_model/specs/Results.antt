@@ -1,5 +1,5 @@
 -- The results of a multi's parts (zookeeper.jute, `MultiHeader`, `ErrorResponse`).
-use Rattle.std.specs.Prelude.{ℕ, ℤ, pos, negsuc, Bool, true, false, ◌&&◌, Option, Some, None, List, [], ◌∷◌, length, Ok, Err, if◌then◌else◌}
+use Rattle.std.specs.Prelude.{ℕ, ℤ, pos, negsuc, Bool, true, false, ◌&&◌, Option, Some, None, List, [], ◌∷◌, ◌++◌, length, Ok, Err, if◌then◌else◌}
 use Rattle.std.specs.Ordering.{int_eq}
 use Rattle.zk_model.specs.declared.reply.PartResult.{PartResult}
 use Rattle.zk_model.specs.declared.reply.PartResult.TheVariants as results
@@ -19,18 +19,22 @@ result_fields kinds.Delete = []
 result_fields kinds.SetData = stat_fields
 result_fields kinds.Check = []
 
-abbrev pub good_header : PartKind → List Value → List Value
-good_header kind values = int (part_number kind) ∷ boolean false ∷ int (pos 0) ∷ values
+-- a MultiHeader
+abbrev pub result_header : ℤ → Bool → ℤ → List Value
+result_header type last err = int type ∷ boolean last ∷ int err ∷ []
+
+abbrev pub good_result : PartKind → List Value → List Value
+good_result kind values = result_header (part_number kind) false (pos 0) ++ values
 
 abbrev pub result_values : PartResult → List Value
-result_values (results.Created path) = good_header kinds.Create (ustring path ∷ [])
-result_values results.Deleted = good_header kinds.Delete []
-result_values (results.Set stat) = good_header kinds.SetData (stat_values stat)
-result_values results.Checked = good_header kinds.Check []
-result_values (results.Code code) = int (negsuc 0) ∷ boolean false ∷ int code ∷ int code ∷ []
+result_values (results.Created path) = good_result kinds.Create (ustring path ∷ [])
+result_values results.Deleted = good_result kinds.Delete []
+result_values (results.Set stat) = good_result kinds.SetData (stat_values stat)
+result_values results.Checked = good_result kinds.Check []
+result_values (results.Code code) = result_header (negsuc 0) false code ++ int code ∷ []
 
 abbrev pub last_result : List Value
-last_result = int (negsuc 0) ∷ boolean true ∷ int (negsuc 0) ∷ []
+last_result = result_header (negsuc 0) true (negsuc 0)
 
 -- ---- reading
 

@@ -24,11 +24,21 @@
 //! grown one by one. Writing reserves the packet's length once and copies each field once.
 #![tactic(auto)]
 
+mod connects;
 mod cutter;
 mod fault;
+mod packets;
 mod reader;
+mod replies;
+mod reply_fields;
+mod request_fields;
 mod requests;
+mod sink;
+mod writer;
 
+pub use connects::read_connect;
 pub use cutter::{CutFault, Cutter};
 pub use fault::WireFault;
+pub use packets::{write_connect, write_notice, write_reply, write_request};
+pub use replies::read_reply;
 pub use requests::read_request;

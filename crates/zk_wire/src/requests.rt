@@ -160,10 +160,7 @@ fn whole(reader: &mut Reader, code: Opcode) -> Result<Request, Fault>
     ensures { Gives (λ x. x) result reader.new (whole_at code reader.old) }
 {
     let request = body(reader, code)?;
-    match reader.left() {
-        0 => Ok(request),
-        left => Err(Fault::Unreadable(left)),
-    }
+    reader.ended(request)
 }
 
 /// The request of a frame, with its xid. Copies each text and buffer once.
