@@ -14,3 +14,6 @@ pub mod RequestLaws
 pub mod Lengths
 pub mod Stats
 pub mod ReplyLaws
+pub mod PathDefects
+pub mod PathScans
+pub mod ValidPaths

@@ -1,4 +1,5 @@
 pub mod Paths
+pub mod PathFaults
 pub mod Numbers
 pub mod JuteValues
 pub mod JuteReading

@@ -14,6 +14,8 @@ mod connect;
 mod node;
 mod opcode;
 mod path;
+#[cfg(test)]
+mod path_tests;
 mod reply;
 mod request;
 mod script;

@@ -1,8 +1,16 @@
 //! Paths of znodes (Programmer's Guide, "The ZooKeeper Data Model").
 
-ghost use Rattle.std.specs.Prelude.{◌≡◌};
+ghost use Rattle.std.specs.Prelude.{◌≡◌, length, ◌-◌, ◌+◌, drop, take, Some, ◌<◌, IfOk, IfErr, IfSome, IsTrue, option_map, not, nat_lt};
+ghost use Rattle.std.specs.Str.{chars, IsValidUpTo};
+ghost use Rattle.zk_model.specs.Paths.{is_path, is_path_char, parent, depth, names, begins_with_slash, at_last_slash};
+ghost use Rattle.zk_model.specs.PathFaults.{tested, is_valid, most_bytes, ends_with_slash, IsFault, IsFirst, IsRefused, first_of, at, bad_name, bad_char, bad_text, bad_text_from, form_defect, defect_of, name_fault};
+ghost use Rattle.zk_model.specs.PathFaults.{first_name};
+ghost use Rattle.zk_model.specs.declared.path.PathFault.TheVariants.{NoSlash, EndSlash, BadText, TooLong};
 
+use std::alloc::{AllocError, Global};
 use std::marker::Model;
+use std::str;
+use zx_base::Memory;
 
 /// A valid path. Contracts see its bytes.
 #[derive(Debug, Drop)]
@@ -21,7 +29,8 @@ impl Model for Path {
     ghost invariant = { λ p. IsTrue (is_path p.text.items) };
 }
 
-/// Why a text is no path.
+/// Why a text is no path. Of several faults the earliest in the text is told, and of two at one place the first of
+/// this list.
 #[derive(Clone, Copy, Debug, PartialEq, Eq)]
 pub enum PathFault {
     /// It does not begin with a slash.
@@ -39,11 +48,279 @@ pub enum PathFault {
     Memory,
 }
 
+/// The most bytes of a path, and of a sequential one before its suffix.
+const MOST: usize = 1024;
+
+const MOST_SEQUENTIAL: usize = 1014;
+
+/// A fault, and the index of the byte where it begins.
+#[derive(Clone, Copy)]
+struct Defect {
+    place: usize,
+    fault: PathFault,
+}
+
+/// The earlier of two; the first where they begin at one place.
+fn first_of(a: Option<Defect>, b: Option<Defect>) -> Option<Defect>
+    ensures { result ≡ first_of a b }
+{
+    match (a, b) {
+        (None, b) => b,
+        (Some(a), Some(b)) if b.place < a.place => Some(b),
+        (Some(a), _) => Some(a),
+    }
+}
+
+fn no_slash(path: &[u8]) -> Option<Defect>
+    ensures { result ≡ at (not (begins_with_slash path.now)) 0 NoSlash }
+{
+    match path {
+        [b'/', ..] => None,
+        _ => Some(Defect {
+            place: 0,
+            fault: PathFault::NoSlash,
+        }),
+    }
+}
+
+fn end_slash(path: &[u8]) -> Option<Defect>
+    ensures { result ≡ at (ends_with_slash path.now) (length path.now - 1) EndSlash }
+{
+    match path {
+        [_, .., b'/'] => Some(Defect {
+            place: path.len() - 1,
+            fault: PathFault::EndSlash,
+        }),
+        _ => None,
+    }
+}
+
+/// What is wrong with the name that these bytes begin with.
+#[tactic(auto, unfolding(crate::specs::PathFaults::first_name))]
+fn name_fault(rest: &[u8]) -> Option<PathFault>
+    ensures { result ≡ name_fault (first_name rest.now) }
+{
+    match rest {
+        [] | [b'/', ..] => Some(PathFault::EmptyName),
+        [b'.'] | [b'.', b'/', ..] | [b'.', b'.'] | [b'.', b'.', b'/', ..] => Some(
+            PathFault::DotName,
+        ),
+        _ => None,
+    }
+}
+
+/// The first name that is empty or relative.
+#[tactic(auto, unfolding(crate::specs::PathFaults::bad_name))]
+fn bad_name(path: &[u8]) -> Option<Defect>
+    requires { IsTrue (begins_with_slash path.now) }
+    ensures { result ≡ bad_name 1 (names path.now) }
+{
+    if path == b"/".as_slice() {
+        return None;
+    }
+    for (place, byte) in path.iter().enumerate() {
+        if *byte == b'/' {
+            if let Some(fault) = name_fault(&path[place + 1..]) {
+                return Some(Defect {
+                    place: place + 1,
+                    fault,
+                });
+            }
+        }
+    }
+    None
+}
+
+fn is_path_char(c: char) -> bool
+    ensures { result ≡ is_path_char c }
+{
+    matches!(c, ' '..='~' | '\u{a0}'..='\u{d7ff}' | '\u{f900}'..='\u{ffef}')
+}
+
+/// The first character that no path may have.
+fn bad_char(text: &str) -> Option<Defect>
+    ensures { result ≡ bad_char 0 (chars text.now) }
+{
+    let mut place = 0;
+    for c in text.chars() {
+        if !is_path_char(c) {
+            return Some(Defect {
+                place,
+                fault: PathFault::BadText,
+            });
+        }
+        place += c.len_utf8();
+    }
+    None
+}
+
+/// The same, or where the text is no longer UTF-8.
+fn bad_text(path: &[u8]) -> Option<Defect>
+    ensures { result ≡ bad_text path.now }
+{
+    match str::from_utf8(path) {
+        Ok(text) => bad_char(text),
+        Err(error) => bad_text_before(path, error.valid_up_to()),
+    }
+}
+
+/// The same of a text that is UTF-8 up to so many bytes.
+fn bad_text_before(path: &[u8], valid: usize) -> Option<Defect>
+    requires { IsValidUpTo path.now valid }
+    ensures { result ≡ bad_text_from valid path.now }
+{
+    match str::from_utf8(&path[..valid]) {
+        Ok(front) => bad_char(front).or(Some(Defect {
+            place: valid,
+            fault: PathFault::BadText,
+        })),
+        Err(_) => unreachable!(),
+    }
+}
+
+fn too_long(len: usize, most: usize) -> Option<Defect>
+    ensures { result ≡ at (nat_lt most len) most TooLong }
+{
+    if most < len {
+        Some(Defect {
+            place: most,
+            fault: PathFault::TooLong,
+        })
+    } else {
+        None
+    }
+}
+
+/// The first defect but for the length.
+#[tactic(auto, unfolding(crate::specs::PathFaults::form_defect))]
+fn form_defect(path: &[u8]) -> Option<Defect>
+    ensures { result ≡ form_defect path.now }
+{
+    match no_slash(path) {
+        None => first_of(end_slash(path), first_of(bad_name(path), bad_text(path))),
+        found => found,
+    }
+}
+
+/// The text, with `1` behind it where it is a sequential path's.
+fn tested(alloc: Global, text: &[u8], sequential: bool) -> Result<Vec<u8>, AllocError>
+    ensures { IfOk result (λ v. v.items ≡ tested sequential text.now) }
+{
+    let mut path = Vec::with_capacity(alloc, text.len() + 1)?;
+    path.extend_from_slice(text)?;
+    if sequential {
+        path.push(b'1')?;
+    }
+    Ok(path)
+}
+
+fn most_bytes(sequential: bool) -> usize
+    ensures { result ≡ most_bytes sequential }
+{
+    if sequential { MOST_SEQUENTIAL } else { MOST }
+}
+
+/// The first defect of a text, whose tested form is `path`.
+#[tactic(auto, unfolding(crate::specs::PathFaults::defect_of))]
+fn defect_of(path: &[u8], text: &[u8], sequential: bool) -> Option<Defect>
+    requires { path.now ≡ tested sequential text.now }
+    ensures { result ≡ defect_of sequential text.now }
+{
+    first_of(
+        form_defect(path),
+        too_long(text.len(), most_bytes(sequential)),
+    )
+}
+
 impl Path {
+    /// Reads a path; of a sequential one, the text with `1` behind it. A path's characters are U+0020 to U+007E, U+00A0
+    /// to U+D7FF and U+F900 to U+FFEF.
+    pub fn read(alloc: Global, text: &[u8], sequential: bool) -> Result<Path, PathFault>
+        ensures ok { IfOk result (λ p. p ≡ tested sequential text.now) }
+        ensures valid { IfOk result (λ p. IsTrue (is_valid sequential text.now)) }
+        ensures fault { IfErr result (λ f. IsFault f sequential text.now) }
+        ensures first { IfErr result (λ f. IsFirst f (defect_of sequential text.now)) }
+        ensures refused { IfErr result (λ f. IsRefused f sequential text.now) }
+    {
+        let Ok(path) = tested(alloc, text, sequential) else {
+            return Err(PathFault::Memory);
+        };
+        match defect_of(&path, text, sequential) {
+            Some(defect) => Err(defect.fault),
+            None => Ok(Path { text: path }),
+        }
+    }
+
     /// The path's text.
     pub fn bytes(&self) -> &[u8]
         ensures { result.now ≡ self.now }
     {
         self.text.as_slice()
     }
+
+    pub fn copy(&self, alloc: Global) -> Result<Path, Memory>
+        ensures { IfOk result (λ p. p ≡ self.now) }
+    {
+        Ok(Path {
+            text: Vec::from_slice(alloc, self.text.as_slice())?,
+        })
+    }
+
+    /// The number of names: 0 of the root.
+    #[tactic(auto, unfolding(crate::specs::Paths::depth))]
+    pub fn depth(&self) -> u32
+        ensures { result ≡ depth self.now }
+    {
+        if self.text.as_slice() == b"/".as_slice() {
+            return 0;
+        }
+        let mut slashes = 0;
+        for byte in self.text.as_slice() {
+            if *byte == b'/' {
+                slashes += 1;
+            }
+        }
+        slashes
+    }
+
+    /// The path without its last name. The root has none.
+    pub fn parent(&self, alloc: Global) -> Result<Option<Path>, Memory>
+        ensures parent { IfOk result (λ p. p ≡ parent self.now) }
+        ensures shorter { IfOk result (λ p. IfSome p (λ q. length q < length self.now)) }
+    {
+        match parent_text(self.text.as_slice()) {
+            None => Ok(None),
+            Some(text) => Ok(Some(Path {
+                text: Vec::from_slice(alloc, text)?,
+            })),
+        }
+    }
+}
+
+/// What stands before the last slash, or the slash itself where nothing stands before it.
+fn parent_text(path: &[u8]) -> Option<&[u8]>
+    requires { IsTrue (is_path path.now) }
+    ensures parent { option_map (λ t. t.now) result ≡ parent path.now }
+    ensures valid { IfSome result (λ t. IsTrue (is_path t.now)) }
+    ensures shorter { IfSome result (λ t. length t.now < length path.now) }
+{
+    match last_slash(path) {
+        0 if path.len() == 1 => None,
+        0 => Some(b"/".as_slice()),
+        place => Some(&path[..place]),
+    }
+}
+
+/// The index of the last slash.
+fn last_slash(path: &[u8]) -> usize
+    requires { IsTrue (begins_with_slash path.now) }
+    ensures within { result < length path.now }
+    ensures split { at_last_slash path.now ≡ Some (take result path.now, drop (result + 1) path.now) }
+{
+    for place in (1..path.len()).rev() {
+        if path[place] == b'/' {
+            return place;
+        }
+    }
+    0
 }

@@ -1,14 +1,23 @@
 -- The first transaction of a new store: the root, and the head of the first update.
-use Rattle.std.specs.Prelude.{ℕ, ℤ, pos, false, List, [], ◌∷◌}
+use Rattle.std.specs.Prelude.{◌≡◌, ℕ, ℤ, pos, true, false, List, [], ◌∷◌, Some}
 use Rattle.ev_types.specs.declared.ask.Act.{Act}
 use Rattle.ev_types.specs.declared.ask.Act.TheVariants as act
 use Rattle.ev_types.specs.declared.ask.Ask.{Ask}
 use Rattle.ev_types.specs.declared.ask.Ask.TheVariants as ask
+use Rattle.ev_types.specs.declared.answer.ActAns.{ActAns}
+use Rattle.ev_types.specs.declared.answer.Answer.TheVariants as answer
+use Rattle.ev_types.specs.Store.{Store, new_store, revision, present}
+use Rattle.ev_types.specs.Denials.{carry}
+use Rattle.zk_model.specs.declared.transcript.UpdateKind.TheVariants.{Begin}
+use Rattle.zk_model.specs.declared.transcript.TranscriptLine.{TranscriptLine}
+use Rattle.zk_model.specs.declared.transcript.TranscriptLine.TheVariants.{Update}
+use Rattle.zk_model.specs.History.{after, IsSound}
 use Rattle.zk_model.specs.Paths.{root}
 use Rattle.zx_base.specs.Maps.{Bytes}
 use Rattle.zn_layout.specs.declared.record.NodeRec.{NodeRec}
 use Rattle.zn_layout.specs.declared.record.CountRec.{CountRec}
 use Rattle.zn_layout.specs.Keys.{HeadKey, DataKey, CountsKey, key_bytes}
+use Rattle.zn_layout.specs.StandsFor.{StandsFor}
 use Rattle.zn_layout.specs.Records.{node_value, counts_value, head_value}
 
 -- reads one key as it is then
@@ -36,3 +45,17 @@ begin_ask now = ask.Txn (record {
   success = begin_success now;
   failure = read_key (key_bytes HeadKey) ∷ [];
 })
+
+-- ---- what it does to a new store
+
+abbrev pub begin_lines : ℕ → List TranscriptLine
+begin_lines now = Update (record { zxid = pos 2; kind = Begin now }) ∷ []
+
+-- it isn't denied, succeeds at revision 2, and the keys that it leaves stand for the state after its line, which is sound
+pub record Begins (now : ℕ) : Type 0 where
+  pub new : Store
+  pub parts : List ActAns
+  pub carried : carry new_store (begin_ask now) ≡ Some (new, answer.Txn (pos 2) true parts)
+  pub revision_is : revision new ≡ pos 2
+  pub stands : StandsFor (present new) (after (begin_lines now))
+  pub sound : IsSound (after (begin_lines now))

@@ -1,6 +1,6 @@
 -- The values under the service's keys: a byte 1, and a record's fields, big-endian. Within its bounds a record has one value
 -- and a value one record.
-use Rattle.std.specs.Prelude.{◌≡◌, ℤ, pos, ◌≤◌, ◌≤ℤ◌, List, ◌∷◌, ◌++◌, length, All, IsTrue}
+use Rattle.std.specs.Prelude.{◌≡◌, ℤ, pos, ◌≤◌, ◌<◌, ◌^◌, ◌≤ℤ◌, List, ◌∷◌, ◌++◌, length, All, IsTrue}
 use Rattle.std.specs.List.Sorted.{IsStrictlySortedBy}
 use Rattle.std.specs.Ordering.{nat_cmp}
 use Rattle.std.specs.Cmp.Lexicographic.{slice_cmp}
@@ -64,6 +64,7 @@ pub record IsCountRec (r : CountRec) : Type 0 where
   pub creates : r.creates ≤ℤ most_creates
 
 pub record IsSessionRec (paths : List Bytes) : Type 0 where
+  pub count : length paths < 2 ^ 31
   pub valid : All (λ p. IsTrue (is_path p)) paths
   pub rising : IsStrictlySortedBy (slice_cmp nat_cmp) paths
 
@@ -81,4 +82,5 @@ trigger_path (Changed p) = p
 trigger_path (Children p) = p
 
 pub record IsHeadRec (ts : List Trigger) : Type 0 where
+  pub count : length ts < 2 ^ 31
   pub valid : All (λ t. IsTrue (is_path (trigger_path t))) ts

@@ -1,0 +1,17 @@
+pub mod Keys
+pub mod Depth
+pub mod Fits
+pub mod Applied
+pub mod Stands
+pub mod Found
+pub mod Transactions
+pub mod Denials
+pub mod Commits
+pub mod Paths
+pub mod Numbers
+pub mod Nodes
+pub mod Lookups
+pub mod First
+pub mod FirstUpdate
+pub mod Digits
+pub mod Leases

@@ -1,0 +1,121 @@
+//! Writing records.
+
+ghost use Rattle.std.specs.Prelude.{◌≡◌, ◌∷◌, ◌++◌, IfOk, OnOk, IsTrue};
+ghost use Rattle.zk_model.specs.JuteWriting.{string_bytes};
+ghost use Rattle.zk_model.specs.Paths.{is_path};
+ghost use Rattle.zn_layout.specs.Records.{node_value, counts_value, session_value, lease_value, head_value, trigger_bytes, trigger_path, IsNodeRec, IsCountRec, IsSessionRec, IsLeaseRec, IsHeadRec};
+
+use crate::record::{CountRec, HeadRec, LeaseRec, NodeRec, SessionRec};
+use crate::writer::Writer;
+use std::alloc::Global;
+use zk_model::{Path, Trigger};
+use zx_base::Memory;
+
+/// How many bytes stand before a node's data.
+const NODE_HEAD: usize = 37;
+
+/// How many bytes a record of counts has.
+const COUNTS_LENGTH: usize = 9;
+
+/// How many bytes a session's life has.
+const LEASE_LENGTH: usize = 29;
+
+/// How many bytes stand before the items of a record that is a list.
+const LIST_HEAD: usize = 5;
+
+/// The value of a node's record, which keeps its bounds.
+#[tactic(auto, unfolding(crate::specs::Records::node_value))]
+pub fn write_node(alloc: Global, node: &NodeRec) -> Result<Vec<u8>, Memory>
+    requires { IsNodeRec node.now }
+    ensures { IfOk result (λ v. v.items ≡ node_value node.now) }
+{
+    let mut value = Writer::new(alloc, NODE_HEAD + node.content.len())?;
+    value.long(node.czxid)?;
+    value.int(node.version)?;
+    value.long(node.ctime)?;
+    value.long(node.mtime)?;
+    value.long(node.owner)?;
+    value.bytes(node.content.as_slice())?;
+    Ok(value.into_vec())
+}
+
+/// The value of a record of counts, which keeps its bounds.
+#[tactic(auto, unfolding(crate::specs::Records::counts_value))]
+pub fn write_counts(alloc: Global, counts: &CountRec) -> Result<Vec<u8>, Memory>
+    requires { IsCountRec counts.now }
+    ensures { IfOk result (λ v. v.items ≡ counts_value counts.now) }
+{
+    let mut value = Writer::new(alloc, COUNTS_LENGTH)?;
+    value.int(counts.creates)?;
+    value.int(counts.children)?;
+    Ok(value.into_vec())
+}
+
+/// The value of a session's nodes, which keep their bounds.
+#[tactic(auto, unfolding(crate::specs::Records::session_value))]
+pub fn write_session(alloc: Global, session: &SessionRec) -> Result<Vec<u8>, Memory>
+    requires { IsSessionRec session.now.paths }
+    ensures { IfOk result (λ v. v.items ≡ session_value session.now.paths) }
+{
+    let mut value = Writer::new(alloc, LIST_HEAD)?;
+    value.count(session.paths.len())?;
+    for path in session.paths.as_slice() {
+        write_path(&mut value, path)?;
+    }
+    Ok(value.into_vec())
+}
+
+/// The value of a session's life, which keeps its bounds.
+#[tactic(auto, unfolding(crate::specs::Records::lease_value))]
+pub fn write_lease(alloc: Global, lease: &LeaseRec) -> Result<Vec<u8>, Memory>
+    requires { IsLeaseRec lease.now }
+    ensures { IfOk result (λ v. v.items ≡ lease_value lease.now) }
+{
+    let mut value = Writer::new(alloc, LEASE_LENGTH)?;
+    value.int(lease.timeout)?;
+    value.long(lease.attaches)?;
+    value.bytes(&lease.passwd)?;
+    Ok(value.into_vec())
+}
+
+/// The value of the head, which keeps its bounds.
+#[tactic(auto, unfolding(crate::specs::Records::head_value))]
+pub fn write_head(alloc: Global, head: &HeadRec) -> Result<Vec<u8>, Memory>
+    requires { IsHeadRec head.now.triggers }
+    ensures { IfOk result (λ v. v.items ≡ head_value head.now.triggers) }
+{
+    let mut value = Writer::new(alloc, LIST_HEAD)?;
+    value.count(head.triggers.len())?;
+    for trigger in head.triggers.as_slice() {
+        write_trigger(&mut value, trigger)?;
+    }
+    Ok(value.into_vec())
+}
+
+fn write_trigger(value: &mut Writer, trigger: &Trigger) -> Result<(), Memory>
+    requires { IsTrue (is_path (trigger_path trigger.now)) }
+    ensures { OnOk result (value.new ≡ value.old ++ trigger_bytes trigger.now) }
+{
+    match trigger {
+        Trigger::Created(path) => write_kind(value, 1, path.bytes()),
+        Trigger::Deleted(path) => write_kind(value, 2, path.bytes()),
+        Trigger::Changed(path) => write_kind(value, 3, path.bytes()),
+        Trigger::Children(path) => write_kind(value, 4, path.bytes()),
+    }
+}
+
+/// A trigger's number and path.
+fn write_kind(value: &mut Writer, kind: u8, path: &[u8]) -> Result<(), Memory>
+    requires { IsTrue (is_path path.now) }
+    ensures { OnOk result (value.new ≡ value.old ++ (kind ∷ string_bytes path.now)) }
+{
+    value.byte(kind)?;
+    value.string(path)
+}
+
+fn write_path(value: &mut Writer, path: &Path) -> Result<(), Memory>
+    requires { IsTrue (is_path path.now) }
+    ensures { OnOk result (value.new ≡ value.old ++ string_bytes path.now) }
+{
+    value.string(path.bytes())
+}
