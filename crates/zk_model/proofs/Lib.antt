@@ -14,6 +14,10 @@ pub mod RequestLaws
 pub mod Lengths
 pub mod Stats
 pub mod ReplyLaws
+pub mod Paths
+pub mod Children
+pub mod Owned
+pub mod Sound
 pub mod PathDefects
 pub mod PathScans
 pub mod ValidPaths
