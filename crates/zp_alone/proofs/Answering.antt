@@ -13,6 +13,11 @@ pub answers-one : (c : ℕ) (at old new : World) (q : Waiting) (qs : List Waitin
     → new.waiting ≡ qs → new.told ≡ zxid_of at.told a → AnswersOne c old new
 answers-one c at old new q qs store a is oldest answers stores lines clock connection frames waiting told =
     subst (λ (w : World). AnswersOne c w new) is (record {
-      request = q; later = qs; store = store; answer = a; oldest = oldest; answers = answers;
+      request = q;
+      later = qs;
+      store = store;
+      answer = a;
+      oldest = oldest;
+      answers = answers;
       leaves = λ i. record { store = stores i; lines = lines i; clock = clock i; connection = connection i; frames = frames i; waiting = waiting i; told = told i };
     })

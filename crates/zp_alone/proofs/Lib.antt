@@ -8,3 +8,4 @@ pub mod Reaching
 pub mod Refusals
 pub mod Worlds
 pub mod Answering
+pub mod Begun

@@ -17,13 +17,13 @@ pub invariant_of-self-in_err-self-inside : goal.invariant_of-self-in_err-self-in
 invariant_of-self-in_err-self-inside c =
     let grown = answers-length c.self.inside.store c.answer.new.store c.in-Some.next.request c.self.inside.clock c.in_ok-answered.answered c.in_ok-answered.ensures.ok in
     world-answered _ c.answer.new.store c.push_answer.new.lines.items c.in-Some.next c.pop_front.new.self.items c.self.inside.told c.in-Some.ensures.items grown
-      (c.push_answer.ensures.linked c.self.inside.connection c.self.invariant.linked) c.self.invariant
+    (c.push_answer.ensures.linked c.self.inside.connection c.self.invariant.linked) c.self.invariant
 
 pub invariant_of-self-2 : goal.invariant_of-self-2
 invariant_of-self-2 c =
     let grown = answers-length c.self.inside.store c.answer.new.store c.in-Some.next.request c.self.inside.clock c.in_ok-answered.answered c.in_ok-answered.ensures.ok in
     world-answered _ c.answer.new.store c.push_answer.new.lines.items c.in-Some.next c.pop_front.new.self.items (to_z w64 (of_z w64 c.in_ok-self-inside.field-0)) c.in-Some.ensures.items grown
-      (c.push_answer.ensures.linked c.self.inside.connection c.self.invariant.linked) c.self.invariant
+    (c.push_answer.ensures.linked c.self.inside.connection c.self.invariant.linked) c.self.invariant
 
 pub returns : goal.returns
 returns c =
@@ -32,4 +32,4 @@ returns c =
     let lines = rw same at c.in_ok-self-inside.ensures.ok in
     let told : to_z w64 (of_z w64 c.in_ok-self-inside.field-0) ≡ zxid_of c.self.inside.told c.in_ok-answered.answered = search rules in
     answers-one c.args.connection _ c.args.self.now _ c.in-Some.next c.pop_front.new.self.items c.answer.new.store c.in_ok-answered.answered
-      c.self.view_is c.in-Some.ensures.items c.in_ok-answered.ensures.ok refl lines refl refl refl refl told
+    c.self.view_is c.in-Some.ensures.items c.in_ok-answered.ensures.ok refl lines refl refl refl refl told

@@ -11,13 +11,13 @@ use Rattle.zp_alone.proofs.world.Alone.frame.Goals as goal
 pub returns-then-not-is_open : goal.returns-then-not-is_open
 returns-then-not-is_open c =
     refuses c.args.self.now _ why.NoSuchConnection c.refused.result
-      (frame-unknown c.args.self.now.lines c.args.self.now.clock c.args.connection c.args.bytes (sym c.is_open.ensures ∙ c.if-not-is_open.true)) c.refused.ensures
+    (frame-unknown c.args.self.now.lines c.args.self.now.clock c.args.connection c.args.bytes (sym c.is_open.ensures ∙ c.if-not-is_open.true)) c.refused.ensures
 
 pub returns-then-len-gt-MOST_FRAME : goal.returns-then-len-gt-MOST_FRAME
 returns-then-len-gt-MOST_FRAME c =
     let long : most_frame < length c.args.bytes = omega (arith, c.len.ensures) in
     refuses c.args.self.now _ why.TooLong c.refused-then-len-gt-MOST_FRAME.result
-      (frame-long c.args.self.now.lines c.args.self.now.clock c.args.connection c.args.bytes (sym c.is_open.ensures ∙ c.if-not-is_open.false) long) c.refused-then-len-gt-MOST_FRAME.ensures
+    (frame-long c.args.self.now.lines c.args.self.now.clock c.args.connection c.args.bytes (sym c.is_open.ensures ∙ c.if-not-is_open.false) long) c.refused-then-len-gt-MOST_FRAME.ensures
 
 pub returns-in_ok-add_frame-in-Some : goal.returns-in_ok-add_frame-in-Some
 returns-in_ok-add_frame-in-Some c =
@@ -32,4 +32,4 @@ returns-in-None c =
     let short : length c.args.bytes ≤ most_frame = omega (arith, c.len.ensures) in
     let read : IsReadBuilt c.args.bytes None = search rules in
     refuses c.args.self.now _ why.NotBuilt c.refused-in-None.result
-      (frame-unbuilt c.args.self.now.lines c.args.self.now.clock c.args.connection c.args.bytes (sym c.is_open.ensures ∙ c.if-not-is_open.false) short read) c.refused-in-None.ensures
+    (frame-unbuilt c.args.self.now.lines c.args.self.now.clock c.args.connection c.args.bytes (sym c.is_open.ensures ∙ c.if-not-is_open.false) short read) c.refused-in-None.ensures
