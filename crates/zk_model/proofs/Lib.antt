@@ -21,3 +21,14 @@ pub mod Sound
 pub mod PathDefects
 pub mod PathScans
 pub mod ValidPaths
+pub mod Numbered
+pub mod Conforming
+pub mod Listing
+pub mod JuteCanonical
+pub mod Lists
+pub mod PartLaws
+pub mod Headers
+pub mod ConnectLaws
+pub mod ResultLaws
+pub mod RoundTrips
+pub mod Contents

@@ -1,9 +1,8 @@
 -- Lists of values put one behind the other.
-use Rattle.std.proofs.Common.{◌≡◌, ℕ, List, [], ◌∷◌, ◌++◌, All, refl, sym, ap, ◌∙◌, append_assoc}
+use Rattle.std.proofs.Common.{◌≡◌, ℕ, List, [], ◌∷◌, ◌++◌, refl, sym, ap, ◌∙◌, append_assoc}
 use Rattle.std.specs.List.{AllByRecursion, flat_map}
 use Rattle.std.proofs.lemmas.Grind.{flat_map-append}
 use Rattle.std.proofs.lemmas.List.{append-nil}
-use Rattle.std.proofs.lemmas.List.Elements.{All-from_recursion}
 use Rattle.zk_model.specs.JuteValues.{Value}
 use Rattle.zk_model.specs.JuteWriting.{canonical, written}
 use Rattle.zk_wire.specs.Putting.{put_all}
@@ -15,24 +14,6 @@ put_all-append {S = S} put s (v ∷ vs) ws = put_all-append put (put s v) vs ws
 -- the values of one item more
 pub put_more : {S A : Type 0} (put : S → Value → S) (s : S) (f : A → List Value) (xs : List A) (x : A) → put_all put (put_all put s (flat_map f xs)) (f x) ≡ put_all put s (flat_map f (xs ++ x ∷ []))
 put_more {S = S} {A = A} put s f xs x = sym (put_all-append put s (flat_map f xs) (f x)) ∙ ap (put_all put s) (sym (flat_map-append f xs (x ∷ []) ∙ ap (λ (vs : List Value). flat_map f xs ++ vs) (append-nil (f x))))
-
-first_of_both : {A : Type 0} (P : A → Type 0) (xs ys : List A) → AllByRecursion P (xs ++ ys) → AllByRecursion P xs
-first_of_both {A = A} P [] ys all = tt
-first_of_both {A = A} P (x ∷ xs) ys all = (all.0, first_of_both P xs ys all.1)
-
-second_of_both : {A : Type 0} (P : A → Type 0) (xs ys : List A) → AllByRecursion P (xs ++ ys) → AllByRecursion P ys
-second_of_both {A = A} P [] ys all = all
-second_of_both {A = A} P (x ∷ xs) ys all = second_of_both P xs ys all.1
-
-each_of : {A B : Type 0} (P : B → Type 0) (f : A → List B) (xs : List A) (ys : List B) → AllByRecursion P (flat_map f xs ++ ys) → AllByRecursion (λ x. AllByRecursion P (f x)) xs
-each_of {A = A} {B = B} P f [] ys all = tt
-each_of {A = A} {B = B} P f (x ∷ xs) ys all =
-    let one = first_of_both P (flat_map f (x ∷ xs)) ys all in
-    (first_of_both P (f x) (flat_map f xs) one, each_of P f xs [] (let others = second_of_both P (f x) (flat_map f xs) one in rw append-nil others))
-
--- what holds of the values of all items holds of each item's
-pub item_can : {A B : Type 0} (P : B → Type 0) (f : A → List B) (xs : List A) (ys : List B) → AllByRecursion P (flat_map f xs ++ ys) → All (λ x. AllByRecursion P (f x)) xs
-item_can {A = A} {B = B} P f xs ys all = All-from_recursion (λ x. AllByRecursion P (f x)) xs (each_of P f xs ys all)
 
 -- ---- at a whole record
 

@@ -27,6 +27,7 @@
 mod connects;
 mod cutter;
 mod fault;
+mod laws;
 mod packets;
 mod reader;
 mod replies;
@@ -39,6 +40,10 @@ mod writer;
 pub use connects::read_connect;
 pub use cutter::{CutFault, Cutter};
 pub use fault::WireFault;
+pub use laws::{
+    connects_are_spelled, frames_in_any_pieces, replies_are_spelled, replies_come_back,
+    requests_are_spelled, requests_come_back,
+};
 pub use packets::{write_connect, write_notice, write_reply, write_request};
 pub use replies::read_reply;
 pub use requests::read_request;
