@@ -15,3 +15,4 @@ pub mod First
 pub mod FirstUpdate
 pub mod Digits
 pub mod Leases
+pub mod Sessions

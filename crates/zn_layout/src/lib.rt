@@ -13,6 +13,8 @@ mod key;
 mod laws;
 mod read;
 mod record;
+#[cfg(test)]
+mod tests;
 mod write;
 mod writer;
 
