@@ -1,5 +1,5 @@
 -- Each cause denies, and an ask without one is carried out.
-use Rattle.std.proofs.Common.{◌≡◌, ◌≢◌, ℕ, ◌&&◌, ◌||◌, Bool, true, false, cond, ℤ, List, [], ◌∷◌, length, Option, Some, None, Result, Ok, Err, refl, sym, ap, ◌∙◌, subst, ◌⊎◌, ⊎_elim, inl, inr, nat_lt, nat_eq, eqb-true, IfOk, IfErr}
+use Rattle.std.proofs.Common.{◌≡◌, ◌≢◌, ℕ, ◌||◌, Bool, true, false, cond, ℤ, List, [], ◌∷◌, length, Some, None, Result, Ok, Err, refl, sym, ap, ◌∙◌, subst, ⊎_elim, nat_lt, nat_eq, eqb-true, IfOk, IfErr}
 use Rattle.std.specs.List.{list_any}
 use Rattle.std.specs.Ordering.{int_eq}
 use Rattle.std.specs.FinMap.{get, insert}
@@ -15,13 +15,13 @@ use Rattle.ev_types.specs.declared.answer.Answer.TheVariants as answer
 use Rattle.ev_types.specs.declared.answer.ActAns.{ActAns}
 use Rattle.ev_types.specs.declared.answer.RangeAns.{RangeAns}
 use Rattle.ev_types.specs.Ranges.{found}
-use Rattle.ev_types.specs.Store.{Store, Change, Done, revision, worked, grown, succeeds, chosen, carried_out, txn_done, txn_answer, looked_at, present, seconds}
+use Rattle.ev_types.specs.Store.{Store, Change, revision, worked, grown, succeeds, chosen, carried_out, txn_done, looked_at, present, seconds}
 use Rattle.ev_types.specs.Denials.{has_lease, names_no_lease, is_future, is_compacted, looks_ahead, looks_below, writes_twice, most_operations, is_long, has_long_list, is_full, chosen_acts, is_denied, carry}
 use Rattle.ev_store.specs.declared.fault.Denied.{Denied}
 use Rattle.ev_store.specs.declared.fault.Denied.TheVariants as denied
 use Rattle.ev_store.specs.declared.fault.StoreFault.{StoreFault}
 use Rattle.ev_store.specs.declared.fault.StoreFault.TheVariants as fault
-use Rattle.ev_store.specs.Causes.{is_range_cause, is_put_cause, is_act_cause, doubles, is_crowd, is_full_cause, is_txn_cause, is_grant_cause, is_cause, lacks_lease, if_denied, denies}
+use Rattle.ev_store.specs.Causes.{is_range_cause, is_put_cause, is_act_cause, doubles, is_crowd, is_txn_cause, is_grant_cause, is_cause, lacks_lease, if_denied, denies}
 use Rattle.ev_store.proofs.Doubling.{writes_twice-doubles}
 use Rattle.std.proofs.lemmas.Bool.{or_left, or_right, or_cases, or_from, and_parts}
 

@@ -1,17 +1,17 @@
 -- One key of the store's fold is the fold of that key, while no list of changes puts a key twice: a version then rises by
 -- at most one a revision, and never reaches the end of its type.
-use Rattle.std.proofs.Common.{◌≡◌, ℕ, ◌+◌, ◌≤◌, ◌<◌, ◌-◌, ◌^◌, ◌&&◌, ◌||◌, not, min, Bool, true, false, cond, ℤ, pos, ◌+ℤ◌, w64, List, [], ◌∷◌, length, Option, Some, None, refl, sym, ap, ◌∙◌, subst, arith, zero-add}
+use Rattle.std.proofs.Common.{◌≡◌, ℕ, ◌+◌, ◌≤◌, ◌<◌, ◌-◌, ◌^◌, min, Bool, true, false, cond, ℤ, pos, ◌+ℤ◌, w64, List, [], ◌∷◌, length, Option, Some, None, refl, sym, ap, ◌∙◌, subst, arith, zero-add}
 use Rattle.std.specs.Int.{saturate_signed}
 use Rattle.std.specs.List.{list_any, list_all}
 use Rattle.std.specs.FinMap.{get, insert, remove, empty, get-empty}
 use Rattle.std.specs.Cmp.Lexicographic.{slice_cmp, nat_list_eq_equiv}
 use Rattle.std.specs.Ordering.{nat_cmp}
-use Rattle.zx_base.specs.Maps.{Bytes, Map, same}
+use Rattle.zx_base.specs.Maps.{Bytes, same}
 use Rattle.zx_base.proofs.MapLaws.{same-true, apart-from_same, get-insert_same, get-insert_other, get-remove_same, get-remove_other}
 use Rattle.ev_types.specs.declared.answer.Kv.{Kv}
 use Rattle.ev_types.specs.Ranges.{Keys}
 use Rattle.ev_types.specs.Store.{Change, Puts, Removes, put_over, changed, after_changes, keys_from}
-use Rattle.ev_store.specs.Changes.{put_keys, are_distinct, puts_once}
+use Rattle.ev_store.specs.Changes.{put_keys, puts_once}
 use Rattle.std.proofs.lemmas.Bool.{or_parts, and_parts, not-true}
 use Rattle.ev_store.specs.Folds.{kv_after_put, key_after_change, key_after_changes, key_after_revisions}
 

@@ -1,5 +1,5 @@
 -- Operations one after another: what the first ones did and what the others will do are together what all do.
-use Rattle.std.proofs.Common.{◌≡◌, ℕ, ◌+◌, ◌&&◌, not, Bool, true, false, ℤ, pos, ◌+ℤ◌, List, [], ◌∷◌, ◌++◌, Option, Some, None, refl, sym, ap, ◌∙◌, append_assoc, append-nil, subst}
+use Rattle.std.proofs.Common.{◌≡◌, not, true, false, ℤ, pos, ◌+ℤ◌, List, [], ◌∷◌, ◌++◌, Option, Some, None, refl, sym, ap, ◌∙◌, append_assoc, append-nil}
 use Rattle.std.specs.List.{list_any}
 use Rattle.std.proofs.lemmas.List.Folds.{list_any-append}
 use Rattle.std.specs.FinMap.{get}
@@ -11,7 +11,7 @@ use Rattle.ev_types.specs.declared.answer.Kv.{Kv}
 use Rattle.ev_types.specs.Ranges.{Keys}
 use Rattle.ev_types.specs.Store.{Store, Change, Puts, Removes, Done, removal, one_act, then_done, acts_from, after_changes, changed, worked, present, revision}
 use Rattle.ev_types.specs.Denials.{writes, puts, writes_twice}
-use Rattle.ev_store.specs.Changes.{put_keys, are_distinct, puts_once}
+use Rattle.ev_store.specs.Changes.{put_keys, are_distinct}
 use Rattle.ev_store.specs.Repeats.{act_keys}
 use Rattle.std.proofs.lemmas.Bool.{not_from_false, not-true, or_parts, or_from, and_parts, and_from}
 
