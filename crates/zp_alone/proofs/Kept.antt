@@ -75,8 +75,8 @@ kept-frame w c bytes xid r linked read small built k =
     let l : TranscriptLine = FrameLine c (w.frames + 1) (revision w.store) bytes in
     let same : FrameLine c (frames_of c w.lines + 1) (revision w.store) bytes ≡ l = ap (λ n. FrameLine c (n + 1) (revision w.store) bytes) (sym t.counts) in
     let talks : Talks c (w.lines ++ l ∷ []) (w.waiting ++ asked_next w xid r ∷ []) w.told =
-        subst (λ (m : TranscriptLine). Talks c (w.lines ++ m ∷ []) (w.waiting ++ asked_next w xid r ∷ []) w.told) same
-          (talks-frame c w.lines w.waiting w.told (revision w.store) bytes (asked_next w xid r) t.talks (ap (λ n. n + 1) t.counts) read small built) in
+    subst (λ (m : TranscriptLine). Talks c (w.lines ++ m ∷ []) (w.waiting ++ asked_next w xid r ∷ []) w.told) same
+    (talks-frame c w.lines w.waiting w.told (revision w.store) bytes (asked_next w xid r) t.talks (ap (λ n. n + 1) t.counts) read small built) in
     record {
       kept = kept_in-quiet w.store w.lines l (frame_quiet c (w.frames + 1) (revision w.store) bytes) k.kept;
       linked = linked-push w.connection w.lines l (λ d. refl) refl k.linked;
@@ -136,10 +136,10 @@ kept-updated c w q qs store answer zxid linked oldest at updates k =
     let commits = asked_commit-of c next w.clock zxid w.lines (after w.lines) h.place h.bytes q.xid q.request h.frame h.read ∙ updates.commits in
     let kept = kept-asked c next w.clock zxid w.lines updates.made q w.store store k.kept talks.stands.least h talks.below updates.above commits (sym at) updates.stands updates.sound in
     let lines : (w.lines ++ u ∷ []) ++ l ∷ [] ≡ w.lines ++ (asked_line c q.index w.clock zxid ∷ l ∷ []) =
-        append_assoc w.lines (u ∷ []) (l ∷ []) ∙ ap (λ i. w.lines ++ (asked_line c i w.clock zxid ∷ l ∷ [])) (sym h.index) in
+    append_assoc w.lines (u ∷ []) (l ∷ []) ∙ ap (λ i. w.lines ++ (asked_line c i w.clock zxid ∷ l ∷ [])) (sym h.index) in
     let after_u = linked-push w.connection w.lines u (λ d. refl) refl k.linked in
     let told = subst (λ (r : Reply). Talks c ((w.lines ++ u ∷ []) ++ Send c (reply_packet q.xid zxid r) ∷ []) qs zxid) (sym updates.told)
-      (talks-updated c w.lines q qs w.told w.clock zxid updates.made talks updates.above commits) in
+    (talks-updated c w.lines q qs w.told w.clock zxid updates.made talks updates.above commits) in
     record {
       kept = subst (IsKeptIn store) lines (kept_in-quiet store (w.lines ++ u ∷ []) l (send_quiet c (reply_packet q.xid zxid answer)) kept);
       linked = subst (IsLinked w.connection) lines (linked-push w.connection (w.lines ++ u ∷ []) l (λ d. refl) refl after_u);
@@ -180,7 +180,7 @@ answers-then c first mid q qs store a some oldest answers = record {
   added = some.added ++ answer_lines c mid.clock q mid.told a;
   lines = ap (λ ls. ls ++ answer_lines c mid.clock q mid.told a) some.lines ∙ append_assoc first.lines some.added (answer_lines c mid.clock q mid.told a);
   each = All-append (IsAnswerLine c first.clock) some.added (answer_lines c mid.clock q mid.told a) some.each
-    (subst (λ (n : ℕ). All (IsAnswerLine c n) (answer_lines c mid.clock q mid.told a)) some.clock (answer_lines-each c mid.clock q mid.told a));
+      (subst (λ (n : ℕ). All (IsAnswerLine c n) (answer_lines c mid.clock q mid.told a)) some.clock (answer_lines-each c mid.clock q mid.told a));
 }
 
 pub answers-more : (c : ℕ) (first mid last : World) → AnswersSome c first mid → AnswersOne c mid last → AnswersSome c first last

@@ -138,7 +138,7 @@ plays-frame w c bytes xid q possible read = λ hs r.
     let t = talking c w linked r.kept.keeps in
     let shows : FrameLine c (w.frames + 1) (revision w.store) bytes ≡ FrameLine c (frames_of c w.lines + 1) (after w.lines).zxid bytes = λ i. FrameLine c (t.counts i + 1) (r.kept.kept.revision i) bytes in
     reached-more hs (line.Frame c bytes) w (framed w c bytes xid q) (FrameLine c (w.frames + 1) (revision w.store) bytes ∷ []) r possible (ap (λ (l : TranscriptLine). l ∷ []) shows) refl refl
-      (kept-frame w c bytes xid q linked read small (built_as bytes xid q may.2 read) r.kept)
+    (kept-frame w c bytes xid q linked read small (built_as bytes xid q may.2 read) r.kept)
 
 pub plays-tick : (w : World) (millis : ℕ) → refusal_of w.lines w.clock (line.Tick millis) ≡ None → Plays w (line.Tick millis) (ticked w millis)
 plays-tick w millis possible = λ hs r. reached-more hs (line.Tick millis) w (ticked w millis) [] r possible refl (sym (append-nil w.lines)) refl (kept-tick w millis r.kept)
@@ -164,7 +164,7 @@ plays-settle old new c possible some idle = λ hs r.
     let t = talking c new (some.connection ∙ linked) k.keeps in
     let queued : AreQueued c new.lines t.talks.walker.next [] = subst (AreQueued c new.lines t.talks.walker.next) idle t.talks.queued in
     let answered : sends_of c (old.lines ++ some.added) ≡ frames_of c old.lines =
-        omega (arith, queued, t.talks.counted.sent, ap (sends_of c) some.lines, ap (frames_of c) some.lines, frames_of-append c old.lines some.added, no_frames c old.clock some.added some.each) in
+    omega (arith, queued, t.talks.counted.sent, ap (sends_of c) some.lines, ap (frames_of c) some.lines, frames_of-append c old.lines some.added, no_frames c old.clock some.added some.each) in
     reached-more hs (line.Settle c) old new some.added r possible (record { each = some.each; answered = answered }) some.lines some.clock k
 
 -- ---- the world begins
@@ -221,3 +221,17 @@ reached-begin store b = record {
     keeps = record { lines = refl; idle = refl; none = refl; told = refl };
   };
 }
+
+-- the world over it, from its parts
+pub reached-begun : (store : Store) (w : World) → IsBegun store → w.store ≡ store → w.lines ≡ begin_line ∷ [] → w.clock ≡ 0 → w.connection ≡ None → w.frames ≡ 0 → w.waiting ≡ [] → w.told ≡ pos 2 → Reached [] w
+reached-begun store w b same lines clock connection frames waiting told =
+    let is : w ≡ begun store = λ i. record {
+      store = same i;
+      lines = lines i;
+      clock = clock i;
+      connection = connection i;
+      frames = frames i;
+      waiting = waiting i;
+      told = told i;
+    } in
+    subst (Reached []) (sym is) (reached-begin store b)

@@ -62,7 +62,7 @@ walked-send c lines w v x k packet begun moves due h =
       choices = h.choices ++ x ∷ [];
       dues = dues;
       walked = rw (start-push lines (Send c packet ∷ []) begun)
-        (walk-push lines (Send c packet ∷ []) c (pos 0) start (h.choices ++ x ∷ []) (v, dues) (stays-line lines (Send c packet) c v.next (λ j small. refl)) more);
+          (walk-push lines (Send c packet ∷ []) c (pos 0) start (h.choices ++ x ∷ []) (v, dues) (stays-line lines (Send c packet) c v.next (λ j small. refl)) more);
       sent = rw (packets-append c lines (Send c packet ∷ [])) (are_sent-append h.dues ((k, packet) ∷ []) (packets c lines) (packets_from c (length lines) (Send c packet ∷ [])) h.sent (sent-now c k (length lines) packet due));
     }
 
@@ -85,9 +85,13 @@ stands-push lines l w rises h = record {
 
 queued-line : (c : ℕ) (lines more : List TranscriptLine) (next : ℕ) (q : Waiting) → IsQueued c lines next q → IsQueued c (lines ++ more) next q
 queued-line c lines more next q h = record {
-  index = h.index; place = h.place; bytes = h.bytes;
+  index = h.index;
+  place = h.place;
+  bytes = h.bytes;
   frame = first_place-push (frame_shown c next) 0 lines more (h.place, h.bytes) h.frame;
-  read = h.read; small = h.small; built = h.built;
+  read = h.read;
+  small = h.small;
+  built = h.built;
 }
 
 -- a line that is no frame of c
@@ -135,12 +139,18 @@ pub queued-frame : (c : ℕ) (lines : List TranscriptLine) (z : ℤ) (bytes : Li
 queued-frame c lines z bytes q next [] index read small built new h =
     let i : ℕ = frames_of c lines + 1 in
     let l : TranscriptLine = FrameLine c i z bytes in
-    let placed : placed_frame c i (lines ++ l ∷ []) ≡ Some (0 + length lines, bytes) = first_place-new (frame_shown c i) 0 lines l bytes new (shown-frame c i z bytes) in
-    (record {
-      index = index ∙ sym h; place = 0 + length lines; bytes = bytes;
-      frame = subst (λ (n : ℕ). placed_frame c n (lines ++ l ∷ []) ≡ Some (0 + length lines, bytes)) (sym h) placed;
-      read = read; small = small; built = built;
-    }, omega (arith, frames_of-append c lines (l ∷ []), one_frame c i z bytes, h))
+    let placed : placed_frame c i (lines ++ l ∷ []) ≡ Some (0 + length lines, bytes) = first_place-new (frame_shown c i) 0 lines l bytes new (shown-frame c i z bytes) in (
+      record {
+        index = index ∙ sym h;
+        place = 0 + length lines;
+        bytes = bytes;
+        frame = subst (λ (n : ℕ). placed_frame c n (lines ++ l ∷ []) ≡ Some (0 + length lines, bytes)) (sym h) placed;
+        read = read;
+        small = small;
+        built = built;
+      },
+      omega (arith, frames_of-append c lines (l ∷ []), one_frame c i z bytes, h),
+    )
 queued-frame c lines z bytes q next (p ∷ ws) index read small built new h =
     (queued-line c lines (FrameLine c (frames_of c lines + 1) z bytes ∷ []) next p h.0, queued-frame c lines z bytes q (next + 1) ws index read small built new h.1)
 
