@@ -1,0 +1,32 @@
+//! How the program ends.
+
+/// How a command ended.
+#[derive(Clone, Copy, Debug, PartialEq, Eq)]
+pub enum Status {
+    /// The input was read to its end.
+    Done,
+    /// The words name no command.
+    Usage,
+    /// This line of a script, from 1, cannot be read or is not possible.
+    Script { line: u64 },
+    /// The input had a fault, or 1,000 idle turns.
+    ReadFault,
+    /// The output had a fault.
+    WriteFault,
+    /// Memory was refused.
+    Memory,
+}
+
+impl Status {
+    /// The number that the process ends with.
+    pub fn number(self) -> u8 {
+        match self {
+            Status::Done => 0,
+            Status::Usage => 2,
+            Status::Script { .. } => 3,
+            Status::ReadFault => 4,
+            Status::WriteFault => 5,
+            Status::Memory => 7,
+        }
+    }
+}
