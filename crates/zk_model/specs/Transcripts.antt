@@ -1,6 +1,7 @@
 -- The text of a transcript (this project's own format): a line for each thing that happened, its words separated by blanks.
-use Rattle.std.specs.Prelude.{ℕ, ℤ, nat_abs, zero, suc, ◌+◌, ◌/◌, ◌%◌, List, [], ◌∷◌, ◌++◌, flat_map, nat_lt, if◌then◌else◌, codes, decimal}
+use Rattle.std.specs.Prelude.{ℕ, ℤ, nat_abs, ◌+◌, ◌/◌, ◌%◌, List, [], ◌∷◌, ◌++◌, flat_map, nat_lt, if◌then◌else◌, codes, decimal}
 use Rattle.std.specs.Fmt.{signed_decimal}
+use Rattle.std.specs.Int.{to_be_bytes, w64}
 use Rattle.zk_model.specs.declared.transcript.Cause.{Cause}
 use Rattle.zk_model.specs.declared.transcript.Cause.TheVariants as cause
 use Rattle.zk_model.specs.declared.transcript.Ended.{Ended}
@@ -10,30 +11,28 @@ use Rattle.zk_model.specs.declared.transcript.UpdateKind.TheVariants.{Begin, Ses
 use Rattle.zk_model.specs.declared.transcript.TranscriptLine.{TranscriptLine}
 use Rattle.zk_model.specs.declared.transcript.TranscriptLine.TheVariants.{Update, Open, Frame, Send, Lapse, Close}
 
-abbrev pub hex_digit : ℕ → ℕ
-hex_digit n = if nat_lt n 10 then 48 + n else 87 + n
+-- ---- words
 
-abbrev pub hex_pair : ℕ → List ℕ
-hex_pair b = hex_digit (b / 16) ∷ hex_digit (b % 16) ∷ []
+-- two hex digits in lower case for each byte, the high one first
+abbrev pub hex_digit_text : ℕ → ℕ
+hex_digit_text n = if nat_lt n 10 then 48 + n else 87 + n
+
+abbrev pub hex_byte_text : ℕ → List ℕ
+hex_byte_text b = hex_digit_text (b / 16) ∷ hex_digit_text (b % 16) ∷ []
+
+unfoldable pub hex_digits : List ℕ → List ℕ
+hex_digits bytes = flat_map hex_byte_text bytes
 
 -- bytes as hex, `-` for none
-abbrev pub hex : List ℕ → List ℕ
-hex [] = 45 ∷ []
-hex (b ∷ bs) = flat_map hex_pair (b ∷ bs)
+unfoldable pub hex_text : List ℕ → List ℕ
+hex_text [] = codes "-"
+hex_text (b ∷ bs) = hex_digits (b ∷ bs)
 
--- a session's number as 16 digits
-abbrev pub hex_id : ℕ → ℕ → List ℕ
-hex_id zero n = []
-hex_id (suc k) n = hex_id k (n / 16) ++ hex_digit (n % 16) ∷ []
+-- a session's number as 16 hex digits
+unfoldable pub id_text : ℤ → List ℕ
+id_text id = hex_digits (to_be_bytes w64 (nat_abs id))
 
-abbrev pub id_text : ℤ → List ℕ
-id_text id = hex_id 16 (nat_abs id)
-
--- words with a blank between each two
-abbrev pub spaced : List (List ℕ) → List ℕ
-spaced [] = []
-spaced (w ∷ []) = w
-spaced (w ∷ v ∷ ws) = w ++ (32 ∷ spaced (v ∷ ws))
+-- ---- lines
 
 abbrev pub kind_words : UpdateKind → List (List ℕ)
 kind_words (Begin now) = codes "begin" ∷ decimal now ∷ []
@@ -59,7 +58,7 @@ cause_words (cause.Moved mine found) = codes "moved" ∷ signed_decimal mine ∷
 cause_words cause.LinkFault = codes "link" ∷ []
 cause_words (cause.Lagged cursor floor) = codes "lagged" ∷ signed_decimal cursor ∷ signed_decimal floor ∷ []
 cause_words cause.FeedClosed = codes "feed" ∷ []
-cause_words (cause.Damaged key value) = codes "damaged" ∷ hex key ∷ hex value ∷ []
+cause_words (cause.Damaged key value) = codes "damaged" ∷ hex_text key ∷ hex_text value ∷ []
 cause_words cause.Restart = codes "restart" ∷ []
 cause_words cause.Memory = codes "memory" ∷ []
 
@@ -71,13 +70,18 @@ end_words (ended.Gone rev) = codes "gone" ∷ signed_decimal rev ∷ []
 
 abbrev pub line_words : TranscriptLine → List (List ℕ)
 line_words (Update u) = codes "update" ∷ signed_decimal u.zxid ∷ kind_words u.kind
-line_words (Open c p id pw) = codes "open" ∷ decimal c ∷ decimal p ∷ id_text id ∷ hex pw ∷ []
-line_words (Frame c i z bytes) = codes "frame" ∷ decimal c ∷ decimal i ∷ signed_decimal z ∷ hex bytes ∷ []
-line_words (Send c bytes) = codes "send" ∷ decimal c ∷ hex bytes ∷ []
+line_words (Open c p id pw) = codes "open" ∷ decimal c ∷ decimal p ∷ id_text id ∷ hex_text pw ∷ []
+line_words (Frame c i z bytes) = codes "frame" ∷ decimal c ∷ decimal i ∷ signed_decimal z ∷ hex_text bytes ∷ []
+line_words (Send c bytes) = codes "send" ∷ decimal c ∷ hex_text bytes ∷ []
 line_words (Lapse rev id) = codes "lapse" ∷ signed_decimal rev ∷ id_text id ∷ []
 line_words (Close c end) = codes "close" ∷ decimal c ∷ end_words end
 
-abbrev pub line_text : TranscriptLine → List ℕ
+-- words with a blank before each but the first
+abbrev pub spaced : List (List ℕ) → List ℕ
+spaced [] = []
+spaced (w ∷ ws) = w ++ flat_map (λ (v : List ℕ). 32 ∷ v) ws
+
+unfoldable pub line_text : TranscriptLine → List ℕ
 line_text l = spaced (line_words l) ++ 10 ∷ []
 
 unfoldable pub transcript_text : List TranscriptLine → List ℕ

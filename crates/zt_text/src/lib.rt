@@ -1,0 +1,14 @@
+//! The text of scripts and transcripts.
+#![tactic(auto)]
+
+mod argument;
+mod ending;
+mod form;
+mod script_line;
+mod transcript_line;
+mod word;
+mod words;
+
+pub use ending::{push_done, push_fault, push_unread};
+pub use script_line::{MOST_LINE, MOST_SCRIPT, read_line};
+pub use transcript_line::push_line;
