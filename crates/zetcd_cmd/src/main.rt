@@ -5,14 +5,12 @@
 #![tactic(auto)]
 
 mod replay;
+mod report;
 mod script;
 mod status;
 mod streams;
-#[cfg(test)]
-mod tests;
 mod zetcd;
 
-use crate::status::Status;
 use crate::zetcd::zetcd;
 use std::io;
 use std::process::ExitCode;
@@ -30,6 +28,6 @@ fn main(rt: HostRuntime) -> io::Result<ExitCode> {
     }
     let mut input = StdSource::new(rt.stdin());
     let mut out = StdSink::new(rt.stdout());
-    let status: Status = zetcd(alloc, words.as_slice(), &mut input, &mut out);
+    let status = zetcd(alloc, words.as_slice(), &mut input, &mut out);
     Ok(ExitCode::from(status.number()))
 }

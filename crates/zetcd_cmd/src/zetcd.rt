@@ -1,12 +1,18 @@
 //! The top call.
 
+ghost use Rattle.std.specs.Prelude.{◌≡◌, ◌≢◌, ◌≤◌, ℕ, IsTrue, false};
+ghost use Rattle.zx_outside.specs.Counts.{Rose};
+ghost use Rattle.zx_outside.specs.Writing.{Takes};
+ghost use Rattle.zetcd_cmd.specs.Outcomes.{IsReplay, usage_text, Replays, Stops, CutsShort, Failed};
+
 use crate::replay::replay;
 use crate::status::Status;
 use crate::streams::write_all;
 use std::alloc::Global;
 use zx_outside::{Sink, Source};
 
-const USAGE: &[u8] = b"usage: zetcd replay | show | stress NUMBER CONNECTIONS STEPS | serve LISTEN ENDPOINT LIMIT | etcd LISTEN LIMIT\n";
+const USAGE: &[u8] =
+    b"usage: zetcd replay | show | stress NUMBER CONNECTIONS STEPS | serve LISTEN ENDPOINT LIMIT | etcd LISTEN LIMIT\n";
 
 /// Runs a command: its words, its input and its output.
 pub fn zetcd<I: Source, O: Sink>(
@@ -25,8 +31,9 @@ pub fn zetcd<I: Source, O: Sink>(
     ensures cut { result ≡ Status.ReadFault → CutsShort (I.given input.old) (I.given input.new) (O.taken out.old) (O.taken out.new) }
     ensures write { result ≡ Status.WriteFault → Rose (O.faults out.old) (O.faults out.new) }
     // Other words are refused, with the usage and nothing read; these never are.
-    ensures usage { ¬ IsReplay words.now → IsUsage input.old input.new (O.taken out.old) (O.taken out.new) result }
-    ensures command { IsReplay words.now → result ≢ Status.Usage }
+    ensures refused { ¬ IsReplay words.now → result ≢ Status.WriteFault → result ≡ Status.Usage }
+    ensures usage { result ≡ Status.Usage → (¬ IsReplay words.now) × Takes usage_text (O.taken out.old) (O.taken out.new) }
+    ensures unread { ¬ IsReplay words.now → input.new ≡ input.old }
     ensures faults_stay { (I.faults input.old ≤ I.faults input.new) × (O.faults out.old ≤ O.faults out.new) }
     ensures idles_stay { I.idles input.old ≤ I.idles input.new }
 {
@@ -39,7 +46,10 @@ pub fn zetcd<I: Source, O: Sink>(
     }
 }
 
-fn is_replay(words: &[&str]) -> bool {
+fn is_replay(words: &[&str]) -> bool
+    ensures yes { IsTrue result → IsReplay words.now }
+    ensures no { result ≡ false → ¬ IsReplay words.now }
+{
     match words {
         [word] => word.as_bytes() == b"replay".as_slice(),
         _ => false,
