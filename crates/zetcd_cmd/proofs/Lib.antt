@@ -1,3 +1,4 @@
 pub mod ScriptLaws
 pub mod Progress
 pub mod Endings
+pub mod Reports
