@@ -12,7 +12,7 @@ use Rattle.zetcd_cmd.specs.declared.script.Script.{Script}
 use Rattle.zetcd_cmd.specs.declared.script.Stop.{Stop}
 use Rattle.zetcd_cmd.specs.Outcomes.{Failed, patience}
 use Rattle.zetcd_cmd.specs.Ending.{EndsAll, EndsReading}
-use Rattle.zetcd_cmd.specs.Scripting.{HasRead, Stands, IsApplied, Ends}
+use Rattle.zetcd_cmd.specs.Scripting.{Stands, IsApplied, Ends}
 use Rattle.zetcd_cmd.specs.Streams.{Waited}
 
 -- what was left at first is what was read and what is left
@@ -52,13 +52,13 @@ no_fault_at_end (end.Stopped why) seen s ends is = cc
 no_fault_at_end end.ReadFault seen s ends is = ends
 
 -- it was cut short
-given_more : (seen : List ℕ) (given given' left left' : Option (List ℕ)) (s : Script) → Gives seen given given' left left' → HasRead seen s →
-    IfSome given (λ before. (input : List ℕ) × (given' ≡ Some (before ++ input)) × HasRead input s)
+given_more : (seen : List ℕ) (given given' left left' : Option (List ℕ)) (s : Script) → Gives seen given given' left left' → Stands seen s →
+    IfSome given (λ before. (input : List ℕ) × (given' ≡ Some (before ++ input)) × Stands input s)
 given_more seen None given' left left' s gives read = tt {0}
 given_more seen (Some before) given' left left' s gives read = (seen, gives.grown, read)
 
 pub EndsReading-fault : (seen : List ℕ) (given given' given'' left left' left'' : Option (List ℕ)) (s : Script) → Gives seen given given' left left' → GivesNone given' given'' left' left'' →
-    HasRead seen s → IfSome given (λ before. (input : List ℕ) × (given'' ≡ Some (before ++ input)) × HasRead input s)
+    Stands seen s → IfSome given (λ before. (input : List ℕ) × (given'' ≡ Some (before ++ input)) × Stands input s)
 EndsReading-fault seen given given' given'' left left' left'' s gives stays read =
     given_more seen given given'' left left'' s (Gives-none seen given given' given'' left left' left'' gives stays) read
 

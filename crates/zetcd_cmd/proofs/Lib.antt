@@ -2,3 +2,4 @@ pub mod ScriptLaws
 pub mod Progress
 pub mod Endings
 pub mod Reports
+pub mod Headlines

@@ -287,3 +287,13 @@ Ends-last seen old new why some halts same st =
     let hs = st.read.happenings in
     Ends-at seen old.pending.items hs ([], None) old.world new why st.read.reached (same ∙ st.read.number)
       (script-seen seen old st.read (omega arith) ∙ ap (behind hs) (last_line-some (length hs + 1) old.pending.items some)) halts
+
+-- what whole lines say alone
+pub script-lines : (seen : List ℕ) (s : Script) (st : Stands seen s) → script st.read.lines ≡ (st.read.happenings, None)
+script-lines seen s st =
+    let r = st.read in
+    let left = st.room in
+    let size : length seen ≡ length r.lines + length s.pending.items = ap length r.parts ∙ length-append r.lines s.pending.items in
+    script-from r.lines ∙ ap (script_from 1 most_script) (sym (append-nil r.lines))
+    ∙ script_from-last most_script r.lines [] r.happenings r.says (All-nil no_line_feed) (omega arith)
+    ∙ ap (λ (all : List Happening). (all, None)) (append-nil r.happenings)

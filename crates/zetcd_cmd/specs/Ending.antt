@@ -3,7 +3,7 @@ use Rattle.std.specs.Prelude.{◌≡◌, ℕ, List, [], ◌++◌, Option, Some, 
 use Rattle.zetcd_cmd.specs.declared.report.End.{End}
 use Rattle.zetcd_cmd.specs.declared.report.End.TheVariants as end
 use Rattle.zetcd_cmd.specs.declared.script.Script.{Script}
-use Rattle.zetcd_cmd.specs.Scripting.{HasRead, IsApplied, Ends}
+use Rattle.zetcd_cmd.specs.Scripting.{Stands, IsApplied, Ends}
 
 -- this was the whole of it
 abbrev pub EndsAll : End → List ℕ → Script → Type 0
@@ -15,4 +15,4 @@ EndsAll end.ReadFault input s = ⊥
 abbrev pub EndsReading : End → Script → Option (List ℕ) → Option (List ℕ) → Option (List ℕ) → Option (List ℕ) → Type 0
 EndsReading end.Whole s given given' left left' = IfSome left (λ input. (left' ≡ Some []) × IsApplied input s)
 EndsReading (end.Stopped why) s given given' left left' = IfSome left (λ input. Ends input s why)
-EndsReading end.ReadFault s given given' left left' = IfSome given (λ before. (input : List ℕ) × (given' ≡ Some (before ++ input)) × HasRead input s)
+EndsReading end.ReadFault s given given' left left' = IfSome given (λ before. (input : List ℕ) × (given' ≡ Some (before ++ input)) × Stands input s)

@@ -32,8 +32,9 @@ pub fn replay<I: Source, O: Sink>(alloc: Global, input: &mut I, out: &mut O) -> 
         return Status::Memory;
     };
     let end = read_script(alloc, input, &mut script);
-    match report(alloc, script.transcript(), end, script.line(), out) {
-        Ok(()) => status_of(end, script.line()),
+    let line = script.line();
+    match report(alloc, script.transcript(), end, line, out) {
+        Ok(()) => status_of(end, line),
         Err(Unwritten::Sink) => Status::WriteFault,
         Err(Unwritten::Memory) => Status::Memory,
     }

@@ -53,7 +53,7 @@ pub returns-in-Fault-clause-end : goal.returns-in-Fault-clause-end
 returns-in-Fault-clause-end g c =
     EndsReading-fault c.pieces.invariant.seen.0 (g.I.Source.given c.args.input.now) (g.I.Source.given c.pieces.input) (g.I.Source.given c.next_piece.new.input)
       (g.I.Source.left c.args.input.now) (g.I.Source.left c.pieces.input) (g.I.Source.left c.next_piece.new.input) c.pieces.script
-      c.pieces.invariant.seen.1 c.in-Fault.ensures.bytes c.pieces.invariant.seen.2.read
+      c.pieces.invariant.seen.1 c.in-Fault.ensures.bytes c.pieces.invariant.seen.2
 
 pub returns-in-Fault-clause-fault : goal.returns-in-Fault-clause-fault
 returns-in-Fault-clause-fault g c = λ is.
