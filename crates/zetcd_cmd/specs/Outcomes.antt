@@ -3,6 +3,8 @@ use Rattle.std.specs.Prelude.{◌≡◌, ◌⊎◌, ⊤, ℕ, ◌+◌, ◌-◌, 
 use Rattle.std.proofs.Common.{Bor}
 use Rattle.zk_model.specs.Runs.{IsReplayed, IsStopped, IsCutShort}
 use Rattle.zx_outside.specs.Counts.{Rose}
+use Rattle.zetcd_cmd.specs.declared.status.Status.{Status}
+use Rattle.zetcd_cmd.specs.declared.status.Status.TheVariants as status
 
 -- the one command that is built
 abbrev pub IsReplay : List (Bor (List ℕ)) → Type 0
@@ -40,3 +42,21 @@ patience = 1000
 -- the input had a fault, or was idle for so many turns
 abbrev pub Failed : ℕ → ℕ → ℕ → ℕ → Type 0
 Failed faults faults' idles idles' = Rose faults faults' ⊎ (min (idles + patience) (2 ^ 64 - 1) ≤ idles')
+
+-- neither a wrong command line, nor a fault of the input or the output
+abbrev pub IsFaultless : Status → Type 0
+IsFaultless status.Done = ⊤
+IsFaultless status.Usage = ⊥
+IsFaultless (status.Script line) = ⊤
+IsFaultless status.ReadFault = ⊥
+IsFaultless status.WriteFault = ⊥
+IsFaultless status.Memory = ⊤
+
+-- what the process ends with
+abbrev pub number_of : Status → ℕ
+number_of status.Done = 0
+number_of status.Usage = 2
+number_of (status.Script line) = 3
+number_of status.ReadFault = 4
+number_of status.WriteFault = 5
+number_of status.Memory = 7

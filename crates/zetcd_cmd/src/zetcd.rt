@@ -3,7 +3,7 @@
 ghost use Rattle.std.specs.Prelude.{◌≡◌, ◌≢◌, ◌≤◌, ℕ, IsTrue, false};
 ghost use Rattle.zx_outside.specs.Counts.{Rose};
 ghost use Rattle.zx_outside.specs.Writing.{Takes};
-ghost use Rattle.zetcd_cmd.specs.Outcomes.{IsReplay, usage_text, Replays, Stops, CutsShort, Failed};
+ghost use Rattle.zetcd_cmd.specs.Outcomes.{IsReplay, usage_text, Replays, Stops, CutsShort, Failed, IsFaultless};
 
 use crate::replay::replay;
 use crate::status::Status;
@@ -34,6 +34,9 @@ pub fn zetcd<I: Source, O: Sink>(
     ensures refused { ¬ IsReplay words.now → result ≢ Status.WriteFault → result ≡ Status.Usage }
     ensures usage { result ≡ Status.Usage → (¬ IsReplay words.now) × Takes usage_text (O.taken out.old) (O.taken out.new) }
     ensures unread { ¬ IsReplay words.now → input.new ≡ input.old }
+    // Without a fault of the input or the output a replay ends by its script, or for want of memory.
+    ensures complete { IsReplay words.now → ¬ Failed (I.faults input.old) (I.faults input.new) (I.idles input.old) (I.idles input.new) → ¬ Rose (O.faults out.old) (O.faults out.new) → IsFaultless result }
+    // No count falls.
     ensures faults_stay { (I.faults input.old ≤ I.faults input.new) × (O.faults out.old ≤ O.faults out.new) }
     ensures idles_stay { I.idles input.old ≤ I.idles input.new }
 {
