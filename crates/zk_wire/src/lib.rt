@@ -35,6 +35,8 @@ mod reply_fields;
 mod request_fields;
 mod requests;
 mod sink;
+#[cfg(test)]
+mod tests;
 mod writer;
 
 pub use connects::read_connect;
@@ -44,6 +46,9 @@ pub use laws::{
     connects_are_spelled, frames_in_any_pieces, replies_are_spelled, replies_come_back,
     requests_are_spelled, requests_come_back,
 };
-pub use packets::{write_connect, write_notice, write_reply, write_request};
+pub use packets::{
+    notice_can_be_sent, reply_can_be_sent, request_can_be_sent, write_connect, write_notice,
+    write_reply, write_request,
+};
 pub use replies::read_reply;
 pub use requests::read_request;
