@@ -1,12 +1,11 @@
 -- One answer, from the parts of the world after it.
-use Rattle.std.proofs.Common.{◌≡◌, ℕ, List, ◌∷◌, ◌++◌, subst, ℤ, Option}
+use Rattle.std.proofs.Common.{◌≡◌, ℕ, List, ◌∷◌, ◌++◌, subst}
 use Rattle.ev_types.specs.Store.{Store}
-use Rattle.zk_model.specs.declared.transcript.TranscriptLine.{TranscriptLine}
 use Rattle.zn_ops.specs.declared.answering.Answered.{Answered}
 use Rattle.zn_ops.specs.Answering.{Answers}
 use Rattle.zp_alone.specs.declared.waiting.Waiting.{Waiting}
 use Rattle.zp_alone.specs.World.{World}
-use Rattle.zp_alone.specs.Effects.{AnswersOne, answer_lines, answered, zxid_of}
+use Rattle.zp_alone.specs.Effects.{AnswersOne, answer_lines, zxid_of}
 
 pub answers-one : (c : ℕ) (at old new : World) (q : Waiting) (qs : List Waiting) (store : Store) (a : Answered) → at ≡ old → at.waiting ≡ q ∷ qs → Answers at.store store q.request at.clock a
     → new.store ≡ store → new.lines ≡ at.lines ++ answer_lines c at.clock q at.told a → new.clock ≡ at.clock → new.connection ≡ at.connection → new.frames ≡ at.frames

@@ -1,8 +1,8 @@
 -- The store before anything happened.
-use Rattle.std.proofs.Common.{◌≡◌, Option, Some, refl, sym, ap, ◌∙◌, subst, pos}
+use Rattle.std.proofs.Common.{◌≡◌, Option, Some, sym, ap, ◌∙◌, subst}
 use Rattle.ev_types.specs.declared.ask.Ask.{Ask}
 use Rattle.ev_types.specs.declared.answer.Answer.{Answer}
-use Rattle.ev_types.specs.Store.{Store, new_store, present, revision}
+use Rattle.ev_types.specs.Store.{Store, new_store}
 use Rattle.ev_types.specs.Denials.{carry}
 use Rattle.ev_store.specs.Asks.{IsGrantable}
 use Rattle.zn_layout.specs.Begin.{begin_ask, Begins}

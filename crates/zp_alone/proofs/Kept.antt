@@ -1,23 +1,19 @@
 -- What is kept of a world, from effect to effect.
-use Rattle.std.proofs.Common.{◌≡◌, ℕ, ◌+◌, ◌≤◌, ◌<◌, List, [], ◌∷◌, ◌++◌, length, refl, sym, ap, ◌∙◌, subst, arith, append_assoc, append-nil, Bool, true, false, ℤ, pos, ◌<ℤ◌}
-use Rattle.std.specs.Prelude.{Option, Some, None, ◌==◌}
+use Rattle.std.proofs.Common.{◌≡◌, ℕ, ◌+◌, ◌≤◌, List, [], ◌∷◌, ◌++◌, length, refl, sym, ap, ◌∙◌, subst, arith, append_assoc, append-nil, true, ℤ}
+use Rattle.std.specs.Prelude.{Option, Some, None}
 use Rattle.std.specs.List.{All}
 use Rattle.std.proofs.lemmas.List.Elements.{All-nil, All-cons, All-append}
 use Rattle.ev_types.specs.Store.{Store, present, revision}
 use Rattle.zk_model.specs.declared.reply.Reply.{Reply}
-use Rattle.zk_model.specs.declared.reply.Reply.TheVariants as reply
 use Rattle.zk_model.specs.declared.request.Request.{Request}
 use Rattle.zk_model.specs.declared.transcript.TranscriptLine.{TranscriptLine}
-use Rattle.zk_model.specs.declared.transcript.TranscriptLine.TheVariants.{Update, Open, Frame as FrameLine, Send}
-use Rattle.zk_model.specs.declared.transcript.UpdateKind.TheVariants.{Asked}
+use Rattle.zk_model.specs.declared.transcript.TranscriptLine.TheVariants.{Open, Frame as FrameLine, Send}
 use Rattle.zk_model.specs.Frames.{most_frame}
 use Rattle.zk_model.specs.Requests.{Asks, read_request}
 use Rattle.zk_model.specs.Packets.{reply_packet}
-use Rattle.zk_model.specs.Watches.{no_watches}
-use Rattle.zk_model.specs.History.{State, IsSound, Commit, commit, committed, after, asked_commit}
-use Rattle.zk_model.specs.Answers.{plain_request, tree_reply}
-use Rattle.zk_model.specs.Single.{most_owned}
-use Rattle.zk_model.specs.Runs.{IsAnswerLine, frames_of, is_built_request, begin_line}
+use Rattle.zk_model.specs.History.{State, IsSound, after}
+use Rattle.zk_model.specs.Answers.{plain_request}
+use Rattle.zk_model.specs.Runs.{IsAnswerLine, frames_of, is_built_request}
 use Rattle.zk_model.proofs.Quiet.{IsQuiet, open_quiet, frame_quiet, send_quiet, after-quiet, is_legal-quiet, is_ordered-quiet}
 use Rattle.zk_model.proofs.Counts.{frames_of-append}
 use Rattle.zn_layout.specs.StandsFor.{StandsFor}
@@ -26,9 +22,9 @@ use Rattle.zn_ops.specs.declared.answering.Answered.TheVariants.{Repeats, Looked
 use Rattle.zn_ops.specs.Answering.{Answers, IsLooked, IsUpdated}
 use Rattle.zp_alone.specs.declared.waiting.Waiting.{Waiting}
 use Rattle.zp_alone.specs.World.{World, IsLinked}
-use Rattle.zp_alone.specs.Talking.{Talks, AreQueued, IsQueued, StandsAt}
+use Rattle.zp_alone.specs.Talking.{Talks}
 use Rattle.zp_alone.specs.Reached.{IsKeptIn, IsNew, IsTalking, KeepsTo, IsKept}
-use Rattle.zp_alone.specs.Effects.{asked_line, opened, framed, ticked, answered, answer_lines, zxid_of, asked_next, AnswersOne, AnswersSome}
+use Rattle.zp_alone.specs.Effects.{asked_line, opened, framed, ticked, answered, answer_lines, asked_next, AnswersOne, AnswersSome}
 use Rattle.zp_alone.proofs.Linked.{linked-push, linked-open}
 use Rattle.zp_alone.proofs.Talked.{talks-open, talks-frame, talks-plain, talks-looked, talks-updated}
 use Rattle.zp_alone.proofs.Walked.{one_frame}
@@ -46,7 +42,7 @@ kept_in-quiet store lines l q k =
       ordered = is_ordered-quiet lines l q k.ordered;
     }
 
-talking : (c : ℕ) (w : World) → w.connection ≡ Some c → KeepsTo w.connection w → IsTalking c w
+pub talking : (c : ℕ) (w : World) → w.connection ≡ Some c → KeepsTo w.connection w → IsTalking c w
 talking c w linked keeps = subst (λ (o : Option ℕ). KeepsTo o w) linked keeps
 
 new : (w : World) → w.connection ≡ None → KeepsTo w.connection w → IsNew w

@@ -1,6 +1,6 @@
 -- What isn't possible, test by test.
-use Rattle.std.proofs.Common.{◌≡◌, ℕ, ◌+◌, ◌≤◌, ◌<◌, ℤ, Bool, true, false, List, length, refl, sym, subst, arith}
-use Rattle.std.specs.Prelude.{Option, Some, None, Err, nat_lt}
+use Rattle.std.proofs.Common.{◌≡◌, ℕ, ◌+◌, ◌≤◌, ◌<◌, ℤ, true, false, List, length, refl, sym, subst, arith}
+use Rattle.std.specs.Prelude.{Some, None, Err, nat_lt}
 use Rattle.std.specs.List.{list_any}
 use Rattle.std.proofs.lemmas.Bool.Decides.{nat_tests}
 use Rattle.zk_model.specs.declared.script.Happening.{Happening}

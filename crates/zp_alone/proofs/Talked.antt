@@ -1,16 +1,14 @@
 -- One connection's conversation, from effect to effect: it opens, a frame comes, a request is answered.
-use Rattle.std.proofs.Common.{◌≡◌, ℕ, zero, suc, ◌+◌, ◌≤◌, ◌<◌, List, [], ◌∷◌, ◌++◌, length, take, refl, sym, ap, ◌∙◌, subst, arith, Bool, true, false, ℤ, pos, ◌≤ℤ◌, ◌<ℤ◌}
-use Rattle.std.specs.Prelude.{Option, Some, None, ◌==◌, ◌&&◌, nat_lt, nat_le, int_lt}
+use Rattle.std.proofs.Common.{◌≡◌, ℕ, ◌+◌, ◌≤◌, ◌<◌, List, [], ◌∷◌, ◌++◌, length, refl, ap, subst, arith, true, false, ℤ, pos, ◌<ℤ◌}
+use Rattle.std.specs.Prelude.{Some, None, ◌==◌}
 use Rattle.std.proofs.lemmas.Bool.Decides.{nat_tests}
 use Rattle.std.proofs.lemmas.Int.{ints}
-use Rattle.std.proofs.lemmas.List.{length-append}
 use Rattle.std.proofs.Math.Seq.{take-append_seam}
 use Rattle.std.specs.Int.Signed.{≤ℤ_refl}
 use Rattle.zk_model.specs.declared.reply.Reply.{Reply}
 use Rattle.zk_model.specs.declared.reply.Reply.TheVariants as reply
-use Rattle.zk_model.specs.declared.request.Request.{Request}
 use Rattle.zk_model.specs.declared.transcript.TranscriptLine.{TranscriptLine}
-use Rattle.zk_model.specs.declared.transcript.TranscriptLine.TheVariants.{Update, Open, Frame as FrameLine, Send}
+use Rattle.zk_model.specs.declared.transcript.TranscriptLine.TheVariants.{Open, Frame as FrameLine, Send}
 use Rattle.zk_model.specs.declared.transcript.UpdateKind.TheVariants.{Asked}
 use Rattle.zk_model.specs.Frames.{most_frame}
 use Rattle.zk_model.specs.Requests.{Asks, read_request}
@@ -18,22 +16,18 @@ use Rattle.zk_model.specs.Packets.{reply_packet}
 use Rattle.zk_model.specs.Watches.{no_watches}
 use Rattle.zk_model.specs.Answers.{plain_request, tree_reply}
 use Rattle.zk_model.specs.History.{State, Commit, after, updated, asked_commit}
-use Rattle.zk_model.specs.Single.{most_owned}
 use Rattle.zk_model.specs.Conversations.{Walker, Choice, Plain, Answer, at_start, walk, move, later_of, response_at, carried, carried_shown}
-use Rattle.zk_model.specs.Runs.{frames_of, sends_of, is_built_request, begin_line}
-use Rattle.zk_model.proofs.Quiet.{open_quiet, frame_quiet, send_quiet, after-quiet}
+use Rattle.zk_model.specs.Runs.{frames_of, is_built_request, begin_line}
+use Rattle.zk_model.proofs.Quiet.{frame_quiet, send_quiet, after-quiet}
 use Rattle.zk_model.proofs.Choices.{MayAnswer, AsksNext, answered_now, answered_plainly, answer-looked, answer-carried, answer-plain, plain-due, after_update-bound}
 use Rattle.zp_alone.specs.declared.waiting.Waiting.{Waiting}
 use Rattle.zp_alone.specs.Talking.{IsQueued, AreQueued, IsWalked, StandsAt, AreCounted, AreBelow, Talks}
 use Rattle.zp_alone.specs.Effects.{asked_line}
 use Rattle.zp_alone.proofs.Built.{built-goes_on}
-use Rattle.zp_alone.proofs.Walked.{walked-push, walked-send, stands-push, queued-push, queued-frame, counted-push, counted-send, counted-frame, below-later, below-push, uncarried}
+use Rattle.zp_alone.proofs.Walked.{same_number, longer, walked-push, walked-send, stands-push, queued-push, queued-frame, counted-push, counted-send, counted-frame, below-later, below-push, uncarried}
 use Rattle.zp_alone.proofs.Updated.{after-asked}
 use Rattle.zk_model.proofs.Lookups.{first_place-new}
 use Rattle.zk_model.specs.Legal.{index_shown, is_below}
-
-longer : (lines : List TranscriptLine) (l : TranscriptLine) → length (lines ++ l ∷ []) ≡ length lines + 1
-longer lines l = length-append lines (l ∷ [])
 
 -- ---- it opens behind the store's first update
 
@@ -138,9 +132,6 @@ talks-looked c lines q qs told answer t plain looks =
     t.begun t.walked moves (omega arith) (stands-now lines w t.stands) refl t.queued t.counted (below-later c w.next lines t.below)
 
 -- ---- by an update of its own
-
-same_number : (c : ℕ) → (c == c) ≡ true
-same_number c = grind (arith, nat_tests)
 
 not_carried : (c i j now : ℕ) (zxid : ℤ) → j < i → carried_shown c j (asked_line c i now zxid) ≡ None
 not_carried c i j now zxid less =

@@ -1,6 +1,6 @@
 -- What holds of each world is kept by each write.
-use Rattle.std.proofs.Common.{◌≡◌, ℕ, suc, ◌+◌, ◌≤◌, ◌<◌, List, [], ◌∷◌, ◌++◌, length, refl, sym, ap, ◌∙◌, subst, arith, All, ℤ}
-use Rattle.std.specs.Prelude.{Option, Some, None, is_some, false}
+use Rattle.std.proofs.Common.{◌≡◌, ℕ, suc, ◌+◌, ◌≤◌, ◌<◌, List, [], ◌∷◌, ◌++◌, length, refl, sym, ap, subst, arith, All, ℤ}
+use Rattle.std.specs.Prelude.{Option, Some, is_some, false}
 use Rattle.std.proofs.lemmas.List.{length-append}
 use Rattle.std.proofs.lemmas.List.Elements.{All-nil, All-cons, All-append}
 use Rattle.ev_types.specs.Store.{Store}
@@ -12,16 +12,12 @@ use Rattle.zn_ops.specs.declared.answering.Answered.TheVariants.{Repeats, Looked
 use Rattle.zn_ops.specs.Answering.{Answers}
 use Rattle.zp_alone.specs.declared.waiting.Waiting.{Waiting}
 use Rattle.zp_alone.specs.World.{World, IsWorld, IsLinked, IsAnswerable, most_frames}
-use Rattle.zp_alone.proofs.Linked.{linked-push, linked-open}
-
-no_connection : (o : Option ℕ) → is_some o ≡ false → o ≡ None
-no_connection None h = refl
-no_connection (Some c) h = absurd (cc)
+use Rattle.zp_alone.proofs.Linked.{not_there, linked-push, linked-open}
 
 pub world-opened : (w : World) (lines : List TranscriptLine) (c p : ℕ) (id : ℤ) (pw : List ℕ) → is_some w.connection ≡ false → lines ≡ w.lines ++ Open c p id pw ∷ []
     → IsWorld w → IsWorld (record w { lines = lines; connection = Some c })
 world-opened w lines c p id pw none e h = record {
-  linked = subst (IsLinked (Some c)) (sym e) (linked-open w.lines c p id pw (subst (λ (o : Option ℕ). IsLinked o w.lines) (no_connection w.connection none) h.linked));
+  linked = subst (IsLinked (Some c)) (sym e) (linked-open w.lines c p id pw (subst (λ (o : Option ℕ). IsLinked o w.lines) (not_there w.connection none) h.linked));
   answerable = h.answerable;
   room = h.room;
   many = h.many;

@@ -1,4 +1,4 @@
-use Rattle.std.proofs.Common.{◌≡◌, ◌++◌, ◌∷◌, [], Bool, false, ap, ◌∙◌, rules}
+use Rattle.std.proofs.Common.{◌≡◌, ◌++◌, ◌∷◌, [], false, ap, ◌∙◌, rules}
 use Rattle.std.specs.Prelude.{is_some}
 use Rattle.zk_model.specs.declared.transcript.TranscriptLine.TheVariants.{Open}
 use Rattle.zp_alone.specs.World.{World}

@@ -2,7 +2,7 @@ use Rattle.std.proofs.Common.{◌≡◌, ◌+◌, ◌<◌, ◌++◌, ◌∷◌, 
 use Rattle.ev_types.specs.Store.{revision}
 use Rattle.zk_model.specs.declared.transcript.TranscriptLine.TheVariants.{Frame}
 use Rattle.zp_alone.specs.declared.waiting.Waiting.{Waiting}
-use Rattle.zp_alone.specs.World.{World, most_frames}
+use Rattle.zp_alone.specs.World.{most_frames}
 use Rattle.zp_alone.proofs.Worlds.{world-framed, world-waiting}
 use Rattle.zp_alone.proofs.world.Alone.add_frame.Goals as goal
 

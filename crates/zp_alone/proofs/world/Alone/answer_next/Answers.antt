@@ -1,7 +1,6 @@
-use Rattle.std.proofs.Common.{◌≡◌, ◌+◌, ◌≤◌, ◌∷◌, length, ap, refl, arith, rules, w64, to_z, of_z, FitsSigned}
+use Rattle.std.proofs.Common.{◌≡◌, ◌+◌, ◌≤◌, length, ap, refl, arith, rules, w64, to_z, of_z, FitsSigned}
 use Rattle.std.proofs.lemmas.Int.{to_z-of_z}
 use Rattle.ev_types.specs.Store.{Store}
-use Rattle.zp_alone.specs.World.{World}
 use Rattle.zp_alone.specs.Effects.{zxid_of}
 use Rattle.zp_alone.proofs.Answering.{answers-one}
 use Rattle.zp_alone.proofs.Worlds.{world-answered, answers-length}

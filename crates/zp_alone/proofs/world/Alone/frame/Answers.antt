@@ -2,7 +2,7 @@ use Rattle.std.proofs.Common.{◌≡◌, ◌≤◌, ◌<◌, length, Some, None,
 use Rattle.zk_model.specs.declared.script.Happening.TheVariants as line
 use Rattle.zk_model.specs.declared.script.Why.TheVariants as why
 use Rattle.zk_model.specs.Frames.{most_frame}
-use Rattle.zp_alone.specs.World.{World, IsReadBuilt}
+use Rattle.zp_alone.specs.World.{IsReadBuilt}
 use Rattle.zp_alone.specs.Effects.{Plays, framed}
 use Rattle.zp_alone.proofs.Reaching.{plays-frame}
 use Rattle.zp_alone.proofs.Refusals.{refuses, frame-unknown, frame-long, frame-unbuilt, frame-possible}

@@ -1,7 +1,5 @@
-use Rattle.std.proofs.Common.{◌≡◌, Bool, true, false, sym, ◌∙◌, subst, rules}
-use Rattle.zk_model.specs.declared.script.Happening.TheVariants as line
+use Rattle.std.proofs.Common.{◌≡◌, sym, ◌∙◌, subst, rules}
 use Rattle.zk_model.specs.declared.script.Why.TheVariants as why
-use Rattle.zp_alone.specs.World.{World}
 use Rattle.zp_alone.specs.Effects.{Plays, opened}
 use Rattle.zp_alone.proofs.Reaching.{plays-open}
 use Rattle.zp_alone.proofs.Refusals.{refuses, open-in_use, open-second, open-possible}

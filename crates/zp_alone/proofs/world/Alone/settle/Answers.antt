@@ -1,5 +1,4 @@
-use Rattle.std.proofs.Common.{◌≡◌, [], Bool, true, false, ap, sym, ◌∙◌, subst}
-use Rattle.zk_model.specs.declared.script.Happening.TheVariants as line
+use Rattle.std.proofs.Common.{◌≡◌, [], false, ap, sym, ◌∙◌, subst}
 use Rattle.zk_model.specs.declared.script.Why.TheVariants as why
 use Rattle.zp_alone.specs.World.{World}
 use Rattle.zp_alone.specs.Effects.{AnswersNext, AnswersOne, AnswersSome}

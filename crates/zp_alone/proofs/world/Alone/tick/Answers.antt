@@ -1,4 +1,4 @@
-use Rattle.std.proofs.Common.{◌≡◌, ◌+◌, ◌≤◌, ◌<◌, arith, ap, sym, subst}
+use Rattle.std.proofs.Common.{◌+◌, ◌≤◌, ◌<◌, arith, ap, sym, subst}
 use Rattle.zk_model.specs.declared.script.Happening.TheVariants as line
 use Rattle.zk_model.specs.declared.script.Why.TheVariants as why
 use Rattle.zk_model.specs.Runs.{last_moment}
