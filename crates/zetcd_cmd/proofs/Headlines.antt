@@ -89,7 +89,7 @@ stopped_refused input s n why is halted = record {
   one_run = halted.reached.one_run;
   why = why_text why;
   because = fault_refused s.world halted.reached.run n halted.later halted.end why halted.reached.lines halted.reached.clock
-    (subst (λ (m : ℕ). IsAgainst s.world m halted.later halted.end (stop.Refused why)) (sym is) halted.against);
+      (subst (λ (m : ℕ). IsAgainst s.world m halted.later halted.end (stop.Refused why)) (sym is) halted.against);
   written = lines_written halted.reached.run s.world (fault_text n (why_text why)) halted.reached.lines;
 }
 
@@ -97,7 +97,7 @@ stops_at : (n line : ℕ) (last : List ℕ) (s : Script) (input : List ℕ) (tak
     Takes (transcript_text s.world.lines ++ last) taken taken' → Wrote (λ output. IsStopped input output line) taken taken'
 stops_at n line last s input taken taken' same stopped takes =
     Wrote-output (λ output. IsStopped input output line) (transcript_text s.world.lines ++ last) taken taken' takes
-      (subst (λ (m : ℕ). IsStopped input (transcript_text s.world.lines ++ last) m) same stopped)
+    (subst (λ (m : ℕ). IsStopped input (transcript_text s.world.lines ++ last) m) same stopped)
 
 pub Stops-script : (how : End) (n line : ℕ) (s : Script) (given given' left left' taken taken' : Option (List ℕ)) → n ≡ s.line → EndsReading how s given given' left left' →
     Takes (transcript_text s.world.lines ++ ending_text how n) taken taken' → status_after how n ≡ status.Script line → Stops line left taken taken'

@@ -96,7 +96,7 @@ Ends-line seen bytes rest old new why lacks halts same r fits =
     let at = script_from-line most_script r.lines line rest r.happenings r.says (All-append no_line_feed old.pending.items bytes r.begun lacks) (omega arith) in
     let input = seen ++ (bytes ++ 10 ∷ rest) in
     Ends-at input line r.happenings at.0 old.world new why r.reached (same ∙ r.number)
-      (script-from input ∙ ap (script_from 1 most_script) (line_behind seen r.lines old.pending.items bytes rest r.parts) ∙ at.1) halts
+    (script-from input ∙ ap (script_from 1 most_script) (line_behind seen r.lines old.pending.items bytes rest r.parts) ∙ at.1) halts
 
 -- ---- a line that goes on
 
@@ -120,7 +120,7 @@ Ends-begun seen bytes rest old new (stop.Unread why) lacks out world line r fits
     let size = length-behind seen r.lines old.pending.items bytes r.parts in
     let input = (seen ++ bytes) ++ rest in
     let place : input ≡ r.lines ++ (begun ++ rest) =
-        ap (λ t. t ++ rest) (behind_pending seen r.lines old.pending.items bytes r.parts) ∙ append_assoc r.lines begun rest in
+    ap (λ t. t ++ rest) (behind_pending seen r.lines old.pending.items bytes r.parts) ∙ append_assoc r.lines begun rest in
     record {
       before = r.happenings;
       later = [];
@@ -128,8 +128,8 @@ Ends-begun seen bytes rest old new (stop.Unread why) lacks out world line r fits
       reached = subst (λ (v : World). Reached r.happenings v) (sym world) r.reached;
       number = line ∙ r.number;
       read = script-from input ∙ ap (script_from 1 most_script) place
-        ∙ script_from-long most_script r.lines begun rest r.happenings r.says (All-append no_line_feed old.pending.items bytes r.begun lacks) out.1 (omega arith)
-        ∙ ap (λ (hs : List Happening). (hs, Some (length r.happenings + 1, Unreadable))) (sym (append-nil r.happenings));
+          ∙ script_from-long most_script r.lines begun rest r.happenings r.says (All-append no_line_feed old.pending.items bytes r.begun lacks) out.1 (omega arith)
+          ∙ ap (λ (hs : List Happening). (hs, Some (length r.happenings + 1, Unreadable))) (sym (append-nil r.happenings));
       against = ap (λ (n : ℕ). Some (n, Unreadable)) (sym (line ∙ r.number)) ∙ ap (λ (u : Unread). Some (new.line, u)) (sym out.0);
     }
 Ends-begun seen bytes rest old new (stop.Refused why) lacks out world line r fits = absurd out
@@ -148,17 +148,18 @@ Goes-none old bytes seen r fits = (seen, r, refl)
 line_fits : (whole done line later : List ℕ) → whole ≡ done ++ (line ++ 10 ∷ later) → length whole ≤ most_script → length (done ++ line) < most_script
 line_fits whole done line later parts fits =
     let size : length whole ≡ length done + (length line + suc (length later)) =
-        ap length parts ∙ length-append done (line ++ 10 ∷ later) ∙ ap (λ n. length done + n) (length-append line (10 ∷ later)) in
+    ap length parts ∙ length-append done (line ++ 10 ∷ later) ∙ ap (λ n. length done + n) (length-append line (10 ∷ later)) in
     rw (length-append done line) (omega arith)
 
 pub Goes-line : (old now new : Script) (bytes rest line later : List ℕ) → rest ≡ line ++ 10 ∷ later →
     ((seen : List ℕ) → HasRead seen now → length (seen ++ line) < most_script → HasRead (seen ++ (line ++ 10 ∷ [])) new) → Goes old bytes now rest → Goes old bytes new later
 Goes-line old now new bytes rest line later parts one goes seen r fits =
     let far = goes seen r fits in
-    let whole : seen ++ bytes ≡ far.0 ++ (line ++ 10 ∷ later) = far.2 ∙ ap (λ t. far.0 ++ t) parts in
-    (far.0 ++ (line ++ 10 ∷ []),
-     one far.0 far.1 (line_fits (seen ++ bytes) far.0 line later whole fits),
-     whole ∙ ap (λ t. far.0 ++ t) (sym (append_assoc line (10 ∷ []) later)) ∙ sym (append_assoc far.0 (line ++ 10 ∷ []) later))
+    let whole : seen ++ bytes ≡ far.0 ++ (line ++ 10 ∷ later) = far.2 ∙ ap (λ t. far.0 ++ t) parts in (
+      far.0 ++ (line ++ 10 ∷ []),
+      one far.0 far.1 (line_fits (seen ++ bytes) far.0 line later whole fits),
+      whole ∙ ap (λ t. far.0 ++ t) (sym (append_assoc line (10 ∷ []) later)) ∙ sym (append_assoc far.0 (line ++ 10 ∷ []) later),
+    )
 
 pub Goes-halts : (old now new : Script) (bytes rest line later : List ℕ) (why : Stop) → rest ≡ line ++ 10 ∷ later →
     ((seen behind : List ℕ) → HasRead seen now → length (seen ++ line) < most_script → Ends (seen ++ (line ++ 10 ∷ behind)) new why) → Goes old bytes now rest →
@@ -167,7 +168,7 @@ Goes-halts old now new bytes rest line later why parts one goes seen behind r fi
     let far = goes seen r fits in
     let whole : seen ++ bytes ≡ far.0 ++ (line ++ 10 ∷ later) = far.2 ∙ ap (λ t. far.0 ++ t) parts in
     let place : (seen ++ bytes) ++ behind ≡ far.0 ++ (line ++ 10 ∷ (later ++ behind)) =
-        ap (λ t. t ++ behind) whole ∙ append_assoc far.0 (line ++ 10 ∷ later) behind ∙ ap (λ t. far.0 ++ t) (append_assoc line (10 ∷ later) behind) in
+    ap (λ t. t ++ behind) whole ∙ append_assoc far.0 (line ++ 10 ∷ later) behind ∙ ap (λ t. far.0 ++ t) (append_assoc line (10 ∷ later) behind) in
     subst (λ (t : List ℕ). Ends t new why) (sym place) (one far.0 (later ++ behind) far.1 (line_fits (seen ++ bytes) far.0 line later whole fits))
 
 pub Goes-begun : (old now new : Script) (bytes rest : List ℕ) → HasNoLineFeed rest → new.pending.items ≡ now.pending.items ++ rest → length new.pending.items ≤ most_line →
@@ -181,18 +182,24 @@ pub Goes-kept_out : (old now new : Script) (bytes rest : List ℕ) (why : Stop) 
 Goes-kept_out old now new bytes rest why lacks out world line goes seen behind r fits =
     let far = goes seen r fits in
     subst (λ (t : List ℕ). Ends (t ++ behind) new why) (sym far.2)
-      (Ends-begun far.0 rest behind now new why lacks out world line far.1 (subst (λ (t : List ℕ). length t ≤ most_script) far.2 fits))
+    (Ends-begun far.0 rest behind now new why lacks out world line far.1 (subst (λ (t : List ℕ). length t ≤ most_script) far.2 fits))
 
 -- ---- whole pieces
 
 pub Stands-nil : (s : Script) → s.pending.items ≡ [] → s.line ≡ 1 → s.room ≡ most_script → Reached [] s.world → Stands [] s
 Stands-nil s empty line room reached = record {
   read = record {
-    lines = []; happenings = []; says = Says-nil; parts = sym empty;
+    lines = [];
+    happenings = [];
+    says = Says-nil;
+    parts = sym empty;
     begun = subst HasNoLineFeed (sym empty) (All-nil no_line_feed);
     short = rw empty (omega arith);
-    number = line; reached = reached };
-  room = omega arith }
+    number = line;
+    reached = reached;
+  };
+  room = omega arith;
+}
 
 piece_fits : (seen piece : List ℕ) (room : ℕ) → length seen + room ≡ most_script → length piece ≤ room → length (seen ++ piece) ≤ most_script
 piece_fits seen piece room left fits = rw (length-append seen piece) (omega arith)
@@ -218,7 +225,7 @@ pub Ends-front : (seen piece front rest : List ℕ) (old new : Script) (why : St
     ((seen behind : List ℕ) → HasRead seen old → length (seen ++ front) ≤ most_script → Ends ((seen ++ front) ++ behind) new why) → Stands seen old → Ends ((seen ++ piece) ++ rest) new why
 Ends-front seen piece front rest old new why front_is fits one s =
     subst (λ (t : List ℕ). Ends t new why) (sym (front_place seen piece rest old.room ∙ ap (λ t. (seen ++ t) ++ (drop old.room piece ++ rest)) (sym front_is)))
-      (Ends-piece seen front (drop old.room piece ++ rest) old new why fits one s)
+    (Ends-piece seen front (drop old.room piece ++ rest) old new why fits one s)
 
 -- all bytes that a script may have came, and one more
 Ends-cut : (seen rest : List ℕ) (s : Script) → HasRead seen s → length seen ≡ most_script → 0 < length rest → Ends (seen ++ rest) s (stop.Unread TooLong)
@@ -231,8 +238,8 @@ Ends-cut seen rest s r full more =
       reached = r.reached;
       number = r.number;
       read = script-from (seen ++ rest) ∙ ap (script_from 1 most_script) (behind_pending seen r.lines s.pending.items rest r.parts)
-        ∙ script_from-cut most_script r.lines s.pending.items rest r.happenings r.says r.begun r.short (sym size ∙ full) more
-        ∙ ap (λ (hs : List Happening). (hs, Some (length r.happenings + 1, TooLong))) (sym (append-nil r.happenings));
+          ∙ script_from-cut most_script r.lines s.pending.items rest r.happenings r.says r.begun r.short (sym size ∙ full) more
+          ∙ ap (λ (hs : List Happening). (hs, Some (length r.happenings + 1, TooLong))) (sym (append-nil r.happenings));
       against = ap (λ (n : ℕ). Some (n, TooLong)) (sym r.number);
     }
 
@@ -242,9 +249,9 @@ Ends-over seen piece front rest old new front_is full more one s =
     let left = s.room in
     let size : length (seen ++ front) ≡ most_script = rw (length-append seen front) (omega arith) in
     let parts : length piece ≡ length front + length (drop old.room piece) =
-        ap length (sym (take-append-drop old.room piece) ∙ ap (λ t. t ++ drop old.room piece) (sym front_is)) ∙ length-append front (drop old.room piece) in
+    ap length (sym (take-append-drop old.room piece) ∙ ap (λ t. t ++ drop old.room piece) (sym front_is)) ∙ length-append front (drop old.room piece) in
     subst (λ (t : List ℕ). Ends t new (stop.Unread TooLong)) (sym (front_place seen piece rest old.room ∙ ap (λ t. (seen ++ t) ++ (drop old.room piece ++ rest)) (sym front_is)))
-      (Ends-cut (seen ++ front) (drop old.room piece ++ rest) new (one seen s.read (omega arith)) size (rw (length-append (drop old.room piece) rest) (omega arith)))
+    (Ends-cut (seen ++ front) (drop old.room piece ++ rest) new (one seen s.read (omega arith)) size (rw (length-append (drop old.room piece) rest) (omega arith)))
 
 -- ---- the end of a script
 
@@ -277,8 +284,8 @@ IsApplied-line seen old new some plays st =
       happenings = hs ++ applied.0 ∷ [];
       reached = applied.2;
       read = script-seen seen old st.read (omega arith)
-        ∙ ap (behind hs) (last_line-some (length hs + 1) old.pending.items some)
-        ∙ ap (λ o. behind hs (then_script (length hs + 1) o ([], None))) applied.1;
+          ∙ ap (behind hs) (last_line-some (length hs + 1) old.pending.items some)
+          ∙ ap (λ o. behind hs (then_script (length hs + 1) o ([], None))) applied.1;
     }
 
 pub Ends-last : (seen : List ℕ) (old new : Script) (why : Stop) → 0 < length old.pending.items → Halts old.pending.items old.world why new.world → new.line ≡ old.line → Stands seen old → Ends seen new why
@@ -286,7 +293,7 @@ Ends-last seen old new why some halts same st =
     let left = st.room in
     let hs = st.read.happenings in
     Ends-at seen old.pending.items hs ([], None) old.world new why st.read.reached (same ∙ st.read.number)
-      (script-seen seen old st.read (omega arith) ∙ ap (behind hs) (last_line-some (length hs + 1) old.pending.items some)) halts
+    (script-seen seen old st.read (omega arith) ∙ ap (behind hs) (last_line-some (length hs + 1) old.pending.items some)) halts
 
 -- what whole lines say alone
 pub script-lines : (seen : List ℕ) (s : Script) (st : Stands seen s) → script st.read.lines ≡ (st.read.happenings, None)

@@ -15,10 +15,11 @@ Passes-nil buffer taken = ([], sym (append-nil buffer), sym (append_known-nil ta
 
 pub Passes-append : (first second buffer buffer' buffer'' : List ℕ) (taken taken' taken'' : Option (List ℕ)) → Passes first buffer buffer' taken taken' → Passes second buffer' buffer'' taken' taken'' →
     Passes (first ++ second) buffer buffer'' taken taken''
-Passes-append first second buffer buffer' buffer'' taken taken' taken'' early late =
-    (early.0 ++ late.0,
-     append_assoc early.0 late.0 buffer'' ∙ ap (λ t. early.0 ++ t) late.1 ∙ sym (append_assoc early.0 buffer' second) ∙ ap (λ t. t ++ second) early.1 ∙ append_assoc buffer first second,
-     Takes-append early.0 late.0 taken taken' taken'' early.2 late.2)
+Passes-append first second buffer buffer' buffer'' taken taken' taken'' early late = (
+  early.0 ++ late.0,
+  append_assoc early.0 late.0 buffer'' ∙ ap (λ t. early.0 ++ t) late.1 ∙ sym (append_assoc early.0 buffer' second) ∙ ap (λ t. t ++ second) early.1 ∙ append_assoc buffer first second,
+  Takes-append early.0 late.0 taken taken' taken'' early.2 late.2,
+)
 
 pub transcript_text-nil : transcript_text [] ≡ []
 unfolding transcript_text

@@ -45,14 +45,14 @@ Says-line lines line text happenings h s lacks read text_is =
     let many = s.many in
     record {
       says = λ is_cut rest.
-        let place : text ++ rest ≡ lines ++ (line ++ 10 ∷ rest) =
-            ap (λ t. t ++ rest) text_is ∙ append_assoc lines (line ++ 10 ∷ []) rest ∙ ap (λ t. lines ++ t) (append_assoc line (10 ∷ []) rest) in
-        ap (λ t. lines_from is_cut 1 (pieces 10 t)) place
-        ∙ s.says is_cut (line ++ 10 ∷ rest)
-        ∙ ap (behind happenings) (lines_from-first is_cut (length happenings + 1) line rest lacks
-            ∙ ap (λ r. then_script (length happenings + 1) r (lines_from is_cut (length happenings + 1 + 1) (pieces 10 rest))) read)
-        ∙ behind-more happenings h (lines_from is_cut (length happenings + 1 + 1) (pieces 10 rest))
-        ∙ ap (λ n. behind (happenings ++ h ∷ []) (lines_from is_cut (n + 1) (pieces 10 rest))) (sym count);
+          let place : text ++ rest ≡ lines ++ (line ++ 10 ∷ rest) =
+          ap (λ t. t ++ rest) text_is ∙ append_assoc lines (line ++ 10 ∷ []) rest ∙ ap (λ t. lines ++ t) (append_assoc line (10 ∷ []) rest) in
+          ap (λ t. lines_from is_cut 1 (pieces 10 t)) place
+          ∙ s.says is_cut (line ++ 10 ∷ rest)
+          ∙ ap (behind happenings) (lines_from-first is_cut (length happenings + 1) line rest lacks
+          ∙ ap (λ r. then_script (length happenings + 1) r (lines_from is_cut (length happenings + 1 + 1) (pieces 10 rest))) read)
+          ∙ behind-more happenings h (lines_from is_cut (length happenings + 1 + 1) (pieces 10 rest))
+          ∙ ap (λ n. behind (happenings ++ h ∷ []) (lines_from is_cut (n + 1) (pieces 10 rest))) (sym count);
       whole = inr (lines ++ line, text_is ∙ sym (append_assoc lines line (10 ∷ [])));
       many = rw (text_is, size, count) (omega arith);
     }
@@ -65,7 +65,7 @@ script_from-lines : (room : ℕ) (lines tail : List ℕ) (happenings : List Happ
 script_from-lines room lines tail happenings s fits =
     let size : room ≡ length lines + (room - length lines) = omega arith in
     let front : take room (lines ++ tail) ≡ lines ++ take (room - length lines) tail =
-        ap (λ n. take n (lines ++ tail)) size ∙ take-append-add lines tail (room - length lines) in
+    ap (λ n. take n (lines ++ tail)) size ∙ take-append-add lines tail (room - length lines) in
     ap (λ t. lines_from (nat_lt room (length (lines ++ tail))) 1 (pieces 10 t)) front ∙ s.says (nat_lt room (length (lines ++ tail))) (take (room - length lines) tail)
 
 -- with a line behind them that ends within the room
@@ -77,11 +77,12 @@ script_from-line room lines line rest happenings s lacks fits =
     let more = room - length lines - length line - 1 in
     let size : room - length lines ≡ length line + suc more = omega arith in
     let front : take (room - length lines) tail ≡ line ++ 10 ∷ take more rest =
-        ap (λ n. take n tail) size ∙ take-append-add line (10 ∷ rest) (suc more) in
-    (lines_from is_cut (length happenings + 1 + 1) (pieces 10 (take more rest)),
-     script_from-lines room lines tail happenings s (omega arith)
-     ∙ ap (λ t. behind happenings (lines_from is_cut (length happenings + 1) (pieces 10 t))) front
-     ∙ ap (behind happenings) (lines_from-first is_cut (length happenings + 1) line (take more rest) lacks))
+    ap (λ n. take n tail) size ∙ take-append-add line (10 ∷ rest) (suc more) in (
+      lines_from is_cut (length happenings + 1 + 1) (pieces 10 (take more rest)),
+      script_from-lines room lines tail happenings s (omega arith)
+          ∙ ap (λ t. behind happenings (lines_from is_cut (length happenings + 1) (pieces 10 t))) front
+          ∙ ap (behind happenings) (lines_from-first is_cut (length happenings + 1) line (take more rest) lacks),
+    )
 
 -- ---- a line that is too long
 

@@ -9,6 +9,8 @@ mod report;
 mod script;
 mod status;
 mod streams;
+#[cfg(test)]
+mod tests;
 mod zetcd;
 
 use crate::zetcd::zetcd;

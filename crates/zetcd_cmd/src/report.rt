@@ -79,7 +79,11 @@ pub fn report<O: Sink>(
 }
 
 /// Writes lines; what is not written yet stays in `text`.
-fn write_lines<O: Sink>(lines: &[TranscriptLine], text: &mut Vec<u8>, out: &mut O) -> Result<(), Unwritten>
+fn write_lines<O: Sink>(
+    lines: &[TranscriptLine],
+    text: &mut Vec<u8>,
+    out: &mut O,
+) -> Result<(), Unwritten>
     ensures ok { OnOk result (Passes (transcript_text lines.now) text.old.items text.new.items (O.taken out.old) (O.taken out.new)) }
     ensures err { IfErr result (λ e. e ≡ Unwritten.Sink → Rose (O.faults out.old) (O.faults out.new)) }
     ensures faults_stay { O.faults out.old ≤ O.faults out.new }
@@ -91,7 +95,11 @@ fn write_lines<O: Sink>(lines: &[TranscriptLine], text: &mut Vec<u8>, out: &mut 
 }
 
 /// Adds a line to `text`, and writes all of that once it is long enough.
-fn write_line<O: Sink>(line: &TranscriptLine, text: &mut Vec<u8>, out: &mut O) -> Result<(), Unwritten>
+fn write_line<O: Sink>(
+    line: &TranscriptLine,
+    text: &mut Vec<u8>,
+    out: &mut O,
+) -> Result<(), Unwritten>
     ensures ok { OnOk result (Passes (line_text line.now) text.old.items text.new.items (O.taken out.old) (O.taken out.new)) }
     ensures err { IfErr result (λ e. e ≡ Unwritten.Sink → Rose (O.faults out.old) (O.faults out.new)) }
     ensures faults_stay { O.faults out.old ≤ O.faults out.new }

@@ -10,14 +10,14 @@ pub returns-in-Ok-report-clause-done : goal.returns-in-Ok-report-clause-done
 returns-in-Ok-report-clause-done g c = λ is.
     let s = c.read_script-end.new.script in
     let wrote = subst (λ (ls : List TranscriptLine). Takes (transcript_text ls ++ ending_text c.read_script-end.result c.line-line.result) (g.O.Sink.taken c.args.out.now) (g.O.Sink.taken c.report.new.out))
-      c.transcript.ensures c.in-Ok-report.ensures.ok in
+    c.transcript.ensures c.in-Ok-report.ensures.ok in
     Replays-done c.read_script-end.result c.line-line.result s _ _ _ _ _ _ c.read_script-end.ensures.end wrote (sym c.status_of.ensures ∙ is)
 
 pub returns-in-Ok-report-clause-script : goal.returns-in-Ok-report-clause-script
 returns-in-Ok-report-clause-script g c = λ line is.
     let s = c.read_script-end.new.script in
     let wrote = subst (λ (ls : List TranscriptLine). Takes (transcript_text ls ++ ending_text c.read_script-end.result c.line-line.result) (g.O.Sink.taken c.args.out.now) (g.O.Sink.taken c.report.new.out))
-      c.transcript.ensures c.in-Ok-report.ensures.ok in
+    c.transcript.ensures c.in-Ok-report.ensures.ok in
     Stops-script c.read_script-end.result c.line-line.result line s _ _ _ _ _ _ c.line-line.ensures c.read_script-end.ensures.end wrote (sym c.status_of.ensures ∙ is)
 
 pub returns-in-Ok-report-clause-read : goal.returns-in-Ok-report-clause-read
@@ -27,7 +27,7 @@ pub returns-in-Ok-report-clause-cut : goal.returns-in-Ok-report-clause-cut
 returns-in-Ok-report-clause-cut g c = λ is.
     let s = c.read_script-end.new.script in
     let wrote = subst (λ (ls : List TranscriptLine). Takes (transcript_text ls ++ ending_text c.read_script-end.result c.line-line.result) (g.O.Sink.taken c.args.out.now) (g.O.Sink.taken c.report.new.out))
-      c.transcript.ensures c.in-Ok-report.ensures.ok in
+    c.transcript.ensures c.in-Ok-report.ensures.ok in
     CutsShort-fault c.read_script-end.result c.line-line.result s _ _ _ _ _ _ c.read_script-end.ensures.end wrote (sym c.status_of.ensures ∙ is)
 
 pub returns-in-Ok-report-clause-write : goal.returns-in-Ok-report-clause-write

@@ -16,15 +16,15 @@ returns-clause-ok c =
     let some : 0 < length c.args.self.now.pending.items = grind (arith, common_steps) in
     let is = c.as_slice.ensures.value in
     on_ok_weaker c.apply_line.result
-      (λ (plays : Plays c.as_slice.result.now c.args.self.now.world c.apply_line.new.world) seen st.
-        IsApplied-line seen c.args.self.now _ some (subst (λ (line : List ℕ). Plays line c.args.self.now.world c.apply_line.new.world) is plays) st)
-      c.apply_line.ensures.ok
+    (λ (plays : Plays c.as_slice.result.now c.args.self.now.world c.apply_line.new.world) seen st.
+    IsApplied-line seen c.args.self.now _ some (subst (λ (line : List ℕ). Plays line c.args.self.now.world c.apply_line.new.world) is plays) st)
+    c.apply_line.ensures.ok
 
 pub returns-clause-err : goal.returns-clause-err
 returns-clause-err c =
     let some : 0 < length c.args.self.now.pending.items = grind (arith, common_steps) in
     let is = c.as_slice.ensures.value in
     IfErr-weaker c.apply_line.result (λ (why : Stop). Halts c.as_slice.result.now c.args.self.now.world why c.apply_line.new.world) _
-      (λ why halts seen st.
-        Ends-last seen c.args.self.now _ why some (subst (λ (line : List ℕ). Halts line c.args.self.now.world why c.apply_line.new.world) is halts) refl st)
-      c.apply_line.ensures.err
+    (λ why halts seen st.
+    Ends-last seen c.args.self.now _ why some (subst (λ (line : List ℕ). Halts line c.args.self.now.world why c.apply_line.new.world) is halts) refl st)
+    c.apply_line.ensures.err

@@ -10,7 +10,7 @@ pub returns-in_err-end_line-clause-err : goal.returns-in_err-end_line-clause-err
 returns-in_err-end_line-clause-err c =
     let p = err_from_is_err_and c.from_residual.result c.from_residual.ensures.1 in
     rw (p.1, p.2) (Goes-halts c.args.self.now c.lines.self c.end_line.new.self c.args.bytes.now c.lines.rest.now c.in-Some.line.now c.in-Some.later.now c.in_err-end_line.field-0.0
-      c.in-Some.ensures.0 c.in_err-end_line.ensures.err c.lines.invariant.goes)
+    c.in-Some.ensures.0 c.in_err-end_line.ensures.err c.lines.invariant.goes)
 
 pub lines-preserved : goal.lines-preserved
 lines-preserved c = record {
@@ -21,12 +21,12 @@ lines-preserved c = record {
 pub returns-clause-ok : goal.returns-clause-ok
 returns-clause-ok c =
     on_ok_weaker c.keep.result
-      (λ (kept : (c.keep.new.pending.items ≡ c.lines.self.pending.items ++ c.lines.rest.now) × (length c.keep.new.pending.items ≤ most_line)).
-        Goes-begun c.args.self.now c.lines.self _ c.args.bytes.now c.lines.rest.now c.in_default.ensures kept.0 kept.1 refl refl c.lines.invariant.goes)
-      c.keep.ensures.ok
+    (λ (kept : (c.keep.new.pending.items ≡ c.lines.self.pending.items ++ c.lines.rest.now) × (length c.keep.new.pending.items ≤ most_line)).
+    Goes-begun c.args.self.now c.lines.self _ c.args.bytes.now c.lines.rest.now c.in_default.ensures kept.0 kept.1 refl refl c.lines.invariant.goes)
+    c.keep.ensures.ok
 
 pub returns-clause-err : goal.returns-clause-err
 returns-clause-err c =
     IfErr-weaker c.keep.result (λ (why : Stop). IsKeptOut (c.lines.self.pending.items ++ c.lines.rest.now) why) _
-      (λ why out. Goes-kept_out c.args.self.now c.lines.self _ c.args.bytes.now c.lines.rest.now why c.in_default.ensures out refl refl c.lines.invariant.goes)
-      c.keep.ensures.err
+    (λ why out. Goes-kept_out c.args.self.now c.lines.self _ c.args.bytes.now c.lines.rest.now why c.in_default.ensures out refl refl c.lines.invariant.goes)
+    c.keep.ensures.err
