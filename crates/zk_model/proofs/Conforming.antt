@@ -1,6 +1,5 @@
 -- The values of a record are of its kinds and make that record, and values of these kinds are those of the record made.
-use Rattle.std.proofs.Common.{◌≡◌, ℕ, suc, List, [], ◌∷◌, map, refl, sym, ap, ◌∙◌, ℤ}
-use Rattle.zk_model.specs.declared.node.Stat.{Stat}
+use Rattle.std.proofs.Common.{◌≡◌, ℕ, List, [], ◌∷◌, map, refl, sym, ap, ◌∙◌}
 use Rattle.zk_model.specs.declared.opcode.Opcode.{Opcode}
 use Rattle.zk_model.specs.declared.opcode.Opcode.TheVariants as opcodes
 use Rattle.zk_model.specs.declared.opcode.PartKind.{PartKind}

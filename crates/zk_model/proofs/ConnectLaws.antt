@@ -1,18 +1,18 @@
 -- A frame is read as a connect exactly where it spells one.
-use Rattle.std.proofs.Common.{◌≡◌, ℕ, Bool, true, false, cond, eqb, Option, Some, None, List, [], ◌∷◌, ◌++◌, length, map, Ok, Err, refl, sym, ap, subst, ◌∙◌, append_assoc, arith}
+use Rattle.std.proofs.Common.{◌≡◌, ℕ, Bool, true, false, cond, eqb, Option, Some, None, List, [], ◌∷◌, ◌++◌, length, Ok, Err, refl, sym, ap, subst, ◌∙◌}
 use Rattle.std.proofs.lemmas.Bool.{eqb-true}
 use Rattle.std.proofs.lemmas.List.{append-nil, nil_from_length}
 use Rattle.zk_model.specs.declared.connect.ConnectRequest.{ConnectRequest}
-use Rattle.zk_model.specs.JuteValues.{Value, int, long, boolean, buffer, Kind, kind_of, IsBoolean, Spelled, Spells}
+use Rattle.zk_model.specs.JuteValues.{Value, int, long, buffer, IsBoolean, Spelled, Spells}
 use Rattle.zk_model.specs.JuteReading.{Read, ◌>>=◌, boolean_at, values_at, ended}
 use Rattle.zk_model.specs.FromValues.{value_in}
-use Rattle.zk_model.specs.Connects.{connect_fields, optional, connect_values, connect_with, read_only_at, connect_at, connect_of, read_connect}
+use Rattle.zk_model.specs.Connects.{connect_fields, optional, connect_with, read_only_at, connect_at, connect_of, read_connect}
 use Rattle.zk_model.specs.Grammar.{IsConnect}
-use Rattle.zk_model.proofs.Conforming.{normals, normals_are}
+use Rattle.zk_model.proofs.Conforming.{normals_are}
 use Rattle.zk_model.proofs.Framing.{spelled_join}
 use Rattle.zk_model.proofs.Headers.{whole_is}
-use Rattle.zk_model.proofs.JuteFields.{Takes, IsField, bind_ok, ok_is, joined, boolean_field, values_take, values_again}
-use Rattle.zk_model.proofs.Lists.{SpelledBoth, spelled_split}
+use Rattle.zk_model.proofs.JuteFields.{bind_ok, ok_is, boolean_field, values_take, values_again}
+use Rattle.zk_model.proofs.Lists.{spelled_split}
 
 -- the values before the optional one
 abbrev five : ConnectRequest → List Value

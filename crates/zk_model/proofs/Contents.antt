@@ -1,5 +1,5 @@
 -- The data of a request is no longer than its frame.
-use Rattle.std.proofs.Common.{◌≡◌, ℕ, ◌+◌, ◌≤◌, List, [], ◌∷◌, ◌++◌, length, All, refl, sym, ap, subst, ◌∙◌, arith, ℤ}
+use Rattle.std.proofs.Common.{◌≡◌, ℕ, ◌≤◌, List, [], ◌∷◌, ◌++◌, length, All, ap, arith, ℤ}
 use Rattle.std.specs.List.{AllByRecursion, flat_map}
 use Rattle.std.proofs.lemmas.List.{length-append}
 use Rattle.std.proofs.lemmas.List.Elements.{All-from_recursion}
@@ -10,7 +10,7 @@ use Rattle.zk_model.specs.declared.request.Request.TheVariants as requests
 use Rattle.zk_model.specs.JuteValues.{Value, int, long, boolean, buffer, ustring, ustrings, acls, open_acl, Spelled, Spells}
 use Rattle.zk_model.specs.FromValues.{bytes_in}
 use Rattle.zk_model.specs.Grammar.{IsPart, IsAsked}
-use Rattle.zk_model.specs.Records.{part_contents, contents_of, part_values, values_of}
+use Rattle.zk_model.specs.Records.{part_contents, contents_of, part_values}
 use Rattle.zk_model.specs.Requests.{Asks, read_request}
 use Rattle.zk_model.proofs.RequestLaws.{found}
 

@@ -1,13 +1,12 @@
 -- The numbers at the front of a frame, and its end.
-use Rattle.std.proofs.Common.{◌≡◌, ℕ, ◌+◌, ◌-◌, ◌<◌, ◌≤◌, ltb, Bool, true, false, cond, eqb, List, [], ◌∷◌, ◌++◌, length, take, drop, Ok, Err, refl, sym, ap, subst, ◌∙◌, arith, ℤ}
+use Rattle.std.proofs.Common.{◌≡◌, ℕ, ◌≤◌, eqb, List, [], ◌++◌, length, drop, Ok, refl, sym, ap, ◌∙◌, arith, ℤ}
 use Rattle.std.specs.Int.{w32, w64, cast_signed}
 use Rattle.std.proofs.lemmas.Bool.{le-ltb, eqb-true}
 use Rattle.std.proofs.lemmas.List.{nil_from_length}
-use Rattle.byteorder.specs.Endian.{big_number, big_from}
 use Rattle.byteorder.specs.Numbers.{big_from-append}
 use Rattle.zk_model.specs.JuteValues.{IsInt, IsLong}
 use Rattle.zk_model.specs.JuteReading.{Read, ◌>>=◌, front_int, front_long, int_at, long_at, ended}
-use Rattle.zk_model.proofs.JuteFields.{Takes, IsField, bind_ok, ok_is, ended_ok, int_field, long_field}
+use Rattle.zk_model.proofs.JuteFields.{Takes, bind_ok, ended_ok, int_field, long_field}
 
 pub front_int_of : (n : ℤ) (front rest : List ℕ) → IsInt n front → front_int (front ++ rest) ≡ n
 front_int_of n front rest is = ap (cast_signed w32) (big_from-append 4 front rest (omega (arith, is.0))) ∙ sym is.1

@@ -1,5 +1,5 @@
 -- The items that a multi lists, as a loop reads them.
-use Rattle.std.proofs.Common.{◌≡◌, ℕ, zero, suc, ◌+◌, ◌<◌, ◌≤◌, Bool, cond, Option, Some, None, List, [], ◌∷◌, ◌++◌, length, Ok, Err, refl, sym, ap, ◌∙◌, append_assoc, arith, ℤ}
+use Rattle.std.proofs.Common.{◌≡◌, ℕ, zero, suc, ◌<◌, ◌≤◌, cond, Option, Some, None, List, [], ◌∷◌, ◌++◌, length, Ok, Err, refl, sym, ap, ◌∙◌, append_assoc, arith, ℤ}
 use Rattle.std.specs.Ordering.{int_eq}
 use Rattle.std.proofs.lemmas.List.{append-nil, length-append}
 use Rattle.zk_model.specs.declared.opcode.PartKind.{PartKind}
@@ -12,7 +12,7 @@ use Rattle.zk_model.specs.Records.{part_fields}
 use Rattle.zk_model.specs.FromValues.{part_from, result_from}
 use Rattle.zk_model.specs.Requests.{part_begun, header_at, part_after, part_at}
 use Rattle.zk_model.specs.Results.{Form, last, good, refused, none, form_of, result_fields, result_after, result_at}
-use Rattle.zk_model.proofs.JuteFields.{Takes, IsField, bind_ok, ok_is, ended_ok, int_field, boolean_field, values_take}
+use Rattle.zk_model.proofs.JuteFields.{bind_ok, ok_is, ended_ok, int_field, boolean_field, values_take}
 
 -- what was read before, and what is still read
 abbrev pub with_front : {A : Type 0} → List A → Read (List A) → Read (List A)

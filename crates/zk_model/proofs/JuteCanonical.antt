@@ -1,5 +1,5 @@
 -- What is written is a spelling.
-use Rattle.std.proofs.Common.{◌≡◌, ℕ, zero, suc, ◌+◌, ◌^◌, ◌<◌, ◌≤◌, Bool, true, false, List, [], ◌∷◌, ◌++◌, length, refl, sym, ap, subst, ◌∙◌, append_assoc, arith, lit<, inl, inr, ℤ, pos, negsuc, SFits, to_z, of_z}
+use Rattle.std.proofs.Common.{◌≡◌, ℕ, ◌^◌, ◌<◌, true, false, List, [], ◌∷◌, length, refl, sym, ap, ◌∙◌, arith, lit<, inl, ℤ, pos}
 use Rattle.std.specs.Int.{w32, w64, cast_signed, cast_unsigned}
 use Rattle.std.specs.Int.RustNames.{FitsSigned}
 use Rattle.std.specs.List.{AllByRecursion, flat_map}
@@ -10,8 +10,8 @@ use Rattle.std.specs.Str.{IsUtf8}
 use Rattle.byteorder.specs.Endian.{big_number, big_bytes}
 use Rattle.byteorder.specs.Numbers.{big_number-reads_back, length-bytes_high_first}
 use Rattle.zk_model.specs.declared.request.Acl.{Acl}
-use Rattle.zk_model.specs.JuteValues.{Value, int, long, boolean, buffer, ustring, ustrings, acls, open_acl, open_entry, Spelled, IsInt, IsLong, IsCount, IsUstring, IsVector, IsAcl, Spells}
-use Rattle.zk_model.specs.JuteWriting.{int_bytes, long_bytes, count_bytes, string_bytes, vector_bytes, acl_bytes, canonical, IsShort, IsShortAcl, CanBeWritten, AllCanBeWritten, IsAclValue, IsValue, AreValues, written}
+use Rattle.zk_model.specs.JuteValues.{Value, int, long, boolean, buffer, ustring, ustrings, acls, open_acl, open_entry, Spelled, IsInt, IsLong, IsUstring, IsAcl, Spells}
+use Rattle.zk_model.specs.JuteWriting.{int_bytes, long_bytes, count_bytes, string_bytes, acl_bytes, canonical, IsShort, IsShortAcl, CanBeWritten, AllCanBeWritten, IsAclValue, IsValue, AreValues, written}
 
 number_back : (n x : ℕ) → x < 256 ^ n → big_number n (big_bytes n x) ≡ x
 number_back n x lt = ap (big_number n) (sym (append-nil (big_bytes n x))) ∙ big_number-reads_back n x [] lt

@@ -1,8 +1,8 @@
 -- Items that are listed up to a last one are read exactly where they are spelled.
-use Rattle.std.proofs.Common.{◌≡◌, ℕ, zero, suc, ◌+◌, ◌<◌, ◌≤◌, Option, Some, None, List, [], ◌∷◌, ◌++◌, length, Ok, Err, refl, sym, ap, subst, ◌∙◌, append_assoc, arith}
+use Rattle.std.proofs.Common.{◌≡◌, ℕ, zero, suc, ◌<◌, ◌≤◌, Option, Some, None, List, [], ◌∷◌, ◌++◌, length, Ok, refl, sym, ap, subst, ◌∙◌, append_assoc, arith}
 use Rattle.std.proofs.lemmas.List.{length-append}
 use Rattle.zk_model.specs.JuteValues.{Spelled}
-use Rattle.zk_model.specs.JuteReading.{Read, ◌>>=◌, more_then, until_last, all_until_last}
+use Rattle.zk_model.specs.JuteReading.{Read, more_then, until_last, all_until_last}
 use Rattle.zk_model.specs.Grammar.{IsListed}
 use Rattle.zk_model.proofs.JuteFields.{Takes, bind_ok, ok_is, joined}
 

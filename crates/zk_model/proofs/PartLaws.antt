@@ -1,18 +1,17 @@
 -- The parts of a multi are read exactly where they are spelled.
-use Rattle.std.proofs.Common.{◌≡◌, ℕ, ◌+◌, ◌≤◌, Bool, true, false, Option, Some, None, List, [], ◌∷◌, ◌++◌, length, map, Ok, Err, refl, sym, ap, subst, ◌∙◌, append_assoc, arith, ℤ}
+use Rattle.std.proofs.Common.{◌≡◌, ℕ, ◌≤◌, Bool, true, false, Option, Some, None, List, [], ◌∷◌, ◌++◌, length, Ok, refl, sym, ap, subst, ◌∙◌, append_assoc, arith, ℤ}
 use Rattle.std.proofs.lemmas.List.{append-nil, length-append}
 use Rattle.zk_model.specs.declared.opcode.PartKind.{PartKind}
-use Rattle.zk_model.specs.declared.opcode.PartKind.TheVariants as kinds
 use Rattle.zk_model.specs.declared.request.Part.{Part}
-use Rattle.zk_model.specs.JuteValues.{Value, int, boolean, Kind, kind_of, Spelled, Spells}
-use Rattle.zk_model.specs.JuteReading.{Read, ◌>>=◌, int_at, boolean_at, values_at}
+use Rattle.zk_model.specs.JuteValues.{Value, int, boolean, Kind, Spelled, Spells}
+use Rattle.zk_model.specs.JuteReading.{◌>>=◌, int_at, boolean_at, values_at}
 use Rattle.zk_model.specs.FromValues.{value_in, part_from}
 use Rattle.zk_model.specs.Grammar.{IsHeader, IsPart, IsLastHeader}
 use Rattle.zk_model.specs.Numbers.{part_number, part_numbered, part_kind}
 use Rattle.zk_model.specs.Records.{part_fields, part_values}
 use Rattle.zk_model.specs.Requests.{listed, part_begun, header_at, part_after, part_at}
-use Rattle.zk_model.proofs.Conforming.{normals, normals_are, part_kinds, part_back, part_with-kind, part_with-values}
-use Rattle.zk_model.proofs.JuteFields.{Takes, IsField, bind_ok, ok_is, joined, int_field, boolean_field, values_take, values_again}
+use Rattle.zk_model.proofs.Conforming.{normals_are, part_kinds, part_back, part_with-kind, part_with-values}
+use Rattle.zk_model.proofs.JuteFields.{Takes, bind_ok, ok_is, joined, int_field, boolean_field, values_take, values_again}
 use Rattle.zk_model.proofs.Listing.{TakesLast, IsNext}
 use Rattle.zk_model.proofs.Numbered.{part_numbered-is, part_numbered-part_number}
 

@@ -1,5 +1,5 @@
 -- A frame is read as a reply exactly where it spells one.
-use Rattle.std.proofs.Common.{◌≡◌, ◌≢◌, ℕ, suc, ◌+◌, ◌-◌, ◌<◌, ◌≤◌, ltb, Bool, true, false, cond, Option, Some, None, List, [], ◌∷◌, ◌++◌, length, drop, map, Ok, Err, refl, sym, ap, subst, ◌∙◌, append_assoc, arith, ℤ, pos}
+use Rattle.std.proofs.Common.{◌≡◌, ◌≢◌, ℕ, ◌-◌, ◌<◌, ◌≤◌, ltb, Bool, true, false, cond, Option, Some, None, List, [], ◌∷◌, ◌++◌, length, drop, map, Ok, Err, refl, sym, ap, subst, ◌∙◌, arith, ℤ, pos}
 use Rattle.std.specs.List.{flat_map}
 use Rattle.std.specs.Ordering.{int_eq}
 use Rattle.std.proofs.lemmas.Bool.{le-ltb, lt-ltb, ltb-false}
@@ -13,22 +13,22 @@ use Rattle.zk_model.specs.declared.reply.Body.TheVariants as bodies
 use Rattle.zk_model.specs.declared.reply.PartResult.{PartResult}
 use Rattle.zk_model.specs.declared.reply.Reply.{Reply}
 use Rattle.zk_model.specs.declared.reply.Reply.TheVariants as replies
-use Rattle.zk_model.specs.JuteValues.{Value, int, long, buffer, ustring, ustrings, open_acl, Kind, an_int, a_long, a_boolean, a_buffer, a_ustring, some_ustrings, some_acls, the_open_acl, kind_of, Spelled, Spells}
+use Rattle.zk_model.specs.JuteValues.{Value, buffer, ustrings, open_acl, Kind, a_long, a_buffer, a_ustring, some_ustrings, the_open_acl, kind_of, Spelled, Spells}
 use Rattle.zk_model.specs.JuteReading.{Read, ◌>>=◌, front_int, front_long, buffer_at, vector_at, ustring_at, value_at, values_at, all_until_last, ended}
 use Rattle.zk_model.specs.FromValues.{value_in, texts_in, bytes_in, later, stat_with, body_with, body_from}
 use Rattle.zk_model.specs.Grammar.{IsListed, Suits, IsReply}
 use Rattle.zk_model.specs.Numbers.{number_of, opcode_numbered}
 use Rattle.zk_model.specs.Packets.{reply_header, reply_values}
 use Rattle.zk_model.specs.Records.{stat_fields, stat_values}
-use Rattle.zk_model.specs.Replies.{reply_fields, body_values, Shape, fields, results, shape_for, shape_of}
-use Rattle.zk_model.specs.ReplyReading.{plain_body_at, reply_body_at, reply_at, ReplyFrame, answered_as, reply_to, NoHeader, Unreadable, Unknown, Answers, read_reply}
+use Rattle.zk_model.specs.Replies.{reply_fields, body_values, fields, results, shape_for, shape_of}
+use Rattle.zk_model.specs.ReplyReading.{plain_body_at, reply_body_at, reply_at, answered_as, reply_to, NoHeader, Unreadable, Unknown, Answers, read_reply}
 use Rattle.zk_model.specs.Results.{result_values, last_result, result_at}
 use Rattle.zk_model.proofs.Conforming.{normals, normals_are}
 use Rattle.zk_model.proofs.Framing.{spelled_join}
 use Rattle.zk_model.proofs.Headers.{front_int_of, front_long_of, first_int, first_long, whole_is}
-use Rattle.zk_model.proofs.JuteFields.{Takes, bind_ok, ok_is, joined, values_take, values_again}
+use Rattle.zk_model.proofs.JuteFields.{Takes, bind_ok, ok_is, values_take, values_again}
 use Rattle.zk_model.proofs.Listing.{all_takes, all_again}
-use Rattle.zk_model.proofs.Lists.{SpelledBoth, spelled_split, spelled_flat, spelled_items}
+use Rattle.zk_model.proofs.Lists.{spelled_split, spelled_flat, spelled_items}
 use Rattle.zk_model.proofs.Numbered.{opcode_numbered-number_of}
 use Rattle.zk_model.proofs.ResultLaws.{IsResult, IsLastResult, result_next}
 use Rattle.zk_model.proofs.Stats.{stat_back, stat_kinds, stat_normals}

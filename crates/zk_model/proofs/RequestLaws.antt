@@ -1,14 +1,14 @@
 -- A frame is read as a request exactly where it spells one.
-use Rattle.std.proofs.Common.{◌≡◌, ℕ, ◌+◌, ◌-◌, ◌<◌, ◌≤◌, ltb, Bool, true, false, cond, Option, Some, None, List, [], ◌∷◌, ◌++◌, length, drop, map, Ok, Err, refl, sym, ap, subst, ◌∙◌, append_assoc, arith, ℤ}
+use Rattle.std.proofs.Common.{◌≡◌, ℕ, ◌-◌, ◌<◌, ◌≤◌, ltb, Bool, true, false, cond, Option, Some, None, List, [], ◌++◌, length, drop, Ok, Err, refl, sym, ap, subst, ◌∙◌, append_assoc, arith, ℤ}
 use Rattle.std.proofs.lemmas.Bool.{le-ltb, lt-ltb, ltb-false}
 use Rattle.std.proofs.lemmas.List.{append-nil, drop_at, drop-drop, length-append, length-drop}
 use Rattle.zk_model.specs.declared.opcode.Opcode.{Opcode}
 use Rattle.zk_model.specs.declared.opcode.Opcode.TheVariants as opcodes
 use Rattle.zk_model.specs.declared.request.Request.{Request}
 use Rattle.zk_model.specs.declared.request.Request.TheVariants as requests
-use Rattle.zk_model.specs.JuteValues.{Value, Kind, kind_of, Spelled, Spells}
-use Rattle.zk_model.specs.JuteReading.{Read, ◌>>=◌, front_int, values_at, all_until_last}
-use Rattle.zk_model.specs.FromValues.{value_in, request_with, request_from}
+use Rattle.zk_model.specs.JuteValues.{Value, Kind, Spelled, Spells}
+use Rattle.zk_model.specs.JuteReading.{Read, front_int, values_at, all_until_last}
+use Rattle.zk_model.specs.FromValues.{value_in, request_from}
 use Rattle.zk_model.specs.Grammar.{IsAsked, IsPart, IsLastHeader, IsRequest}
 use Rattle.zk_model.specs.Numbers.{number_of, opcode_of, opcode_numbered}
 use Rattle.zk_model.specs.Records.{fields_of, values_of}

@@ -1,28 +1,27 @@
 -- The results of a multi's parts are read exactly where they are spelled.
-use Rattle.std.proofs.Common.{◌≡◌, ℕ, ◌+◌, ◌≤◌, Bool, true, false, cond, Option, Some, None, List, [], ◌∷◌, ◌++◌, length, map, Ok, Err, refl, sym, ap, subst, ◌∙◌, append_assoc, arith, ℤ, pos, negsuc}
+use Rattle.std.proofs.Common.{◌≡◌, ℕ, ◌≤◌, Bool, true, false, cond, Option, Some, None, List, [], ◌∷◌, ◌++◌, length, map, Ok, Err, refl, sym, ap, subst, ◌∙◌, append_assoc, arith, ℤ, pos, negsuc}
 use Rattle.std.specs.Prelude.{◌&&◌}
 use Rattle.std.specs.Ordering.{int_eq}
 use Rattle.std.proofs.lemmas.Bool.{and_parts}
 use Rattle.std.proofs.lemmas.Bool.Decides.{Decides-int_eq}
 use Rattle.std.proofs.lemmas.List.{append-nil, length-append}
-use Rattle.zk_model.specs.declared.node.Stat.{Stat}
 use Rattle.zk_model.specs.declared.opcode.PartKind.{PartKind}
 use Rattle.zk_model.specs.declared.opcode.PartKind.TheVariants as kinds
 use Rattle.zk_model.specs.declared.reply.PartResult.{PartResult}
 use Rattle.zk_model.specs.declared.reply.PartResult.TheVariants as results
-use Rattle.zk_model.specs.JuteValues.{Value, int, boolean, ustring, Kind, kind_of, Spelled, Spells}
-use Rattle.zk_model.specs.JuteReading.{Read, ◌>>=◌, int_at, boolean_at, values_at}
-use Rattle.zk_model.specs.FromValues.{value_in, stat_with, result_with, result_from}
+use Rattle.zk_model.specs.JuteValues.{Value, int, ustring, Kind, kind_of, Spelled, Spells}
+use Rattle.zk_model.specs.JuteReading.{◌>>=◌, int_at, boolean_at, values_at}
+use Rattle.zk_model.specs.FromValues.{value_in, result_with, result_from}
 use Rattle.zk_model.specs.Numbers.{part_number, part_numbered}
-use Rattle.zk_model.specs.Records.{stat_fields, stat_values}
+use Rattle.zk_model.specs.Records.{stat_values}
 use Rattle.zk_model.specs.Results.{result_fields, result_header, good_result, result_values, last_result, Form, last, good, refused, none, form_of_kind, form_of, code_at, good_at, result_after, result_at}
 use Rattle.zk_model.proofs.Conforming.{normals, normals_are}
 use Rattle.zk_model.proofs.Framing.{spelled_join}
-use Rattle.zk_model.proofs.JuteFields.{Takes, IsField, bind_ok, ok_is, ended_ok, joined, int_field, boolean_field, values_take, values_again}
+use Rattle.zk_model.proofs.JuteFields.{Takes, bind_ok, ok_is, ended_ok, joined, int_field, boolean_field, values_take, values_again}
 use Rattle.zk_model.proofs.Listing.{TakesLast, IsNext}
-use Rattle.zk_model.proofs.Lists.{SpelledBoth, spelled_split}
+use Rattle.zk_model.proofs.Lists.{spelled_split}
 use Rattle.zk_model.proofs.Numbered.{part_numbered-is}
-use Rattle.zk_model.proofs.PartLaws.{three, Three, three_of}
+use Rattle.zk_model.proofs.PartLaws.{three, three_of}
 use Rattle.zk_model.proofs.Stats.{stat_back, stat_kinds, stat_normals}
 
 -- ---- forms

@@ -1,5 +1,5 @@
 -- What is written is read again.
-use Rattle.std.proofs.Common.{◌≡◌, ℕ, ◌^◌, ◌<◌, ◌≤◌, true, false, Option, Some, List, [], ◌∷◌, ◌++◌, length, refl, sym, ap, subst, ◌∙◌, arith, ℤ, pos, negsuc}
+use Rattle.std.proofs.Common.{◌≡◌, ℕ, ◌≤◌, true, false, Some, List, [], ◌∷◌, length, refl, sym, arith, ℤ, pos, negsuc}
 use Rattle.std.specs.List.{flat_map}
 use Rattle.std.proofs.lemmas.List.{append-nil}
 use Rattle.zk_model.specs.declared.opcode.Opcode.{Opcode}
@@ -7,20 +7,20 @@ use Rattle.zk_model.specs.declared.reply.Reply.{Reply}
 use Rattle.zk_model.specs.declared.request.Part.{Part}
 use Rattle.zk_model.specs.declared.request.Request.{Request}
 use Rattle.zk_model.specs.declared.request.Request.TheVariants as requests
-use Rattle.zk_model.specs.JuteValues.{Value, int, Spelled, Spells}
-use Rattle.zk_model.specs.JuteWriting.{count_bytes, written, with_length, FitsLength, AreValues}
+use Rattle.zk_model.specs.JuteValues.{int, Spelled, Spells}
+use Rattle.zk_model.specs.JuteWriting.{count_bytes, with_length, AreValues}
 use Rattle.zk_model.specs.Frames.{most_frame, IsFrame, Framed}
-use Rattle.zk_model.specs.Grammar.{IsHeader, IsPart, IsLastHeader, IsAsked, IsRequest, Suits, IsReply}
+use Rattle.zk_model.specs.Grammar.{IsPart, IsAsked, IsRequest, Suits}
 use Rattle.zk_model.specs.Numbers.{number_of, opcode_of, opcode_numbered, part_number, part_kind}
 use Rattle.zk_model.specs.Packets.{reply_values, reply_bytes, CanBeSent}
 use Rattle.zk_model.specs.Records.{part_values}
 use Rattle.zk_model.specs.ReplyReading as answers
 use Rattle.zk_model.specs.Requests.{Asks, read_request}
-use Rattle.zk_model.specs.Sending.{header_values, whole_part, multi_values, asked_values, request_values, request_bytes, RequestCanBeSent}
+use Rattle.zk_model.specs.Sending.{header_values, whole_part, asked_values, request_values, request_bytes, RequestCanBeSent}
 use Rattle.zk_model.proofs.Framing.{no_frame}
 use Rattle.zk_model.proofs.JuteCanonical.{length_canonical, values_canonical}
 use Rattle.zk_model.proofs.Lengths.{written_can, length-request_bytes, length-reply_bytes}
-use Rattle.zk_model.proofs.Lists.{SpelledBoth, spelled_split, spelled_items, spelled_each}
+use Rattle.zk_model.proofs.Lists.{spelled_split, spelled_items, spelled_each}
 use Rattle.zk_model.proofs.ReplyLaws as replies
 use Rattle.zk_model.proofs.RequestLaws as asked
 
