@@ -16,3 +16,4 @@ pub mod FirstUpdate
 pub mod Digits
 pub mod Leases
 pub mod Sessions
+pub mod Lists

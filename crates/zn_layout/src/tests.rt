@@ -6,8 +6,8 @@ ghost use Rattle.zn_layout.specs.Records.{IsSessionRec};
 
 use crate::{
     CountRec, HeadRec, LeaseRec, NodeRec, RecordFault, SessionRec, begin_ask, counts_key, data_key,
-    delete_counts, delete_node, get_key, head_key, lease_key, read_counts, read_lease, read_node,
-    session_key, write_counts, write_head, write_lease, write_node, write_session,
+    delete_counts, delete_node, get_key, head_key, lease_key, read_counts, read_head, read_lease,
+    read_node, session_key, write_counts, write_head, write_lease, write_node, write_session,
 };
 use ev_types::{Act, Ask};
 use std::alloc::Global;
@@ -125,6 +125,53 @@ fn writes_the_head(rt: HostRuntime) -> Result<(), Fail> {
         write_head(alloc, &head)?.as_slice(),
         b"\x01\x00\x00\x00\x04\x01\x00\x00\x00\x02/a\x02\x00\x00\x00\x02/b\x03\x00\x00\x00\x02/c\x04\x00\x00\x00\x01/".as_slice()
     );
+    Ok(())
+}
+
+/// The numbers and paths of a head's triggers.
+fn kind_and_path(trigger: &Trigger) -> (u8, &[u8]) {
+    match trigger {
+        Trigger::Created(path) => (1, path.bytes()),
+        Trigger::Deleted(path) => (2, path.bytes()),
+        Trigger::Changed(path) => (3, path.bytes()),
+        Trigger::Children(path) => (4, path.bytes()),
+    }
+}
+
+#[test]
+fn reads_the_head(rt: HostRuntime) -> Result<(), Fail> {
+    let alloc = rt.alloc();
+    let key = b"zk/head";
+    assert_eq!(rt; read_head(alloc, key, &[1, 0, 0, 0, 0])?.triggers.len(), 0);
+    let value =
+        b"\x01\x00\x00\x00\x04\x01\x00\x00\x00\x02/a\x02\x00\x00\x00\x02/b\x03\x00\x00\x00\x02/c\x04\x00\x00\x00\x01/";
+    let head = read_head(alloc, key, value)?;
+    assert_eq!(rt; head.triggers.len(), 4);
+    let wanted: [(u8, &[u8]); 4] = [(1, b"/a"), (2, b"/b"), (3, b"/c"), (4, b"/")];
+    for (trigger, (kind, path)) in head.triggers.as_slice().iter().zip(wanted) {
+        let (found, at) = kind_and_path(trigger);
+        assert_eq!(rt; found, kind);
+        assert_eq!(rt; at, path);
+    }
+    let damaged: [&[u8]; 11] = [
+        b"",
+        b"\x01\x00\x00\x00",
+        b"\x02\x00\x00\x00\x00",
+        b"\x01\x00\x00\x00\x00\x00",
+        b"\x01\xff\xff\xff\xff",
+        b"\x01\x00\x00\x00\x01",
+        b"\x01\x00\x00\x00\x01\x00\x00\x00\x00\x02/a",
+        b"\x01\x00\x00\x00\x01\x05\x00\x00\x00\x02/a",
+        b"\x01\x00\x00\x00\x01\x01\x00\x00\x00\x03/a",
+        b"\x01\x00\x00\x00\x01\x01\x00\x00\x00\x02a/",
+        b"\x01\x00\x00\x00\x01\x01\x00\x00\x00\x01/a",
+    ];
+    for value in damaged {
+        assert!(rt;
+            is_damaged(read_head(alloc, key, value), key, value),
+            "{value:?}"
+        );
+    }
     Ok(())
 }
 
