@@ -1,6 +1,6 @@
 -- From piece to piece of a script.
-use Rattle.std.proofs.Common.{◌≡◌, ℕ, ◌+◌, ◌-◌, ◌^◌, ◌<◌, ◌≤◌, ◌==◌, min, Bool, true, false, List, [], ◌∷◌, ◌++◌, length, take, drop, suc, refl, sym, ap, ◌∙◌, subst, arith, append_assoc, append-nil, length-append, inl, inr}
-use Rattle.std.specs.Prelude.{Option, Some, None}
+use Rattle.std.proofs.Common.{◌≡◌, ℕ, ◌+◌, ◌-◌, ◌^◌, ◌<◌, ◌≤◌, ◌==◌, min, false, List, [], ◌∷◌, ◌++◌, length, take, drop, suc, refl, sym, ap, ◌∙◌, subst, arith, append_assoc, append-nil, length-append}
+use Rattle.std.specs.Prelude.{Some, None}
 use Rattle.std.proofs.lemmas.List.{take-append-drop}
 use Rattle.std.proofs.lemmas.List.Elements.{All-append, All-nil}
 use Rattle.zk_model.specs.declared.script.Happening.{Happening}
@@ -13,7 +13,7 @@ use Rattle.zp_alone.specs.Reached.{Reached}
 use Rattle.zetcd_cmd.specs.declared.script.Script.{Script}
 use Rattle.zetcd_cmd.specs.declared.script.Stop.{Stop}
 use Rattle.zetcd_cmd.specs.declared.script.Stop.TheVariants as stop
-use Rattle.zetcd_cmd.specs.Scripting.{HasNoLineFeed, Plays, Halts, IsKeptOut, Says, behind, HasRead, Stands, IsApplied, IsHalted, Ends}
+use Rattle.zetcd_cmd.specs.Scripting.{HasNoLineFeed, Plays, Halts, IsKeptOut, behind, HasRead, Stands, IsApplied, Ends}
 use Rattle.zetcd_cmd.proofs.ScriptLaws.{Says-nil, Says-line, script_from-line, line_read-long, script_from-long, script_from-last, script_from-cut}
 
 abbrev no_line_feed : ℕ → Type 0

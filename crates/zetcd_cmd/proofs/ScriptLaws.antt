@@ -1,10 +1,9 @@
 -- What a script says that begins with whole lines, by what stands behind them.
 use Rattle.std.proofs.Common.{◌≡◌, ℕ, ◌+◌, ◌-◌, ◌<◌, ◌≤◌, ◌==◌, Bool, true, false, if◌then◌else◌, true≢false, List, [], ◌∷◌, ◌++◌, length, take, suc, refl, sym, ap, ◌∙◌, arith, append_assoc, append-nil, length-append, inl, inr}
-use Rattle.std.specs.Prelude.{nat_lt, Option, Some, None}
+use Rattle.std.specs.Prelude.{nat_lt, Some, None}
 use Rattle.std.specs.List.{onto_first}
 use Rattle.std.proofs.Math.Seq.{take-append-add, take-append_seam}
 use Rattle.std.proofs.lemmas.Bool.{lt-ltb, le-ltb}
-use Rattle.std.proofs.lemmas.Grind.{common_steps}
 use Rattle.std.proofs.lemmas.List.{take_all}
 use Rattle.std.proofs.lemmas.List.Elements.{All-head, All-tail}
 use Rattle.std.proofs.lemmas.List.Splits.{slice_split-cons_no}
@@ -13,12 +12,6 @@ use Rattle.zk_model.specs.declared.script.Unread.TheVariants.{Unreadable, TooLon
 use Rattle.zk_model.specs.Scripts.{Script, pieces, lines_from, last_line, then_script, line_read, most_line, script_from}
 use Rattle.zk_model.proofs.PieceLaws.{pieces-none, pieces-first, pieces-some}
 use Rattle.zetcd_cmd.specs.Scripting.{HasNoLineFeed, Says, behind}
-
-nat_lt-yes : (a b : ℕ) → a < b → nat_lt a b ≡ true
-nat_lt-yes a b lt = lt-ltb a b lt
-
-nat_lt-no : (a b : ℕ) → b ≤ a → nat_lt a b ≡ false
-nat_lt-no a b le = le-ltb a b le
 
 -- ---- one line more
 
@@ -95,7 +88,7 @@ pieces-begun (b ∷ bs) rest lacks =
 
 pub line_read-long : (line : List ℕ) → most_line < length line → line_read line ≡ None
 unfolding line_read
-line_read-long line long = rw (nat_lt-yes most_line (length line) long) refl
+line_read-long line long = rw (lt-ltb most_line (length line) long) refl
 
 lines_from-long : (is_cut : Bool) (n : ℕ) (first : List ℕ) (others : List (List ℕ)) → nat_lt most_line (length first) ≡ true → line_read first ≡ None →
     lines_from is_cut n (first ∷ others) ≡ ([], Some (n, Unreadable))
@@ -120,7 +113,7 @@ script_from-long room lines begun rest happenings s lacks long fits =
     script_from-lines room lines tail happenings s (omega arith)
     ∙ ap (λ t. behind happenings (lines_from is_cut (length happenings + 1) (pieces 10 t))) front
     ∙ ap (λ ps. behind happenings (lines_from is_cut (length happenings + 1) ps)) split.2
-    ∙ ap (behind happenings) (lines_from-long is_cut (length happenings + 1) first split.1 (nat_lt-yes most_line (length first) long_first) (line_read-long first long_first))
+    ∙ ap (behind happenings) (lines_from-long is_cut (length happenings + 1) first split.1 (lt-ltb most_line (length first) long_first) (line_read-long first long_first))
     ∙ ap (λ (hs : List Happening). (hs, Some (length happenings + 1, Unreadable))) (append-nil happenings)
 
 -- ---- a script that ends
@@ -130,7 +123,7 @@ pub script_from-last : (room : ℕ) (lines line : List ℕ) (happenings : List H
     script_from 1 room (lines ++ line) ≡ behind happenings (last_line false (length happenings + 1) line)
 script_from-last room lines line happenings s lacks fits =
     let whole : take (room - length lines) line ≡ line = take_all (room - length lines) line (omega arith) in
-    let uncut : nat_lt room (length (lines ++ line)) ≡ false = nat_lt-no room (length (lines ++ line)) (rw (length-append lines line) fits) in
+    let uncut : nat_lt room (length (lines ++ line)) ≡ false = le-ltb room (length (lines ++ line)) (rw (length-append lines line) fits) in
     script_from-lines room lines line happenings s (omega arith)
     ∙ ap (λ t. behind happenings (lines_from (nat_lt room (length (lines ++ line))) (length happenings + 1) (pieces 10 t))) whole
     ∙ ap (λ b. behind happenings (lines_from b (length happenings + 1) (pieces 10 line))) uncut
@@ -144,10 +137,10 @@ script_from-cut room lines line rest happenings s lacks short full more =
     let left : room - length lines ≡ length line = omega arith in
     let front : take (room - length lines) tail ≡ line = ap (λ n. take n tail) left ∙ take-append_seam line rest in
     let size : length (lines ++ tail) ≡ length lines + (length line + length rest) = length-append lines tail ∙ ap (λ n. length lines + n) (length-append line rest) in
-    let cut : nat_lt room (length (lines ++ tail)) ≡ true = nat_lt-yes room (length (lines ++ tail)) (rw size (omega arith)) in
+    let cut : nat_lt room (length (lines ++ tail)) ≡ true = lt-ltb room (length (lines ++ tail)) (rw size (omega arith)) in
     script_from-lines room lines tail happenings s (omega arith)
     ∙ ap (λ t. behind happenings (lines_from (nat_lt room (length (lines ++ tail))) (length happenings + 1) (pieces 10 t))) front
     ∙ ap (λ b. behind happenings (lines_from b (length happenings + 1) (pieces 10 line))) cut
     ∙ ap (λ ps. behind happenings (lines_from true (length happenings + 1) ps)) (pieces-none 10 line lacks)
-    ∙ ap (λ b. behind happenings ([], Some (length happenings + 1, if b then Unreadable else TooLong))) (nat_lt-no most_line (length line) short)
+    ∙ ap (λ b. behind happenings ([], Some (length happenings + 1, if b then Unreadable else TooLong))) (le-ltb most_line (length line) short)
     ∙ ap (λ (hs : List Happening). (hs, Some (length happenings + 1, TooLong))) (append-nil happenings)

@@ -1,6 +1,6 @@
 -- What the program did, by the status that it ends with. What is said of bytes holds where the input and the output tell them.
 use Rattle.std.specs.Prelude.{◌≡◌, ◌⊎◌, ⊤, ℕ, ◌+◌, ◌-◌, ◌^◌, ◌≤◌, min, List, [], ◌∷◌, ◌++◌, codes, Option, Some, None}
-use Rattle.std.proofs.Common.{Bor}
+use denote.Ref.{Bor}
 use Rattle.zk_model.specs.Runs.{IsReplayed, IsStopped, IsCutShort}
 use Rattle.zx_outside.specs.Counts.{Rose}
 use Rattle.zetcd_cmd.specs.declared.status.Status.{Status}

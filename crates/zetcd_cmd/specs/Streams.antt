@@ -1,5 +1,5 @@
 -- What the next piece of a source is, over reads and idle turns.
-use Rattle.std.specs.Prelude.{◌≡◌, ℕ, ◌+◌, ◌-◌, ◌^◌, ◌<◌, ◌≤◌, min, List, take, Option}
+use Rattle.std.specs.Prelude.{ℕ, ◌+◌, ◌-◌, ◌^◌, ◌<◌, ◌≤◌, min, List, take, Option}
 use Rattle.std.specs.Io.KnownBytes.{IsAtEnd}
 use Rattle.zx_outside.specs.Reading.{Gives, GivesNone}
 use Rattle.zetcd_cmd.specs.declared.streams.Piece.{Piece}

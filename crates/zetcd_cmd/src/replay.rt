@@ -1,11 +1,10 @@
 //! The command `replay`: a script in, the transcript of its run out.
 
-ghost use Rattle.std.specs.Prelude.{◌≡◌, ◌≢◌, ◌≤◌, ◌⊎◌, ℕ, List, []};
+ghost use Rattle.std.specs.Prelude.{◌≡◌, ◌≢◌, ◌≤◌, ℕ, List, []};
 ghost use Rattle.zx_outside.specs.Counts.{Rose};
-ghost use Rattle.zetcd_cmd.specs.Outcomes.{Replays, Stops, CutsShort, Failed, patience};
+ghost use Rattle.zetcd_cmd.specs.Outcomes.{Replays, Stops, CutsShort, Failed};
 ghost use Rattle.zetcd_cmd.specs.Scripting.{Stands};
 ghost use Rattle.zetcd_cmd.specs.Ending.{EndsReading, EndsAll};
-ghost use Rattle.zetcd_cmd.specs.Streams.{Waited};
 
 use crate::report::{End, Unwritten, report, status_of};
 use crate::script::{Script, Stop};
@@ -18,6 +17,8 @@ use zx_outside::{Sink, Source};
 const ROOM: usize = 65_536;
 
 /// Runs a script to its end, or to the first line that cannot be read or is not possible, and writes the transcript.
+///
+/// The time is linear in the script and the transcript; one unfinished line, the world and its transcript are kept.
 pub fn replay<I: Source, O: Sink>(alloc: Global, input: &mut I, out: &mut O) -> Status
     ensures done { result ≡ Status.Done → Replays (I.left input.old) (I.left input.new) (O.taken out.old) (O.taken out.new) }
     ensures script { (line : ℕ) → result ≡ Status.Script line → Stops line (I.left input.old) (O.taken out.old) (O.taken out.new) }

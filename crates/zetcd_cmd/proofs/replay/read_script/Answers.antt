@@ -1,4 +1,4 @@
-use Rattle.std.proofs.Common.{◌≡◌, ◌≤◌, ◌++◌, [], List, ℕ, length, take, refl, arith, subst}
+use Rattle.std.proofs.Common.{◌≡◌, ◌++◌, [], List, ℕ, length, take, refl, arith, subst}
 use Rattle.zx_outside.proofs.Streams.{Gives-nil, Gives-append}
 use Rattle.zetcd_cmd.specs.Scripting.{Stands, Ends}
 use Rattle.zetcd_cmd.proofs.Endings.{EndsReading-stopped, EndsReading-all, EndsReading-fault, no_fault_at_end, Failed-call, written_over}

@@ -1,4 +1,4 @@
-use Rattle.std.proofs.Common.{◌≡◌, ◌≤◌, ◌+◌, ℕ, List, [], vec_len}
+use Rattle.std.proofs.Common.{◌≡◌, ◌≤◌, ℕ, List, vec_len}
 use Rattle.zx_outside.specs.Reading.{Gives}
 use Rattle.zetcd_cmd.specs.Scripting.{Stands}
 use Rattle.zetcd_cmd.specs.Streams.{Waited}

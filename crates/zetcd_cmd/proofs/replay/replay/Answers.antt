@@ -1,4 +1,4 @@
-use Rattle.std.proofs.Common.{◌≡◌, ◌++◌, List, sym, ◌∙◌, subst, refl}
+use Rattle.std.proofs.Common.{◌++◌, List, sym, ◌∙◌, subst}
 use Rattle.zk_model.specs.declared.transcript.TranscriptLine.{TranscriptLine}
 use Rattle.zk_model.specs.Transcripts.{transcript_text}
 use Rattle.zx_outside.specs.Writing.{Takes}

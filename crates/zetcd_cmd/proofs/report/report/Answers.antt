@@ -1,4 +1,4 @@
-use Rattle.std.proofs.Common.{◌≡◌, ◌++◌, [], List, ℕ, refl, arith, subst, sym}
+use Rattle.std.proofs.Common.{List, ℕ, subst}
 use Rattle.std.proofs.lemmas.Result.{on_ok_weaker}
 use Rattle.zk_model.specs.Transcripts.{transcript_text}
 use Rattle.zx_outside.specs.Writing.{Takes}

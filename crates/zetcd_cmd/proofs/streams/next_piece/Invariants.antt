@@ -1,4 +1,4 @@
-use Rattle.std.proofs.Common.{◌≤◌, ◌-◌, ℕ, length}
+use Rattle.std.proofs.Common.{◌≤◌, ◌-◌, ℕ}
 use Rattle.zx_outside.specs.Reading.{GivesNone}
 use Rattle.zetcd_cmd.specs.Streams.{Waited}
 use Rattle.zetcd_cmd.proofs.streams.next_piece.Given as goal

@@ -1,4 +1,4 @@
-use Rattle.std.proofs.Common.{◌≡◌, List, ℕ, OnOk, subst}
+use Rattle.std.proofs.Common.{List, ℕ, subst}
 use Rattle.zetcd_cmd.specs.Scripting.{Plays}
 use Rattle.zetcd_cmd.proofs.script.Script.apply_pending.Goals as goal
 

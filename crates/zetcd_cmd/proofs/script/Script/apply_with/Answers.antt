@@ -1,8 +1,7 @@
-use Rattle.std.proofs.Common.{rules, arith, ◌≡◌, ◌++◌, [], List, ℕ, OnOk, IfErr, subst, sym}
+use Rattle.std.proofs.Common.{arith, ◌≡◌, ◌++◌, [], List, ℕ, OnOk, subst, sym}
 use Rattle.std.proofs.lemmas.Grind.{common_steps}
 use Rattle.std.proofs.lemmas.Result.{err_from_is_err_and}
-use Rattle.zetcd_cmd.specs.declared.script.Stop.{Stop}
-use Rattle.zetcd_cmd.specs.Scripting.{Plays, Halts, IsKeptOut}
+use Rattle.zetcd_cmd.specs.Scripting.{Plays}
 use Rattle.zetcd_cmd.proofs.Progress.{Halts-kept_out}
 use Rattle.zetcd_cmd.proofs.script.Script.apply_with.Goals as goal
 

@@ -1,4 +1,4 @@
-use Rattle.std.proofs.Common.{arith, ◌≡◌, ◌<◌, [], length, List, ℕ, IfErr, OnOk, refl, subst}
+use Rattle.std.proofs.Common.{arith, ◌≡◌, ◌<◌, [], length, List, ℕ, refl, subst}
 use Rattle.std.proofs.lemmas.Grind.{common_steps}
 use Rattle.std.proofs.lemmas.Result.{on_ok_weaker, IfErr-weaker}
 use Rattle.zetcd_cmd.specs.declared.script.Stop.{Stop}

@@ -1,4 +1,4 @@
-use Rattle.std.proofs.Common.{◌≡◌, ◌<◌, ◌≤◌, length, take, List, ℕ, refl, arith}
+use Rattle.std.proofs.Common.{take, refl, arith}
 use Rattle.std.proofs.lemmas.Grind.{common_steps}
 use Rattle.std.proofs.lemmas.Result.{err_from_is_err_and}
 use Rattle.zetcd_cmd.proofs.Progress.{Ends-front, Ends-over}
