@@ -1,9 +1,11 @@
--- The first frame of a connection.
-use Rattle.std.specs.Prelude.{ℕ, ◌==◌, Option, Some, None, Bool, List, [], ◌∷◌, ◌++◌, length, drop, Result, Ok, Err, if◌then◌else◌}
+-- The first frame of a connection and its answer (zookeeper.jute, `ConnectRequest`, `ConnectResponse`; the read-only byte
+-- of release 3.4 stands behind them).
+use Rattle.std.specs.Prelude.{ℕ, pos, Option, Some, None, Bool, List, [], ◌∷◌, Ok, Err}
 use Rattle.zk_model.specs.declared.connect.ConnectRequest.{ConnectRequest}
-use Rattle.zk_model.specs.JuteValues.{Value, int, long, boolean, buffer, Kind, an_int, a_long, a_boolean, a_buffer, Spelled, Spells}
-use Rattle.zk_model.specs.Records.{value_in, number_in, flag_in, bytes_in}
-use Rattle.zk_model.specs.JuteReading.{◌>>=◌, value_at, values_at}
+use Rattle.zk_model.specs.declared.connect.ConnectResponse.{ConnectResponse}
+use Rattle.zk_model.specs.JuteValues.{Value, int, long, boolean, buffer, Kind, an_int, a_long, a_boolean, a_buffer}
+use Rattle.zk_model.specs.JuteReading.{Read, ◌>>=◌, value_at, values_at, ended}
+use Rattle.zk_model.specs.FromValues.{value_in, number_in, flag_in, bytes_in}
 
 abbrev pub connect_fields : List Kind
 connect_fields = an_int ∷ a_long ∷ an_int ∷ a_long ∷ a_buffer ∷ []
@@ -16,19 +18,11 @@ optional (Some b) = boolean b ∷ []
 abbrev pub connect_values : ConnectRequest → List Value
 connect_values r = int r.protocol ∷ long r.last_zxid ∷ int r.timeout ∷ long r.session ∷ buffer r.passwd ∷ optional r.read_only
 
-abbrev pub IsConnect : ConnectRequest → List ℕ → Type 0
-IsConnect r bytes = Spelled Spells (connect_values r) bytes
+-- of protocol version 0
+abbrev pub connect_response_values : ConnectResponse → List Value
+connect_response_values r = int (pos 0) ∷ int r.timeout ∷ long r.session ∷ buffer r.passwd ∷ optional r.read_only
 
--- nothing stands after the fields, or a boolean does and nothing after it
-abbrev pub connect_at : List ℕ → Result (List Value) ℕ
-connect_at bytes =
-    values_at connect_fields bytes >>= λ x. if length x.1 == 0 then Ok x.0 else (value_at a_boolean x.1 >>= λ b. if length b.1 == 0 then Ok (x.0 ++ b.0 ∷ []) else Err (length b.1))
-
--- ---- the record
-
-abbrev pub read_only_in : List Value → Option Bool
-read_only_in [] = None
-read_only_in (v ∷ vs) = Some (flag_in v)
+-- ---- reading
 
 abbrev pub connect_with : (ℕ → Value) → Option Bool → ConnectRequest
 connect_with v read_only = record {
@@ -40,10 +34,18 @@ connect_with v read_only = record {
   read_only = read_only;
 }
 
-abbrev pub connect_from : Result (List Value) ℕ → Option ConnectRequest
-connect_from (Ok vs) = Some (connect_with (value_in vs) (read_only_in (drop 5 vs)))
-connect_from (Err left) = None
+-- nothing stands after the fields, or a boolean does and nothing after it
+abbrev pub read_only_at : List ℕ → Read (Option Bool)
+read_only_at [] = Ok (None, [])
+read_only_at (b ∷ bytes) = value_at a_boolean (b ∷ bytes) >>= λ x. ended (Some (flag_in x.0), x.1)
+
+abbrev pub connect_at : List ℕ → Read ConnectRequest
+connect_at bytes = values_at connect_fields bytes >>= λ x. read_only_at x.1 >>= λ read_only. Ok (connect_with (value_in x.0) read_only.0, read_only.1)
+
+abbrev pub connect_of : Read ConnectRequest → Option ConnectRequest
+connect_of (Ok x) = Some x.0
+connect_of (Err left) = None
 
 -- a frame as a connect, where it can be read as one
 unfoldable pub read_connect : List ℕ → Option ConnectRequest
-read_connect frame = connect_from (connect_at frame)
+read_connect frame = connect_of (connect_at frame)

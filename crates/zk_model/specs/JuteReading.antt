@@ -1,5 +1,5 @@
--- Reading from left to right. What can't be read is named by how many bytes are left from its first byte on.
-use Rattle.std.specs.Prelude.{ℕ, zero, suc, ℤ, pos, negsuc, Bool, true, false, List, [], ◌∷◌, length, take, drop, Result, Ok, Err, nat_lt, bytes_eq, ◌&&◌, if◌then◌else◌}
+-- Reading Jute's values from left to right. What can't be read is named by how many bytes are left from its first byte on.
+use Rattle.std.specs.Prelude.{ℕ, zero, suc, ◌==◌, ℤ, pos, negsuc, Bool, true, false, Option, Some, None, List, [], ◌∷◌, length, take, drop, Result, Ok, Err, nat_lt, bytes_eq, ◌&&◌, if◌then◌else◌}
 use Rattle.std.specs.Int.{w32, w64, cast_signed}
 use Rattle.std.specs.Str.{is_utf8}
 use Rattle.std.specs.Ordering.{int_eq}
@@ -20,11 +20,15 @@ abbrev pub ◌>>=◌ : {A B : Type 0} → Result A ℕ → (A → Result B ℕ) 
 abbrev pub front_int : List ℕ → ℤ
 front_int bytes = cast_signed w32 (big_number 4 bytes)
 
+-- the long that the first eight bytes are
+abbrev pub front_long : List ℕ → ℤ
+front_long bytes = cast_signed w64 (big_number 8 bytes)
+
 abbrev pub int_at : List ℕ → Read ℤ
 int_at bytes = if nat_lt (length bytes) 4 then Err (length bytes) else Ok (front_int bytes, drop 4 bytes)
 
 abbrev pub long_at : List ℕ → Read ℤ
-long_at bytes = if nat_lt (length bytes) 8 then Err (length bytes) else Ok (cast_signed w64 (big_number 8 bytes), drop 8 bytes)
+long_at bytes = if nat_lt (length bytes) 8 then Err (length bytes) else Ok (front_long bytes, drop 8 bytes)
 
 abbrev pub boolean_at : List ℕ → Read Bool
 boolean_at [] = Err 0
@@ -93,3 +97,24 @@ value_at the_open_acl bytes = vector_at acl_at bytes >>= λ x. open_of (length b
 unfoldable pub values_at : List Kind → List ℕ → Read (List Value)
 values_at [] bytes = Ok ([], bytes)
 values_at (k ∷ ks) bytes = value_at k bytes >>= λ first. values_at ks first.1 >>= λ others. Ok (first.0 ∷ others.0, others.1)
+
+-- ---- items up to the last
+
+abbrev pub more_then : {A : Type 0} → (List ℕ → Read (List A)) → Option A → List ℕ → Read (List A)
+more_then {A = A} others None rest = Ok ([], rest)
+more_then {A = A} others (Some x) rest = others rest >>= λ xs. Ok (x ∷ xs.0, xs.1)
+
+-- the items before the last, at most so many
+unfoldable pub until_last : {A : Type 0} → (List ℕ → Read (Option A)) → ℕ → List ℕ → Read (List A)
+until_last {A = A} next zero bytes = Err (length bytes)
+until_last {A = A} next (suc n) bytes = next bytes >>= λ x. more_then (until_last next n) x.0 x.1
+
+-- each item takes a byte at least, so there are fewer of them than this
+abbrev pub all_until_last : {A : Type 0} → (List ℕ → Read (Option A)) → List ℕ → Read (List A)
+all_until_last next bytes = until_last next (suc (length bytes)) bytes
+
+-- ---- a whole frame
+
+-- bytes after what was read have a fault
+abbrev pub ended : {A : Type 0} → A × List ℕ → Read A
+ended x = if length x.1 == 0 then Ok x else Err (length x.1)

@@ -64,10 +64,13 @@ written vs = flat_map canonical vs
 abbrev pub AllCanBeWritten : List Value → Type 0
 AllCanBeWritten vs = AllByRecursion CanBeWritten vs
 
--- the values behind what stands before them
-abbrev pub written_after : List ℕ → List Value → List ℕ
-written_after out [] = out
-written_after out (v ∷ vs) = written_after (out ++ canonical v) vs
+-- a packet: the length of a frame, and the frame
+abbrev pub with_length : List ℕ → List ℕ
+with_length frame = count_bytes (length frame) ++ frame
+
+-- the length of a frame fits its int; so do then the lengths and counts in it
+abbrev pub FitsLength : List ℕ → Type 0
+FitsLength frame = length frame < 2 ^ 31
 
 -- numbers in their range, texts in UTF-8: what reading may give
 pub record IsText (bytes : List ℕ) : Type 0 where

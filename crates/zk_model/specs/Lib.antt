@@ -5,13 +5,16 @@ pub mod JuteValues
 pub mod JuteReading
 pub mod JuteWriting
 pub mod Records
+pub mod FromValues
 pub mod Requests
 pub mod Connects
-pub mod Replies
 pub mod Results
+pub mod Replies
+pub mod ReplyReading
 pub mod Sending
 pub mod Frames
 pub mod Packets
+pub mod Grammar
 pub mod Codes
 pub mod Znodes
 pub mod Single

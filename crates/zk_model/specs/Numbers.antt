@@ -1,9 +1,36 @@
--- The kinds that a type's number names (`ZooDefs.OpCode`, release 3.4).
+-- The kinds of requests and of the parts of a multi, and their numbers (`ZooDefs.OpCode`, release 3.4).
 use Rattle.std.specs.Prelude.{ℕ, ◌==◌, ℤ, pos, negsuc, Option, Some, None, if◌then◌else◌}
 use Rattle.zk_model.specs.declared.opcode.Opcode.{Opcode}
 use Rattle.zk_model.specs.declared.opcode.Opcode.TheVariants as opcodes
 use Rattle.zk_model.specs.declared.opcode.PartKind.{PartKind}
 use Rattle.zk_model.specs.declared.opcode.PartKind.TheVariants as kinds
+use Rattle.zk_model.specs.declared.request.Part.{Part}
+use Rattle.zk_model.specs.declared.request.Part.TheVariants as parts
+use Rattle.zk_model.specs.declared.request.Request.{Request}
+use Rattle.zk_model.specs.declared.request.Request.TheVariants as requests
+
+abbrev pub opcode_of : Request → Opcode
+opcode_of (requests.Create path content acl flags) = opcodes.Create
+opcode_of (requests.Delete path version) = opcodes.Delete
+opcode_of (requests.Exists path watch) = opcodes.Exists
+opcode_of (requests.GetData path watch) = opcodes.GetData
+opcode_of (requests.SetData path content version) = opcodes.SetData
+opcode_of (requests.GetAcl path) = opcodes.GetAcl
+opcode_of (requests.GetChildren path watch) = opcodes.GetChildren
+opcode_of (requests.Sync path) = opcodes.Sync
+opcode_of requests.Ping = opcodes.Ping
+opcode_of (requests.GetChildren2 path watch) = opcodes.GetChildren2
+opcode_of (requests.Check path version) = opcodes.Check
+opcode_of (requests.Multi ps) = opcodes.Multi
+opcode_of (requests.Auth kind scheme auth) = opcodes.Auth
+opcode_of (requests.SetWatches relative exists datas children) = opcodes.SetWatches
+opcode_of requests.Close = opcodes.Close
+
+abbrev pub part_kind : Part → PartKind
+part_kind (parts.Create path content acl flags) = kinds.Create
+part_kind (parts.Delete path version) = kinds.Delete
+part_kind (parts.SetData path content version) = kinds.SetData
+part_kind (parts.Check path version) = kinds.Check
 
 -- a request's type
 abbrev pub number_of : Opcode → ℤ

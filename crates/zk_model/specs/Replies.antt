@@ -1,20 +1,15 @@
--- The bodies of replies.
-use Rattle.std.specs.Prelude.{List, [], ◌∷◌}
-use Rattle.zk_model.specs.declared.node.Stat.{Stat}
+-- The bodies of replies (zookeeper.jute): two rows each.
+use Rattle.std.specs.Prelude.{List, [], ◌∷◌, ◌++◌, map}
+use Rattle.std.specs.List.{flat_map}
 use Rattle.zk_model.specs.declared.reply.Body.{Body}
 use Rattle.zk_model.specs.declared.reply.Body.TheVariants as bodies
 use Rattle.zk_model.specs.declared.opcode.Opcode.{Opcode}
 use Rattle.zk_model.specs.declared.opcode.Opcode.TheVariants as opcodes
-use Rattle.zk_model.specs.JuteValues.{Value, int, long, buffer, ustring, ustrings, Kind, an_int, a_long, a_buffer, a_ustring, some_ustrings, open_acl, the_open_acl}
+use Rattle.zk_model.specs.JuteValues.{Value, buffer, ustring, ustrings, open_acl, Kind, a_buffer, a_ustring, some_ustrings, the_open_acl, kind_of}
+use Rattle.zk_model.specs.Records.{stat_fields, stat_values}
+use Rattle.zk_model.specs.Results.{result_values, last_result}
 
-abbrev pub stat_fields : List Kind
-stat_fields = a_long ∷ a_long ∷ a_long ∷ a_long ∷ an_int ∷ an_int ∷ an_int ∷ a_long ∷ an_int ∷ an_int ∷ a_long ∷ []
-
-abbrev pub stat_values : Stat → List Value
-stat_values s =
-    long s.czxid ∷ long s.mzxid ∷ long s.ctime ∷ long s.mtime ∷ int s.version ∷ int s.cversion ∷ int s.aversion
-    ∷ long s.ephemeral_owner ∷ int s.data_length ∷ int s.num_children ∷ long s.pzxid ∷ []
-
+-- a multi's reply has no fields of its own
 abbrev pub reply_fields : Opcode → List Kind
 reply_fields opcodes.Create = a_ustring ∷ []
 reply_fields opcodes.Exists = stat_fields
@@ -26,12 +21,26 @@ reply_fields opcodes.Sync = a_ustring ∷ []
 reply_fields opcodes.GetChildren2 = some_ustrings ∷ stat_fields
 reply_fields _ = []
 
-abbrev pub reply_values : Body → List Value
-reply_values bodies.Empty = []
-reply_values (bodies.Path path) = ustring path ∷ []
-reply_values (bodies.Stat stat) = stat_values stat
-reply_values (bodies.Content content stat) = buffer content ∷ stat_values stat
-reply_values (bodies.Names names) = ustrings names ∷ []
-reply_values (bodies.NamesStat names stat) = ustrings names ∷ stat_values stat
-reply_values (bodies.OpenAcl stat) = open_acl ∷ stat_values stat
-reply_values (bodies.Parts results) = []
+abbrev pub body_values : Body → List Value
+body_values bodies.Empty = []
+body_values (bodies.Path path) = ustring path ∷ []
+body_values (bodies.Stat stat) = stat_values stat
+body_values (bodies.Content content stat) = buffer content ∷ stat_values stat
+body_values (bodies.Names names) = ustrings names ∷ []
+body_values (bodies.NamesStat names stat) = ustrings names ∷ stat_values stat
+body_values (bodies.OpenAcl stat) = open_acl ∷ stat_values stat
+body_values (bodies.Parts results) = flat_map result_values results ++ last_result
+
+-- ---- which body answers which kind
+
+pub data Shape : Type 0 where
+  fields : List Kind → Shape
+  results : Shape
+
+abbrev pub shape_for : Opcode → Shape
+shape_for opcodes.Multi = results
+shape_for code = fields (reply_fields code)
+
+abbrev pub shape_of : Body → Shape
+shape_of (bodies.Parts rs) = results
+shape_of body = fields (map kind_of (body_values body))

@@ -1,13 +1,17 @@
--- Reading requests.
-use Rattle.std.specs.Prelude.{ℕ, zero, suc, ◌-◌, ◌==◌, ℤ, Bool, true, false, Option, Some, None, List, [], ◌∷◌, length, drop, Result, Ok, Err, nat_lt, if◌then◌else◌}
-use Rattle.zk_model.specs.declared.request.Request.{Request}
+-- Reading requests: what a frame is read as.
+use Rattle.std.specs.Prelude.{ℕ, ◌-◌, ℤ, Bool, true, false, Option, Some, None, List, length, drop, Result, Ok, Err, nat_lt, if◌then◌else◌}
 use Rattle.zk_model.specs.declared.opcode.Opcode.{Opcode}
 use Rattle.zk_model.specs.declared.opcode.Opcode.TheVariants as opcodes
 use Rattle.zk_model.specs.declared.opcode.PartKind.{PartKind}
+use Rattle.zk_model.specs.declared.request.Part.{Part}
+use Rattle.zk_model.specs.declared.request.Request.{Request}
+use Rattle.zk_model.specs.declared.request.Request.TheVariants as requests
+use Rattle.zk_model.specs.JuteReading.{Read, ◌>>=◌, front_int, int_at, boolean_at, values_at, all_until_last, ended}
 use Rattle.zk_model.specs.Numbers.{part_numbered, opcode_numbered}
-use Rattle.zk_model.specs.JuteValues.{Kind}
-use Rattle.zk_model.specs.JuteReading.{Read, ◌>>=◌, front_int, int_at, boolean_at, values_at}
-use Rattle.zk_model.specs.Records.{Fields, Body, plain, multi, fields_of, part_fields, request_from}
+use Rattle.zk_model.specs.Records.{fields_of, part_fields}
+use Rattle.zk_model.specs.FromValues.{request_from, part_from}
+
+-- ---- the parts of a multi
 
 abbrev pub listed : ℕ → Option PartKind → Result (Option PartKind) ℕ
 listed left None = Err left
@@ -18,40 +22,30 @@ abbrev pub part_begun : ℕ → ℤ → Bool → Result (Option PartKind) ℕ
 part_begun left type true = Ok None
 part_begun left type false = listed left (part_numbered type)
 
+-- a MultiHeader; its error is not looked at, nor is the last one's type
 abbrev pub header_at : List ℕ → Read (Option PartKind)
 header_at bytes =
     int_at bytes >>= λ type. boolean_at type.1 >>= λ last. part_begun (length bytes) type.0 last.0 >>= λ part. int_at last.1 >>= λ err. Ok (part, err.1)
 
-abbrev pub fields_at : {K : Type 0} → (K → List Kind) → K → List ℕ → Read (Fields K)
-fields_at fields kind bytes = values_at (fields kind) bytes >>= λ x. Ok (record { kind = kind; values = x.0 }, x.1)
+abbrev pub part_after : Option PartKind → List ℕ → Read (Option Part)
+part_after None bytes = Ok (None, bytes)
+part_after (Some kind) bytes = values_at (part_fields kind) bytes >>= λ x. Ok (Some (part_from kind x.0), x.1)
 
-abbrev pub part_then : (List ℕ → Read (List (Fields PartKind))) → Option PartKind → List ℕ → Read (List (Fields PartKind))
-part_then others None bytes = Ok ([], bytes)
-part_then others (Some kind) bytes = fields_at part_fields kind bytes >>= λ first. others first.1 >>= λ rest. Ok (first.0 ∷ rest.0, rest.1)
+-- the next part, or none at the last header
+abbrev pub part_at : List ℕ → Read (Option Part)
+part_at bytes = header_at bytes >>= λ begun. part_after begun.0 begun.1
 
--- at most so many headers
-unfoldable pub parts_at : ℕ → List ℕ → Read (List (Fields PartKind))
-parts_at zero bytes = Err (length bytes)
-parts_at (suc n) bytes = header_at bytes >>= λ begun. part_then (parts_at n) begun.0 begun.1
+-- ---- bodies
 
--- a header takes bytes, so there are no more of them than bytes
-abbrev pub multi_at : List ℕ → Read (List (Fields PartKind))
-multi_at bytes = parts_at (suc (length bytes)) bytes
+abbrev pub plain_at : Opcode → List ℕ → Read Request
+plain_at code bytes = values_at (fields_of code) bytes >>= λ x. Ok (request_from code x.0, x.1)
 
-abbrev pub plain_at : Opcode → List ℕ → Read Body
-plain_at code bytes = fields_at fields_of code bytes >>= λ x. Ok (plain x.0, x.1)
-
-abbrev pub body_at : Opcode → List ℕ → Read Body
-body_at opcodes.Multi bytes = multi_at bytes >>= λ x. Ok (multi x.0, x.1)
+abbrev pub body_at : Opcode → List ℕ → Read Request
+body_at opcodes.Multi bytes = all_until_last part_at bytes >>= λ x. Ok (requests.Multi x.0, x.1)
 body_at code bytes = plain_at code bytes
 
--- the bytes after a body have a fault
-abbrev pub whole_at : Opcode → List ℕ → Read Body
-whole_at code bytes = body_at code bytes >>= λ x. if length x.1 == 0 then Ok x else Err (length x.1)
-
-abbrev pub code_of : Body → Opcode
-code_of (plain fields) = fields.kind
-code_of (multi parts) = opcodes.Multi
+abbrev pub whole_at : Opcode → List ℕ → Read Request
+whole_at code bytes = body_at code bytes >>= ended
 
 -- ---- a frame
 
@@ -63,14 +57,15 @@ pub data Frame : Type 0 where
   Unknown : (xid kind : ℤ) → Frame
   Asks : (xid : ℤ) (asked : Request) → Frame
 
-abbrev pub asked_as : ℤ → ℕ → Read Body → Frame
-asked_as xid size (Ok x) = Asks xid (request_from x.0)
+abbrev pub asked_as : ℤ → ℕ → Read Request → Frame
+asked_as xid size (Ok x) = Asks xid x.0
 asked_as xid size (Err left) = Unreadable xid (size - left)
 
 abbrev pub frame_of_kind : ℤ → ℤ → ℕ → List ℕ → Option Opcode → Frame
 frame_of_kind xid kind size body None = Unknown xid kind
 frame_of_kind xid kind size body (Some code) = asked_as xid size (whole_at code body)
 
+-- RequestHeader, eight bytes, and a body to the frame's end
 unfoldable pub read_request : List ℕ → Frame
 read_request frame =
     if nat_lt (length frame) 8 then NoHeader

@@ -1,46 +1,46 @@
--- The frames that are written.
-use Rattle.std.specs.Prelude.{ℕ, ℤ, pos, negsuc, Bool, true, false, List, [], ◌∷◌, ◌++◌, length}
+-- The packets of requests, as clients write them.
+use Rattle.std.specs.Prelude.{ℕ, ℤ, pos, negsuc, Bool, true, false, List, [], ◌∷◌, ◌++◌}
 use Rattle.std.specs.List.{AllByRecursion, flat_map}
 use Rattle.std.specs.Int.{w32}
 use Rattle.std.specs.Int.RustNames.{FitsSigned}
+use Rattle.zk_model.specs.declared.request.Part.{Part}
 use Rattle.zk_model.specs.declared.request.Request.{Request}
-use Rattle.zk_model.specs.declared.opcode.PartKind.{PartKind}
+use Rattle.zk_model.specs.declared.request.Request.TheVariants as requests
 use Rattle.zk_model.specs.JuteValues.{Value, int, boolean}
-use Rattle.zk_model.specs.JuteWriting.{int_bytes, written, written_after, AllCanBeWritten, IsValue}
-use Rattle.zk_model.specs.Numbers.{part_number}
-use Rattle.zk_model.specs.Records.{Fields, Body, plain, multi, body_of, body_number}
+use Rattle.zk_model.specs.JuteWriting.{written, with_length, FitsLength, IsValue}
+use Rattle.zk_model.specs.Numbers.{number_of, opcode_of, part_number, part_kind}
+use Rattle.zk_model.specs.Records.{values_of, part_values}
 
+-- a MultiHeader, with the error -1
 abbrev pub header_values : ℤ → Bool → List Value
 header_values type last = int type ∷ boolean last ∷ int (negsuc 0) ∷ []
 
-abbrev pub part_bytes : Fields PartKind → List ℕ
-part_bytes part = written (header_values (part_number part.kind) false) ++ written part.values
+abbrev pub whole_part : Part → List Value
+whole_part part = header_values (part_number (part_kind part)) false ++ part_values part
 
-abbrev pub body_bytes : Body → List ℕ
-body_bytes (plain fields) = written fields.values
-body_bytes (multi parts) = flat_map part_bytes parts ++ written (header_values (negsuc 0) true)
+-- the parts, and the last header, of type -1
+abbrev pub multi_values : List Part → List Value
+multi_values ps = flat_map whole_part ps ++ header_values (negsuc 0) true
 
--- a body behind what stands before it
-abbrev pub body_after : List ℕ → Body → List ℕ
-body_after out (plain fields) = written_after out fields.values
-body_after out (multi parts) = out ++ body_bytes (multi parts)
+abbrev pub asked_values : Request → List Value
+asked_values (requests.Multi ps) = multi_values ps
+asked_values request = values_of request
 
-abbrev pub BodyCanBeWritten : Body → Type 0
-BodyCanBeWritten (plain fields) = AllCanBeWritten fields.values
-BodyCanBeWritten (multi parts) = AllByRecursion (λ part. AllCanBeWritten part.values) parts
+-- RequestHeader, and the body
+abbrev pub request_values : ℤ → Request → List Value
+request_values xid request = int xid ∷ int (number_of (opcode_of request)) ∷ asked_values request
 
 abbrev pub request_bytes : ℤ → Request → List ℕ
-request_bytes xid request = written (int xid ∷ int (body_number (body_of request)) ∷ []) ++ body_bytes (body_of request)
+request_bytes xid request = written (request_values xid request)
 
--- the length, and the bytes
-abbrev pub with_length : List ℕ → List ℕ
-with_length bytes = int_bytes (pos (length bytes)) ++ bytes
+unfoldable pub request_packet : ℤ → Request → List ℕ
+request_packet xid request = with_length (request_bytes xid request)
 
-abbrev pub IsBodyValue : Body → Type 0
-IsBodyValue (plain fields) = AllByRecursion IsValue fields.values
-IsBodyValue (multi parts) = AllByRecursion (λ part. AllByRecursion IsValue part.values) parts
+-- the length of a request's frame is the same whatever its xid
+abbrev pub RequestCanBeSent : Request → Type 0
+RequestCanBeSent request = FitsLength (request_bytes (pos 0) request)
 
 -- a request that reading may give: numbers in their range, texts in UTF-8
 pub record IsRequestValue (xid : ℤ) (request : Request) : Type 0 where
   pub xid_fits : FitsSigned w32 xid
-  pub body : IsBodyValue (body_of request)
+  pub values : AllByRecursion IsValue (asked_values request)

@@ -22,9 +22,9 @@ use Rattle.zn_layout.specs.Records.{head_value}
 use Rattle.zn_layout.specs.StandsFor.{at}
 use Rattle.zn_layout.specs.Begin.{read_key}
 use Rattle.zn_layout.specs.Changes.{Change, act_of, acts_of, head_put, update_acts}
-use Rattle.zn_layout.specs.Commits.{one_found, update_txn, IsCommitted}
+use Rattle.zn_layout.specs.Commits.{key_range, one_found, update_txn, IsCommitted}
 use Rattle.zn_layout.proofs.Denials.{none_of}
-use Rattle.zn_layout.proofs.Found.{key_range, found-key}
+use Rattle.zn_layout.proofs.Found.{found-key}
 use Rattle.zn_layout.proofs.Stands.{all_of, head_there, update_applied}
 use Rattle.zn_layout.proofs.Transactions.{acts_from-append, present-worked}
 
@@ -59,6 +59,13 @@ answer-is s new t r b parts e =
       revision_is = sym a.2 ∙ ap revision a.1;
       parts_are = sym a.3 ∙ ap (λ (w : Done). w.parts) same;
     }
+
+-- and what is answered where it isn't denied
+pub carried : (s : Store) (t : TxnReq) (b : Bool) → is_denied s (ask.Txn t) ≡ false → succeeds s t ≡ b → carry s (ask.Txn t) ≡ Some (txn_answer s b (worked s (chosen b t)))
+unfolding carry carried_out txn_done
+carried s t b allowed succeeded =
+    ap (λ d. if d then None else Some (txn_answer s (succeeds s t) (worked s (chosen (succeeds s t) t)))) allowed
+    ∙ ap (λ x. Some (txn_answer s x (worked s (chosen x t)))) succeeded
 
 -- ---- a list of changes with one among them
 

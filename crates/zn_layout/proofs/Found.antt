@@ -10,11 +10,7 @@ use Rattle.ev_types.specs.declared.ask.RangeReq.{RangeReq}
 use Rattle.ev_types.specs.Ranges.{Keys, is_within, in_range, found, found_among}
 use Rattle.zx_base.specs.Maps.{Bytes, same}
 use Rattle.zx_base.proofs.MapLaws.{either, same-refl, same-false, get-retain, get-insert_same, get-insert_other, ext}
-use Rattle.zn_layout.specs.Commits.{one_found}
-
--- one key, at the present revision
-abbrev pub key_range : Bytes → RangeReq
-key_range k = record { key = k; end = []; revision = pos 0; limit = pos 0; keys_only = false }
+use Rattle.zn_layout.specs.Commits.{key_range, one_found}
 
 pub entries-empty : {X : Type 0} → entries (empty {X = X} {R = slice_cmp nat_cmp}) ≡ []
 entries-empty {X = X} = nil_from_length _ (sym (len-entries _) ∙ len-empty (slice_cmp nat_cmp) X)

@@ -17,10 +17,12 @@ by_sixteen : (m n : ℕ) → m / 16 ≡ n / 16 → m % 16 ≡ n % 16 → m ≡ n
 by_sixteen m n a b = omega arith
 
 hex_digits-rest : (k m n : ℕ) (r s : Bytes) → hex_digits k m r ≡ hex_digits k n s → r ≡ s
+unfolding hex_digits
 hex_digits-rest zero m n r s e = (parts_same e).1
 hex_digits-rest (suc k) m n r s e = (parts_same (hex_digits-rest k (m / 16) (n / 16) _ _ e)).1
 
 hex_digits-injective : (k m n : ℕ) (r s : Bytes) → hex_digits k m r ≡ hex_digits k n s → m ≡ n
+unfolding hex_digits
 hex_digits-injective zero m n r s e = hex_digit-injective m n (parts_same e).0
 hex_digits-injective (suc k) m n r s e =
     let front = hex_digits-injective k (m / 16) (n / 16) _ _ e in

@@ -12,3 +12,6 @@ pub mod Numbers
 pub mod Nodes
 pub mod Lookups
 pub mod First
+pub mod FirstUpdate
+pub mod Digits
+pub mod Leases

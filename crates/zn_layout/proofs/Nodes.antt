@@ -16,19 +16,19 @@ use Rattle.zn_layout.proofs.Numbers.{int_back, long_back, length-int, length-lon
 
 -- ---- numbers side by side
 
-long_fits : (n : ℤ) → IsLongCount n → FitsSigned w64 n
+pub long_fits : (n : ℤ) → IsLongCount n → FitsSigned w64 n
 long_fits (pos n) is = record { sfits = (let a = is.most in let lt : n < 2 ^ 63 = omega (arith, ints) in lt) }
 long_fits (negsuc n) is = let a = is.least in absurd (omega (arith, ints))
 
-int_fits : (n : ℤ) → pos 0 ≤ℤ n → n ≤ℤ pos 2147483647 → FitsSigned w32 n
+pub int_fits : (n : ℤ) → pos 0 ≤ℤ n → n ≤ℤ pos 2147483647 → FitsSigned w32 n
 int_fits (pos n) a b = record { sfits = (let lt : n < 2 ^ 31 = omega (arith, ints) in lt) }
 int_fits (negsuc n) a b = absurd (omega (arith, ints))
 
-long_same : (m n : ℤ) (r s : Bytes) → FitsSigned w64 m → FitsSigned w64 n → long_bytes m ++ r ≡ long_bytes n ++ s → (m ≡ n) × (r ≡ s)
+pub long_same : (m n : ℤ) (r s : Bytes) → FitsSigned w64 m → FitsSigned w64 n → long_bytes m ++ r ≡ long_bytes n ++ s → (m ≡ n) × (r ≡ s)
 long_same m n r s fm fn e =
     (sym (long_back m r fm) ∙ ap (λ (l : Bytes). cast_signed w64 (big_number 8 l)) e ∙ long_back n s fn, sym (drop-long m r) ∙ ap (λ (l : Bytes). drop 8 l) e ∙ drop-long n s)
 
-int_same : (m n : ℤ) (r s : Bytes) → FitsSigned w32 m → FitsSigned w32 n → int_bytes m ++ r ≡ int_bytes n ++ s → (m ≡ n) × (r ≡ s)
+pub int_same : (m n : ℤ) (r s : Bytes) → FitsSigned w32 m → FitsSigned w32 n → int_bytes m ++ r ≡ int_bytes n ++ s → (m ≡ n) × (r ≡ s)
 int_same m n r s fm fn e =
     (sym (int_back m r fm) ∙ ap (λ (l : Bytes). cast_signed w32 (big_number 4 l)) e ∙ int_back n s fn, sym (drop-int m r) ∙ ap (λ (l : Bytes). drop 4 l) e ∙ drop-int n s)
 

@@ -8,10 +8,12 @@ use Rattle.ev_types.specs.declared.answer.ActAns.{ActAns}
 use Rattle.ev_types.specs.declared.answer.ActAns.TheVariants as part
 use Rattle.ev_types.specs.declared.ask.Act.{Act}
 use Rattle.ev_types.specs.declared.ask.Act.TheVariants as act
+use Rattle.ev_types.specs.declared.ask.RangeReq.{RangeReq}
 use Rattle.ev_types.specs.declared.ask.Guard.{Guard}
 use Rattle.ev_types.specs.declared.ask.TxnReq.{TxnReq}
 use Rattle.ev_types.specs.Store.{Store, revision, last_revision, present, acts_applied}
 use Rattle.zk_model.specs.declared.node.Trigger.{Trigger}
+use Rattle.zx_base.specs.Maps.{Bytes}
 use Rattle.zn_layout.specs.Keys.{HeadKey}
 use Rattle.zn_layout.specs.StandsFor.{at}
 use Rattle.zn_layout.specs.Changes.{Change, update_acts}
@@ -25,7 +27,10 @@ is_present_read (act.Delete k) = false
 abbrev pub are_present_reads : List Act → Bool
 are_present_reads acts = list_all is_present_read acts
 
--- what a range of one key finds
+-- one key, at the present revision, and what it finds
+abbrev pub key_range : Bytes → RangeReq
+key_range k = record { key = k; end = []; revision = pos 0; limit = pos 0; keys_only = false }
+
 abbrev pub one_found : Option Kv → RangeAns
 one_found None = record { kvs = []; more = false; count = pos 0 }
 one_found (Some kv) = record { kvs = kv ∷ []; more = false; count = pos 1 }

@@ -19,7 +19,7 @@ abbrev pub hex_digit : ℕ → ℕ
 hex_digit n = cond (nat_lt n 10) (48 + n) (87 + n)
 
 -- so many digits and one more, the first of which takes all that is left of the number
-abbrev pub hex_digits : ℕ → ℕ → Bytes → Bytes
+unfoldable pub hex_digits : ℕ → ℕ → Bytes → Bytes
 hex_digits zero n rest = hex_digit n ∷ rest
 hex_digits (suc k) n rest = hex_digits k (n / 16) (hex_digit (n % 16) ∷ rest)
 

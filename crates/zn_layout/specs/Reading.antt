@@ -5,6 +5,7 @@ use Rattle.std.specs.Int.{w32, w64}
 use Rattle.std.specs.Int.RustNames.{FitsSigned}
 use Rattle.zn_layout.specs.declared.record.NodeRec.{NodeRec}
 use Rattle.zn_layout.specs.declared.record.CountRec.{CountRec}
+use Rattle.zn_layout.specs.declared.record.LeaseRec.{LeaseRec}
 use Rattle.zn_layout.specs.declared.fault.RecordFault.{RecordFault}
 use Rattle.zn_layout.specs.declared.fault.RecordFault.TheVariants.{Damaged, Memory}
 
@@ -42,3 +43,7 @@ pub record HasNumbers (r : NodeRec) : Type 0 where
 pub record HasCounts (r : CountRec) : Type 0 where
   pub creates : FitsSigned w32 r.creates
   pub children : FitsSigned w32 r.children
+
+pub record HasLife (r : LeaseRec) : Type 0 where
+  pub timeout : FitsSigned w32 r.timeout
+  pub attaches : FitsSigned w64 r.attaches

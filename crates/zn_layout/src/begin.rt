@@ -7,7 +7,7 @@ ghost use Rattle.zn_layout.specs.Changes.{put_key, act_of};
 ghost use Rattle.zn_layout.specs.Keys.{DataKey, CountsKey};
 ghost use Rattle.zn_layout.specs.Records.{node_value, counts_value};
 
-use crate::act::{put_counts, put_head, put_node, get_head};
+use crate::act::{get_head, put_counts, put_head, put_node};
 use crate::key::head_key;
 use crate::record::{CountRec, HeadRec, NodeRec};
 use ev_types::{Act, Ask, Guard, TxnReq};

@@ -1,8 +1,8 @@
 //! The keys under which the service keeps its nodes, its sessions and its last update.
 
-ghost use Rattle.std.specs.Prelude.{◌≡◌, ◌+◌, ◌%◌, ◌≤◌, length, IfOk};
+ghost use Rattle.std.specs.Prelude.{◌≡◌, ◌+◌, ◌%◌, ◌^◌, ◌<◌, ◌≤◌, pos, nat_abs, ◌≤ℤ◌, [], length, IfOk};
 ghost use Rattle.zk_model.specs.Paths.{depth as path_depth, most_path};
-ghost use Rattle.zn_layout.specs.Keys.{HeadKey, DataKey, CountsKey, key_bytes, node_key as bytes_of_node};
+ghost use Rattle.zn_layout.specs.Keys.{HeadKey, DataKey, CountsKey, SessionKey, LeaseKey, key_bytes, node_key as bytes_of_node, session_key as bytes_of_session, hex_digits, hex_digit as digit_of};
 
 use std::alloc::Global;
 use zx_base::{Bytes, Memory};
@@ -35,6 +35,24 @@ pub fn counts_key(alloc: Global, path: &[u8]) -> Result<Bytes, Memory>
     ensures { IfOk result (λ k. k ≡ key_bytes (CountsKey path.now)) }
 {
     node_key(alloc, b'c', path)
+}
+
+/// The key of the nodes of a session, whose number is at least 1.
+#[tactic(auto, unfolding(crate::specs::Keys::key_bytes))]
+pub fn session_key(alloc: Global, id: i64) -> Result<Bytes, Memory>
+    requires { pos 1 ≤ℤ id }
+    ensures { IfOk result (λ k. k ≡ key_bytes (SessionKey (nat_abs id))) }
+{
+    numbered_key(alloc, b's', id.unsigned_abs())
+}
+
+/// The key of the life of a session, whose number is at least 1.
+#[tactic(auto, unfolding(crate::specs::Keys::key_bytes))]
+pub fn lease_key(alloc: Global, id: i64) -> Result<Bytes, Memory>
+    requires { pos 1 ≤ℤ id }
+    ensures { IfOk result (λ k. k ≡ key_bytes (LeaseKey (nat_abs id))) }
+{
+    numbered_key(alloc, b'l', id.unsigned_abs())
 }
 
 fn node_key(alloc: Global, letter: u8, path: &[u8]) -> Result<Bytes, Memory>
@@ -76,4 +94,39 @@ fn depth(path: &[u8]) -> usize
     } else {
         path.iter().filter(|byte| **byte == SLASH).count()
     }
+}
+
+fn numbered_key(alloc: Global, letter: u8, n: u64) -> Result<Bytes, Memory>
+    requires { n < 2 ^ 63 }
+    ensures { IfOk result (λ k. k ≡ bytes_of_session letter n) }
+{
+    let front = [b'z', b'k', b'/', letter, b'/'];
+    let digits = digits_of(n);
+    let mut key = Vec::with_capacity(alloc, front.len() + digits.len())?;
+    key.extend_from_slice(&front)?;
+    key.extend_from_slice(&digits)?;
+    Ok(Bytes::from_vec(key))
+}
+
+/// A number as 16 lower-case hex digits.
+fn digits_of(n: u64) -> [u8; 16]
+    requires { n < 2 ^ 63 }
+    ensures { result ≡ hex_digits 15 n [] }
+{
+    let mut digits = [b'0'; 16];
+    let mut rest = n;
+    for i in 0..15 {
+        digits[15 - i] = hex_digit(rest % 16);
+        rest /= 16;
+    }
+    digits[0] = hex_digit(rest);
+    digits
+}
+
+fn hex_digit(n: u64) -> u8
+    requires { n < 16 }
+    ensures { result ≡ digit_of n }
+{
+    let n = n as u8;
+    if n < 10 { b'0' + n } else { b'a' + (n - 10) }
 }

@@ -1,20 +1,23 @@
 //! The laws of the layout. Each function does nothing, and its contract is the law.
 
-ghost use Rattle.std.specs.Prelude.{◌≡◌, ◌+◌, ◌≤◌, ℤ, pos, ◌≤ℤ◌, ◌<ℤ◌, List, ◌∷◌, [], ◌++◌, length, Some, None, true, false};
+ghost use Rattle.std.specs.Prelude.{◌≡◌, ℕ, ◌+◌, ◌^◌, ◌<◌, ◌≤◌, ℤ, pos, ◌≤ℤ◌, ◌<ℤ◌, List, ◌∷◌, [], ◌++◌, length, Some, None, true, false};
 ghost use Rattle.ev_types.specs.declared.ask.Act.{Act};
 ghost use Rattle.ev_types.specs.declared.ask.Ask.TheVariants as ask;
 ghost use Rattle.ev_types.specs.declared.ask.Guard.{Guard};
 ghost use Rattle.ev_types.specs.declared.answer.ActAns.{ActAns};
 ghost use Rattle.ev_types.specs.declared.answer.Answer.TheVariants as answer;
 ghost use Rattle.ev_types.specs.Denials.{most_operations, is_denied, carry};
-ghost use Rattle.ev_types.specs.Ranges.{Keys};
-ghost use Rattle.ev_types.specs.Store.{Store, revision, last_revision, acts_applied};
+ghost use Rattle.ev_types.specs.Ranges.{Keys, found};
+ghost use Rattle.ev_types.specs.Store.{Store, revision, last_revision, acts_applied, worked};
 ghost use Rattle.zk_model.specs.declared.node.Trigger.{Trigger as AnyTrigger};
 ghost use Rattle.zk_model.specs.History.{State};
 ghost use Rattle.zn_layout.specs.declared.record.CountRec.{CountRec};
 ghost use Rattle.zn_layout.specs.declared.record.NodeRec.{NodeRec};
+ghost use Rattle.std.specs.FinMap.{get};
+ghost use Rattle.zx_base.specs.Maps.{Bytes};
+ghost use Rattle.zn_layout.specs.Begin.{Begins};
 ghost use Rattle.zn_layout.specs.Changes.{Change, head_put, update_acts, last, are_distinct, are_free};
-ghost use Rattle.zn_layout.specs.Commits.{are_present_reads, update_txn, IsCommitted};
+ghost use Rattle.zn_layout.specs.Commits.{are_present_reads, key_range, one_found, update_txn, IsCommitted};
 ghost use Rattle.zn_layout.specs.Fits.{Fits, IsNext};
 ghost use Rattle.zn_layout.specs.Keys.{Key, HeadKey, key_bytes};
 ghost use Rattle.zn_layout.specs.Records.{node_value, counts_value, IsNodeRec, IsCountRec, IsHeadRec};
@@ -50,6 +53,12 @@ pub fn stands_after()
     ensures { (z : ℤ) (cs : List Change) (ts : List AnyTrigger) (keys : Keys) (old new : State) → pos 1 ≤ℤ z → z ≤ℤ last_revision → IsHeadRec ts → last cs HeadKey ≡ None → IsNext z ts old new → StandsFor keys old → Fits z cs old new → StandsFor (acts_applied z keys (update_acts cs ts)) new }
 {}
 
+/// The first transaction stands: on a new store it isn't denied, succeeds at revision 2, and leaves keys that stand for the
+/// state after the line of the first update.
+pub fn begin_stands()
+    ensures { (now : ℕ) → now < 2 ^ 62 → Begins now }
+{}
+
 /// An update's transaction that succeeds makes the changes at the store's next revision, and answers the head that it put.
 pub fn update_commits()
     ensures { (old new : Store) (guards : List Guard) (cs : List Change) (ts : List AnyTrigger) (again : List Act) (zxid : ℤ) (parts : List ActAns) → carry old (ask.Txn (update_txn guards cs ts again)) ≡ Some (new, answer.Txn zxid true parts) → IsCommitted old cs ts new zxid parts }
@@ -58,4 +67,15 @@ pub fn update_commits()
 /// An update's transaction isn't denied where each key is written once and without a lease, and the store has room.
 pub fn update_is_allowed()
     ensures { (s : Store) (guards : List Guard) (cs : List Change) (ts : List AnyTrigger) (again : List Act) → length guards ≤ most_operations → length cs + 2 ≤ most_operations → length again ≤ most_operations → are_distinct (cs ++ head_put ts ∷ []) ≡ true → are_free cs ≡ true → are_present_reads again ≡ true → revision s <ℤ last_revision → is_denied s (ask.Txn (update_txn guards cs ts again)) ≡ false }
+{}
+
+/// A transaction without guards that only reads the present isn't denied, and changes nothing.
+pub fn reads_are_allowed()
+    ensures allowed { (s : Store) (acts : List Act) → length acts ≤ most_operations → are_present_reads acts ≡ true → is_denied s (ask.Txn (record { guards = []; success = acts; failure = [] })) ≡ false }
+    ensures unchanged { (s : Store) (acts : List Act) → are_present_reads acts ≡ true → (worked s acts).changes ≡ [] }
+{}
+
+/// A range of one key finds what is there.
+pub fn one_key_is_found()
+    ensures { (key : Bytes) (keys : Keys) → found (key_range key) keys ≡ one_found (get keys key) }
 {}

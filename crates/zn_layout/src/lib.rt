@@ -19,11 +19,12 @@ mod writer;
 pub use act::{delete_counts, delete_node, get_head, get_key, put_counts, put_head, put_node};
 pub use begin::begin_ask;
 pub use fault::RecordFault;
-pub use key::{counts_key, data_key, head_key};
+pub use key::{counts_key, data_key, head_key, lease_key, session_key};
 pub use laws::{
-    counts_value_is_injective, fits_append, fits_same, key_bytes_is_injective,
-    node_value_is_injective, stands_after, update_commits, update_is_allowed,
+    begin_stands, counts_value_is_injective, fits_append, fits_same, key_bytes_is_injective,
+    node_value_is_injective, one_key_is_found, reads_are_allowed, stands_after, update_commits,
+    update_is_allowed,
 };
-pub use read::{read_counts, read_node};
+pub use read::{read_counts, read_lease, read_node};
 pub use record::{CountRec, HeadRec, LeaseRec, NodeRec, SessionRec};
-pub use write::{write_counts, write_head, write_node};
+pub use write::{write_counts, write_head, write_lease, write_node, write_session};

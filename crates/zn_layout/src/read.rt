@@ -5,11 +5,11 @@ ghost use Rattle.std.specs.Int.{w32, w64};
 ghost use Rattle.std.specs.Int.RustNames.{FitsSigned};
 ghost use Rattle.zk_model.specs.JuteWriting.{int_bytes, long_bytes};
 ghost use Rattle.zx_base.specs.Maps.{Bytes as ListOfBytes};
-ghost use Rattle.zn_layout.specs.Records.{node_value, counts_value, IsLongCount, IsNodeRec, IsCountRec};
-ghost use Rattle.zn_layout.specs.Reading.{IsValueOf, IsFault, IsReadAs, HasNumbers, HasCounts};
+ghost use Rattle.zn_layout.specs.Records.{node_value, counts_value, lease_value, IsLongCount, IsNodeRec, IsCountRec, IsLeaseRec};
+ghost use Rattle.zn_layout.specs.Reading.{IsValueOf, IsFault, IsReadAs, HasNumbers, HasCounts, HasLife};
 
 use crate::fault::{RecordFault, damaged};
-use crate::record::{CountRec, NodeRec};
+use crate::record::{CountRec, LeaseRec, NodeRec};
 use crate::writer::RECORD;
 use byteorder::{BigEndian, ByteOrder};
 use std::alloc::Global;
@@ -23,6 +23,14 @@ const MOST_CREATES: i32 = 1_073_741_823;
 
 /// How many bytes of a node's record stand between the first and the data.
 const NODE_NUMBERS: usize = 36;
+
+/// The range of a session's timeout, in milliseconds.
+const LEAST_TIMEOUT: i32 = 4_000;
+
+const MOST_TIMEOUT: i32 = 40_000;
+
+/// How many bytes a session's life has behind the first.
+const LEASE_NUMBERS: usize = 28;
 
 /// How many bytes a record of counts has behind the first.
 const COUNTS_NUMBERS: usize = 8;
@@ -43,6 +51,16 @@ pub fn read_counts(alloc: Global, key: &[u8], value: &[u8]) -> Result<CountRec, 
 {
     match counts_in(value) {
         Some(counts) => Ok(counts),
+        None => Err(damaged(alloc, key, value)),
+    }
+}
+
+/// The record of a session's life of which this is the value under this key.
+pub fn read_lease(alloc: Global, key: &[u8], value: &[u8]) -> Result<LeaseRec, RecordFault>
+    ensures { MatchResult result (IsValueOf lease_value IsLeaseRec value.now) (IsFault lease_value IsLeaseRec key.now value.now) }
+{
+    match lease_in(value) {
+        Some(lease) => Ok(lease),
         None => Err(damaged(alloc, key, value)),
     }
 }
@@ -142,6 +160,45 @@ fn bounded_counts(counts: CountRec) -> Option<CountRec>
         return None;
     }
     Some(counts)
+}
+
+fn lease_in(value: &[u8]) -> Option<LeaseRec>
+    ensures { IsReadAs lease_value IsLeaseRec value.now result }
+{
+    let Some(numbers) = behind_first(value) else {
+        return None;
+    };
+    if numbers.len() != LEASE_NUMBERS {
+        return None;
+    }
+    bounded_lease(lease_of(numbers))
+}
+
+/// The record of these numbers and the password behind them.
+fn lease_of(numbers: &[u8]) -> LeaseRec
+    requires { length numbers.now ≡ LEASE_NUMBERS }
+    ensures value { 1 ∷ numbers.now ≡ lease_value result }
+    ensures fits { HasLife result }
+{
+    let (timeout, rest) = split_int(numbers);
+    let (attaches, rest) = split_long(rest);
+    let mut passwd = [0; 16];
+    passwd.copy_from_slice(rest);
+    LeaseRec {
+        timeout,
+        attaches,
+        passwd,
+    }
+}
+
+/// The record, if it keeps its bounds.
+fn bounded_lease(lease: LeaseRec) -> Option<LeaseRec>
+    ensures { MatchOption result (IsLeaseRec lease → ⊥) (λ r. (r ≡ lease) × IsLeaseRec r) }
+{
+    if lease.timeout < LEAST_TIMEOUT || lease.timeout > MOST_TIMEOUT || lease.attaches < 1 {
+        return None;
+    }
+    Some(lease)
 }
 
 /// Four bytes as a number, and what stands behind them.

@@ -3,12 +3,12 @@
 ghost use Rattle.std.specs.Prelude.{◌≡◌, ◌∷◌, ◌++◌, IfOk, OnOk, IsTrue};
 ghost use Rattle.zk_model.specs.JuteWriting.{string_bytes};
 ghost use Rattle.zk_model.specs.Paths.{is_path};
-ghost use Rattle.zn_layout.specs.Records.{node_value, counts_value, head_value, trigger_bytes, trigger_path, IsNodeRec, IsCountRec, IsHeadRec};
+ghost use Rattle.zn_layout.specs.Records.{node_value, counts_value, session_value, lease_value, head_value, trigger_bytes, trigger_path, IsNodeRec, IsCountRec, IsSessionRec, IsLeaseRec, IsHeadRec};
 
-use crate::record::{CountRec, HeadRec, NodeRec};
+use crate::record::{CountRec, HeadRec, LeaseRec, NodeRec, SessionRec};
 use crate::writer::Writer;
 use std::alloc::Global;
-use zk_model::Trigger;
+use zk_model::{Path, Trigger};
 use zx_base::Memory;
 
 /// How many bytes stand before a node's data.
@@ -17,8 +17,11 @@ const NODE_HEAD: usize = 37;
 /// How many bytes a record of counts has.
 const COUNTS_LENGTH: usize = 9;
 
-/// How many bytes stand before the head's triggers.
-const HEAD_START: usize = 5;
+/// How many bytes a session's life has.
+const LEASE_LENGTH: usize = 29;
+
+/// How many bytes stand before the items of a record that is a list.
+const LIST_HEAD: usize = 5;
 
 /// The value of a node's record, which keeps its bounds.
 #[tactic(auto, unfolding(crate::specs::Records::node_value))]
@@ -48,13 +51,40 @@ pub fn write_counts(alloc: Global, counts: &CountRec) -> Result<Vec<u8>, Memory>
     Ok(value.into_vec())
 }
 
+/// The value of a session's nodes, which keep their bounds.
+#[tactic(auto, unfolding(crate::specs::Records::session_value))]
+pub fn write_session(alloc: Global, session: &SessionRec) -> Result<Vec<u8>, Memory>
+    requires { IsSessionRec session.now.paths }
+    ensures { IfOk result (λ v. v.items ≡ session_value session.now.paths) }
+{
+    let mut value = Writer::new(alloc, LIST_HEAD)?;
+    value.count(session.paths.len())?;
+    for path in session.paths.as_slice() {
+        write_path(&mut value, path)?;
+    }
+    Ok(value.into_vec())
+}
+
+/// The value of a session's life, which keeps its bounds.
+#[tactic(auto, unfolding(crate::specs::Records::lease_value))]
+pub fn write_lease(alloc: Global, lease: &LeaseRec) -> Result<Vec<u8>, Memory>
+    requires { IsLeaseRec lease.now }
+    ensures { IfOk result (λ v. v.items ≡ lease_value lease.now) }
+{
+    let mut value = Writer::new(alloc, LEASE_LENGTH)?;
+    value.int(lease.timeout)?;
+    value.long(lease.attaches)?;
+    value.bytes(&lease.passwd)?;
+    Ok(value.into_vec())
+}
+
 /// The value of the head, which keeps its bounds.
 #[tactic(auto, unfolding(crate::specs::Records::head_value))]
 pub fn write_head(alloc: Global, head: &HeadRec) -> Result<Vec<u8>, Memory>
     requires { IsHeadRec head.now.triggers }
     ensures { IfOk result (λ v. v.items ≡ head_value head.now.triggers) }
 {
-    let mut value = Writer::new(alloc, HEAD_START)?;
+    let mut value = Writer::new(alloc, LIST_HEAD)?;
     value.count(head.triggers.len())?;
     for trigger in head.triggers.as_slice() {
         write_trigger(&mut value, trigger)?;
@@ -81,4 +111,11 @@ fn write_kind(value: &mut Writer, kind: u8, path: &[u8]) -> Result<(), Memory>
 {
     value.byte(kind)?;
     value.string(path)
+}
+
+fn write_path(value: &mut Writer, path: &Path) -> Result<(), Memory>
+    requires { IsTrue (is_path path.now) }
+    ensures { OnOk result (value.new ≡ value.old ++ string_bytes path.now) }
+{
+    value.string(path.bytes())
 }

@@ -1,0 +1,76 @@
+-- What a cutter does with the pieces of a stream.
+use Rattle.std.specs.Prelude.{◌≡◌, ℕ, ◌+◌, ◌-◌, ◌^◌, min, ◌⊎◌, ℤ, Option, Some, None, List, [], ◌∷◌, ◌++◌, length, Result, Ok, Err}
+use Rattle.std.specs.List.{flat_map}
+use Rattle.std.specs.Global.{Vec}
+use Rattle.zk_model.specs.Frames.{Framed, bad_length}
+use Rattle.zk_wire.specs.declared.cutter.CutFault.{CutFault}
+use Rattle.zk_wire.specs.declared.cutter.CutFault.TheVariants.{BadLength, Memory}
+
+-- what of a stream was not handed out, and how many bytes stand before it
+pub record Stream : Type 0 where
+  pub place : ℕ
+  pub rest : List ℕ
+
+abbrev pub unread : Stream
+unread = record { place = 0; rest = [] }
+
+-- all whole frames are handed out, and there is one, or no length out of range stands at the front. A place at its type's
+-- end stays there.
+pub record Hands (old : Stream) (piece : List ℕ) (frames : List (List ℕ)) (new : Stream) : Type 0 where
+  pub framed : Framed (old.rest ++ piece) frames new.rest
+  pub place : new.place ≡ min (old.place + (length (old.rest ++ piece) - length new.rest)) (2 ^ 64 - 1)
+  pub bad : frames ≡ [] → bad_length new.rest ≡ None
+
+-- a length out of range stands at the front, and stays there
+pub record Refuses (old : Stream) (piece : List ℕ) (place : ℕ) (n : ℤ) (new : Stream) : Type 0 where
+  pub bad : bad_length (old.rest ++ piece) ≡ Some n
+  pub at : place ≡ old.place
+  pub stays : bad_length new.rest ≡ Some n
+  pub stands : new.place ≡ old.place
+
+-- what a call does with a piece: without memory, nothing
+abbrev pub Takes : Stream → List ℕ → Result (Vec (List ℕ)) CutFault → Stream → Type 0
+Takes old piece (Ok frames) new = Hands old piece frames.items new
+Takes old piece (Err (BadLength place n)) new = Refuses old piece place n new
+Takes old piece (Err Memory) new = new ≡ old
+
+-- ---- many calls
+
+pub record Call : Type 0 where
+  pub piece : List ℕ
+  pub result : Result (Vec (List ℕ)) CutFault
+
+-- calls one after the other
+abbrev pub Calls : Stream → List Call → Stream → Type 0
+Calls old [] new = old ≡ new
+Calls old (call ∷ calls) new = (next : Stream) × Takes old call.piece call.result next × Calls next calls new
+
+abbrev pub taken_by : List ℕ → Result (Vec (List ℕ)) CutFault → List ℕ
+taken_by piece (Ok frames) = piece
+taken_by piece (Err (BadLength place n)) = piece
+taken_by piece (Err Memory) = []
+
+-- the bytes that a call took: its piece, unless memory was refused
+abbrev pub taken : Call → List ℕ
+taken call = taken_by call.piece call.result
+
+abbrev pub handed_by : Result (Vec (List ℕ)) CutFault → List (List ℕ)
+handed_by (Ok frames) = frames.items
+handed_by (Err e) = []
+
+-- the frames that a call handed out
+abbrev pub handed : Call → List (List ℕ)
+handed call = handed_by call.result
+
+abbrev pub all_taken : List Call → List ℕ
+all_taken calls = flat_map taken calls
+
+abbrev pub all_handed : List Call → List (List ℕ)
+all_handed calls = flat_map handed calls
+
+-- where a cutter stands after a stream of which these frames were handed out: it holds what is left, or that begins with a
+-- length out of range and so does what it holds
+pub record Stands (stream : List ℕ) (frames : List (List ℕ)) (state : Stream) : Type 0 where
+  pub rest : List ℕ
+  pub framed : Framed stream frames rest
+  pub held : (rest ≡ state.rest) ⊎ ((n : ℤ) × (bad_length rest ≡ Some n) × (bad_length state.rest ≡ Some n))

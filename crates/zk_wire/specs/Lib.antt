@@ -1,0 +1,4 @@
+pub mod Cutting
+pub mod Giving
+pub mod Outcomes
+pub mod Putting

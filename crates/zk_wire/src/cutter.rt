@@ -1,0 +1,129 @@
+//! Cutting a stream into frames.
+
+ghost use Rattle.std.specs.Prelude.{◌≡◌, ℕ, ◌≢◌, ℤ, MatchOption, Some, List, [], ◌++◌, IfOk, Ok, Err, IsErr, Result};
+ghost use Rattle.std.specs.Global.{Vec as AVec};
+ghost use Rattle.zk_model.specs.Frames.{Framed, bad_length as bad_length_of, frame_at};
+ghost use Rattle.zk_wire.specs.Cutting.{Stream, unread, Takes, Call, Calls, taken, handed, all_taken, all_handed, Stands};
+ghost use Rattle.zk_wire.specs.declared.cutter.CutFault.{CutFault as ACutFault};
+ghost use Rattle.zk_wire.specs.declared.cutter.CutFault.TheVariants as faults;
+
+use crate::reader::first_int;
+use std::alloc::{AllocError, Global};
+use std::marker::Model;
+use zx_base::Bytes;
+
+/// The most bytes of a frame (`jute.maxbuffer`).
+pub const MOST_FRAME: usize = 1_048_575;
+
+/// Why a stream cannot be cut on.
+#[derive(Clone, Copy, Debug, PartialEq, Eq)]
+pub enum CutFault {
+    /// The length that stands after `place` bytes of the stream is below 0 or above [`MOST_FRAME`].
+    BadLength { place: u64, length: i32 },
+    Memory,
+}
+
+/// A stream that comes in pieces. Contracts see what of it was not handed out yet, and how many bytes stand before that.
+#[derive(Debug, Drop)]
+pub struct Cutter {
+    alloc: Global,
+    /// How many bytes stand before `rest` in the stream; at 2^64 - 1 it stays.
+    place: u64,
+    rest: Vec<u8>,
+}
+
+impl Model for Cutter {
+    ghost Value = { Stream };
+
+    ghost view = { λ c. record { place = c.place; rest = c.rest.items } };
+}
+
+impl Cutter {
+    /// A stream of which nothing came yet. Takes no memory.
+    pub fn new(alloc: Global) -> Cutter
+        ensures { result ≡ unread }
+    {
+        Cutter {
+            alloc,
+            place: 0,
+            rest: Vec::new(alloc),
+        }
+    }
+
+    /// The frames that are whole with this piece of the stream, and were not handed out before. A length out of range
+    /// stands behind the frames before it: it is answered by a call that has no frame to hand out, and from then on by
+    /// each call. Without memory the piece is not taken. Copies the piece once, each frame once, and what is left over.
+    pub fn take(&mut self, piece: &[u8]) -> Result<Vec<Bytes>, CutFault>
+        ensures takes { Takes self.old piece.now result self.new }
+        ensures for_good { (n : ℤ) → bad_length_of self.old.rest ≡ Some n → result ≡ Err (faults.BadLength self.old.place n) }
+    {
+        let place = self.place;
+        if let Some(length) = bad_length(&self.rest) {
+            return Err(CutFault::BadLength { place, length });
+        }
+        let held = self.rest.len();
+        if self.rest.extend_from_slice(piece).is_err() {
+            return Err(CutFault::Memory);
+        }
+        let Ok((frames, rest)) = cut(self.alloc, &self.rest) else {
+            self.rest.truncate(held);
+            return Err(CutFault::Memory);
+        };
+        if frames.is_empty() {
+            if let Some(length) = bad_length(&self.rest) {
+                return Err(CutFault::BadLength { place, length });
+            }
+            return Ok(frames);
+        }
+        let used = self.rest.len() - rest.len();
+        let Ok(rest) = Vec::from_slice(self.alloc, rest) else {
+            self.rest.truncate(held);
+            return Err(CutFault::Memory);
+        };
+        self.rest = rest;
+        self.place = place.saturating_add(used as u64);
+        Ok(frames)
+    }
+}
+
+/// The length at the front, where it is out of range.
+fn bad_length(bytes: &[u8]) -> Option<i32>
+    ensures { result ≡ bad_length_of bytes.now }
+{
+    if bytes.len() < 4 {
+        return None;
+    }
+    match first_int(bytes) {
+        0..=1_048_575 => None,
+        length => Some(length),
+    }
+}
+
+/// The frame at the front, and the bytes after it.
+fn split_frame(bytes: &[u8]) -> Option<(&[u8], &[u8])>
+    ensures { MatchOption result (IsErr (frame_at bytes.now)) (λ x. frame_at bytes.now ≡ Ok (x.0.now, x.1.now)) }
+{
+    if bytes.len() < 4 {
+        return None;
+    }
+    let length = first_int(bytes);
+    let rest = &bytes[4..];
+    match usize::try_from(length) {
+        Ok(length) if length <= MOST_FRAME && length <= rest.len() => Some(rest.split_at(length)),
+        _ => None,
+    }
+}
+
+/// The whole frames from the front, and the rest.
+fn cut(alloc: Global, bytes: &[u8]) -> Result<(Vec<Bytes>, &[u8]), AllocError>
+    ensures { IfOk result (λ x. Framed bytes.now x.0.items x.1.now) }
+{
+    let mut frames = Vec::new(alloc);
+    let mut rest = bytes;
+    while let Some((frame, after)) = split_frame(rest) {
+        let frame = Bytes::from_vec(Vec::from_slice(alloc, frame)?);
+        frames.push(frame)?;
+        rest = after;
+    }
+    Ok((frames, rest))
+}

@@ -1,0 +1,42 @@
+//! Why a frame cannot be read.
+
+ghost use Rattle.std.specs.Prelude.{◌≡◌};
+ghost use Rattle.zk_wire.specs.declared.fault.Fault.TheVariants.{Memory as NoMemory};
+
+use std::alloc::{AllocError, AllocFailed};
+
+/// Why a frame is read as no record. Places are offsets in the frame, without its length.
+#[derive(Clone, Copy, Debug, PartialEq, Eq)]
+pub enum WireFault {
+    /// The frame is too short for its header, of 8 bytes in a request and 16 in a reply; or it is no connect.
+    NoHeader,
+    /// The body cannot be read. The first byte that is to blame stands at `place`.
+    Unreadable { xid: i32, place: u64 },
+    /// No kind of request has the type `kind`.
+    Unknown { xid: i32, kind: i32 },
+    Memory,
+}
+
+/// Why a value cannot be read.
+#[derive(Debug, Drop)]
+pub enum Fault {
+    Memory,
+    /// So many bytes are left from the first byte on that is to blame.
+    Unreadable(usize),
+}
+
+impl From<AllocError> for Fault {
+    ghost from_gives = { λ _ e. e ≡ NoMemory };
+
+    fn from(_refused: AllocError) -> Fault {
+        Fault::Memory
+    }
+}
+
+impl<T: Drop> From<AllocFailed<T>> for Fault {
+    ghost from_gives = { λ _ e. e ≡ NoMemory };
+
+    fn from(_refused: AllocFailed<T>) -> Fault {
+        Fault::Memory
+    }
+}

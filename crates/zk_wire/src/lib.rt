@@ -1,0 +1,40 @@
+//! ZooKeeper's wire protocol, both ways (zookeeper.jute, release 3.4): a stream as frames, frames as records, records as
+//! packets.
+//!
+//! A packet is a length of four bytes and a frame of that many bytes. [`Cutter`] takes a stream in whatever pieces it
+//! comes and hands out its frames. The first frame of a connection is read by [`read_connect`], each later one by
+//! [`read_request`]; the answers are written by [`write_connect`], [`write_reply`] and [`write_notice`]. Tools and tests
+//! read and write the other side too, by [`write_request`] and [`read_reply`].
+//!
+//! # Faults
+//!
+//! A frame that cannot be read is a [`WireFault`], with the place of the first byte that is to blame: an offset in the
+//! frame, without its length. The places are those of `read_request` and `read_reply` in zk_model's `specs/`:
+//!
+//! - the first byte of the first value that cannot be read, which for a text or a buffer is its length's first byte;
+//! - where a vector has fewer items than its count, the first value that is missing;
+//! - the first byte after the body, where bytes stand there;
+//! - a header of a multi, where its type is not listed;
+//! - in a reply, the count of an access list that is not the open one, and a result's header that is of no form.
+//!
+//! # Cost
+//!
+//! Every call takes time in proportion to its bytes. A frame is copied once when it is cut. Reading copies each text and
+//! each buffer once and allocates once for each of them and for each vector; only the parts and results of a multi are
+//! grown one by one. Writing reserves the packet's length once and copies each field once.
+#![tactic(auto)]
+
+mod cutter;
+mod fault;
+mod packets;
+mod reader;
+mod reply_fields;
+mod request_fields;
+mod requests;
+mod sink;
+mod writer;
+
+pub use cutter::{CutFault, Cutter};
+pub use fault::WireFault;
+pub use packets::{write_connect, write_notice, write_reply, write_request};
+pub use requests::read_request;

@@ -1,0 +1,172 @@
+//! The fields of a request, in order.
+
+ghost use Rattle.std.specs.Prelude.{◌≡◌, OnOk};
+ghost use Rattle.std.specs.List.{AllByRecursion};
+ghost use Rattle.zk_model.specs.Numbers.{opcode_of, part_kind as kind_of_part};
+ghost use Rattle.zk_model.specs.Records.{part_values};
+ghost use Rattle.zk_model.specs.Sending.{header_values, whole_part, multi_values, asked_values, request_values};
+ghost use Rattle.zk_wire.specs.Putting.{put_all};
+
+use crate::sink::FieldSink;
+use zk_model::{Opcode, Part, PartKind, Request};
+use zx_base::Memory;
+
+/// Puts a request's header and its body.
+pub fn put_request<S: FieldSink>(sink: &mut S, xid: i32, request: &Request) -> Result<(), Memory>
+    requires { AllByRecursion S.can_put (request_values xid request.now) }
+    ensures { OnOk result (sink.new ≡ put_all S.put sink.old (request_values xid request.now)) }
+{
+    sink.int(xid)?;
+    sink.int(opcode(request).number())?;
+    put_body(sink, request)
+}
+
+fn put_body<S: FieldSink>(sink: &mut S, request: &Request) -> Result<(), Memory>
+    requires { AllByRecursion S.can_put (asked_values request.now) }
+    ensures { OnOk result (sink.new ≡ put_all S.put sink.old (asked_values request.now)) }
+{
+    match request {
+        Request::Create {
+            path,
+            content,
+            acl,
+            flags,
+        } => {
+            sink.ustring(path.as_slice())?;
+            sink.buffer(content.as_slice())?;
+            sink.acls(acl.as_slice())?;
+            sink.int(*flags)
+        }
+        Request::Delete { path, version } | Request::Check { path, version } => {
+            sink.ustring(path.as_slice())?;
+            sink.int(*version)
+        }
+        Request::Exists { path, watch }
+        | Request::GetData { path, watch }
+        | Request::GetChildren { path, watch }
+        | Request::GetChildren2 { path, watch } => {
+            sink.ustring(path.as_slice())?;
+            sink.boolean(*watch)
+        }
+        Request::SetData {
+            path,
+            content,
+            version,
+        } => {
+            sink.ustring(path.as_slice())?;
+            sink.buffer(content.as_slice())?;
+            sink.int(*version)
+        }
+        Request::GetAcl { path } | Request::Sync { path } => sink.ustring(path.as_slice()),
+        Request::Multi { parts } => put_parts(sink, parts.as_slice()),
+        Request::Auth { kind, scheme, auth } => {
+            sink.int(*kind)?;
+            sink.ustring(scheme.as_slice())?;
+            sink.buffer(auth.as_slice())
+        }
+        Request::SetWatches {
+            relative,
+            exists,
+            datas,
+            children,
+        } => {
+            sink.long(*relative)?;
+            sink.ustrings(datas.as_slice())?;
+            sink.ustrings(exists.as_slice())?;
+            sink.ustrings(children.as_slice())
+        }
+        Request::Ping | Request::Close => Ok(()),
+    }
+}
+
+fn put_parts<S: FieldSink>(sink: &mut S, parts: &[Part]) -> Result<(), Memory>
+    requires { AllByRecursion S.can_put (multi_values parts.now) }
+    ensures { OnOk result (sink.new ≡ put_all S.put sink.old (multi_values parts.now)) }
+{
+    for part in parts {
+        put_part(sink, part)?;
+    }
+    put_header(sink, -1, true)
+}
+
+fn put_part<S: FieldSink>(sink: &mut S, part: &Part) -> Result<(), Memory>
+    requires { AllByRecursion S.can_put (whole_part part.now) }
+    ensures { OnOk result (sink.new ≡ put_all S.put sink.old (whole_part part.now)) }
+{
+    put_header(sink, part_kind(part).number(), false)?;
+    put_part_fields(sink, part)
+}
+
+/// Puts a header of a multi. Its error is -1.
+fn put_header<S: FieldSink>(sink: &mut S, kind: i32, last: bool) -> Result<(), Memory>
+    ensures { OnOk result (sink.new ≡ put_all S.put sink.old (header_values kind last)) }
+{
+    sink.int(kind)?;
+    sink.boolean(last)?;
+    sink.int(-1)
+}
+
+fn put_part_fields<S: FieldSink>(sink: &mut S, part: &Part) -> Result<(), Memory>
+    requires { AllByRecursion S.can_put (part_values part.now) }
+    ensures { OnOk result (sink.new ≡ put_all S.put sink.old (part_values part.now)) }
+{
+    match part {
+        Part::Create {
+            path,
+            content,
+            acl,
+            flags,
+        } => {
+            sink.ustring(path.as_slice())?;
+            sink.buffer(content.as_slice())?;
+            sink.acls(acl.as_slice())?;
+            sink.int(*flags)
+        }
+        Part::Delete { path, version } | Part::Check { path, version } => {
+            sink.ustring(path.as_slice())?;
+            sink.int(*version)
+        }
+        Part::SetData {
+            path,
+            content,
+            version,
+        } => {
+            sink.ustring(path.as_slice())?;
+            sink.buffer(content.as_slice())?;
+            sink.int(*version)
+        }
+    }
+}
+
+fn opcode(request: &Request) -> Opcode
+    ensures { result ≡ opcode_of request.now }
+{
+    match request {
+        Request::Create { .. } => Opcode::Create,
+        Request::Delete { .. } => Opcode::Delete,
+        Request::Exists { .. } => Opcode::Exists,
+        Request::GetData { .. } => Opcode::GetData,
+        Request::SetData { .. } => Opcode::SetData,
+        Request::GetAcl { .. } => Opcode::GetAcl,
+        Request::GetChildren { .. } => Opcode::GetChildren,
+        Request::GetChildren2 { .. } => Opcode::GetChildren2,
+        Request::Sync { .. } => Opcode::Sync,
+        Request::Ping => Opcode::Ping,
+        Request::Check { .. } => Opcode::Check,
+        Request::Multi { .. } => Opcode::Multi,
+        Request::Auth { .. } => Opcode::Auth,
+        Request::SetWatches { .. } => Opcode::SetWatches,
+        Request::Close => Opcode::Close,
+    }
+}
+
+fn part_kind(part: &Part) -> PartKind
+    ensures { result ≡ kind_of_part part.now }
+{
+    match part {
+        Part::Create { .. } => PartKind::Create,
+        Part::Delete { .. } => PartKind::Delete,
+        Part::SetData { .. } => PartKind::SetData,
+        Part::Check { .. } => PartKind::Check,
+    }
+}

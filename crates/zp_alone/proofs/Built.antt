@@ -1,0 +1,56 @@
+-- What is true of the requests that are built.
+use Rattle.std.proofs.Common.{◌≡◌, ℕ, ◌≤◌, ℤ, Bool, true, false, refl, List, length, All, arith}
+use Rattle.std.specs.Prelude.{Option, Some, None, if◌then◌else◌, not}
+use Rattle.zk_model.specs.declared.reply.Reply.{Reply}
+use Rattle.zk_model.specs.declared.reply.Reply.TheVariants as reply
+use Rattle.zk_model.specs.declared.request.Request.{Request}
+use Rattle.zk_model.specs.declared.request.Request.TheVariants as req
+use Rattle.zk_model.specs.Codes.{bad_arguments, invalid_acl}
+use Rattle.zk_model.specs.Paths.{is_path, is_sequence_prefix}
+use Rattle.zk_model.specs.Single.{form_refusal, path_refusal, or_else, is_sequential, is_create_mode, is_open_acl}
+use Rattle.zk_model.specs.Answers.{plain_request, refused_reply, path_reply}
+use Rattle.zk_model.specs.Legal.{is_within_parts}
+use Rattle.zk_model.specs.Conversations.{is_auth_refusal}
+use Rattle.zk_model.specs.Runs.{is_built, is_built_request}
+use Rattle.zk_model.specs.Records.{contents_of}
+use Rattle.zk_model.specs.Requests.{Asks, read_request}
+use Rattle.zk_model.specs.Frames.{most_frame}
+use Rattle.zk_model.specs.History.{when}
+use Rattle.zp_alone.specs.World.{IsReadBuilt}
+
+-- ---- none of them ends its connection
+
+form_code : (a b d : Bool) (answer : Reply)
+    → refused_reply (or_else (path_refusal a) (if b then Some bad_arguments else if d then Some invalid_acl else None)) ≡ Some answer → is_auth_refusal answer ≡ false
+form_code false b d answer h = let same : reply.Refused bad_arguments ≡ answer = cc in rw (← same) refl
+form_code true true d answer h = let same : reply.Refused bad_arguments ≡ answer = cc in rw (← same) refl
+form_code true false true answer h = let same : reply.Refused invalid_acl ≡ answer = cc in rw (← same) refl
+form_code true false false answer h = absurd (cc)
+
+path_code : (b : Bool) (answer : Reply) → (if b then None else Some (reply.Refused bad_arguments)) ≡ Some answer → is_auth_refusal answer ≡ false
+path_code true answer h = absurd (cc)
+path_code false answer h = let same : reply.Refused bad_arguments ≡ answer = cc in rw (← same) refl
+
+pub built-goes_on : (r : Request) (answer : Reply) → is_built_request r ≡ true → plain_request r ≡ Some answer → is_auth_refusal answer ≡ false
+unfolding plain_request form_refusal
+built-goes_on (req.Create p d a f) answer built h = form_code (if is_sequential f then is_sequence_prefix p else is_path p) (not (is_create_mode f)) (not (is_open_acl a)) answer h
+built-goes_on (req.GetData p w) answer built h = path_code (is_path p) answer h
+built-goes_on _ answer built h = absurd (cc)
+
+-- ---- none of them is a multi
+
+pub built-parts : (r : Request) → is_built_request r ≡ true → is_within_parts (Some r) ≡ true
+built-parts (req.Multi parts) built = absurd (cc)
+built-parts _ built = refl
+
+-- ---- reading them
+
+kept_if : (frame : List ℕ) (xid : ℤ) (r : Request) (b : Bool) → read_request frame ≡ Asks xid r → length frame ≤ most_frame
+    → All (λ content. length content ≤ length frame) (contents_of r) → is_built_request r ≡ b → IsReadBuilt frame (when b (xid, r))
+unfolding is_built
+kept_if frame xid r true read small contents b = (read, record { built = b; short = λ k d less. omega (arith, contents k d less) })
+kept_if frame xid r false read small contents b = rw (read, b) refl
+
+pub built_read : (frame : List ℕ) (xid : ℤ) (r : Request) → read_request frame ≡ Asks xid r → length frame ≤ most_frame
+    → All (λ content. length content ≤ length frame) (contents_of r) → IsReadBuilt frame (when (is_built_request r) (xid, r))
+built_read frame xid r read small contents = kept_if frame xid r (is_built_request r) read small contents refl

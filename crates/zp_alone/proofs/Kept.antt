@@ -1,0 +1,188 @@
+-- What is kept of a world, from effect to effect.
+use Rattle.std.proofs.Common.{◌≡◌, ℕ, ◌+◌, ◌≤◌, ◌<◌, List, [], ◌∷◌, ◌++◌, length, refl, sym, ap, ◌∙◌, subst, arith, append_assoc, append-nil, Bool, true, false, ℤ, pos, ◌<ℤ◌}
+use Rattle.std.specs.Prelude.{Option, Some, None, ◌==◌}
+use Rattle.std.specs.List.{All}
+use Rattle.std.proofs.lemmas.List.Elements.{All-nil, All-cons, All-append}
+use Rattle.ev_types.specs.Store.{Store, present, revision}
+use Rattle.zk_model.specs.declared.reply.Reply.{Reply}
+use Rattle.zk_model.specs.declared.reply.Reply.TheVariants as reply
+use Rattle.zk_model.specs.declared.request.Request.{Request}
+use Rattle.zk_model.specs.declared.transcript.TranscriptLine.{TranscriptLine}
+use Rattle.zk_model.specs.declared.transcript.TranscriptLine.TheVariants.{Update, Open, Frame as FrameLine, Send}
+use Rattle.zk_model.specs.declared.transcript.UpdateKind.TheVariants.{Asked}
+use Rattle.zk_model.specs.Frames.{most_frame}
+use Rattle.zk_model.specs.Requests.{Asks, read_request}
+use Rattle.zk_model.specs.Packets.{reply_packet}
+use Rattle.zk_model.specs.Watches.{no_watches}
+use Rattle.zk_model.specs.History.{State, IsSound, Commit, commit, committed, after, asked_commit}
+use Rattle.zk_model.specs.Answers.{plain_request, tree_reply}
+use Rattle.zk_model.specs.Single.{most_owned}
+use Rattle.zk_model.specs.Runs.{IsAnswerLine, frames_of, is_built_request, begin_line}
+use Rattle.zk_model.proofs.Quiet.{IsQuiet, open_quiet, frame_quiet, send_quiet, after-quiet, is_legal-quiet, is_ordered-quiet}
+use Rattle.zk_model.proofs.Counts.{frames_of-append}
+use Rattle.zn_layout.specs.StandsFor.{StandsFor}
+use Rattle.zn_ops.specs.declared.answering.Answered.{Answered}
+use Rattle.zn_ops.specs.declared.answering.Answered.TheVariants.{Repeats, Looked, Updated}
+use Rattle.zn_ops.specs.Answering.{Answers, IsLooked, IsUpdated}
+use Rattle.zp_alone.specs.declared.waiting.Waiting.{Waiting}
+use Rattle.zp_alone.specs.World.{World, IsLinked}
+use Rattle.zp_alone.specs.Talking.{Talks, AreQueued, IsQueued, StandsAt}
+use Rattle.zp_alone.specs.Reached.{IsKeptIn, IsNew, IsTalking, KeepsTo, IsKept}
+use Rattle.zp_alone.specs.Effects.{asked_line, opened, framed, ticked, answered, answer_lines, zxid_of, asked_next, AnswersOne, AnswersSome}
+use Rattle.zp_alone.proofs.Linked.{linked-push, linked-open}
+use Rattle.zp_alone.proofs.Talked.{talks-open, talks-frame, talks-plain, talks-looked, talks-updated}
+use Rattle.zp_alone.proofs.Walked.{one_frame}
+use Rattle.zp_alone.proofs.Updated.{asked_commit-of, kept-asked}
+
+-- a line that changes nothing
+kept_in-quiet : (store : Store) (lines : List TranscriptLine) (l : TranscriptLine) → IsQuiet l → IsKeptIn store lines → IsKeptIn store (lines ++ l ∷ [])
+kept_in-quiet store lines l q k =
+    let same : after (lines ++ l ∷ []) ≡ after lines = after-quiet lines l q in
+    record {
+      stands = subst (StandsFor (present store)) (sym same) k.stands;
+      sound = subst IsSound (sym same) k.sound;
+      revision = k.revision ∙ ap (λ (s : State). s.zxid) (sym same);
+      legal = is_legal-quiet lines l q k.legal;
+      ordered = is_ordered-quiet lines l q k.ordered;
+    }
+
+talking : (c : ℕ) (w : World) → w.connection ≡ Some c → KeepsTo w.connection w → IsTalking c w
+talking c w linked keeps = subst (λ (o : Option ℕ). KeepsTo o w) linked keeps
+
+new : (w : World) → w.connection ≡ None → KeepsTo w.connection w → IsNew w
+new w linked keeps = subst (λ (o : Option ℕ). KeepsTo o w) linked keeps
+
+-- ---- the connection opens
+
+pub kept-open : (w : World) (c p : ℕ) (id : ℤ) (pw : List ℕ) → w.connection ≡ None → IsKept w → IsKept (opened w c p id pw)
+kept-open w c p id pw linked k =
+    let n = new w linked k.keeps in
+    record {
+      kept = kept_in-quiet w.store w.lines (Open c p id pw) (open_quiet c p id pw) k.kept;
+      linked = linked-open w.lines c p id pw (subst (λ (o : Option ℕ). IsLinked o w.lines) linked k.linked);
+      keeps = record {
+        talks = rw (n.lines, n.idle, n.told) (talks-open c p id pw);
+        counts = rw (n.lines, n.none) refl;
+      };
+    }
+
+-- ---- a frame comes
+
+pub kept-frame : (w : World) (c : ℕ) (bytes : List ℕ) (xid : ℤ) (r : Request) → w.connection ≡ Some c
+    → read_request bytes ≡ Asks xid r → length bytes ≤ most_frame → is_built_request r ≡ true → IsKept w → IsKept (framed w c bytes xid r)
+kept-frame w c bytes xid r linked read small built k =
+    let t = talking c w linked k.keeps in
+    let l : TranscriptLine = FrameLine c (w.frames + 1) (revision w.store) bytes in
+    let same : FrameLine c (frames_of c w.lines + 1) (revision w.store) bytes ≡ l = ap (λ n. FrameLine c (n + 1) (revision w.store) bytes) (sym t.counts) in
+    let talks : Talks c (w.lines ++ l ∷ []) (w.waiting ++ asked_next w xid r ∷ []) w.told =
+        subst (λ (m : TranscriptLine). Talks c (w.lines ++ m ∷ []) (w.waiting ++ asked_next w xid r ∷ []) w.told) same
+          (talks-frame c w.lines w.waiting w.told (revision w.store) bytes (asked_next w xid r) t.talks (ap (λ n. n + 1) t.counts) read small built) in
+    record {
+      kept = kept_in-quiet w.store w.lines l (frame_quiet c (w.frames + 1) (revision w.store) bytes) k.kept;
+      linked = linked-push w.connection w.lines l (λ d. refl) refl k.linked;
+      keeps = subst (λ (o : Option ℕ). KeepsTo o (framed w c bytes xid r)) (sym linked) (record { talks = talks; counts = omega (arith, t.counts, frames_of-append c w.lines (l ∷ []), one_frame c (w.frames + 1) (revision w.store) bytes) });
+    }
+
+pub kept-tick : (w : World) (millis : ℕ) → IsKept w → IsKept (ticked w millis)
+kept-tick w millis k = record { kept = k.kept; linked = k.linked; keeps = go w.connection k.keeps }
+  where
+    go : (o : Option ℕ) → KeepsTo o w → KeepsTo o (ticked w millis)
+    go None n = record { lines = n.lines; idle = n.idle; none = n.none; told = n.told }
+    go (Some c) t = record { talks = t.talks; counts = t.counts }
+
+-- ---- the oldest request is answered
+
+-- without the tree
+kept-repeats : (c : ℕ) (w : World) (q : Waiting) (qs : List Waiting) (store : Store) (reply : Reply) → w.connection ≡ Some c → w.waiting ≡ q ∷ qs
+    → store ≡ w.store → plain_request q.request ≡ Some reply → IsKept w → IsKept (answered w c q qs store (Repeats reply))
+kept-repeats c w q qs store reply linked oldest stays plain k =
+    let t = talking c w linked k.keeps in
+    let l : TranscriptLine = Send c (reply_packet q.xid w.told reply) in
+    record {
+      kept = subst (λ (s : Store). IsKeptIn s (w.lines ++ l ∷ [])) (sym stays) (kept_in-quiet w.store w.lines l (send_quiet c (reply_packet q.xid w.told reply)) k.kept);
+      linked = linked-push w.connection w.lines l (λ d. refl) refl k.linked;
+      keeps = subst (λ (o : Option ℕ). KeepsTo o (answered w c q qs store (Repeats reply))) (sym linked) (record {
+        talks = talks-plain c w.lines q qs w.told reply (subst (λ (ws : List Waiting). Talks c w.lines ws w.told) oldest t.talks) plain;
+        counts = omega (arith, t.counts, frames_of-append c w.lines (l ∷ []));
+      });
+    }
+
+-- by the tree
+kept-looked : (c : ℕ) (w : World) (q : Waiting) (qs : List Waiting) (store : Store) (reply : Reply) (zxid : ℤ) → w.connection ≡ Some c → w.waiting ≡ q ∷ qs
+    → store ≡ w.store → plain_request q.request ≡ None → IsLooked (after w.lines) q.request reply zxid → IsKept w → IsKept (answered w c q qs store (Looked reply zxid))
+kept-looked c w q qs store reply zxid linked oldest stays plain looks k =
+    let t = talking c w linked k.keeps in
+    let l : TranscriptLine = Send c (reply_packet q.xid zxid reply) in
+    let talks = talks-looked c w.lines q qs w.told reply (subst (λ (ws : List Waiting). Talks c w.lines ws w.told) oldest t.talks) plain looks.told in
+    record {
+      kept = subst (λ (s : Store). IsKeptIn s (w.lines ++ l ∷ [])) (sym stays) (kept_in-quiet w.store w.lines l (send_quiet c (reply_packet q.xid zxid reply)) k.kept);
+      linked = linked-push w.connection w.lines l (λ d. refl) refl k.linked;
+      keeps = subst (λ (o : Option ℕ). KeepsTo o (answered w c q qs store (Looked reply zxid))) (sym linked) (record {
+        talks = subst (λ (z : ℤ). Talks c (w.lines ++ Send c (reply_packet q.xid z reply) ∷ []) qs z) (sym looks.at) talks;
+        counts = omega (arith, t.counts, frames_of-append c w.lines (l ∷ []));
+      });
+    }
+
+-- by an update
+kept-updated : (c : ℕ) (w : World) (q : Waiting) (qs : List Waiting) (store : Store) (answer : Reply) (zxid : ℤ) → w.connection ≡ Some c → w.waiting ≡ q ∷ qs
+    → zxid ≡ revision store → IsUpdated store (after w.lines) q.request w.clock answer zxid → IsKept w → IsKept (answered w c q qs store (Updated answer zxid))
+kept-updated c w q qs store answer zxid linked oldest at updates k =
+    let t = talking c w linked k.keeps in
+    let talks : Talks c w.lines (q ∷ qs) w.told = subst (λ (ws : List Waiting). Talks c w.lines ws w.told) oldest t.talks in
+    let h = talks.queued.0 in
+    let next : ℕ = talks.walker.next in
+    let u : TranscriptLine = asked_line c next w.clock zxid in
+    let l : TranscriptLine = Send c (reply_packet q.xid zxid answer) in
+    let commits = asked_commit-of c next w.clock zxid w.lines (after w.lines) h.place h.bytes q.xid q.request h.frame h.read ∙ updates.commits in
+    let kept = kept-asked c next w.clock zxid w.lines updates.made q w.store store k.kept talks.stands.least h talks.below updates.above commits (sym at) updates.stands updates.sound in
+    let lines : (w.lines ++ u ∷ []) ++ l ∷ [] ≡ w.lines ++ (asked_line c q.index w.clock zxid ∷ l ∷ []) =
+        append_assoc w.lines (u ∷ []) (l ∷ []) ∙ ap (λ i. w.lines ++ (asked_line c i w.clock zxid ∷ l ∷ [])) (sym h.index) in
+    let after_u = linked-push w.connection w.lines u (λ d. refl) refl k.linked in
+    let told = subst (λ (r : Reply). Talks c ((w.lines ++ u ∷ []) ++ Send c (reply_packet q.xid zxid r) ∷ []) qs zxid) (sym updates.told)
+      (talks-updated c w.lines q qs w.told w.clock zxid updates.made talks updates.above commits) in
+    record {
+      kept = subst (IsKeptIn store) lines (kept_in-quiet store (w.lines ++ u ∷ []) l (send_quiet c (reply_packet q.xid zxid answer)) kept);
+      linked = subst (IsLinked w.connection) lines (linked-push w.connection (w.lines ++ u ∷ []) l (λ d. refl) refl after_u);
+      keeps = subst (λ (o : Option ℕ). KeepsTo o (answered w c q qs store (Updated answer zxid))) (sym linked) (record {
+        talks = subst (λ (ls : List TranscriptLine). Talks c ls qs zxid) lines told;
+        counts = omega (arith, t.counts, frames_of-append c w.lines (asked_line c q.index w.clock zxid ∷ l ∷ []));
+      });
+    }
+
+kept-answered : (c : ℕ) (w : World) (q : Waiting) (qs : List Waiting) (store : Store) (a : Answered) → w.connection ≡ Some c → w.waiting ≡ q ∷ qs
+    → Answers w.store store q.request w.clock a → IsKept w → IsKept (answered w c q qs store a)
+kept-answered c w q qs store (Repeats reply) linked oldest answers k = kept-repeats c w q qs store reply linked oldest answers.0 answers.1 k
+kept-answered c w q qs store (Looked reply zxid) linked oldest answers k =
+    kept-looked c w q qs store reply zxid linked oldest answers.0 answers.1 (answers.2 (after w.lines) k.kept.stands k.kept.sound) k
+kept-answered c w q qs store (Updated reply zxid) linked oldest answers k =
+    kept-updated c w q qs store reply zxid linked oldest answers.1 (answers.3 (after w.lines) k.kept.stands k.kept.sound) k
+
+-- ---- some answers, one after another
+
+send-each : (c clock : ℕ) (packet : List ℕ) → All (IsAnswerLine c clock) (Send c packet ∷ [])
+send-each c clock packet = All-cons (IsAnswerLine c clock) (Send c packet) [] refl (All-nil (IsAnswerLine c clock))
+
+answer_lines-each : (c clock : ℕ) (q : Waiting) (told : ℤ) (a : Answered) → All (IsAnswerLine c clock) (answer_lines c clock q told a)
+answer_lines-each c clock q told (Repeats reply) = send-each c clock (reply_packet q.xid told reply)
+answer_lines-each c clock q told (Looked reply zxid) = send-each c clock (reply_packet q.xid zxid reply)
+answer_lines-each c clock q told (Updated reply zxid) =
+    All-cons (IsAnswerLine c clock) (asked_line c q.index clock zxid) (Send c (reply_packet q.xid zxid reply) ∷ []) (refl, refl) (send-each c clock (reply_packet q.xid zxid reply))
+
+pub answers-none : (c : ℕ) (w : World) → AnswersSome c w w
+answers-none c w = record { kept = λ linked k. k; connection = refl; clock = refl; added = []; lines = sym (append-nil w.lines); each = All-nil (IsAnswerLine c w.clock) }
+
+answers-then : (c : ℕ) (first mid : World) (q : Waiting) (qs : List Waiting) (store : Store) (a : Answered) → AnswersSome c first mid
+    → mid.waiting ≡ q ∷ qs → Answers mid.store store q.request mid.clock a → AnswersSome c first (answered mid c q qs store a)
+answers-then c first mid q qs store a some oldest answers = record {
+  kept = λ linked k. kept-answered c mid q qs store a (some.connection ∙ linked) oldest answers (some.kept linked k);
+  connection = some.connection;
+  clock = some.clock;
+  added = some.added ++ answer_lines c mid.clock q mid.told a;
+  lines = ap (λ ls. ls ++ answer_lines c mid.clock q mid.told a) some.lines ∙ append_assoc first.lines some.added (answer_lines c mid.clock q mid.told a);
+  each = All-append (IsAnswerLine c first.clock) some.added (answer_lines c mid.clock q mid.told a) some.each
+    (subst (λ (n : ℕ). All (IsAnswerLine c n) (answer_lines c mid.clock q mid.told a)) some.clock (answer_lines-each c mid.clock q mid.told a));
+}
+
+pub answers-more : (c : ℕ) (first mid last : World) → AnswersSome c first mid → AnswersOne c mid last → AnswersSome c first last
+answers-more c first mid last some one =
+    subst (AnswersSome c first) (sym one.leaves) (answers-then c first mid one.request one.later one.store one.answer some one.oldest one.answers)

@@ -1,0 +1,78 @@
+-- An update that the oldest request asked: what its line does to the history, and the reply behind it.
+use Rattle.std.proofs.Common.{◌≡◌, ℕ, zero, suc, ◌+◌, ◌≤◌, ◌<◌, List, [], ◌∷◌, ◌++◌, length, take, refl, sym, ap, ◌∙◌, subst, arith, Bool, true, false, ℤ, pos, ◌≤ℤ◌, ◌<ℤ◌}
+use Rattle.std.specs.Prelude.{Option, Some, None, ◌==◌, ◌&&◌, ◌||◌, nat_lt, nat_le, int_lt, is_some, option_and_then}
+use Rattle.std.proofs.lemmas.Bool.Decides.{nat_tests}
+use Rattle.std.proofs.lemmas.Int.{ints}
+use Rattle.ev_types.specs.Store.{Store, present, revision}
+use Rattle.zk_model.specs.declared.request.Request.{Request}
+use Rattle.zk_model.specs.declared.transcript.TranscriptLine.{TranscriptLine}
+use Rattle.zk_model.specs.declared.transcript.TranscriptLine.TheVariants.{Update}
+use Rattle.zk_model.specs.declared.transcript.UpdateRec.{UpdateRec}
+use Rattle.zk_model.specs.declared.transcript.UpdateKind.TheVariants.{Asked}
+use Rattle.zk_model.specs.Frames.{most_frame}
+use Rattle.zk_model.specs.Requests.{Asks, read_request}
+use Rattle.zk_model.specs.History.{State, Commit, IsSound, commit, after, after_from, nothing_yet, updated, committed, asked_commit, frame, frame_shown, request, asked_in}
+use Rattle.zk_model.specs.Single.{most_owned}
+use Rattle.zk_model.specs.Legal.{is_legal, is_legal_from, is_legal_line, may_update, is_small_frame, is_within_parts, is_ordered, is_in_order}
+use Rattle.zk_model.specs.Conversations.{placed_frame}
+use Rattle.zk_model.proofs.Appending.{after-push, is_legal-push, is_ordered-push}
+use Rattle.zk_model.proofs.Lookups.{first_shown-place}
+use Rattle.zn_layout.specs.StandsFor.{StandsFor}
+use Rattle.zp_alone.specs.declared.waiting.Waiting.{Waiting}
+use Rattle.zp_alone.specs.Talking.{IsQueued, AreBelow}
+use Rattle.zp_alone.specs.Reached.{IsKeptIn}
+use Rattle.zp_alone.specs.Effects.{asked_line}
+use Rattle.zp_alone.proofs.Built.{built-parts}
+
+request-of : (c i : ℕ) (lines : List TranscriptLine) (place : ℕ) (bytes : List ℕ) (xid : ℤ) (r : Request)
+    → placed_frame c i lines ≡ Some (place, bytes) → read_request bytes ≡ Asks xid r → request c i lines ≡ Some r
+request-of c i lines place bytes xid r placed read =
+    ap (option_and_then (λ b. asked_in (read_request b))) (first_shown-place (frame_shown c i) 0 lines (place, bytes) placed) ∙ ap asked_in read
+
+-- what the update does is what its request does
+pub asked_commit-of : (c i now : ℕ) (zxid : ℤ) (lines : List TranscriptLine) (s : State) (place : ℕ) (bytes : List ℕ) (xid : ℤ) (r : Request)
+    → placed_frame c i lines ≡ Some (place, bytes) → read_request bytes ≡ Asks xid r → asked_commit lines s zxid c i now ≡ commit s.tree most_owned (pos 0) r zxid now
+asked_commit-of c i now zxid lines s place bytes xid r placed read = rw (request-of c i lines place bytes xid r placed read, asked_commit) refl
+
+pub after-asked : (c i now : ℕ) (zxid : ℤ) (lines : List TranscriptLine) (made : Commit)
+    → asked_commit lines (after lines) zxid c i now ≡ Some made → after (lines ++ asked_line c i now zxid ∷ []) ≡ committed (after lines) zxid (Some made)
+unfolding updated
+after-asked c i now zxid lines made commits = after-push lines (asked_line c i now zxid) ∙ ap (committed (after lines) zxid) commits
+
+-- ---- it is legal, and in order
+
+&&-second : (a b : Bool) → (a && b) ≡ true → b ≡ true
+&&-second true b h = h
+&&-second false b h = absurd (cc)
+
+begun-from_legal : (lines : List TranscriptLine) → is_legal lines ≡ true → nat_lt 0 (after lines).updates ≡ true
+unfolding is_legal
+begun-from_legal lines h = &&-second (is_legal_from [] nothing_yet lines) (nat_lt 0 (after lines).updates) h
+
+legal-asked : (c i now : ℕ) (zxid : ℤ) (lines : List TranscriptLine) (made : Commit) (q : Waiting)
+    → is_legal lines ≡ true → 1 ≤ i → IsQueued c lines i q → (after lines).zxid <ℤ zxid → asked_commit lines (after lines) zxid c i now ≡ Some made
+    → is_legal_line lines (after lines) (asked_line c i now zxid) ≡ true
+unfolding may_update
+legal-asked c i now zxid lines made q legal least h above commits =
+    let shown : frame c i lines ≡ Some h.bytes = first_shown-place (frame_shown c i) 0 lines (h.place, h.bytes) h.frame in
+    let small : is_small_frame (Some h.bytes) ≡ true = grind (arith, nat_tests, h.small) in
+    let asks = request-of c i lines h.place h.bytes q.xid q.request h.frame h.read in
+    let parts : is_within_parts (Some q.request) ≡ true = built-parts q.request h.built in
+    let first : nat_lt 0 i ≡ true = grind (arith, nat_tests) in
+    let rises : int_lt (after lines).zxid zxid ≡ true = grind (arith, ints) in
+    rw (commits, asks, shown, first, small, parts, begun-from_legal lines legal, rises) refl
+
+pub kept-asked : (c i now : ℕ) (zxid : ℤ) (lines : List TranscriptLine) (made : Commit) (q : Waiting) (old new : Store)
+    → IsKeptIn old lines → 1 ≤ i → IsQueued c lines i q → AreBelow c lines i → (after lines).zxid <ℤ zxid → asked_commit lines (after lines) zxid c i now ≡ Some made
+    → revision new ≡ zxid → StandsFor (present new) (committed (after lines) zxid (Some made)) → IsSound (committed (after lines) zxid (Some made))
+    → IsKeptIn new (lines ++ asked_line c i now zxid ∷ [])
+kept-asked c i now zxid lines made q old new k least h below above commits at stands sound =
+    let leads = after-asked c i now zxid lines made commits in
+    let same : (c == c) ≡ true = grind (arith, nat_tests) in
+    record {
+      stands = subst (StandsFor (present new)) (sym leads) stands;
+      sound = subst IsSound (sym leads) sound;
+      revision = at ∙ ap (λ (s : State). s.zxid) (sym leads);
+      legal = is_legal-push lines (asked_line c i now zxid) k.legal (legal-asked c i now zxid lines made q k.legal least h above commits);
+      ordered = is_ordered-push lines (asked_line c i now zxid) k.ordered (rw same below);
+    }

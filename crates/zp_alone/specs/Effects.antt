@@ -1,0 +1,99 @@
+-- What each happening does to a world, and one answer.
+use Rattle.std.specs.Prelude.{◌≡◌, ℕ, ◌+◌, ℤ, pos, Bool, true, false, List, [], ◌∷◌, ◌++◌, Option, Some, None, Result, Ok, Err, All}
+use Rattle.ev_types.specs.Store.{Store, present, revision}
+use Rattle.zk_model.specs.declared.request.Request.{Request}
+use Rattle.zk_model.specs.declared.script.Happening.{Happening}
+use Rattle.zk_model.specs.declared.transcript.TranscriptLine.{TranscriptLine}
+use Rattle.zk_model.specs.declared.transcript.TranscriptLine.TheVariants.{Update, Open, Frame, Send}
+use Rattle.zk_model.specs.declared.transcript.UpdateKind.TheVariants.{Asked}
+use Rattle.zk_model.specs.Packets.{reply_packet}
+use Rattle.zk_model.specs.History.{IsSound, after}
+use Rattle.zk_model.specs.Runs.{IsAnswerLine, begin_line, refusal_of}
+use Rattle.zn_layout.specs.StandsFor.{StandsFor}
+use Rattle.zn_ops.specs.declared.answering.Answered.{Answered}
+use Rattle.zn_ops.specs.declared.answering.Answered.TheVariants.{Repeats, Looked, Updated}
+use Rattle.zn_ops.specs.Answering.{Answers}
+use Rattle.zp_alone.specs.declared.fault.ApplyFault.{ApplyFault}
+use Rattle.zp_alone.specs.declared.fault.ApplyFault.TheVariants as fault
+use Rattle.zp_alone.specs.declared.waiting.Waiting.{Waiting}
+use Rattle.zp_alone.specs.World.{World}
+use Rattle.zp_alone.specs.Reached.{IsKept, Reached}
+
+-- the store holds the root alone, made at moment 0 by its revision 2
+pub record IsBegun (store : Store) : Type 0 where
+  pub stands : StandsFor (present store) (after (begin_line ∷ []))
+  pub sound : IsSound (after (begin_line ∷ []))
+  pub revision : revision store ≡ pos 2
+
+-- the world over it, before anything happened
+abbrev pub begun : Store → World
+begun store = record { store = store; lines = begin_line ∷ []; clock = 0; connection = None; frames = 0; waiting = []; told = pos 2 }
+
+-- whatever led to the old world leads, with one happening more, to the new one
+abbrev pub Plays : World → Happening → World → Type 0
+Plays old h new = (happenings : List Happening) → Reached happenings old → Reached (happenings ++ h ∷ []) new
+
+-- a happening that is possible and was applied, or one that isn't, which changes nothing
+abbrev pub Applies : World → Happening → Result (Unit {0}) ApplyFault → World → Type 0
+Applies old h (Ok x) new = (refusal_of old.lines old.clock h ≡ None) × Plays old h new
+Applies old h (Err (fault.NotPossible why)) new = (refusal_of old.lines old.clock h ≡ Some why) × (new ≡ old)
+Applies old h (Err fault.Memory) new = Unit {0}
+
+abbrev pub opened : World → ℕ → ℕ → ℤ → List ℕ → World
+opened w c proxy id passwd = record w { lines = w.lines ++ Open c proxy id passwd ∷ []; connection = Some c }
+
+abbrev pub asked_next : World → ℤ → Request → Waiting
+asked_next w xid r = record { index = w.frames + 1; xid = xid; request = r }
+
+abbrev pub framed : World → ℕ → List ℕ → ℤ → Request → World
+framed w c bytes xid r =
+    record w { lines = w.lines ++ Frame c (w.frames + 1) (revision w.store) bytes ∷ []; frames = w.frames + 1; waiting = w.waiting ++ asked_next w xid r ∷ [] }
+
+abbrev pub ticked : World → ℕ → World
+ticked w millis = record w { clock = w.clock + millis }
+
+-- ---- an answer
+
+-- the zxid of its reply: an answer without the tree repeats the last one's
+abbrev pub zxid_of : ℤ → Answered → ℤ
+zxid_of told (Repeats reply) = told
+zxid_of told (Looked reply zxid) = zxid
+zxid_of told (Updated reply zxid) = zxid
+
+-- the line of an update that c asked
+abbrev pub asked_line : ℕ → ℕ → ℕ → ℤ → TranscriptLine
+asked_line c i now zxid = Update (record { zxid = zxid; kind = Asked c i now })
+
+-- its lines: the update, where it is one, and the packet
+abbrev pub answer_lines : ℕ → ℕ → Waiting → ℤ → Answered → List TranscriptLine
+answer_lines c clock q told (Repeats reply) = Send c (reply_packet q.xid told reply) ∷ []
+answer_lines c clock q told (Looked reply zxid) = Send c (reply_packet q.xid zxid reply) ∷ []
+answer_lines c clock q told (Updated reply zxid) =
+    asked_line c q.index clock zxid ∷ Send c (reply_packet q.xid zxid reply) ∷ []
+
+abbrev pub answered : World → ℕ → Waiting → List Waiting → Store → Answered → World
+answered w c q qs store a = record w { store = store; lines = w.lines ++ answer_lines c w.clock q w.told a; waiting = qs; told = zxid_of w.told a }
+
+-- the oldest request was answered over the store
+pub record AnswersOne (c : ℕ) (old new : World) : Type 0 where
+  pub request : Waiting
+  pub later : List Waiting
+  pub store : Store
+  pub answer : Answered
+  pub oldest : old.waiting ≡ request ∷ later
+  pub answers : Answers old.store store request.request old.clock answer
+  pub leaves : new ≡ answered old c request later store answer
+
+-- and whether there was one
+abbrev pub AnswersNext : ℕ → World → World → Bool → Type 0
+AnswersNext c old new true = AnswersOne c old new
+AnswersNext c old new false = (old.waiting ≡ []) × (new ≡ old)
+
+-- some of the requests were, in order
+pub record AnswersSome (c : ℕ) (old new : World) : Type 0 where
+  pub kept : old.connection ≡ Some c → IsKept old → IsKept new
+  pub connection : new.connection ≡ old.connection
+  pub clock : new.clock ≡ old.clock
+  pub added : List TranscriptLine
+  pub lines : new.lines ≡ old.lines ++ added
+  pub each : All (IsAnswerLine c old.clock) added

@@ -1,0 +1,4 @@
+pub mod World
+pub mod Talking
+pub mod Reached
+pub mod Effects
