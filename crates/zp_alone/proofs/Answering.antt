@@ -1,7 +1,7 @@
 -- One answer, from the parts of the world after it.
 use Rattle.std.proofs.Common.{◌≡◌, ℕ, List, ◌∷◌, ◌++◌, subst}
 use Rattle.ev_types.specs.Store.{Store}
-use Rattle.zn_ops.specs.declared.answering.Answered.{Answered}
+use Rattle.zn_ops.specs.declared.requests.Answered.{Answered}
 use Rattle.zn_ops.specs.Answering.{Answers}
 use Rattle.zp_alone.specs.declared.waiting.Waiting.{Waiting}
 use Rattle.zp_alone.specs.World.{World}

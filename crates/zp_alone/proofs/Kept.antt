@@ -17,8 +17,8 @@ use Rattle.zk_model.specs.Runs.{IsAnswerLine, frames_of, is_built_request}
 use Rattle.zk_model.proofs.Quiet.{IsQuiet, open_quiet, frame_quiet, send_quiet, after-quiet, is_legal-quiet, is_ordered-quiet}
 use Rattle.zk_model.proofs.Counts.{frames_of-append}
 use Rattle.zn_layout.specs.StandsFor.{StandsFor}
-use Rattle.zn_ops.specs.declared.answering.Answered.{Answered}
-use Rattle.zn_ops.specs.declared.answering.Answered.TheVariants.{Repeats, Looked, Updated}
+use Rattle.zn_ops.specs.declared.requests.Answered.{Answered}
+use Rattle.zn_ops.specs.declared.requests.Answered.TheVariants.{Repeats, Looked, Updated}
 use Rattle.zn_ops.specs.Answering.{Answers, IsLooked, IsUpdated}
 use Rattle.zp_alone.specs.declared.waiting.Waiting.{Waiting}
 use Rattle.zp_alone.specs.World.{World, IsLinked}
