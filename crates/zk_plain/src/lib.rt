@@ -4,7 +4,19 @@
 //! the definition. Nothing of the service itself stands on this crate.
 #![tactic(auto)]
 
+mod code;
+mod create;
+mod delete;
+mod fault;
 mod node;
+mod outcome;
+mod single;
+mod stat;
 mod tree;
+mod turn;
+mod update;
 
+pub use fault::Fault;
+pub use outcome::Outcome;
 pub use tree::Tree;
+pub use turn::Turn;
