@@ -10,7 +10,7 @@ mod delete;
 mod fault;
 mod node;
 mod outcome;
-mod single;
+mod requests;
 mod stat;
 mod tree;
 mod turn;
@@ -18,5 +18,6 @@ mod update;
 
 pub use fault::Fault;
 pub use outcome::Outcome;
+pub use requests::single;
 pub use tree::Tree;
 pub use turn::Turn;
