@@ -1,6 +1,6 @@
 //! Creates (Programmer's Guide, "ZNodes", "Ephemeral Nodes", "Sequence Nodes -- Unique Naming").
 
-ghost use Rattle.std.specs.Prelude.{◌≡◌, ◌∷◌, [], ◌||◌, ◌&&◌, pos, nat_le, length, None, if◌then◌else◌, IfOk, IsTrue};
+ghost use Rattle.std.specs.Prelude.{◌≡◌, ◌∷◌, [], ◌||◌, ◌&&◌, pos, ◌≤ℤ◌, nat_le, length, None, if◌then◌else◌, IfOk, IfErr, IsTrue};
 ghost use Rattle.std.specs.Ordering.{int_eq};
 ghost use Rattle.std.specs.FinMap.{get, insert};
 ghost use Rattle.zk_model.specs.declared.reply.PartResult.TheVariants as results;
@@ -8,6 +8,7 @@ ghost use Rattle.zk_model.specs.declared.node.Trigger.TheVariants as trigger;
 ghost use Rattle.zk_model.specs.PathFaults.{is_valid, tested};
 ghost use Rattle.zk_model.specs.Single.{Done, most_creates, is_create_mode, is_ephemeral, is_sequential, is_open_acl, is_full, with_child, made_path, create_node, create_under, create};
 ghost use Rattle.zk_model.specs.Znodes.{new_node, owned};
+ghost use Rattle.zk_plain.specs.Faults.{BeyondUnless, IsWithin};
 ghost use Rattle.zk_plain.specs.Outcomes.{outcome_of};
 
 use crate::code::{NODE_EXISTS, NO_CHILDREN_FOR_EPHEMERALS, NO_NODE, SYSTEM_ERROR};
@@ -72,7 +73,8 @@ fn new_node(alloc: Global, content: &[u8], owner: i64, turn: &Turn) -> Result<No
 
 /// The parent after the create of a child.
 fn with_child(alloc: Global, parent: &Node, zxid: i64) -> Result<Node, Fault>
-    ensures { IfOk result (λ n. n ≡ with_child parent.now zxid) }
+    ensures ok { IfOk result (λ n. n ≡ with_child parent.now zxid) }
+    ensures beyond { IfErr result (BeyondUnless (parent.now.creates ≤ℤ most_creates)) }
 {
     let Some(creates) = parent.creates.checked_add(1) else {
         return Err(Fault::Beyond);
@@ -128,7 +130,7 @@ fn made(
     up: Node,
     path: Path,
     node: Node,
-) -> Result<Outcome, Fault>
+) -> Result<Outcome, Memory>
     ensures { IfOk result (λ o. outcome_of o ≡ Done (results.Created path) (insert (insert tree.now parent up) path node) (trigger.Created path ∷ trigger.Children parent ∷ [])) }
 {
     let name = Text::copy_of(alloc, path.bytes())?;
@@ -154,9 +156,10 @@ fn create_allowed(
     up: &Node,
     path: Path,
 ) -> Result<Outcome, Fault>
-    ensures { IfOk result (λ o. outcome_of o ≡ Done (results.Created path)
+    ensures ok { IfOk result (λ o. outcome_of o ≡ Done (results.Created path)
         (insert (insert tree.now parent (with_child up.now turn.now.zxid)) path (new_node content.now (if is_ephemeral flags then turn.now.session else pos 0) turn.now.zxid turn.now.moment))
         (trigger.Created path ∷ trigger.Children parent ∷ [])) }
+    ensures beyond { IfErr result (BeyondUnless (up.now.creates ≤ℤ most_creates)) }
 {
     let node = new_node(alloc, content, is_owned_by(flags, turn.session), turn)?;
     let counted = with_child(alloc, up, turn.zxid)?;
@@ -174,7 +177,8 @@ fn create_absent(
     up: &Node,
     path: Path,
 ) -> Result<Outcome, Fault>
-    ensures { IfOk result (λ o. outcome_of o ≡ create_node tree.now turn.now.limit turn.now.session flags content.now turn.now.zxid turn.now.moment parent up.now path None) }
+    ensures ok { IfOk result (λ o. outcome_of o ≡ create_node tree.now turn.now.limit turn.now.session flags content.now turn.now.zxid turn.now.moment parent up.now path None) }
+    ensures beyond { IfErr result (BeyondUnless (up.now.creates ≤ℤ most_creates)) }
 {
     if up.owner != 0 {
         return Ok(Outcome::Refused(NO_CHILDREN_FOR_EPHEMERALS));
@@ -196,7 +200,8 @@ fn create_node(
     up: &Node,
     path: Path,
 ) -> Result<Outcome, Fault>
-    ensures { IfOk result (λ o. outcome_of o ≡ create_node tree.now turn.now.limit turn.now.session flags content.now turn.now.zxid turn.now.moment parent up.now path (get tree.now path)) }
+    ensures ok { IfOk result (λ o. outcome_of o ≡ create_node tree.now turn.now.limit turn.now.session flags content.now turn.now.zxid turn.now.moment parent up.now path (get tree.now path)) }
+    ensures beyond { IfErr result (BeyondUnless (up.now.creates ≤ℤ most_creates)) }
 {
     match tree.get(path.bytes()) {
         Some(_) => Ok(Outcome::Refused(NODE_EXISTS)),
@@ -229,7 +234,8 @@ fn create_under(
 ) -> Result<Outcome, Fault>
     requires valid { IsTrue (is_valid (is_sequential flags) text.now) }
     requires named { named ≡ tested (is_sequential flags) text.now }
-    ensures { IfOk result (λ o. outcome_of o ≡ create_under tree.now turn.now.limit turn.now.session flags content.now turn.now.zxid turn.now.moment text.now parent (get tree.now parent)) }
+    ensures ok { IfOk result (λ o. outcome_of o ≡ create_under tree.now turn.now.limit turn.now.session flags content.now turn.now.zxid turn.now.moment text.now parent (get tree.now parent)) }
+    ensures beyond { IfErr result (BeyondUnless (IsWithin tree.now)) }
 {
     match tree.get(parent.bytes()) {
         None => Ok(Outcome::Refused(NO_NODE)),
@@ -252,7 +258,8 @@ pub fn create(
 ) -> Result<Outcome, Fault>
     requires valid { IsTrue (is_valid (is_sequential flags) text.now) }
     requires named { named ≡ tested (is_sequential flags) text.now }
-    ensures { IfOk result (λ o. outcome_of o ≡ create tree.now turn.now.limit turn.now.session flags content.now turn.now.zxid turn.now.moment text.now) }
+    ensures ok { IfOk result (λ o. outcome_of o ≡ create tree.now turn.now.limit turn.now.session flags content.now turn.now.zxid turn.now.moment text.now) }
+    ensures beyond { IfErr result (BeyondUnless (IsWithin tree.now)) }
 {
     match named.parent(alloc)? {
         None => Ok(Outcome::Refused(NODE_EXISTS)),

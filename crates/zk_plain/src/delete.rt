@@ -6,7 +6,6 @@ ghost use Rattle.zk_model.specs.Single.{delete, matches, removed, removal};
 ghost use Rattle.zk_plain.specs.Outcomes.{outcome_of};
 
 use crate::code::{BAD_VERSION, NO_NODE, NOT_EMPTY};
-use crate::fault::Fault;
 use crate::node::copy_node;
 use crate::outcome::Outcome;
 use crate::tree::Tree;
@@ -58,7 +57,7 @@ pub fn delete(
     path: Path,
     version: i32,
     zxid: i64,
-) -> Result<Outcome, Fault>
+) -> Result<Outcome, Memory>
     ensures { IfOk result (λ o. outcome_of o ≡ delete tree.now path version zxid (get tree.now path)) }
 {
     let Some(node) = tree.get(path.bytes()) else {

@@ -11,6 +11,11 @@ pub enum Fault {
 }
 
 impl From<Memory> for Fault {
+    ghost use Rattle.std.specs.Prelude.{◌≡◌};
+    ghost use Rattle.zk_plain.specs.declared.fault.Fault.TheVariants as faults;
+
+    ghost from_gives = { λ _ fault. fault ≡ faults.Memory };
+
     fn from(_refused: Memory) -> Fault {
         Fault::Memory
     }

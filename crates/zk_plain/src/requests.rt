@@ -1,11 +1,14 @@
 //! One request that may be part of a transaction.
 
-ghost use Rattle.std.specs.Prelude.{◌≡◌, ◌&&◌, not, Some, None, if◌then◌else◌, IfOk};
+ghost use Rattle.std.specs.Prelude.{◌≡◌, ◌&&◌, not, Some, None, if◌then◌else◌, ◌≤◌, length, IfOk, IfErr};
 ghost use Rattle.std.specs.FinMap.{get};
 ghost use Rattle.zx_base.specs.Maps.{same};
 ghost use Rattle.zk_model.specs.Codes.{bad_arguments, invalid_acl};
 ghost use Rattle.zk_model.specs.Paths.{is_path, is_sequence_prefix, root};
 ghost use Rattle.zk_model.specs.Single.{single, unless_refused, or_else, path_refusal, is_create_mode, is_open_acl, is_sequential, create, delete, set_data, check};
+ghost use Rattle.zk_model.specs.Frames.{most_frame};
+ghost use Rattle.zk_model.specs.Multi.{data_len};
+ghost use Rattle.zk_plain.specs.Faults.{BeyondUnless, IsWithin};
 ghost use Rattle.zk_plain.specs.Outcomes.{outcome_of, IsRead};
 
 use crate::code::{BAD_ARGUMENTS, INVALID_ACL};
@@ -40,9 +43,10 @@ fn single_create(
     acl: &[Acl],
     flags: i32,
 ) -> Result<Outcome, Fault>
-    ensures { IfOk result (λ o. outcome_of o ≡ unless_refused (or_else (path_refusal (if is_sequential flags then is_sequence_prefix text.now else is_path text.now))
+    ensures ok { IfOk result (λ o. outcome_of o ≡ unless_refused (or_else (path_refusal (if is_sequential flags then is_sequence_prefix text.now else is_path text.now))
         (if not (is_create_mode flags) then Some bad_arguments else if not (is_open_acl acl.now) then Some invalid_acl else None))
         (create tree.now turn.now.limit turn.now.session flags content.now turn.now.zxid turn.now.moment text.now)) }
+    ensures beyond { IfErr result (BeyondUnless (IsWithin tree.now)) }
 {
     let Some(named) = read_path(alloc, text, is_sequential(flags))? else {
         return Ok(Outcome::Refused(BAD_ARGUMENTS));
@@ -62,7 +66,7 @@ fn single_delete(
     turn: &Turn,
     text: &[u8],
     version: i32,
-) -> Result<Outcome, Fault>
+) -> Result<Outcome, Memory>
     ensures { IfOk result (λ o. outcome_of o ≡ unless_refused (path_refusal (is_path text.now && not (same text.now root)))
         (delete tree.now text.now version turn.now.zxid (get tree.now text.now))) }
 {
@@ -80,8 +84,9 @@ fn single_set(
     content: &[u8],
     version: i32,
 ) -> Result<Outcome, Fault>
-    ensures { IfOk result (λ o. outcome_of o ≡ unless_refused (path_refusal (is_path text.now))
+    ensures ok { IfOk result (λ o. outcome_of o ≡ unless_refused (path_refusal (is_path text.now))
         (set_data tree.now text.now content.now version turn.now.zxid turn.now.moment (get tree.now text.now))) }
+    ensures beyond { IfErr result (BeyondUnless (IsWithin tree.now × (length content.now ≤ most_frame))) }
 {
     match read_path(alloc, text, false)? {
         Some(path) => Ok(set_data(alloc, tree, turn, path, content, version)?),
@@ -89,7 +94,7 @@ fn single_set(
     }
 }
 
-fn single_check(alloc: Global, tree: &Tree, text: &[u8], version: i32) -> Result<Outcome, Fault>
+fn single_check(alloc: Global, tree: &Tree, text: &[u8], version: i32) -> Result<Outcome, Memory>
     ensures { IfOk result (λ o. outcome_of o ≡ unless_refused (path_refusal (is_path text.now)) (check tree.now version (get tree.now text.now))) }
 {
     match read_path(alloc, text, false)? {
@@ -101,7 +106,8 @@ fn single_check(alloc: Global, tree: &Tree, text: &[u8], version: i32) -> Result
 /// What one request makes of the tree.
 #[tactic(auto, unfolding(zk_model::specs::Single::single, zk_model::specs::Single::form_refusal, zk_model::specs::Single::effect))]
 pub fn single(alloc: Global, tree: &Tree, turn: &Turn, part: &Part) -> Result<Outcome, Fault>
-    ensures { IfOk result (λ o. outcome_of o ≡ single tree.now turn.now.limit turn.now.session part.now turn.now.zxid turn.now.moment) }
+    ensures ok { IfOk result (λ o. outcome_of o ≡ single tree.now turn.now.limit turn.now.session part.now turn.now.zxid turn.now.moment) }
+    ensures beyond { IfErr result (BeyondUnless (IsWithin tree.now × (data_len part.now ≤ most_frame))) }
 {
     match part {
         Part::Create {

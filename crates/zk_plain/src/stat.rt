@@ -1,6 +1,8 @@
 //! What a client is shown of a node.
 
-ghost use Rattle.std.specs.Prelude.{◌≡◌, ◌*ℤ◌, ◌-ℤ◌, pos, IfOk};
+ghost use Rattle.std.specs.Prelude.{◌≡◌, ◌≤◌, ◌≤ℤ◌, ◌*ℤ◌, ◌-ℤ◌, pos, IfOk, IfErr};
+ghost use Rattle.zk_model.specs.Single.{most_creates};
+ghost use Rattle.zk_plain.specs.Faults.{BeyondUnless, IsCounted};
 ghost use Rattle.zk_model.specs.Znodes.{stat};
 
 use crate::fault::Fault;
@@ -8,7 +10,8 @@ use zk_model::{Node, Stat};
 
 /// A length or a count as a number of the protocol.
 fn count(number: usize) -> Result<i32, Fault>
-    ensures { IfOk result (λ n. n ≡ pos number) }
+    ensures ok { IfOk result (λ n. n ≡ pos number) }
+    ensures beyond { IfErr result (BeyondUnless (number ≤ 2147483647)) }
 {
     match i32::try_from(number) {
         Ok(number) => Ok(number),
@@ -18,7 +21,8 @@ fn count(number: usize) -> Result<i32, Fault>
 
 /// Twice the creates of children, less the children that are there.
 fn child_version(creates: i32, children: i32) -> Result<i32, Fault>
-    ensures { IfOk result (λ n. n ≡ (pos 2 *ℤ creates) -ℤ children) }
+    ensures ok { IfOk result (λ n. n ≡ (pos 2 *ℤ creates) -ℤ children) }
+    ensures beyond { IfErr result (BeyondUnless ((pos 0 ≤ℤ children) × (children ≤ℤ creates) × (creates ≤ℤ most_creates))) }
 {
     match i32::try_from(2 * i64::from(creates) - i64::from(children)) {
         Ok(number) => Ok(number),
@@ -28,7 +32,8 @@ fn child_version(creates: i32, children: i32) -> Result<i32, Fault>
 
 /// The stat of a node with so many children.
 pub fn stat(node: &Node, children: usize) -> Result<Stat, Fault>
-    ensures { IfOk result (λ s. s ≡ stat node.now children) }
+    ensures ok { IfOk result (λ s. s ≡ stat node.now children) }
+    ensures beyond { IfErr result (BeyondUnless (IsCounted node.now children)) }
 {
     let num_children = count(children)?;
     let data_length = count(node.content.len())?;

@@ -1,11 +1,13 @@
 //! Reads of versions and writes of data (Programmer's Guide, "ZNodes").
 
-ghost use Rattle.std.specs.Prelude.{◌≡◌, ◌≢◌, ◌∷◌, [], ◌+ℤ◌, pos, IfOk};
+ghost use Rattle.std.specs.Prelude.{◌≡◌, ◌≢◌, ◌∷◌, [], ◌+ℤ◌, ◌≤◌, pos, length, IfOk, IfErr};
 ghost use Rattle.std.specs.FinMap.{get, insert};
 ghost use Rattle.zk_model.specs.declared.reply.PartResult.TheVariants as results;
 ghost use Rattle.zk_model.specs.declared.node.Trigger.TheVariants as trigger;
-ghost use Rattle.zk_model.specs.Znodes.{stat_of};
+ghost use Rattle.zk_model.specs.Znodes.{num_children, stat_of};
 ghost use Rattle.zk_model.specs.Single.{Done, set_data, check, with_content};
+ghost use Rattle.zk_model.specs.Frames.{most_frame};
+ghost use Rattle.zk_plain.specs.Faults.{BeyondUnless, IsCounted, IsWithin};
 ghost use Rattle.zk_plain.specs.Outcomes.{outcome_of};
 
 use crate::code::{BAD_VERSION, NO_NODE, SYSTEM_ERROR};
@@ -42,7 +44,8 @@ fn with_content(alloc: Global, node: &Node, content: &[u8], turn: &Turn) -> Resu
 
 /// The outcome of a write that nothing refuses.
 fn written(alloc: Global, tree: &Tree, path: Path, node: Node) -> Result<Outcome, Fault>
-    ensures { IfOk result (λ o. outcome_of o ≡ Done (results.Set (stat_of tree.now path node)) (insert tree.now path node) (trigger.Changed path ∷ [])) }
+    ensures ok { IfOk result (λ o. outcome_of o ≡ Done (results.Set (stat_of tree.now path node)) (insert tree.now path node) (trigger.Changed path ∷ [])) }
+    ensures beyond { IfErr result (BeyondUnless (IsCounted node (num_children tree.now path))) }
 {
     let shown = stat(&node, tree.num_children(path.bytes()))?;
     let mut triggers = Seq::new(alloc);
@@ -62,7 +65,8 @@ pub fn set_data(
     content: &[u8],
     version: i32,
 ) -> Result<Outcome, Fault>
-    ensures { IfOk result (λ o. outcome_of o ≡ set_data tree.now path content.now version turn.now.zxid turn.now.moment (get tree.now path)) }
+    ensures ok { IfOk result (λ o. outcome_of o ≡ set_data tree.now path content.now version turn.now.zxid turn.now.moment (get tree.now path)) }
+    ensures beyond { IfErr result (BeyondUnless (IsWithin tree.now × (length content.now ≤ most_frame))) }
 {
     let Some(node) = tree.get(path.bytes()) else {
         return Ok(Outcome::Refused(NO_NODE));
@@ -77,7 +81,7 @@ pub fn set_data(
     Ok(written(alloc, tree, path, changed)?)
 }
 
-pub fn check(alloc: Global, tree: &Tree, path: Path, version: i32) -> Result<Outcome, Fault>
+pub fn check(alloc: Global, tree: &Tree, path: Path, version: i32) -> Result<Outcome, Memory>
     ensures { IfOk result (λ o. outcome_of o ≡ check tree.now version (get tree.now path)) }
 {
     let Some(node) = tree.get(path.bytes()) else {

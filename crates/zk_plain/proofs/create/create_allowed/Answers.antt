@@ -8,8 +8,8 @@ use Rattle.zk_model.specs.Single.{Done, with_child, is_ephemeral}
 use Rattle.zk_model.specs.Znodes.{new_node}
 use Rattle.zk_plain.proofs.create.create_allowed.Goals as goal
 
-pub returns : goal.returns
-returns c =
+pub returns-clause-ok : goal.returns-clause-ok
+returns-clause-ok c =
     let owner : c.is_owned_by.result ≡ if is_ephemeral c.args.flags then c.args.turn.now.session else pos 0 = grind (arith, to_z-of_z) in
     let node : c.in_ok-node.node ≡ new_node c.args.content.now c.is_owned_by.result c.args.turn.now.zxid c.args.turn.now.moment = grind (arith, to_z-of_z) in
     let up : c.in_ok-counted.counted ≡ with_child c.args.up.now c.args.turn.now.zxid = grind (arith, to_z-of_z) in
