@@ -4,7 +4,20 @@
 //! the definition. Nothing of the service itself stands on this crate.
 #![tactic(auto)]
 
+mod code;
+mod create;
+mod delete;
+mod fault;
 mod node;
+mod outcome;
+mod requests;
+mod stat;
 mod tree;
+mod turn;
+mod update;
 
+pub use fault::Fault;
+pub use outcome::Outcome;
+pub use requests::single;
 pub use tree::Tree;
+pub use turn::Turn;

@@ -108,6 +108,14 @@ impl Tree {
         }
     }
 
+    pub fn copy(&self, alloc: Global) -> Result<Tree, Memory>
+        ensures { IfOk result (λ t. t ≡ self.now) }
+    {
+        let mut entries = Vec::new(alloc);
+        copy_into(alloc, &mut entries, &self.entries)?;
+        Ok(Tree { entries })
+    }
+
     /// The node at a path.
     pub fn get(&self, path: &[u8]) -> Option<&Node>
         ensures { option_map (λ n. n.now) result ≡ get self.now path.now }
