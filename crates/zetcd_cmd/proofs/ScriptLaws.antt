@@ -55,6 +55,7 @@ Says-line lines line text happenings h s lacks read text_is =
 -- the lines say the same in a script, and what stands behind them may be cut
 script_from-lines : (room : ℕ) (lines tail : List ℕ) (happenings : List Happening) → Says lines happenings → length lines ≤ room →
     script_from 1 room (lines ++ tail) ≡ behind happenings (lines_from (nat_lt room (length (lines ++ tail))) (length happenings + 1) (pieces 10 (take (room - length lines) tail)))
+unfolding script_from
 script_from-lines room lines tail happenings s fits =
     let size : room ≡ length lines + (room - length lines) = omega arith in
     let front : take room (lines ++ tail) ≡ lines ++ take (room - length lines) tail =
