@@ -7,7 +7,8 @@ use Rattle.zk_model.specs.JuteWriting.{int_bytes, long_bytes}
 use Rattle.zx_base.specs.Maps.{Bytes}
 use Rattle.zn_layout.specs.declared.record.LeaseRec.{LeaseRec}
 use Rattle.zn_layout.specs.Records.{lease_value, IsLeaseRec}
-use Rattle.zn_layout.specs.Reading.{IsNoValue, IsReadAs, HasLife}
+use Rattle.zn_layout.specs.Reading.{IsNoValue, IsReadAs}
+use Rattle.zn_layout.specs.ReadingSteps.{HasLife}
 use Rattle.zn_layout.proofs.Numbers.{length-int, length-long}
 use Rattle.zn_layout.proofs.Nodes.{int_fits, long_fits, int_same, long_same}
 

@@ -14,7 +14,8 @@ use Rattle.zk_model.specs.JuteWriting.{int_bytes, count_bytes, string_bytes}
 use Rattle.zx_base.specs.Maps.{Bytes}
 use Rattle.zn_layout.specs.declared.record.HeadRec.{HeadRec}
 use Rattle.zn_layout.specs.Records.{head_value, trigger_bytes, IsHeadRec}
-use Rattle.zn_layout.specs.Reading.{IsNoValue, IsValueOf, head_bytes, IsHeadWithin, IsValidPath, IsValidTrigger, IsPathOf, IsCounted, IsNotCounted, TakesItem, TakesItems}
+use Rattle.zn_layout.specs.Reading.{IsNoValue, IsValueOf, head_bytes, IsHeadWithin}
+use Rattle.zn_layout.specs.ReadingSteps.{IsValidPath, IsValidTrigger, IsPathOf, IsCounted, IsNotCounted, TakesItem, TakesItems}
 use Rattle.zn_layout.proofs.Numbers.{length-int}
 use Rattle.zn_layout.proofs.Nodes.{int_same}
 use Rattle.zn_layout.proofs.Paths.{path_short}

@@ -11,7 +11,8 @@ use Rattle.zx_base.specs.Maps.{Bytes}
 use Rattle.zn_layout.specs.declared.record.NodeRec.{NodeRec}
 use Rattle.zn_layout.specs.declared.record.CountRec.{CountRec}
 use Rattle.zn_layout.specs.Records.{node_value, counts_value, IsLongCount, IsNodeRec, IsCountRec}
-use Rattle.zn_layout.specs.Reading.{IsNoValue, IsReadAs, HasNumbers, HasCounts}
+use Rattle.zn_layout.specs.Reading.{IsNoValue, IsReadAs}
+use Rattle.zn_layout.specs.ReadingSteps.{HasNumbers, HasCounts}
 use Rattle.zn_layout.proofs.Numbers.{int_back, long_back, length-int, length-long, drop-int, drop-long}
 
 -- ---- numbers side by side

@@ -3,7 +3,8 @@
 ghost use Rattle.std.specs.Prelude.{◌≡◌, ◌↔◌, ℕ, List, ◌∷◌, [], IfOk, MatchOption, MatchResult, IsTrue};
 ghost use Rattle.zk_model.specs.JuteWriting.{string_bytes};
 ghost use Rattle.zn_layout.specs.Records.{trigger_bytes};
-ghost use Rattle.zn_layout.specs.Reading.{head_bytes, IsHeadWithin, IsValidPath, IsValidTrigger, IsValueOf, IsFault, IsReadAs, TakesItem, TakesItems, IsOfKind, IsPathOf, IsCounted, IsNotCounted};
+ghost use Rattle.zn_layout.specs.Reading.{head_bytes, IsHeadWithin, IsValueOf, IsFault, IsReadAs};
+ghost use Rattle.zn_layout.specs.ReadingSteps.{IsValidPath, IsValidTrigger, TakesItem, TakesItems, IsOfKind, IsPathOf, IsCounted, IsNotCounted};
 
 use crate::fault::{RecordFault, damaged};
 use crate::read::{behind_first, split_int};

@@ -6,7 +6,8 @@ ghost use Rattle.std.specs.Int.RustNames.{FitsSigned};
 ghost use Rattle.zk_model.specs.JuteWriting.{int_bytes, long_bytes};
 ghost use Rattle.zx_base.specs.Maps.{Bytes as ListOfBytes};
 ghost use Rattle.zn_layout.specs.Records.{node_value, counts_value, lease_value, IsLongCount, IsNodeRec, IsCountRec, IsLeaseRec};
-ghost use Rattle.zn_layout.specs.Reading.{IsValueOf, IsFault, IsReadAs, HasNumbers, HasCounts, HasLife};
+ghost use Rattle.zn_layout.specs.Reading.{IsValueOf, IsFault, IsReadAs};
+ghost use Rattle.zn_layout.specs.ReadingSteps.{HasNumbers, HasCounts, HasLife};
 
 use crate::fault::{RecordFault, damaged};
 use crate::record::{CountRec, LeaseRec, NodeRec};

@@ -2,7 +2,7 @@ use Rattle.std.proofs.Common.{Option, List, subst, refl}
 use Rattle.std.proofs.lemmas.Bool.{false≢true}
 use Rattle.zk_model.specs.declared.node.Trigger.{Trigger}
 use Rattle.zn_layout.specs.Records.{trigger_bytes}
-use Rattle.zn_layout.specs.Reading.{IsValidTrigger, TakesItems}
+use Rattle.zn_layout.specs.ReadingSteps.{IsValidTrigger, TakesItems}
 use Rattle.zn_layout.proofs.Lists.{head-not_one, head-uncounted, head-untaken, head-trailing, head-read}
 use Rattle.zn_layout.proofs.list.head_in.Goals as goal
 

@@ -1,7 +1,7 @@
 use Rattle.std.proofs.Common.{Option, subst}
 use Rattle.zk_model.specs.declared.node.Trigger.{Trigger}
 use Rattle.zn_layout.specs.Records.{trigger_bytes}
-use Rattle.zn_layout.specs.Reading.{IsValidTrigger, TakesItem}
+use Rattle.zn_layout.specs.ReadingSteps.{IsValidTrigger, TakesItem}
 use Rattle.zn_layout.proofs.Lists.{triggers_same, not_taken}
 use Rattle.zn_layout.proofs.list.Reader.triggers.Goals as goal
 

@@ -1,5 +1,5 @@
 use Rattle.zn_layout.specs.Records.{trigger_bytes}
-use Rattle.zn_layout.specs.Reading.{IsValidTrigger}
+use Rattle.zn_layout.specs.ReadingSteps.{IsValidTrigger}
 use Rattle.zn_layout.proofs.Lists.{AreTaken, triggers_same}
 use Rattle.zn_layout.proofs.list.Reader.triggers.Given as goal
 
