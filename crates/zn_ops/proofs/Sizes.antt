@@ -9,22 +9,21 @@ use Rattle.zk_model.specs.declared.reply.Reply.TheVariants as reply
 use Rattle.zk_model.specs.Frames.{most_frame}
 use Rattle.zk_model.specs.Packets.{CanBeSent}
 use Rattle.zk_model.specs.Paths.{most_path}
+use Rattle.zk_model.specs.Records.{stat_values}
 use Rattle.zn_layout.proofs.Numbers.{length-int, length-long}
 use Rattle.zn_ops.specs.declared.znode.Shown.{Shown}
 use Rattle.zn_ops.specs.Choices.{get_data_reply}
 use Rattle.zn_ops.specs.Shown.{IsWithin}
 
 pub refused-sent : (code : ℤ) → CanBeSent (reply.Refused code)
-refused-sent code = record { fields = tt; size = simp (length-append, length-int, length-long) (omega arith) }
+refused-sent code = simp (length-append, length-int, length-long) (omega arith)
 
 pub path-sent : (p : Bytes) → length p ≤ most_path → CanBeSent (reply.Good (body.Path p))
-path-sent p short = record { fields = (omega arith, tt); size = simp (length-append, length-int, length-long) (omega arith) }
+path-sent p short = simp (length-append, length-int, length-long) (omega arith)
 
 pub content-sent : (content : Bytes) (stat : Stat) → length content ≤ most_frame → CanBeSent (reply.Good (body.Content content stat))
-content-sent content stat short = record {
-  fields = (omega arith, (tt, (tt, (tt, (tt, (tt, (tt, (tt, (tt, (tt, (tt, (tt, tt))))))))))));
-  size = simp (length-append, length-int, length-long) (omega arith);
-}
+unfolding stat_values
+content-sent content stat short = simp (length-append, length-int, length-long) (omega arith)
 
 pub data-sent : (o : Option Shown) → IfSome o IsWithin → CanBeSent (get_data_reply o)
 data-sent None h = refused-sent _
