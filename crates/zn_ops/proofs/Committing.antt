@@ -6,6 +6,7 @@ use Rattle.std.specs.Ordering.{int_eq}
 use Rattle.std.specs.FinMap.{get}
 use Rattle.std.proofs.lemmas.Bool.Decides.{Decides-int_eq}
 use Rattle.std.proofs.lemmas.Int.{ints}
+use Rattle.ev_types.specs.Answers.{revision_in}
 use Rattle.ev_types.specs.declared.answer.Answer.{Answer}
 use Rattle.ev_types.specs.declared.ask.Act.{Act}
 use Rattle.ev_types.specs.declared.ask.Ask.{Ask}
@@ -27,7 +28,6 @@ use Rattle.zn_layout.proofs.Denials.{update-not_denied}
 use Rattle.zn_ops.specs.Answering.{HasRoom}
 use Rattle.zn_ops.specs.Choices.{create_keys, create_changes, create_triggers}
 use Rattle.zn_ops.specs.Steps.{IsStep}
-use Rattle.zn_ops.specs.Transacting.{revision_of}
 use Rattle.zn_ops.specs.Views.{reads_of, guards_at, update_ask}
 use Rattle.zn_ops.proofs.Carried.{allowed}
 use Rattle.zn_ops.proofs.Looking.{looks-present}
@@ -54,10 +54,10 @@ module _ (s : Store) (keys : List Bytes) (cs : List Change) (ts : List Trigger) 
   abbrev next : Store
   next = grown s (worked s (update_acts cs ts)).changes
 
-  pub update-step : is_denied s (update_ask (present s) keys (update_acts cs ts)) ≡ false → IsStep s (carried_out s (update_ask (present s) keys (update_acts cs ts))).0 cs ts (revision_of (carried_out s (update_ask (present s) keys (update_acts cs ts))).1)
+  pub update-step : is_denied s (update_ask (present s) keys (update_acts cs ts)) ≡ false → IsStep s (carried_out s (update_ask (present s) keys (update_acts cs ts))).0 cs ts (revision_in (carried_out s (update_ask (present s) keys (update_acts cs ts))).1)
   update-step h =
       let c : IsCommitted s cs ts next (revision next) (worked s (update_acts cs ts)).parts = committed s next (guards_at (present s) keys) cs ts (reads_of keys) (revision next) (worked s (update_acts cs ts)).parts (allowed s (ask.Txn txn) h ∙ ap Some carried) in
-      subst (λ (x : Store × Answer). IsStep s x.0 cs ts (revision_of x.1)) (sym carried) (record {
+      subst (λ (x : Store × Answer). IsStep s x.0 cs ts (revision_in x.1)) (sym carried) (record {
         one_more = (let e = c.zxid_is in omega (arith, ints));
         is = refl;
         most = c.most;
@@ -88,11 +88,11 @@ module _ (s : Store) (p q content : Bytes) (now : ℕ) (counts : CountRec) (room
   pub made-allowed : is_denied s (update_ask (present s) keys acts) ≡ false
   made-allowed = ap (is_denied s) ask-is ∙ create-allowed s p q content now counts room below
 
-  pub made-step : (new : Store) (zxid : ℤ) → new ≡ (carried_out s (update_ask (present s) keys acts)).0 → zxid ≡ revision_of (carried_out s (update_ask (present s) keys acts)).1 →
+  pub made-step : (new : Store) (zxid : ℤ) → new ≡ (carried_out s (update_ask (present s) keys acts)).0 → zxid ≡ revision_in (carried_out s (update_ask (present s) keys acts)).1 →
       IsStep s new (create_changes p q content now counts) (create_triggers p q) zxid
   made-step new zxid new_is zxid_is =
       let store : new ≡ (carried_out s (create_ask s p q content now counts)).0 = new_is ∙ ap (λ (a : Ask). (carried_out s a).0) ask-is in
-      let revision : zxid ≡ revision_of (carried_out s (create_ask s p q content now counts)).1 = zxid_is ∙ ap (λ (a : Ask). revision_of (carried_out s a).1) ask-is in
+      let revision : zxid ≡ revision_in (carried_out s (create_ask s p q content now counts)).1 = zxid_is ∙ ap (λ (a : Ask). revision_in (carried_out s a).1) ask-is in
       subst (λ (x : Store). IsStep s x (create_changes p q content now counts) (create_triggers p q) zxid) (sym store)
       (subst (λ (z : ℤ). IsStep s (carried_out s (create_ask s p q content now counts)).0 (create_changes p q content now counts) (create_triggers p q) z) (sym revision)
       (update-step s (create_keys p q) (create_changes p q content now counts) (create_triggers p q) (create-allowed s p q content now counts room below)))

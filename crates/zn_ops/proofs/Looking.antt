@@ -15,10 +15,10 @@ use Rattle.ev_types.specs.Store.{Store, Done, present, grown, looked_at, worked,
 use Rattle.ev_types.specs.Denials.{is_denied}
 use Rattle.zx_base.specs.Maps.{Bytes}
 use Rattle.zn_layout.specs.Begin.{read_key}
-use Rattle.zn_layout.specs.Commits.{one_found, are_present_reads}
+use Rattle.zn_layout.specs.Commits.{are_present_reads, key_range, one_found}
 use Rattle.zn_layout.specs.Keys.{HeadKey, key_bytes}
 use Rattle.zn_layout.proofs.Denials.{reads-not_denied}
-use Rattle.zn_layout.proofs.Found.{key_range, found-key}
+use Rattle.zn_layout.proofs.Found.{found-key}
 use Rattle.zn_layout.proofs.Transactions.{worked-reads}
 use Rattle.zn_ops.specs.Transacting.{is_txn, parts_of, kv_in}
 use Rattle.zn_ops.specs.Views.{with_head, reads_of, found_at, look_ask}

@@ -1,5 +1,5 @@
 -- The answer of a transaction, by its parts.
-use Rattle.std.specs.Prelude.{ℤ, pos, Bool, true, false, List, [], Option, None, slice_get}
+use Rattle.std.specs.Prelude.{Bool, true, false, List, [], Option, None, slice_get}
 use Rattle.ev_types.specs.declared.answer.ActAns.{ActAns}
 use Rattle.ev_types.specs.declared.answer.ActAns.TheVariants as part
 use Rattle.ev_types.specs.declared.answer.Answer.{Answer}
@@ -13,10 +13,6 @@ is_txn _ = false
 abbrev pub parts_of : Answer → List ActAns
 parts_of (answer.Txn revision succeeded parts) = parts
 parts_of _ = []
-
-abbrev pub revision_of : Answer → ℤ
-revision_of (answer.Txn revision succeeded parts) = revision
-revision_of _ = pos 0
 
 -- the first key that a range found
 abbrev pub kv_in : ActAns → Option Kv

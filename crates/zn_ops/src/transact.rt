@@ -4,7 +4,7 @@ ghost use Rattle.std.specs.Prelude.{◌≡◌, true, false, IfOk, OnErr};
 ghost use Rattle.ev_types.specs.Store.{carried_out};
 ghost use Rattle.ev_types.specs.Denials.{is_denied};
 ghost use Rattle.ev_types.specs.declared.ask.Ask.{Ask as SomeAsk};
-ghost use Rattle.zn_ops.specs.Transacting.{is_txn, parts_of, revision_of};
+ghost use Rattle.zn_ops.specs.Transacting.{is_txn, parts_of};
 
 use ev_store::{Store, StoreFault};
 use ev_types::{ActAns, Answer, Ask, TxnReq};
@@ -31,17 +31,6 @@ pub(crate) fn into_parts(answer: Answer) -> Seq<ActAns>
 {
     match answer {
         Answer::Txn { parts, .. } => parts,
-        Answer::Range { .. } | Answer::Granted { .. } | Answer::Alive { .. } => unreachable!(),
-    }
-}
-
-/// The store's revision after a transaction.
-pub(crate) fn into_revision(answer: Answer) -> i64
-    requires { is_txn answer ≡ true }
-    ensures { result ≡ revision_of answer }
-{
-    match answer {
-        Answer::Txn { revision, .. } => revision,
         Answer::Range { .. } | Answer::Granted { .. } | Answer::Alive { .. } => unreachable!(),
     }
 }

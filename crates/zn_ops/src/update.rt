@@ -1,12 +1,13 @@
 //! The transaction that an update is.
 
 ghost use Rattle.std.specs.Prelude.{◌≡◌, ◌≤◌, pos, OnOk, OnErr, IfOk, true, false, length, map, ◌++◌, ◌∷◌, []};
+ghost use Rattle.ev_types.specs.Answers.{revision_in};
 ghost use Rattle.ev_types.specs.Store.{present, carried_out};
 ghost use Rattle.ev_types.specs.Denials.{is_denied};
-ghost use Rattle.zn_ops.specs.Transacting.{kv_in, revision_of};
+ghost use Rattle.zn_ops.specs.Transacting.{kv_in};
 ghost use Rattle.zn_ops.specs.Views.{found_at, update_ask};
 
-use crate::transact::{into_revision, transact};
+use crate::transact::transact;
 use crate::view::View;
 use ev_store::Store;
 use ev_types::Act;
@@ -23,9 +24,9 @@ pub(crate) fn update(
     requires whole { map kv_in view.now.parts ≡ found_at (present store.old) view.now.keys }
     requires allowed { is_denied store.old (update_ask (present store.old) view.now.keys acts) ≡ false }
     ensures new { OnOk result (store.new ≡ (carried_out store.old (update_ask (present store.old) view.now.keys acts)).0) }
-    ensures zxid { IfOk result (λ zxid. zxid ≡ revision_of (carried_out store.old (update_ask (present store.old) view.now.keys acts)).1) }
+    ensures zxid { IfOk result (λ zxid. zxid ≡ revision_in (carried_out store.old (update_ask (present store.old) view.now.keys acts)).1) }
     ensures err { OnErr result (store.new ≡ store.old) }
 {
     let txn = view.update_txn(alloc, acts)?;
-    Ok(into_revision(transact(store, txn)?))
+    Ok(transact(store, txn)?.revision())
 }

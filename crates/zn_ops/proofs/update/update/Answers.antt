@@ -2,19 +2,15 @@
 use Rattle.std.proofs.Common.{ap, ◌∙◌, w64, rules}
 use Rattle.std.proofs.lemmas.Int.{to_z-of_z}
 use mir.Val.{SFits}
+use Rattle.ev_types.specs.Answers.{revision_in}
 use Rattle.ev_types.specs.declared.ask.Ask.{Ask}
 use Rattle.ev_types.specs.Store.{carried_out}
 use Rattle.ev_types.specs.Denials.{is_denied}
-use Rattle.zn_ops.specs.Transacting.{is_txn, revision_of}
 use Rattle.zn_ops.proofs.Guards.{update-is}
-use Rattle.zn_ops.proofs.Looking.{answers-txn}
 use Rattle.zn_ops.proofs.update.update.Goals as goal
 
 pub transact-requires : goal.transact-requires
 transact-requires c = record { allowed = ap (is_denied c.args.store.now) (update-is _ _ _ c.args.acts c.requires.whole c.in_ok-txn.txn c.in_ok-txn.ensures) ∙ c.requires.allowed }
-
-pub into_revision-requires : goal.into_revision-requires
-into_revision-requires c = ap is_txn c.in_ok-transact.ensures.answer ∙ answers-txn c.args.store.now c.in_ok-txn.txn
 
 pub returns-clause-new : goal.returns-clause-new
 returns-clause-new c =
@@ -22,6 +18,6 @@ returns-clause-new c =
 
 pub returns-clause-zxid : goal.returns-clause-zxid
 returns-clause-zxid c =
-    let fits : SFits w64 c.into_revision.result = search rules in
-    to_z-of_z w64 _ fits ∙ c.into_revision.ensures ∙ ap revision_of c.in_ok-transact.ensures.answer
-    ∙ ap (λ (a : Ask). revision_of (carried_out c.args.store.now a).1) (update-is _ _ _ c.args.acts c.requires.whole c.in_ok-txn.txn c.in_ok-txn.ensures)
+    let fits : SFits w64 c.revision.result = search rules in
+    to_z-of_z w64 _ fits ∙ c.revision.ensures ∙ ap revision_in c.in_ok-transact.ensures.answer
+    ∙ ap (λ (a : Ask). revision_in (carried_out c.args.store.now a).1) (update-is _ _ _ c.args.acts c.requires.whole c.in_ok-txn.txn c.in_ok-txn.ensures)
