@@ -1,3 +1,4 @@
 pub mod Store
 pub mod Ranges
 pub mod Denials
+pub mod Answers

@@ -1,5 +1,8 @@
 //! Answers.
 
+ghost use Rattle.std.specs.Prelude.{◌≡◌};
+ghost use Rattle.ev_types.specs.Answers.{revision_in};
+
 use zx_base::{Bytes, Seq};
 
 /// A key with its value, as etcd keeps it (API reference, `KeyValue`).
@@ -59,4 +62,18 @@ pub enum Answer {
         id: i64,
         ttl: i64,
     },
+}
+
+impl Answer {
+    /// The store's revision after the ask.
+    pub fn revision(&self) -> i64
+        ensures { result ≡ revision_in self.now }
+    {
+        match self {
+            Answer::Txn { revision, .. } => *revision,
+            Answer::Range { revision, .. } => *revision,
+            Answer::Granted { revision, .. } => *revision,
+            Answer::Alive { revision, .. } => *revision,
+        }
+    }
 }

@@ -9,3 +9,6 @@ mod ask;
 
 pub use answer::{ActAns, Answer, Kv, RangeAns};
 pub use ask::{Act, Ask, Guard, RangeReq, TxnReq};
+
+#[cfg(test)]
+mod tests;

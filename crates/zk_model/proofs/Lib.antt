@@ -1,3 +1,15 @@
+pub mod Paths
+pub mod Children
+pub mod Owned
+pub mod Sound
+pub mod PathDefects
+pub mod PathScans
+pub mod ValidPaths
+pub mod PieceLaws
+pub mod WrittenWords
+pub mod LineReading
+pub mod TranscriptLaws
+pub mod ScriptLaws
 pub mod Appending
 pub mod Lookups
 pub mod Walks

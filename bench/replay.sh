@@ -1,0 +1,61 @@
+#!/usr/bin/env bash
+# How long a replay takes, and how much memory: N creates and N reads on one connection, and scripts of tick lines, which
+# show that reading a script is linear and keeps one line. Prints seconds and peak kilobytes; asserts nothing.
+# The store of this stage folds its revisions at each ask, so creates and reads cost N * N.
+set -eu
+here=$(cd "$(dirname "$0")/.." && pwd)
+program=$here/crates/zetcd_cmd/out/zetcd_cmd
+[ -x "$program" ] || "$here/run" replay </dev/null >/dev/null
+work=$(mktemp -d)
+trap 'rm -rf "$work"' EXIT
+
+creates() { # creates N: a script of N creates of /nNNNNN, each read back
+  python3 - "$1" <<'P'
+import sys
+n = int(sys.argv[1])
+acl = "00000001" "0000001f" "00000005" "776f726c64" "00000006" "616e796f6e65"
+print("open 1 1 0000000000000011 " + "aa" * 16)
+for i in range(n):
+    path = b"/n%05d" % i
+    p = "%08x" % len(path) + path.hex()
+    print("frame 1 %08x00000001%s0000000178%s00000000" % (2 * i + 1, p, acl))
+    print("frame 1 %08x00000004%s00" % (2 * i + 2, p))
+print("settle 1")
+P
+}
+
+ticks() { # ticks BYTES: tick lines of together so many bytes, a multiple of 7
+  python3 - "$1" <<'P'
+import sys
+block = "tick 1\n" * 100000
+n = int(sys.argv[1])
+while n >= len(block):
+    sys.stdout.write(block)
+    n -= len(block)
+sys.stdout.write("tick 1\n" * (n // 7))
+P
+}
+
+measure() { # measure LABEL SCRIPT
+  python3 - "$program" "$1" "$2" <<'P'
+import resource, subprocess, sys, time
+program, label, script = sys.argv[1:]
+start = time.time()
+with open(script) as source:
+    status = subprocess.run([program, "replay"], stdin=source, stdout=subprocess.DEVNULL).returncode
+seconds = time.time() - start
+peak = resource.getrusage(resource.RUSAGE_CHILDREN).ru_maxrss
+print("%-28s status %d  %8.2f s  %9d kB" % (label, status, seconds, peak))
+P
+}
+
+for n in 250 500 1000; do
+  creates "$n" >"$work/script"
+  measure "$n creates and reads" "$work/script"
+done
+for n in 10000000 50000000 99999998; do
+  ticks "$n" >"$work/script"
+  measure "$n bytes of ticks" "$work/script"
+done
+printf 'tick 1\n' >>"$work/script"
+measure "too long by a line" "$work/script"

@@ -1,0 +1,28 @@
+-- The words that are written.
+use Rattle.std.specs.Prelude.{ℕ, ℤ, List, ◌∷◌, [], ◌++◌, map, flat_map, codes, decimal}
+use Rattle.std.specs.Fmt.{signed_decimal}
+use Rattle.zk_model.specs.Transcripts.{hex_text, id_text, spaced}
+use Rattle.zt_text.specs.declared.word.Word.{Word}
+use Rattle.zt_text.specs.declared.word.Word.TheVariants.{Name, Number, Signed, Session, Hex}
+
+abbrev pub word_text : Word → List ℕ
+word_text (Name text) = text.now
+word_text (Number n) = decimal n
+word_text (Signed z) = signed_decimal z
+word_text (Session id) = id_text id
+word_text (Hex bytes) = hex_text bytes.now
+
+-- words, each behind a blank
+abbrev pub spaced_behind : List Word → List ℕ
+spaced_behind words = flat_map (λ (w : List ℕ). 32 ∷ w) (map word_text words)
+
+-- a line of these words
+abbrev pub text_of_words : List ℕ → List Word → List ℕ
+text_of_words first words = spaced (first ∷ map word_text words) ++ 10 ∷ []
+
+-- the lines of an update, and of an end, by the words of their kinds
+abbrev pub update_text : ℤ → List (List ℕ) → List ℕ
+update_text zxid words = spaced (codes "update" ∷ signed_decimal zxid ∷ words) ++ 10 ∷ []
+
+abbrev pub close_text : ℕ → List (List ℕ) → List ℕ
+close_text connection words = spaced (codes "close" ∷ decimal connection ∷ words) ++ 10 ∷ []

@@ -1,0 +1,49 @@
+//! The last line of a transcript: `done`, or the fault of the script's line that stopped it.
+
+ghost use Rattle.std.specs.Prelude.{◌≡◌, ◌++◌, OnOk, OnErr};
+ghost use Rattle.zk_model.specs.Runs.{done_text, fault_text, unread_text, why_text};
+
+use crate::word::{Word, push_words};
+use zk_model::{Unread, Why};
+use zx_base::Memory;
+
+/// Adds the line `done`. Without memory, what was there stays, here and below.
+pub fn push_done(out: &mut Vec<u8>) -> Result<(), Memory>
+    ensures ok { OnOk result (out.new.items ≡ out.old.items ++ done_text) }
+    ensures err { OnErr result (out.new.items ≡ out.old.items) }
+{
+    push_words(out, b"done", &[], &[])
+}
+
+/// Adds the fault of a line, by its number from 1, that is not possible.
+pub fn push_fault(out: &mut Vec<u8>, line: u64, why: Why) -> Result<(), Memory>
+    ensures ok { OnOk result (out.new.items ≡ out.old.items ++ fault_text line (why_text why)) }
+    ensures err { OnErr result (out.new.items ≡ out.old.items) }
+{
+    match why {
+        Why::NumberInUse => push_fault_text(out, line, b"number in use"),
+        Why::NoSuchConnection => push_fault_text(out, line, b"no such connection"),
+        Why::TooLong => push_fault_text(out, line, b"too long"),
+        Why::ClockLimit => push_fault_text(out, line, b"clock limit"),
+        Why::NotBuilt => push_fault_text(out, line, b"not built"),
+    }
+}
+
+/// Adds the fault of a line, by its number from 1, that cannot be read.
+pub fn push_unread(out: &mut Vec<u8>, line: u64, unread: Unread) -> Result<(), Memory>
+    ensures ok { OnOk result (out.new.items ≡ out.old.items ++ fault_text line (unread_text unread)) }
+    ensures err { OnErr result (out.new.items ≡ out.old.items) }
+{
+    match unread {
+        Unread::Unreadable => push_fault_text(out, line, b"unreadable line"),
+        Unread::TooLong => push_fault_text(out, line, b"too long"),
+    }
+}
+
+/// Adds `fault`, the line's number and the reason.
+fn push_fault_text(out: &mut Vec<u8>, line: u64, reason: &[u8]) -> Result<(), Memory>
+    ensures ok { OnOk result (out.new.items ≡ out.old.items ++ fault_text line reason.now) }
+    ensures err { OnErr result (out.new.items ≡ out.old.items) }
+{
+    push_words(out, b"fault", &[Word::Number(line)], &[Word::Name(reason)])
+}
