@@ -151,10 +151,19 @@ fn each_body_is_read(rt: HostRuntime) -> Result<(), Fail> {
     Ok(())
 }
 
-/// The place of the first byte that is to blame, in a reply with xid 1 and zxid 3 to a request of this type.
+/// Why a frame is no reply to a request of this type, where it is none.
+fn fault_of(alloc: Global, frame: &[u8], kind: i32) -> Result<Option<WireFault>, Memory> {
+    match read_reply(alloc, frame, kind) {
+        Ok(_) => Ok(None),
+        Err(WireFault::Memory) => Err(Memory),
+        Err(fault) => Ok(Some(fault)),
+    }
+}
+
+/// Frames with xid 1 and zxid 3 to a request of this type, and the place of the first byte that is to blame.
 #[test]
-fn faults_have_their_places(rt: HostRuntime) {
-    let rows: [(i32, &'static [u8], u64); 10] = [
+fn bodies_have_their_places(rt: HostRuntime) -> Result<(), Fail> {
+    let rows: [(i32, &'static [u8], u64); 5] = [
         // bytes after the header of a refusal
         (4, b"\0\0\0\x01\0\0\0\0\0\0\0\x03\xff\xff\xff\x9b\0", 16),
         // bytes after a reply without a body
@@ -169,61 +178,62 @@ fn faults_have_their_places(rt: HostRuntime) {
             b"\0\0\0\x01\0\0\0\0\0\0\0\x03\0\0\0\0\0\0\0\x01\0\0\0\x01\0\0\0\x05world\0\0\0\x06anyone",
             16,
         ),
+    ];
+    for (kind, frame, place) in rows {
+        assert!(rt;
+            fault_of(rt.alloc(), frame, kind)? == Some(WireFault::Unreadable { xid: 1, place }),
+            "place {place}"
+        );
+    }
+    Ok(())
+}
+
+/// The same, of multis.
+#[test]
+fn results_have_their_places(rt: HostRuntime) -> Result<(), Fail> {
+    let rows: [(&'static [u8], u64); 5] = [
         // a header of a result with an error
         (
-            14,
             b"\0\0\0\x01\0\0\0\0\0\0\0\x03\0\0\0\0\0\0\0\x02\0\xff\xff\xff\xff",
             16,
         ),
         // a header of a result of type 15
         (
-            14,
             b"\0\0\0\x01\0\0\0\0\0\0\0\x03\0\0\0\0\0\0\0\x0f\0\0\0\0\0",
             16,
         ),
         // a code that is not the header's
         (
-            14,
             b"\0\0\0\x01\0\0\0\0\0\0\0\x03\0\0\0\0\xff\xff\xff\xff\0\xff\xff\xff\x9b\0\0\0\0",
             16,
         ),
         // a code that is missing
         (
-            14,
             b"\0\0\0\x01\0\0\0\0\0\0\0\x03\0\0\0\0\xff\xff\xff\xff\0\xff\xff\xff\x9b",
             25,
         ),
         // a last header of type 0
         (
-            14,
             b"\0\0\0\x01\0\0\0\0\0\0\0\x03\0\0\0\0\0\0\0\0\x01\xff\xff\xff\xff",
             16,
         ),
     ];
-    for (kind, frame, place) in rows {
-        let read = read_reply(rt.alloc(), frame, kind);
+    for (frame, place) in rows {
         assert!(rt;
-            matches!(read, Err(WireFault::Unreadable { xid: 1, place: at }) if at == place),
+            fault_of(rt.alloc(), frame, 14)? == Some(WireFault::Unreadable { xid: 1, place }),
             "place {place}"
         );
     }
+    Ok(())
 }
 
+/// Fifteen bytes are no header, and setACL is not listed, also where the reply is a refusal.
 #[test]
-fn headers_are_told_apart(rt: HostRuntime) {
+fn headers_are_told_apart(rt: HostRuntime) -> Result<(), Fail> {
     let frame = b"\0\0\0\x01\0\0\0\0\0\0\0\x03\xff\xff\xff\x9b";
-    assert!(rt;
-        matches!(
-            read_reply(rt.alloc(), &frame[..15], 4),
-            Err(WireFault::NoHeader)
-        )
-    );
-    assert!(rt;
-        matches!(
-            read_reply(rt.alloc(), frame, 7),
-            Err(WireFault::Unknown { xid: 1, kind: 7 })
-        )
-    );
+    assert!(rt; fault_of(rt.alloc(), &frame[..15], 4)? == Some(WireFault::NoHeader));
+    assert!(rt; fault_of(rt.alloc(), frame, 7)? == Some(WireFault::Unknown { xid: 1, kind: 7 }));
+    Ok(())
 }
 
 #[test]

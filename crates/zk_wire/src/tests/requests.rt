@@ -201,35 +201,32 @@ fn other_spellings_are_read(rt: HostRuntime) -> Result<(), Fail> {
     Ok(())
 }
 
-/// The place of the first byte that is to blame.
+/// Why a frame is no request, where it is none.
+fn fault_of(alloc: Global, frame: &[u8]) -> Result<Option<WireFault>, Memory> {
+    match read_request(alloc, frame) {
+        Ok(_) => Ok(None),
+        Err(WireFault::Memory) => Err(Memory),
+        Err(fault) => Ok(Some(fault)),
+    }
+}
+
+/// Frames with xid 1, and the place of the first byte that is to blame: in a body that ends too soon, or goes on.
 #[test]
-fn faults_have_their_places(rt: HostRuntime) {
-    let rows: [(&'static [u8], u64); 14] = [
-        // a data length of -2
-        (b"\0\0\0\x01\0\0\0\x01\0\0\0\x02/a\xff\xff\xff\xfe", 14),
+fn missing_bytes_have_their_places(rt: HostRuntime) -> Result<(), Fail> {
+    let rows: [(&'static [u8], u64); 7] = [
         // a count without items
         (
             b"\0\0\0\x01\0\0\0\x01\0\0\0\x02/a\0\0\0\x01x\x7f\xff\xff\xff",
             23,
         ),
         // a byte after the body
-        (b"\0\0\0\x02\0\0\0\x04\0\0\0\x02/a\0\0", 15),
-        // a path that is not UTF-8
-        (b"\0\0\0\x01\0\0\0\x03\0\0\0\x01\xff\0", 8),
-        // a part of type 15
-        (b"\0\0\0\x01\0\0\0\x0e\0\0\0\x0f\0\xff\xff\xff\xff", 8),
-        // a part of an unlisted type, and half an error
-        (b"\0\0\0\x01\0\0\0\x0e\0\0\0\x63\0\xff", 8),
+        (b"\0\0\0\x01\0\0\0\x04\0\0\0\x02/a\0\0", 15),
         // a type, and not known whether it is the last
         (b"\0\0\0\x01\0\0\0\x0e\0\0\0\x63", 12),
         // no header at all
         (b"\0\0\0\x01\0\0\0\x0e", 8),
-        // a path of length -1
-        (b"\0\0\0\x01\0\0\0\x09\xff\xff\xff\xff", 8),
         // a buffer past the end
         (b"\0\0\0\x01\0\0\0\x05\0\0\0\x01/\0\0\0\x09x", 13),
-        // a count of -2
-        (b"\0\0\0\x01\0\0\0\x65\0\0\0\0\0\0\0\0\xff\xff\xff\xfe", 16),
         // an entry without its scheme
         (
             b"\0\0\0\x01\0\0\0\x01\0\0\0\x02/a\0\0\0\0\0\0\0\x01\0\0\0\x1f",
@@ -237,45 +234,68 @@ fn faults_have_their_places(rt: HostRuntime) {
         ),
         // a boolean that is missing
         (b"\0\0\0\x01\0\0\0\x03\0\0\0\x01/", 13),
+    ];
+    for (frame, place) in rows {
+        assert!(rt;
+            fault_of(rt.alloc(), frame)? == Some(WireFault::Unreadable { xid: 1, place }),
+            "place {place}"
+        );
+    }
+    Ok(())
+}
+
+/// The same, in a body with a length, a text or a type that cannot be.
+#[test]
+fn wrong_bytes_have_their_places(rt: HostRuntime) -> Result<(), Fail> {
+    let rows: [(&'static [u8], u64); 7] = [
+        // a data length of -2
+        (b"\0\0\0\x01\0\0\0\x01\0\0\0\x02/a\xff\xff\xff\xfe", 14),
+        // a path that is not UTF-8
+        (b"\0\0\0\x01\0\0\0\x03\0\0\0\x01\xff\0", 8),
+        // a part of type 15
+        (b"\0\0\0\x01\0\0\0\x0e\0\0\0\x0f\0\xff\xff\xff\xff", 8),
+        // a part of an unlisted type, and half an error
+        (b"\0\0\0\x01\0\0\0\x0e\0\0\0\x63\0\xff", 8),
+        // a path of length -1
+        (b"\0\0\0\x01\0\0\0\x09\xff\xff\xff\xff", 8),
+        // a count of -2
+        (b"\0\0\0\x01\0\0\0\x65\0\0\0\0\0\0\0\0\xff\xff\xff\xfe", 16),
         // bytes after a body that is empty
         (b"\0\0\0\x01\0\0\0\x0b\x09", 8),
     ];
     for (frame, place) in rows {
-        let read = read_request(rt.alloc(), frame);
         assert!(rt;
-            matches!(read, Err(WireFault::Unreadable { place: at, .. }) if at == place),
+            fault_of(rt.alloc(), frame)? == Some(WireFault::Unreadable { xid: 1, place }),
             "place {place}"
         );
     }
+    Ok(())
 }
 
+/// Seven bytes are no header, and setACL is not listed.
 #[test]
-fn headers_are_told_apart(rt: HostRuntime) {
-    assert!(rt;
-        matches!(
-            read_request(rt.alloc(), b"\0\0\0\x01\0\0\0"),
-            Err(WireFault::NoHeader)
-        )
-    );
-    assert!(rt; matches!(read_request(rt.alloc(), b""), Err(WireFault::NoHeader)));
-    // setACL is not listed
-    let read = read_request(rt.alloc(), b"\0\0\0\x05\0\0\0\x07");
-    assert!(rt; matches!(read, Err(WireFault::Unknown { xid: 5, kind: 7 })));
+fn headers_are_told_apart(rt: HostRuntime) -> Result<(), Fail> {
+    assert!(rt; fault_of(rt.alloc(), b"\0\0\0\x01\0\0\0")? == Some(WireFault::NoHeader));
+    let unknown = WireFault::Unknown { xid: 5, kind: 7 };
+    assert!(rt; fault_of(rt.alloc(), b"\0\0\0\x05\0\0\0\x07")? == Some(unknown));
+    Ok(())
 }
 
 /// A multi that is cut is unreadable where it ends or before.
 #[test]
-fn cut_multi_is_unreadable(rt: HostRuntime) {
+fn cut_multi_is_unreadable(rt: HostRuntime) -> Result<(), Fail> {
     for end in 8..MULTI.len() {
-        let read = read_request(rt.alloc(), &MULTI[..end]);
-        assert!(rt;
-            matches!(read, Err(WireFault::Unreadable { xid: 1, place }) if 8 <= place && place <= end as u64),
-            "end {end}"
-        );
+        match fault_of(rt.alloc(), &MULTI[..end])? {
+            Some(WireFault::Unreadable { xid, place }) => {
+                assert!(rt; xid == 1 && 8 <= place && place <= end as u64, "end {end}");
+            }
+            _ => assert!(rt; false, "end {end}"),
+        }
     }
+    Ok(())
 }
 
-/// The connect of the usual Java client; of an older one, which has no read-only byte; and one that is cut.
+/// The connect of the usual Java client, and of an older one, which has no read-only byte.
 #[test]
 fn connects_are_read(rt: HostRuntime) -> Result<(), Fail> {
     let frame =
@@ -291,35 +311,31 @@ fn connects_are_read(rt: HostRuntime) -> Result<(), Fail> {
     assert!(rt; connect.read_only == Some(false));
     let older = read_connect(rt.alloc(), &frame[..44])?;
     assert!(rt; older.read_only == None);
-    assert!(rt;
-        matches!(
-            read_connect(rt.alloc(), &frame[..43]),
-            Err(WireFault::NoHeader)
-        )
-    );
     Ok(())
 }
 
-/// An auth with xid -4, an exists, a ping with xid -2 and a close, as the usual Java client sends them.
+/// A password of length -2, and one that ends too soon.
 #[test]
-fn client_frames_are_read(rt: HostRuntime) {
+fn other_frames_are_no_connects(rt: HostRuntime) {
+    let frame = b"\0\0\0\0\0\0\0\0\0\0\0\0\0\0\x75\x30\0\0\0\0\0\0\0\0\xff\xff\xff\xfe";
+    assert!(rt; matches!(read_connect(rt.alloc(), frame), Err(WireFault::NoHeader)));
+    assert!(rt;
+        matches!(
+            read_connect(rt.alloc(), &frame[..27]),
+            Err(WireFault::NoHeader)
+        )
+    );
+}
+
+/// An auth with xid -4 and a ping with xid -2, as the usual Java client sends them.
+#[test]
+fn client_frames_are_read(rt: HostRuntime) -> Result<(), Fail> {
     let auth = read_request(
         rt.alloc(),
         b"\xff\xff\xff\xfc\0\0\0\x64\0\0\0\0\0\0\0\x06digest\0\0\0\x03u:p",
-    );
-    assert!(rt; matches!(auth, Ok((-4, Request::Auth { kind: 0, .. }))));
-    let exists = read_request(rt.alloc(), b"\0\0\0\x01\0\0\0\x03\0\0\0\x02/a\x01");
-    assert!(rt; matches!(exists, Ok((1, Request::Exists { watch: true, .. }))));
-    assert!(rt;
-        matches!(
-            read_request(rt.alloc(), b"\xff\xff\xff\xfe\0\0\0\x0b"),
-            Ok((-2, Request::Ping))
-        )
-    );
-    assert!(rt;
-        matches!(
-            read_request(rt.alloc(), b"\0\0\0\x02\xff\xff\xff\xf5"),
-            Ok((2, Request::Close))
-        )
-    );
+    )?;
+    assert!(rt; matches!(auth, (-4, Request::Auth { kind: 0, .. })));
+    let ping = read_request(rt.alloc(), b"\xff\xff\xff\xfe\0\0\0\x0b")?;
+    assert!(rt; matches!(ping, (-2, Request::Ping)));
+    Ok(())
 }
