@@ -6,82 +6,69 @@ use crate::{
     write_reply,
 };
 use std::alloc::Global;
-use std::process::Abort;
 use std::test::Fail;
 use zk_model::{Body, ConnectResponse, Notice, PartResult, Reply};
 use zx_base::{Memory, Seq};
 
-/// A reply, the type of the request that it answers, and its frame with xid 1 and zxid 3.
-type Row = (Reply, i32, &'static [u8]);
-
-fn one_value(alloc: Global) -> Result<Vec<Row>, Memory> {
-    let mut rows: Vec<Row> = Vec::new(alloc);
-    rows.push((
-        Reply::Good(Body::Path(text(alloc, b"/a")?)),
-        1,
-        b"\0\0\0\x01\0\0\0\0\0\0\0\x03\0\0\0\0\0\0\0\x02/a",
-    ))?;
-    rows.push((
-        Reply::Good(Body::Empty),
-        2,
-        b"\0\0\0\x01\0\0\0\0\0\0\0\x03\0\0\0\0",
-    ))?;
-    rows.push((
-        Reply::Good(Body::Names(texts(alloc, &[b"b", b"c"])?)),
-        8,
-        b"\0\0\0\x01\0\0\0\0\0\0\0\x03\0\0\0\0\0\0\0\x02\0\0\0\x01b\0\0\0\x01c",
-    ))?;
-    rows.push((
-        Reply::Refused(-101),
-        4,
-        b"\0\0\0\x01\0\0\0\0\0\0\0\x03\xff\xff\xff\x9b",
-    ))?;
-    Ok(rows)
+/// What a reply says.
+#[derive(Clone, Copy)]
+enum Said {
+    Path,
+    Empty,
+    Names,
+    Refused,
+    Stat,
+    Content,
+    OpenAcl,
+    NamesStat,
+    Parts,
+    Codes,
 }
 
-fn with_stat(alloc: Global) -> Result<Vec<Row>, Memory> {
-    let mut rows: Vec<Row> = Vec::new(alloc);
-    rows.push((
-        Reply::Good(Body::Stat(STAT)),
+/// Frames with xid 1 and zxid 3, and the type of the request that each answers; `reply` makes what they spell.
+const FRAMES: [(Said, i32, &'static [u8]); 10] = [
+    (
+        Said::Path,
+        1,
+        b"\0\0\0\x01\0\0\0\0\0\0\0\x03\0\0\0\0\0\0\0\x02/a",
+    ),
+    (Said::Empty, 2, b"\0\0\0\x01\0\0\0\0\0\0\0\x03\0\0\0\0"),
+    (
+        Said::Names,
+        8,
+        b"\0\0\0\x01\0\0\0\0\0\0\0\x03\0\0\0\0\0\0\0\x02\0\0\0\x01b\0\0\0\x01c",
+    ),
+    (
+        Said::Refused,
+        4,
+        b"\0\0\0\x01\0\0\0\0\0\0\0\x03\xff\xff\xff\x9b",
+    ),
+    (
+        Said::Stat,
         3,
         b"\0\0\0\x01\0\0\0\0\0\0\0\x03\0\0\0\0\
 \0\0\0\0\0\0\0\x01\0\0\0\0\0\0\0\x02\0\0\0\0\0\0\0\x03\0\0\0\0\0\0\0\x04\0\0\0\x05\0\0\0\x06\0\0\0\0\0\0\0\0\0\0\0\x07\0\0\0\x08\0\0\0\x09\0\0\0\0\0\0\0\x0a",
-    ))?;
-    rows.push((
-        Reply::Good(Body::Content(text(alloc, b"x")?, STAT)),
+    ),
+    (
+        Said::Content,
         4,
         b"\0\0\0\x01\0\0\0\0\0\0\0\x03\0\0\0\0\0\0\0\x01x\
 \0\0\0\0\0\0\0\x01\0\0\0\0\0\0\0\x02\0\0\0\0\0\0\0\x03\0\0\0\0\0\0\0\x04\0\0\0\x05\0\0\0\x06\0\0\0\0\0\0\0\0\0\0\0\x07\0\0\0\x08\0\0\0\x09\0\0\0\0\0\0\0\x0a",
-    ))?;
-    rows.push((
-        Reply::Good(Body::OpenAcl(STAT)),
+    ),
+    (
+        Said::OpenAcl,
         6,
         b"\0\0\0\x01\0\0\0\0\0\0\0\x03\0\0\0\0\0\0\0\x01\0\0\0\x1f\0\0\0\x05world\0\0\0\x06anyone\
 \0\0\0\0\0\0\0\x01\0\0\0\0\0\0\0\x02\0\0\0\0\0\0\0\x03\0\0\0\0\0\0\0\x04\0\0\0\x05\0\0\0\x06\0\0\0\0\0\0\0\0\0\0\0\x07\0\0\0\x08\0\0\0\x09\0\0\0\0\0\0\0\x0a",
-    ))?;
-    rows.push((
-        Reply::Good(Body::NamesStat(texts(alloc, &[b"b"])?, STAT)),
+    ),
+    (
+        Said::NamesStat,
         12,
         b"\0\0\0\x01\0\0\0\0\0\0\0\x03\0\0\0\0\0\0\0\x01\0\0\0\x01b\
 \0\0\0\0\0\0\0\x01\0\0\0\0\0\0\0\x02\0\0\0\0\0\0\0\x03\0\0\0\0\0\0\0\x04\0\0\0\x05\0\0\0\x06\0\0\0\0\0\0\0\0\0\0\0\x07\0\0\0\x08\0\0\0\x09\0\0\0\0\0\0\0\x0a",
-    ))?;
-    Ok(rows)
-}
-
-/// A multi that was carried out, and one of which the second part was refused.
-fn multis(alloc: Global) -> Result<Vec<Row>, Memory> {
-    let mut good = Seq::new(alloc);
-    good.push(PartResult::Created(text(alloc, b"/m")?))?;
-    good.push(PartResult::Deleted)?;
-    good.push(PartResult::Set(STAT))?;
-    good.push(PartResult::Checked)?;
-    let mut refused = Seq::new(alloc);
-    refused.push(PartResult::Code(0))?;
-    refused.push(PartResult::Code(-101))?;
-    refused.push(PartResult::Code(-2))?;
-    let mut rows: Vec<Row> = Vec::new(alloc);
-    rows.push((
-        Reply::Good(Body::Parts(good)),
+    ),
+    (
+        Said::Parts,
         14,
         b"\0\0\0\x01\0\0\0\0\0\0\0\x03\0\0\0\0\
 \0\0\0\x01\0\0\0\0\0\0\0\0\x02/m\
@@ -90,45 +77,93 @@ fn multis(alloc: Global) -> Result<Vec<Row>, Memory> {
 \0\0\0\0\0\0\0\x01\0\0\0\0\0\0\0\x02\0\0\0\0\0\0\0\x03\0\0\0\0\0\0\0\x04\0\0\0\x05\0\0\0\x06\0\0\0\0\0\0\0\0\0\0\0\x07\0\0\0\x08\0\0\0\x09\0\0\0\0\0\0\0\x0a\
 \0\0\0\x0d\0\0\0\0\0\
 \xff\xff\xff\xff\x01\xff\xff\xff\xff",
-    ))?;
-    rows.push((
-        Reply::Good(Body::Parts(refused)),
+    ),
+    (
+        Said::Codes,
         14,
         b"\0\0\0\x01\0\0\0\0\0\0\0\x03\0\0\0\0\
 \xff\xff\xff\xff\0\0\0\0\0\0\0\0\0\
 \xff\xff\xff\xff\0\xff\xff\xff\x9b\xff\xff\xff\x9b\
 \xff\xff\xff\xff\0\xff\xff\xff\xfe\xff\xff\xff\xfe\
 \xff\xff\xff\xff\x01\xff\xff\xff\xff",
-    ))?;
-    Ok(rows)
+    ),
+];
+
+fn reply(alloc: Global, said: Said) -> Result<Reply, Memory> {
+    match said {
+        Said::Refused => Ok(Reply::Refused(-101)),
+        said => Ok(Reply::Good(body(alloc, said)?)),
+    }
 }
 
-/// Asserts that each reply is written as its frame, and that the frame is read as what is written so again.
-fn go_both_ways(rt: &impl Abort, alloc: Global, rows: &[Row]) -> Result<(), Fail> {
-    for (reply, kind, frame) in rows {
-        assert!(rt; reply_can_be_sent(reply));
-        assert!(rt; is_packet(&write_reply(alloc, 1, 3, reply)?, frame));
-        let (xid, zxid, read) = read_reply(alloc, frame, *kind)?;
-        assert_eq!(rt; xid, 1);
-        assert_eq!(rt; zxid, 3);
-        assert!(rt; reply_can_be_sent(&read));
-        assert!(rt; is_packet(&write_reply(alloc, xid, zxid, &read)?, frame));
+fn body(alloc: Global, said: Said) -> Result<Body, Memory> {
+    match said {
+        Said::Path => Ok(Body::Path(text(alloc, b"/a")?)),
+        Said::Names => Ok(Body::Names(texts(alloc, &[b"b", b"c"])?)),
+        Said::Stat => Ok(Body::Stat(STAT)),
+        Said::Content => Ok(Body::Content(text(alloc, b"x")?, STAT)),
+        Said::OpenAcl => Ok(Body::OpenAcl(STAT)),
+        Said::NamesStat => Ok(Body::NamesStat(texts(alloc, &[b"b"])?, STAT)),
+        Said::Parts => Ok(Body::Parts(parts(alloc)?)),
+        Said::Codes => Ok(Body::Parts(codes(alloc)?)),
+        Said::Empty | Said::Refused => Ok(Body::Empty),
+    }
+}
+
+/// The results of a multi that was carried out.
+fn parts(alloc: Global) -> Result<Seq<PartResult>, Memory> {
+    let mut results = Seq::new(alloc);
+    results.push(PartResult::Created(text(alloc, b"/m")?))?;
+    results.push(PartResult::Deleted)?;
+    results.push(PartResult::Set(STAT))?;
+    results.push(PartResult::Checked)?;
+    Ok(results)
+}
+
+/// Those of one whose second part was refused: a part before it has the code 0, one behind it -2.
+fn codes(alloc: Global) -> Result<Seq<PartResult>, Memory> {
+    let mut results = Seq::new(alloc);
+    for code in [0, -101, -2] {
+        results.push(PartResult::Code(code))?;
+    }
+    Ok(results)
+}
+
+#[test]
+fn each_body_is_written(rt: HostRuntime) -> Result<(), Fail> {
+    for (said, _, frame) in FRAMES {
+        let reply = reply(rt.alloc(), said)?;
+        assert!(rt; reply_can_be_sent(&reply));
+        assert!(rt; is_packet(&write_reply(rt.alloc(), 1, 3, &reply)?, frame));
     }
     Ok(())
 }
 
+/// What is read of a frame is written as that frame again.
 #[test]
-fn each_body_is_written_and_read(rt: HostRuntime) -> Result<(), Fail> {
-    let alloc = rt.alloc();
-    go_both_ways(&rt, alloc, &one_value(alloc)?)?;
-    go_both_ways(&rt, alloc, &with_stat(alloc)?)?;
-    go_both_ways(&rt, alloc, &multis(alloc)?)
+fn each_body_is_read(rt: HostRuntime) -> Result<(), Fail> {
+    for (_, kind, frame) in FRAMES {
+        let (xid, zxid, reply) = read_reply(rt.alloc(), frame, kind)?;
+        assert!(rt; xid == 1 && zxid == 3);
+        assert!(rt; reply_can_be_sent(&reply));
+        assert!(rt; is_packet(&write_reply(rt.alloc(), xid, zxid, &reply)?, frame));
+    }
+    Ok(())
 }
 
-/// The place of the first byte that is to blame, in a reply with xid 1 and zxid 3 to a request of this type.
+/// Why a frame is no reply to a request of this type, where it is none.
+fn fault_of(alloc: Global, frame: &[u8], kind: i32) -> Result<Option<WireFault>, Memory> {
+    match read_reply(alloc, frame, kind) {
+        Ok(_) => Ok(None),
+        Err(WireFault::Memory) => Err(Memory),
+        Err(fault) => Ok(Some(fault)),
+    }
+}
+
+/// Frames with xid 1 and zxid 3 to a request of this type, and the place of the first byte that is to blame.
 #[test]
-fn faults_have_their_places(rt: HostRuntime) {
-    let rows: [(i32, &'static [u8], u64); 10] = [
+fn bodies_have_their_places(rt: HostRuntime) -> Result<(), Fail> {
+    let rows: [(i32, &'static [u8], u64); 5] = [
         // bytes after the header of a refusal
         (4, b"\0\0\0\x01\0\0\0\0\0\0\0\x03\xff\xff\xff\x9b\0", 16),
         // bytes after a reply without a body
@@ -143,82 +178,66 @@ fn faults_have_their_places(rt: HostRuntime) {
             b"\0\0\0\x01\0\0\0\0\0\0\0\x03\0\0\0\0\0\0\0\x01\0\0\0\x01\0\0\0\x05world\0\0\0\x06anyone",
             16,
         ),
+    ];
+    for (kind, frame, place) in rows {
+        assert!(rt;
+            fault_of(rt.alloc(), frame, kind)? == Some(WireFault::Unreadable { xid: 1, place }),
+            "place {place}"
+        );
+    }
+    Ok(())
+}
+
+/// The same, of multis.
+#[test]
+fn results_have_their_places(rt: HostRuntime) -> Result<(), Fail> {
+    let rows: [(&'static [u8], u64); 5] = [
         // a header of a result with an error
         (
-            14,
             b"\0\0\0\x01\0\0\0\0\0\0\0\x03\0\0\0\0\0\0\0\x02\0\xff\xff\xff\xff",
             16,
         ),
         // a header of a result of type 15
         (
-            14,
             b"\0\0\0\x01\0\0\0\0\0\0\0\x03\0\0\0\0\0\0\0\x0f\0\0\0\0\0",
             16,
         ),
         // a code that is not the header's
         (
-            14,
             b"\0\0\0\x01\0\0\0\0\0\0\0\x03\0\0\0\0\xff\xff\xff\xff\0\xff\xff\xff\x9b\0\0\0\0",
             16,
         ),
         // a code that is missing
         (
-            14,
             b"\0\0\0\x01\0\0\0\0\0\0\0\x03\0\0\0\0\xff\xff\xff\xff\0\xff\xff\xff\x9b",
             25,
         ),
         // a last header of type 0
         (
-            14,
             b"\0\0\0\x01\0\0\0\0\0\0\0\x03\0\0\0\0\0\0\0\0\x01\xff\xff\xff\xff",
             16,
         ),
     ];
-    for (kind, frame, place) in rows {
-        let read = read_reply(rt.alloc(), frame, kind);
+    for (frame, place) in rows {
         assert!(rt;
-            matches!(read, Err(WireFault::Unreadable { xid: 1, place: at }) if at == place),
+            fault_of(rt.alloc(), frame, 14)? == Some(WireFault::Unreadable { xid: 1, place }),
             "place {place}"
         );
     }
+    Ok(())
 }
 
+/// Fifteen bytes are no header, and setACL is not listed, also where the reply is a refusal.
 #[test]
-fn headers_are_told_apart(rt: HostRuntime) {
+fn headers_are_told_apart(rt: HostRuntime) -> Result<(), Fail> {
     let frame = b"\0\0\0\x01\0\0\0\0\0\0\0\x03\xff\xff\xff\x9b";
-    assert!(rt;
-        matches!(
-            read_reply(rt.alloc(), &frame[..15], 4),
-            Err(WireFault::NoHeader)
-        )
-    );
-    assert!(rt;
-        matches!(
-            read_reply(rt.alloc(), frame, 7),
-            Err(WireFault::Unknown { xid: 1, kind: 7 })
-        )
-    );
-}
-
-/// A multi whose second part was refused: its first part has code 0, the last one -2.
-#[test]
-fn refused_multi_is_written(rt: HostRuntime) -> Result<(), Fail> {
-    let alloc = rt.alloc();
-    let mut results = Seq::new(alloc);
-    results.push(PartResult::Code(0))?;
-    results.push(PartResult::Code(-101))?;
-    results.push(PartResult::Code(-2))?;
-    let reply = Reply::Good(Body::Parts(results));
-    assert!(rt; reply_can_be_sent(&reply));
-    let frame =
-        b"\0\0\0\x07\0\0\0\0\0\0\0\x03\0\0\0\0\xff\xff\xff\xff\0\0\0\0\0\0\0\0\0\xff\xff\xff\xff\0\xff\xff\xff\x9b\xff\xff\xff\x9b\xff\xff\xff\xff\0\xff\xff\xff\xfe\xff\xff\xff\xfe\xff\xff\xff\xff\x01\xff\xff\xff\xff";
-    assert_eq!(rt; frame.len(), 0x40);
-    assert!(rt; is_packet(&write_reply(alloc, 7, 3, &reply)?, frame));
+    assert!(rt; fault_of(rt.alloc(), &frame[..15], 4)? == Some(WireFault::NoHeader));
+    assert!(rt; fault_of(rt.alloc(), frame, 7)? == Some(WireFault::Unknown { xid: 1, kind: 7 }));
     Ok(())
 }
 
 #[test]
-fn server_packets_are_written(rt: HostRuntime) -> Result<(), Fail> {
+fn notices_are_written(rt: HostRuntime) -> Result<(), Fail> {
     let alloc = rt.alloc();
     let notice = Notice {
         kind: 3,
@@ -228,6 +247,13 @@ fn server_packets_are_written(rt: HostRuntime) -> Result<(), Fail> {
     let frame =
         b"\xff\xff\xff\xff\xff\xff\xff\xff\xff\xff\xff\xff\0\0\0\0\0\0\0\x03\0\0\0\x03\0\0\0\x02/a";
     assert!(rt; is_packet(&write_notice(alloc, &notice)?, frame));
+    Ok(())
+}
+
+/// To a client that sent the read-only byte, and to an older one.
+#[test]
+fn connects_are_answered(rt: HostRuntime) -> Result<(), Fail> {
+    let alloc = rt.alloc();
     let welcome = ConnectResponse {
         timeout: 30_000,
         session: 17,
