@@ -11,6 +11,7 @@ mod fault;
 mod node;
 mod outcome;
 mod requests;
+mod multi;
 mod stat;
 mod tree;
 mod turn;
