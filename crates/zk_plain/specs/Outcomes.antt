@@ -5,9 +5,11 @@ use Rattle.zk_model.specs.PathFaults.{is_valid, tested}
 use Rattle.zk_plain.specs.declared.outcome.Outcome.{Outcome as Answer}
 use Rattle.zk_plain.specs.declared.outcome.Outcome.TheVariants as answer
 use Rattle.zk_model.specs.Single.{Outcome, Refused, Done}
-use Rattle.zk_model.specs.Multi.{Parts, Stopped, Passed, most_load}
+use Rattle.zk_model.specs.Multi.{Parts, Stopped, Passed, Several, Denied, Codes, All as AllDone, most_load}
 use Rattle.zk_plain.specs.declared.multi.Parts.{Parts as Chain}
 use Rattle.zk_plain.specs.declared.multi.Parts.TheVariants as chain
+use Rattle.zk_plain.specs.declared.multi.Transaction.{Transaction}
+use Rattle.zk_plain.specs.declared.multi.Transaction.TheVariants as answers
 
 abbrev pub outcome_of : Answer → Outcome
 outcome_of (answer.Refused code) = Refused code
@@ -29,3 +31,8 @@ IsPlacedBelow (chain.Passed results tree triggers touched) n = ⊤
 -- a load that is not above the most
 abbrev pub within : ℕ → Option ℕ
 within n = if nat_le n most_load then Some n else None
+
+abbrev pub several_as : Transaction → Several
+several_as (answers.Denied code) = Denied code
+several_as (answers.Codes row) = Codes row
+several_as (answers.All results tree triggers) = AllDone results tree triggers

@@ -1,11 +1,14 @@
 //! Several requests as one transaction (`multi` of the ZooKeeper API).
 
-ghost use Rattle.std.specs.Prelude.{◌≡◌, ◌∷◌, [], ◌+◌, ◌++◌, ℕ, length, sum_by, IfOk};
+ghost use Rattle.std.specs.Prelude.{◌≡◌, ◌∷◌, [], ◌+◌, ◌++◌, ◌<◌, ℕ, length, nat_lt, replicate, sum_by, IfOk};
 ghost use Rattle.std.specs.FinMap.{get};
 ghost use Rattle.std.specs.Option.{option_to_list};
-ghost use Rattle.zk_model.specs.Multi.{data_len, parts_of, then_parts, touched_by, owner_list};
-ghost use Rattle.zk_plain.specs.Outcomes.{parts_as, IsPlacedBelow, within};
+ghost use Rattle.zk_model.specs.declared.reply.PartResult.TheVariants.{Code};
+ghost use Rattle.zk_model.specs.Multi.{data_len, distinct, load, most_load, row_of, several, parts_of, then_parts, touched_by, owner_list};
+ghost use Rattle.zk_model.specs.Znodes.{owned};
+ghost use Rattle.zk_plain.specs.Outcomes.{parts_as, IsPlacedBelow, several_as, within};
 
+use crate::code::{BAD_ARGUMENTS, OK, RUNTIME_INCONSISTENCY};
 use crate::create::is_ephemeral;
 use crate::fault::Fault;
 use crate::outcome::Outcome;
@@ -13,6 +16,7 @@ use crate::requests::single;
 use crate::tree::Tree;
 use crate::turn::Turn;
 use std::alloc::Global;
+use std::collections::BTreeSet;
 use zk_model::{Part, PartResult, Path, Trigger};
 use zx_base::{Memory, Seq};
 
@@ -178,4 +182,103 @@ fn path_load(paths: &[Path], before: Option<usize>) -> Option<usize>
         sum = add_within(sum, path.bytes().len());
     }
     sum
+}
+
+/// Each session once, in the order of their numbers.
+fn distinct(alloc: Global, sessions: &[i64]) -> Result<Vec<i64>, Memory>
+    ensures { IfOk result (λ v. v.items ≡ distinct sessions.now) }
+{
+    let mut once = BTreeSet::new(alloc);
+    for session in sessions {
+        once.insert(*session)?;
+    }
+    Ok(once.iter().copied().collect(alloc)?)
+}
+
+/// The bytes of the paths that each of these sessions owns, added.
+fn owned_load(
+    alloc: Global,
+    tree: &Tree,
+    sessions: &[i64],
+    before: Option<usize>,
+) -> Result<Option<usize>, Memory>
+    ensures { IfOk result (λ sum. (n : ℕ) → before ≡ within n → sum ≡ within (n + sum_by (λ s. sum_by length (owned tree.now s)) sessions.now)) }
+{
+    let mut sum = before;
+    for session in sessions {
+        let paths = tree.owned(alloc, *session)?;
+        sum = path_load(&paths, sum);
+    }
+    Ok(sum)
+}
+
+/// Whether the load of a transaction on this tree is above the most.
+fn exceeds(alloc: Global, tree: &Tree, parts: &[Part], touched: &[i64]) -> Result<bool, Memory>
+    ensures { IfOk result (λ above. above ≡ nat_lt most_load (load tree.now parts.now touched.now)) }
+{
+    let sessions = distinct(alloc, touched)?;
+    Ok(owned_load(alloc, tree, &sessions, data_load(parts))?.is_none())
+}
+
+/// So many times the same code.
+fn codes(alloc: Global, len: usize, code: i32) -> Result<Vec<PartResult>, Memory>
+    ensures { IfOk result (λ v. v.items ≡ replicate len (Code code)) }
+{
+    let mut row = Vec::new(alloc);
+    for _ in 0..len {
+        row.push(PartResult::Code(code))?;
+    }
+    Ok(row)
+}
+
+/// The row of codes of a transaction whose part at this place is refused.
+fn row_of(alloc: Global, len: usize, place: usize, code: i32) -> Result<Vec<PartResult>, Memory>
+    requires { place < len }
+    ensures { IfOk result (λ row. row.items ≡ row_of len place code) }
+{
+    let earlier = codes(alloc, place, OK)?;
+    let refused = listed(alloc, PartResult::Code(code))?;
+    let later = codes(alloc, len - place - 1, RUNTIME_INCONSISTENCY)?;
+    Ok(joined(earlier, joined(refused, later)?)?)
+}
+
+#[derive(Debug, Drop)]
+pub enum Transaction {
+    /// The transaction is refused as a whole.
+    Denied(i32),
+    /// A part is refused: the code of each part.
+    Codes(Seq<PartResult>),
+    All {
+        results: Seq<PartResult>,
+        tree: Tree,
+        triggers: Seq<Trigger>,
+    },
+}
+
+/// What several requests make of the tree, as one transaction.
+#[tactic(auto, unfolding(zk_model::specs::Multi::several))]
+pub fn several(alloc: Global, tree: &Tree, turn: &Turn, parts: &[Part]) -> Result<Transaction, Fault>
+    ensures { IfOk result (λ s. several_as s ≡ several tree.now turn.now.limit turn.now.session parts.now turn.now.zxid turn.now.moment) }
+{
+    match parts_of(alloc, tree, turn, parts)? {
+        Parts::Stopped { place, code } => {
+            let row = row_of(alloc, parts.len(), place, code)?;
+            Ok(Transaction::Codes(Seq::from_vec(row)))
+        }
+        Parts::Passed {
+            results,
+            tree: next,
+            triggers,
+            touched,
+        } => {
+            if exceeds(alloc, tree, parts, &touched)? {
+                return Ok(Transaction::Denied(BAD_ARGUMENTS));
+            }
+            Ok(Transaction::All {
+                results: Seq::from_vec(results),
+                tree: next,
+                triggers: Seq::from_vec(triggers),
+            })
+        }
+    }
 }
