@@ -1,11 +1,12 @@
 //! Several requests as one transaction (`multi` of the ZooKeeper API).
 
-ghost use Rattle.std.specs.Prelude.{◌≡◌, ◌∷◌, [], ◌+◌, ◌++◌, ◌<◌, ℕ, length, nat_lt, replicate, sum_by, IfOk};
+ghost use Rattle.std.specs.Prelude.{◌≡◌, ◌∷◌, [], ◌+◌, ◌++◌, ◌<◌, ℕ, length, nat_lt, replicate, sum_by, IfOk, IfErr};
 ghost use Rattle.std.specs.FinMap.{get};
 ghost use Rattle.std.specs.Option.{option_to_list};
 ghost use Rattle.zk_model.specs.declared.reply.PartResult.TheVariants.{Code};
 ghost use Rattle.zk_model.specs.Multi.{data_len, distinct, load, most_load, row_of, several, parts_of, then_parts, touched_by, owner_list};
 ghost use Rattle.zk_model.specs.Znodes.{owned};
+ghost use Rattle.zk_plain.specs.Faults.{BeyondUnless, StaysWithin};
 ghost use Rattle.zk_plain.specs.Outcomes.{parts_as, IsPlacedBelow, several_as, within};
 
 use crate::code::{BAD_ARGUMENTS, OK, RUNTIME_INCONSISTENCY};
@@ -116,6 +117,7 @@ fn passed_on(
 fn parts_of(alloc: Global, tree: &Tree, turn: &Turn, parts: &[Part]) -> Result<Parts, Fault>
     ensures ok { IfOk result (λ p. parts_as p ≡ parts_of tree.now turn.now.limit turn.now.session parts.now turn.now.zxid turn.now.moment) }
     ensures within { IfOk result (λ p. IsPlacedBelow p (length parts.now)) }
+    ensures beyond { IfErr result (BeyondUnless (StaysWithin tree.now turn.now.limit turn.now.session parts.now turn.now.zxid turn.now.moment)) }
 {
     match parts {
         [] => Ok(Parts::Passed {
@@ -258,7 +260,8 @@ pub enum Transaction {
 /// What several requests make of the tree, as one transaction.
 #[tactic(auto, unfolding(zk_model::specs::Multi::several))]
 pub fn several(alloc: Global, tree: &Tree, turn: &Turn, parts: &[Part]) -> Result<Transaction, Fault>
-    ensures { IfOk result (λ s. several_as s ≡ several tree.now turn.now.limit turn.now.session parts.now turn.now.zxid turn.now.moment) }
+    ensures ok { IfOk result (λ s. several_as s ≡ several tree.now turn.now.limit turn.now.session parts.now turn.now.zxid turn.now.moment) }
+    ensures beyond { IfErr result (BeyondUnless (StaysWithin tree.now turn.now.limit turn.now.session parts.now turn.now.zxid turn.now.moment)) }
 {
     match parts_of(alloc, tree, turn, parts)? {
         Parts::Stopped { place, code } => {
