@@ -1,6 +1,8 @@
 //! Error codes (`KeeperException.Code`, release 3.4).
 
+pub const OK: i32 = 0;
 pub const SYSTEM_ERROR: i32 = -1;
+pub const RUNTIME_INCONSISTENCY: i32 = -2;
 pub const BAD_ARGUMENTS: i32 = -8;
 pub const NO_NODE: i32 = -101;
 pub const BAD_VERSION: i32 = -103;

@@ -11,6 +11,7 @@ mod fault;
 mod node;
 mod outcome;
 mod requests;
+mod multi;
 mod stat;
 mod tree;
 mod turn;
@@ -18,6 +19,7 @@ mod update;
 
 pub use fault::Fault;
 pub use outcome::Outcome;
+pub use multi::{several, Transaction};
 pub use requests::single;
 pub use tree::Tree;
 pub use turn::Turn;
