@@ -3,15 +3,15 @@
 #![tactic(auto)]
 
 use std::alloc::Global;
-use std::env;
-use std::io;
 use std::time::Instant;
+use std::{env, io};
 use zk_model::{Body, Reply, Request, Stat};
 use zk_wire::{Cutter, read_request, reply_can_be_sent, write_reply};
 use zx_base::{Bytes, Memory};
 
 /// A create of 100 bytes with the open access list, behind its length: 176 bytes.
-const PACKET: [u8; 176] = *b"\0\0\0\xac\0\0\0\x07\0\0\0\x01\0\0\0\x19/services/web/instance-01\0\0\0\x64xxxxxxxxxxxxxxxxxxxxxxxxxxxxxxxxxxxxxxxxxxxxxxxxxxxxxxxxxxxxxxxxxxxxxxxxxxxxxxxxxxxxxxxxxxxxxxxxxxxx\0\0\0\x01\0\0\0\x1f\0\0\0\x05world\0\0\0\x06anyone\0\0\0\0";
+const PACKET: [u8; 176] =
+    *b"\0\0\0\xac\0\0\0\x07\0\0\0\x01\0\0\0\x19/services/web/instance-01\0\0\0\x64xxxxxxxxxxxxxxxxxxxxxxxxxxxxxxxxxxxxxxxxxxxxxxxxxxxxxxxxxxxxxxxxxxxxxxxxxxxxxxxxxxxxxxxxxxxxxxxxxxxx\0\0\0\x01\0\0\0\x1f\0\0\0\x05world\0\0\0\x06anyone\0\0\0\0";
 
 /// The bytes that a connection reads at once.
 const PIECE: usize = 65_536;

@@ -11,7 +11,7 @@ ghost use Rattle.zk_model.specs.Znodes.{new_node, owned};
 ghost use Rattle.zk_plain.specs.Faults.{BeyondUnless, IsWithin};
 ghost use Rattle.zk_plain.specs.Outcomes.{outcome_of};
 
-use crate::code::{NODE_EXISTS, NO_CHILDREN_FOR_EPHEMERALS, NO_NODE, SYSTEM_ERROR};
+use crate::code::{NO_CHILDREN_FOR_EPHEMERALS, NO_NODE, NODE_EXISTS, SYSTEM_ERROR};
 use crate::fault::Fault;
 use crate::node::copy_node;
 use crate::outcome::Outcome;
@@ -47,9 +47,7 @@ pub fn is_open_acl(entries: &[Acl]) -> bool
     ensures { result ≡ is_open_acl entries.now }
 {
     match entries {
-        [entry] => {
-            entry.perms == 31 && entry.scheme.is(b"world") && entry.id.is(b"anyone")
-        }
+        [entry] => { entry.perms == 31 && entry.scheme.is(b"world") && entry.id.is(b"anyone") }
         _ => false,
     }
 }
@@ -85,12 +83,7 @@ fn with_child(alloc: Global, parent: &Node, zxid: i64) -> Result<Node, Fault>
     Ok(node)
 }
 
-fn has_most(
-    alloc: Global,
-    tree: &Tree,
-    limit: usize,
-    session: i64,
-) -> Result<bool, Memory>
+fn has_most(alloc: Global, tree: &Tree, limit: usize, session: i64) -> Result<bool, Memory>
     ensures { IfOk result (λ most. most ≡ nat_le limit (length (owned tree.now session))) }
 {
     Ok(limit <= tree.owned(alloc, session)?.len())
@@ -263,8 +256,6 @@ pub fn create(
 {
     match named.parent(alloc)? {
         None => Ok(Outcome::Refused(NODE_EXISTS)),
-        Some(parent) => Ok(create_under(
-            alloc, tree, turn, flags, content, text, named, parent,
-        )?),
+        Some(parent) => Ok(create_under(alloc, tree, turn, flags, content, text, named, parent)?),
     }
 }

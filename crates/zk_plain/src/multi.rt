@@ -25,7 +25,10 @@ use zx_base::{Memory, Seq};
 #[derive(Debug, Drop)]
 pub enum Parts {
     /// The first part that is refused, and its code.
-    Stopped { place: usize, code: i32 },
+    Stopped {
+        place: usize,
+        code: i32,
+    },
     Passed {
         results: Vec<PartResult>,
         tree: Tree,
@@ -259,7 +262,12 @@ pub enum Transaction {
 
 /// What several requests make of the tree, as one transaction.
 #[tactic(auto, unfolding(zk_model::specs::Multi::several))]
-pub fn several(alloc: Global, tree: &Tree, turn: &Turn, parts: &[Part]) -> Result<Transaction, Fault>
+pub fn several(
+    alloc: Global,
+    tree: &Tree,
+    turn: &Turn,
+    parts: &[Part],
+) -> Result<Transaction, Fault>
     ensures ok { IfOk result (λ s. several_as s ≡ several tree.now turn.now.limit turn.now.session parts.now turn.now.zxid turn.now.moment) }
     ensures beyond { IfErr result (BeyondUnless (StaysWithin tree.now turn.now.limit turn.now.session parts.now turn.now.zxid turn.now.moment)) }
 {

@@ -71,7 +71,9 @@ fn single_delete(
         (delete tree.now text.now version turn.now.zxid (get tree.now text.now))) }
 {
     match read_path(alloc, text, false)? {
-        Some(path) if path.bytes() != b"/".as_slice() => Ok(delete(alloc, tree, path, version, turn.zxid)?),
+        Some(path) if path.bytes() != b"/".as_slice() => Ok(delete(
+            alloc, tree, path, version, turn.zxid,
+        )?),
         _ => Ok(Outcome::Refused(BAD_ARGUMENTS)),
     }
 }

@@ -15,11 +15,11 @@ pub returns-in_ok-passed_on-in-Done-clause-ok : goal.returns-in_ok-passed_on-in-
 returns-in_ok-passed_on-in-Done-clause-ok t c =
     let split : c.args.parts.now ≡ c.first-item.result ∷ drop 1 c.args.parts.now = first_and_rest _ _ c.in-len1-up.len_at_least c.first-item.is in
     let done : single c.args.tree.now c.args.turn.now.limit c.args.turn.now.session c.first-item.result c.args.turn.now.zxid c.args.turn.now.moment ≡ Done c.in-Done.outcome c.in-Done.next c.in-Done.triggers =
-        sym c.in_ok-code-in-len1-up.ensures.ok ∙ ap outcome_of c.in-Done.is in
+    sym c.in_ok-code-in-len1-up.ensures.ok ∙ ap outcome_of c.in-Done.is in
     let touched : option_to_list c.touched_by-touched.result ≡ touched_by c.args.tree.now c.args.turn.now.session c.first-item.result = grind (arith, to_z-of_z) in
     let later : parts_as c.in_ok-later-in-Done.later ≡ parts_of c.in-Done.next c.args.turn.now.limit c.args.turn.now.session (drop 1 c.args.parts.now) c.args.turn.now.zxid c.args.turn.now.moment =
-        c.in_ok-later-in-Done.ensures.ok
-        ∙ ap (λ (ps : List Part). parts_of c.in-Done.next c.args.turn.now.limit c.args.turn.now.session ps c.args.turn.now.zxid c.args.turn.now.moment) (rest_all c.args.parts.now) in
+    c.in_ok-later-in-Done.ensures.ok
+    ∙ ap (λ (ps : List Part). parts_of c.in-Done.next c.args.turn.now.limit c.args.turn.now.session ps c.args.turn.now.zxid c.args.turn.now.moment) (rest_all c.args.parts.now) in
     let passed : parts_as c.in_ok-passed_on-in-Done.field-0 ≡ then_parts c.in-Done.outcome c.in-Done.triggers (option_to_list c.touched_by-touched.result) (parts_as c.in_ok-later-in-Done.later) = c.in_ok-passed_on-in-Done.ensures in
     passed
     ∙ ap (λ (s : List ℤ). then_parts c.in-Done.outcome c.in-Done.triggers s (parts_as c.in_ok-later-in-Done.later)) touched
@@ -31,18 +31,18 @@ pub returns-in_err-code-in-len1-up-clause-beyond : goal.returns-in_err-code-in-l
 returns-in_err-code-in-len1-up-clause-beyond t c =
     let split : c.args.parts.now ≡ c.first-item.result ∷ drop 1 c.args.parts.now = first_and_rest _ _ c.in-len1-up.len_at_least c.first-item.is in
     let weaker = beyond-weaker _ _ c.in_err-code-in-len1-up.field-0.0
-        (stays-first c.args.tree.now c.args.turn.now.limit c.args.turn.now.session c.first-item.result (drop 1 c.args.parts.now) c.args.parts.now c.args.turn.now.zxid c.args.turn.now.moment split)
-        c.in_err-code-in-len1-up.ensures.beyond in
+    (stays-first c.args.tree.now c.args.turn.now.limit c.args.turn.now.session c.first-item.result (drop 1 c.args.parts.now) c.args.parts.now c.args.turn.now.zxid c.args.turn.now.moment split)
+    c.in_err-code-in-len1-up.ensures.beyond in
     grind (arith, common_steps)
 
 pub returns-in_err-later-in-Done-clause-beyond : goal.returns-in_err-later-in-Done-clause-beyond
 returns-in_err-later-in-Done-clause-beyond t c =
     let split : c.args.parts.now ≡ c.first-item.result ∷ drop 1 c.args.parts.now = first_and_rest _ _ c.in-len1-up.len_at_least c.first-item.is in
     let done : single c.args.tree.now c.args.turn.now.limit c.args.turn.now.session c.first-item.result c.args.turn.now.zxid c.args.turn.now.moment ≡ Done c.in-Done.outcome c.in-Done.next c.in-Done.triggers =
-        sym c.in_ok-code-in-len1-up.ensures.ok ∙ ap outcome_of c.in-Done.is in
+    sym c.in_ok-code-in-len1-up.ensures.ok ∙ ap outcome_of c.in-Done.is in
     let rest = subst (λ (ps : List Part). BeyondUnless (StaysWithin c.in-Done.next c.args.turn.now.limit c.args.turn.now.session ps c.args.turn.now.zxid c.args.turn.now.moment) c.in_err-later-in-Done.field-0.0)
-        (rest_all c.args.parts.now) c.in_err-later-in-Done.ensures.beyond in
+    (rest_all c.args.parts.now) c.in_err-later-in-Done.ensures.beyond in
     let weaker = beyond-weaker _ _ c.in_err-later-in-Done.field-0.0
-        (stays-rest c.args.tree.now c.in-Done.next c.args.turn.now.limit c.args.turn.now.session c.first-item.result (drop 1 c.args.parts.now) c.args.parts.now c.args.turn.now.zxid c.args.turn.now.moment
-        c.in-Done.outcome c.in-Done.triggers split done) rest in
+    (stays-rest c.args.tree.now c.in-Done.next c.args.turn.now.limit c.args.turn.now.session c.first-item.result (drop 1 c.args.parts.now) c.args.parts.now c.args.turn.now.zxid c.args.turn.now.moment
+    c.in-Done.outcome c.in-Done.triggers split done) rest in
     grind (arith, common_steps)

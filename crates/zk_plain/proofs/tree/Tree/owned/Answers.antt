@@ -10,7 +10,7 @@ pub returns : goal.returns
 returns c =
     let same : to_z w64 (of_z w64 c.args.session) ≡ c.args.session = grind (arith, to_z-of_z) in
     let found = subst (λ (id : ℤ). c.loop-at.paths.items ++ paths_where (λ p. is_owner id (get c.args.self.now p)) (drop c.loop-at.at-index c.deref-at-items.result.now)
-        ≡ paths_where (λ p. is_owner id (get c.args.self.now p)) c.deref-at-items.result.now) same c.loop-at.invariant in
+    ≡ paths_where (λ p. is_owner id (get c.args.self.now p)) c.deref-at-items.result.now) same c.loop-at.invariant in
     paths_end (λ p. is_owner c.args.session (get c.args.self.now p)) c.loop-at.paths.items c.deref-at-items.result.now c.loop-at.at-index c.loop-at-test.false
     ∙ found
     ∙ ap (λ (x : Entries). paths_where (λ p. is_owner c.args.session (get c.args.self.now p)) x) c.deref-at-items.ensures.value
