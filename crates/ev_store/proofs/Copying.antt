@@ -1,5 +1,5 @@
 -- A loop that copies the first so many items of a list.
-use Rattle.std.proofs.Common.{◌≡◌, ℕ, zero, suc, ◌+◌, ◌-◌, ◌<◌, List, [], ◌∷◌, ◌++◌, map, take, refl, sym, ap, ◌∙◌, append_assoc, arith}
+use Rattle.std.proofs.Common.{◌≡◌, ℕ, zero, suc, ◌-◌, ◌<◌, List, [], ◌∷◌, ◌++◌, map, take, sym, ap, ◌∙◌, append_assoc, arith}
 
 take_first : {A : Type 0} (left : ℕ) (x : A) (xs : List A) → 0 < left → take left (x ∷ xs) ≡ x ∷ take (left - 1) xs
 take_first zero x xs some = absurd (omega arith)

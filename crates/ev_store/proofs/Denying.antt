@@ -1,5 +1,5 @@
 -- Each cause denies, and an ask without one is carried out.
-use Rattle.std.proofs.Common.{◌≡◌, ◌≢◌, ℕ, ◌&&◌, ◌||◌, Bool, true, false, cond, ℤ, List, [], ◌∷◌, length, Option, Some, None, Result, Ok, Err, refl, sym, ap, ◌∙◌, subst, ◌⊎◌, ⊎_elim, inl, inr, nat_lt, nat_eq, eqb-true, IfOk, IfErr}
+use Rattle.std.proofs.Common.{◌≡◌, ◌≢◌, ℕ, ◌||◌, Bool, true, false, cond, ℤ, List, [], ◌∷◌, length, Some, None, Result, Ok, Err, refl, sym, ap, ◌∙◌, subst, ⊎_elim, nat_lt, nat_eq, eqb-true, IfOk, IfErr}
 use Rattle.std.specs.List.{list_any}
 use Rattle.std.specs.Ordering.{int_eq}
 use Rattle.std.specs.FinMap.{get, insert}
@@ -15,21 +15,21 @@ use Rattle.ev_types.specs.declared.answer.Answer.TheVariants as answer
 use Rattle.ev_types.specs.declared.answer.ActAns.{ActAns}
 use Rattle.ev_types.specs.declared.answer.RangeAns.{RangeAns}
 use Rattle.ev_types.specs.Ranges.{found}
-use Rattle.ev_types.specs.Store.{Store, Change, Done, revision, worked, grown, succeeds, chosen, carried_out, txn_done, txn_answer, looked_at, present, seconds}
+use Rattle.ev_types.specs.Store.{Store, Change, revision, worked, grown, succeeds, chosen, carried_out, txn_done, looked_at, present, seconds}
 use Rattle.ev_types.specs.Denials.{has_lease, names_no_lease, is_future, is_compacted, looks_ahead, looks_below, writes_twice, most_operations, is_long, has_long_list, is_full, chosen_acts, is_denied, carry}
 use Rattle.ev_store.specs.declared.fault.Denied.{Denied}
 use Rattle.ev_store.specs.declared.fault.Denied.TheVariants as denied
 use Rattle.ev_store.specs.declared.fault.StoreFault.{StoreFault}
 use Rattle.ev_store.specs.declared.fault.StoreFault.TheVariants as fault
-use Rattle.ev_store.specs.Causes.{is_range_cause, is_put_cause, is_act_cause, doubles, is_crowd, is_full_cause, is_txn_cause, is_grant_cause, is_cause, lacks_lease, if_denied, denies}
+use Rattle.ev_store.specs.Causes.{is_range_cause, is_put_cause, is_act_cause, doubles, is_crowd, is_txn_cause, is_grant_cause, is_cause, lacks_lease, if_denied, denies}
 use Rattle.ev_store.proofs.Doubling.{writes_twice-doubles}
-use Rattle.ev_store.proofs.Tests.{or_left, or_right, or_cases, or_false, and_first, and_second}
+use Rattle.std.proofs.lemmas.Bool.{or_left, or_right, or_cases, or_from, and_parts}
 
 -- ---- ranges
 
 range_denied : (s : Store) (q : RangeReq) (d : Denied) → is_range_cause s q d ≡ true → (is_future s q.revision || is_compacted s q.revision) ≡ true
-range_denied s q (denied.Future asked r) h = or_left (is_future s q.revision) (is_compacted s q.revision) (and_second _ _ (and_first _ _ h))
-range_denied s q (denied.Compacted asked floor) h = or_right (is_future s q.revision) (is_compacted s q.revision) (and_second _ _ (and_first _ _ h))
+range_denied s q (denied.Future asked r) h = or_left (is_future s q.revision) (is_compacted s q.revision) (and_parts _ _ (and_parts _ _ h).0).1
+range_denied s q (denied.Compacted asked floor) h = or_right (is_future s q.revision) (is_compacted s q.revision) (and_parts _ _ (and_parts _ _ h).0).1
 range_denied s q (denied.LeaseExists id) h = cc
 range_denied s q (denied.NoLease id) h = cc
 range_denied s q (denied.TooMany count) h = cc
@@ -39,7 +39,7 @@ range_denied s q (denied.Full r) h = cc
 -- ---- operations
 
 put_denied : (s : Store) (lease : ℤ) (d : Denied) → is_put_cause s lease d ≡ true → lacks_lease s lease ≡ true
-put_denied s lease (denied.NoLease id) h = and_second (int_eq id lease) (lacks_lease s lease) h
+put_denied s lease (denied.NoLease id) h = (and_parts (int_eq id lease) (lacks_lease s lease) h).1
 put_denied s lease (denied.LeaseExists id) h = cc
 put_denied s lease (denied.Future asked r) h = cc
 put_denied s lease (denied.Compacted asked floor) h = cc
@@ -87,13 +87,13 @@ middle a b c d e f g h =
 
 crowd_long : (t : TxnReq) (n : ℕ) → is_crowd t n ≡ true → has_long_list t ≡ true
 crowd_long t n h =
-    let long : nat_lt most_operations n ≡ true = and_first _ _ h in
+    let long : nat_lt most_operations n ≡ true = (and_parts _ _ h).0 in
     let own : (m : ℕ) → nat_eq n m ≡ true → nat_lt most_operations m ≡ true = λ m e. subst (λ (k : ℕ). nat_lt most_operations k ≡ true) (eqb-true n m e) long in
     ⊎_elim
     (λ u. or_left _ (is_long t.failure) (⊎_elim (λ v. or_left (is_long t.guards) (is_long t.success) (own (length t.guards) v)) (λ v. or_right (is_long t.guards) (is_long t.success) (own (length t.success) v))
     (or_cases (nat_eq n (length t.guards)) (nat_eq n (length t.success)) u)))
     (λ u. or_right (is_long t.guards || is_long t.success) (is_long t.failure) (own (length t.failure) u))
-    (or_cases (nat_eq n (length t.guards) || nat_eq n (length t.success)) (nat_eq n (length t.failure)) (and_second _ _ h))
+    (or_cases (nat_eq n (length t.guards) || nat_eq n (length t.success)) (nat_eq n (length t.failure)) (and_parts _ _ h).1)
 
 abbrev txn_is_denied : Store → TxnReq → Bool
 txn_is_denied s t =
@@ -111,7 +111,7 @@ txn_denied s t (denied.TooMany n) h = by_early s t (or_left _ (writes_twice t.fa
 txn_denied s t (denied.Twice k) h =
     by_early s t (⊎_elim (λ u. or_left _ (writes_twice t.failure) (or_right (has_long_list t) (writes_twice t.success) (writes_twice-doubles k t.success u)))
     (λ u. or_right (has_long_list t || writes_twice t.success) (writes_twice t.failure) (writes_twice-doubles k t.failure u)) (or_cases (doubles k t.success) (doubles k t.failure) h))
-txn_denied s t (denied.Full r) h = or_right _ (is_full s (worked s (chosen_acts s t)).changes) (and_first _ _ (and_first _ _ h))
+txn_denied s t (denied.Full r) h = or_right _ (is_full s (worked s (chosen_acts s t)).changes) (and_parts _ _ (and_parts _ _ h).0).0
 txn_denied s t (denied.NoLease id) h = by_acts s t (denied.NoLease id) h
 txn_denied s t (denied.Future asked r) h = by_acts s t (denied.Future asked r) h
 txn_denied s t (denied.Compacted asked floor) h = by_acts s t (denied.Compacted asked floor) h
@@ -148,7 +148,7 @@ txn_by_acts s t (denied.Compacted asked floor) h = h
 txn_by_acts s t (denied.LeaseExists id) h = h
 
 grant_denied : (s : Store) (id : ℤ) (d : Denied) → is_grant_cause s id d ≡ true → has_lease s id ≡ true
-grant_denied s id (denied.LeaseExists named) h = and_second _ _ h
+grant_denied s id (denied.LeaseExists named) h = (and_parts _ _ h).1
 grant_denied s id (denied.NoLease named) h = cc
 grant_denied s id (denied.Future asked r) h = cc
 grant_denied s id (denied.Compacted asked floor) h = cc
@@ -197,7 +197,7 @@ unfolding is_denied carried_out txn_done
 txn_passed s t changes parts short once once_too h =
     let full : is_full s (worked s (chosen_acts s t)).changes ≡ false = ap (is_full s) (sym h.changed) ∙ h.room in
     let none : txn_is_denied s t ≡ false =
-    or_false _ _ (or_false _ _ (or_false _ _ (or_false _ _ (or_false _ _ (or_false _ _ short once) once_too) h.lease) h.ahead) h.below) full in
+    or_from _ _ (or_from _ _ (or_from _ _ (or_from _ _ (or_from _ _ (or_from _ _ short once) once_too) h.lease) h.ahead) h.below) full in
     carry-done s (ask.Txn t) none
     ∙ (λ i. Some (grown s (sym h.changed i), answer.Txn (revision (grown s (sym h.changed i))) (succeeds s t) (sym h.answered i)))
 
@@ -212,7 +212,7 @@ pub range_carried : (s : Store) (q : RangeReq) (found_now : RangeAns) → is_fut
     found_now ≡ found q (looked_at s (present s) q.revision) → carry s (ask.Range q) ≡ Some (s, answer.Range (revision s) found_now)
 unfolding is_denied carried_out
 range_carried s q found_now ahead below is =
-    carry-done s (ask.Range q) (or_false (is_future s q.revision) (is_compacted s q.revision) ahead below) ∙ (λ i. Some (s, answer.Range (revision s) (sym is i)))
+    carry-done s (ask.Range q) (or_from (is_future s q.revision) (is_compacted s q.revision) ahead below) ∙ (λ i. Some (s, answer.Range (revision s) (sym is i)))
 
 pub grant_carried : (s new : Store) (id ttl : ℤ) → has_lease s id ≡ false → new ≡ record s { leases = insert s.leases id ttl } →
     carry s (ask.Grant id ttl) ≡ Some (new, answer.Granted (revision s) id ttl)

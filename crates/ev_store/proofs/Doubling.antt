@@ -1,5 +1,5 @@
 -- A key that a list of operations writes twice.
-use Rattle.std.proofs.Common.{◌≡◌, ℕ, suc, ◌+◌, ◌<◌, ◌≤◌, ◌&&◌, ◌||◌, Bool, true, false, cond, List, [], ◌∷◌, length, get_or, drop, Option, Some, None, refl, sym, ap, ◌∙◌, subst, ◌⊎◌, inl, inr, ⊎_elim, arith, zero-add, nat_lt, Bor, IfSome}
+use Rattle.std.proofs.Common.{◌≡◌, ℕ, ◌+◌, ◌<◌, ◌≤◌, ◌&&◌, ◌||◌, Bool, true, false, cond, List, [], ◌∷◌, length, get_or, drop, Option, Some, None, refl, sym, ap, ◌∙◌, subst, ◌⊎◌, inl, inr, ⊎_elim, arith, zero-add, nat_lt, Bor, IfSome}
 use Rattle.std.specs.Option.{option_copied}
 use Rattle.std.specs.List.{list_any, count_by}
 use Rattle.std.proofs.lemmas.Bool.{ltb-true, lt-ltb}
@@ -11,7 +11,8 @@ use Rattle.ev_types.specs.declared.ask.Act.TheVariants.{Put, Delete, Range}
 use Rattle.ev_types.specs.Denials.{writes, puts, writes_twice}
 use Rattle.ev_store.specs.Causes.{deletes, doubles}
 use Rattle.ev_store.specs.Repeats.{again}
-use Rattle.ev_store.proofs.Tests.{or_left, or_right, or_cases, and_first, and_second, and_both, front_of, from_drop}
+use Rattle.std.proofs.lemmas.Bool.{or_left, or_right, or_cases, and_parts, and_from}
+use Rattle.ev_store.proofs.Places.{front_of, from_drop}
 
 module _ {A : Type 0} (p : A → Bool) where
   count-cons : (x : A) (xs : List A) → count_by p (x ∷ xs) ≡ cond (p x) 1 0 + count_by p xs
@@ -69,7 +70,7 @@ twice : (n : ℕ) (b : Bool) → 2 ≤ n → (nat_lt 1 n || b) ≡ true
 twice n b h = or_left (nat_lt 1 n) b (lt-ltb 1 n (omega arith))
 
 mixed : (n : ℕ) (a b : Bool) → a ≡ true → b ≡ true → (nat_lt 1 n || (a && b)) ≡ true
-mixed n a b h k = or_right (nat_lt 1 n) (a && b) (and_both a b h k)
+mixed n a b h k = or_right (nat_lt 1 n) (a && b) (and_from a b h k)
 
 -- the test, with the first operation taken apart
 counted : (k : Bytes) (a : Act) (acts : List Act) → doubles k (a ∷ acts) ≡
@@ -77,7 +78,7 @@ counted : (k : Bytes) (a : Act) (acts : List Act) → doubles k (a ∷ acts) ≡
 counted k a acts = ap (λ n. nat_lt 1 n || ((puts k a || list_any (puts k) acts) && (deletes k a || list_any (deletes k) acts))) (count-cons (puts k) a acts)
 
 doubles_cases : (n : ℕ) (a b : Bool) → (nat_lt 1 n || (a && b)) ≡ true → (2 ≤ n) ⊎ ((a ≡ true) × (b ≡ true))
-doubles_cases n a b h = ⊎_elim (λ t. let l = ltb-true 1 n t in inl (omega (arith, l))) (λ t. inr (and_first a b t, and_second a b t)) (or_cases (nat_lt 1 n) (a && b) h)
+doubles_cases n a b h = ⊎_elim (λ t. let l = ltb-true 1 n t in inl (omega (arith, l))) (λ t. inr (and_parts a b t)) (or_cases (nat_lt 1 n) (a && b) h)
 
 pub doubles-cons : (k : Bytes) (a : Act) (acts : List Act) → doubles k acts ≡ true → doubles k (a ∷ acts) ≡ true
 doubles-cons k a acts h =

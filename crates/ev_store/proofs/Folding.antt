@@ -1,18 +1,18 @@
 -- One key of the store's fold is the fold of that key, while no list of changes puts a key twice: a version then rises by
 -- at most one a revision, and never reaches the end of its type.
-use Rattle.std.proofs.Common.{◌≡◌, ℕ, ◌+◌, ◌≤◌, ◌<◌, ◌-◌, ◌^◌, ◌&&◌, ◌||◌, not, min, Bool, true, false, cond, ℤ, pos, ◌+ℤ◌, w64, List, [], ◌∷◌, length, Option, Some, None, refl, sym, ap, ◌∙◌, subst, arith, zero-add}
+use Rattle.std.proofs.Common.{◌≡◌, ℕ, ◌+◌, ◌≤◌, ◌<◌, ◌-◌, ◌^◌, min, Bool, true, false, cond, ℤ, pos, ◌+ℤ◌, w64, List, [], ◌∷◌, length, Option, Some, None, refl, sym, ap, ◌∙◌, subst, arith, zero-add}
 use Rattle.std.specs.Int.{saturate_signed}
 use Rattle.std.specs.List.{list_any, list_all}
 use Rattle.std.specs.FinMap.{get, insert, remove, empty, get-empty}
 use Rattle.std.specs.Cmp.Lexicographic.{slice_cmp, nat_list_eq_equiv}
 use Rattle.std.specs.Ordering.{nat_cmp}
-use Rattle.zx_base.specs.Maps.{Bytes, Map, same}
+use Rattle.zx_base.specs.Maps.{Bytes, same}
 use Rattle.zx_base.proofs.MapLaws.{same-true, apart-from_same, get-insert_same, get-insert_other, get-remove_same, get-remove_other}
 use Rattle.ev_types.specs.declared.answer.Kv.{Kv}
 use Rattle.ev_types.specs.Ranges.{Keys}
 use Rattle.ev_types.specs.Store.{Change, Puts, Removes, put_over, changed, after_changes, keys_from}
-use Rattle.ev_store.specs.Changes.{put_keys, are_distinct, puts_once}
-use Rattle.ev_store.proofs.Tests.{or_first, or_second, and_first, and_second, not_true}
+use Rattle.ev_store.specs.Changes.{put_keys, puts_once}
+use Rattle.std.proofs.lemmas.Bool.{or_parts, and_parts, not-true}
 use Rattle.ev_store.specs.Folds.{kv_after_put, key_after_change, key_after_changes, key_after_revisions}
 
 pub same-symm : (p q : Bytes) → same p q ≡ same q p
@@ -57,20 +57,20 @@ puts_count q (c ∷ cs) = put_count q c + puts_count q cs
 puts_count-none : (k : Bytes) (cs : List Change) → list_any (same k) (put_keys cs) ≡ false → puts_count k cs ≡ 0
 puts_count-none k [] h = refl
 puts_count-none k (Puts x v lease ∷ cs) h =
-    let other : same x k ≡ false = same-symm x k ∙ or_first _ _ h in
-    let rest = puts_count-none k cs (or_second _ _ h) in
+    let other : same x k ≡ false = same-symm x k ∙ (or_parts _ _ h).0 in
+    let rest = puts_count-none k cs (or_parts _ _ h).1 in
     ap (λ b. cond b 1 0 + puts_count k cs) other ∙ zero-add (puts_count k cs) ∙ rest
 puts_count-none k (Removes x ∷ cs) h = zero-add (puts_count k cs) ∙ puts_count-none k cs h
 
 pub puts_count-once : (q : Bytes) (cs : List Change) → puts_once cs ≡ true → puts_count q cs ≤ 1
 puts_count-once q [] h = omega arith
 puts_count-once q (Puts k v lease ∷ cs) h =
-    let rest = puts_count-once q cs (and_second _ _ h) in
+    let rest : puts_count q cs ≤ 1 = puts_count-once q cs (and_parts _ _ h).1 in
     elim (same k q) as (λ b. same k q ≡ b → cond b 1 0 + puts_count q cs ≤ 1) [
-      | true ↦ λ e. let none : puts_count q cs ≡ 0 = subst (λ (x : Bytes). puts_count x cs ≡ 0) (same-true k q e) (puts_count-none k cs (not_true _ (and_first _ _ h))) in omega (arith, none)
+      | true ↦ λ e. let none : puts_count q cs ≡ 0 = subst (λ (x : Bytes). puts_count x cs ≡ 0) (same-true k q e) (puts_count-none k cs (not-true _ (and_parts _ _ h).0)) in omega (arith, none)
       | false ↦ λ e. omega (arith, rest)
     ] refl
-puts_count-once q (Removes k ∷ cs) h = let rest = puts_count-once q cs h in omega (arith, rest)
+puts_count-once q (Removes k ∷ cs) h = let rest : puts_count q cs ≤ 1 = puts_count-once q cs h in omega (arith, rest)
 
 -- ---- a put, a change, a list of changes
 
@@ -126,10 +126,10 @@ pub follows_revisions : (r : ℕ) (m : Keys) (css : List (List Change)) (q : Byt
     (get (keys_from r m css) q ≡ key_after_revisions r q (get m q) css) × IsBounded (n + length css) (get (keys_from r m css) q)
 follows_revisions r m [] q n bound once room = (refl, bounded-more n (n + 0) (get m q) (omega arith) bound)
 follows_revisions r m (cs ∷ css) q n bound once room =
-    let few = puts_count-once q cs (and_first _ _ once) in
+    let few : puts_count q cs ≤ 1 = puts_count-once q cs (and_parts _ _ once).0 in
     let here = follows_changes (pos r) m cs q n bound (omega (arith, few, room)) in
     let so_far : IsBounded (n + 1) (get (after_changes (pos r) m cs) q) = bounded-more _ _ _ (omega (arith, few)) here.1 in
-    let rest = follows_revisions (r + 1) (after_changes (pos r) m cs) css q (n + 1) so_far (and_second _ _ once) (omega (arith, room)) in
+    let rest = follows_revisions (r + 1) (after_changes (pos r) m cs) css q (n + 1) so_far (and_parts _ _ once).1 (omega (arith, room)) in
     (rest.0 ∙ ap (λ o. key_after_revisions (r + 1) q o css) here.0, bounded-more _ _ _ (omega arith) rest.1)
 
 -- what a key has after all revisions, and after some changes of the next one

@@ -1,6 +1,7 @@
 -- Operations one after another: what the first ones did and what the others will do are together what all do.
-use Rattle.std.proofs.Common.{◌≡◌, ℕ, ◌+◌, ◌&&◌, not, Bool, true, false, ℤ, pos, ◌+ℤ◌, List, [], ◌∷◌, ◌++◌, Option, Some, None, refl, sym, ap, ◌∙◌, append_assoc, append-nil, subst}
+use Rattle.std.proofs.Common.{◌≡◌, not, true, false, ℤ, pos, ◌+ℤ◌, List, [], ◌∷◌, ◌++◌, Option, Some, None, refl, sym, ap, ◌∙◌, append_assoc, append-nil}
 use Rattle.std.specs.List.{list_any}
+use Rattle.std.proofs.lemmas.List.Folds.{list_any-append}
 use Rattle.std.specs.FinMap.{get}
 use Rattle.zx_base.specs.Maps.{Bytes, same}
 use Rattle.ev_types.specs.declared.ask.Act.{Act}
@@ -10,9 +11,9 @@ use Rattle.ev_types.specs.declared.answer.Kv.{Kv}
 use Rattle.ev_types.specs.Ranges.{Keys}
 use Rattle.ev_types.specs.Store.{Store, Change, Puts, Removes, Done, removal, one_act, then_done, acts_from, after_changes, changed, worked, present, revision}
 use Rattle.ev_types.specs.Denials.{writes, puts, writes_twice}
-use Rattle.ev_store.specs.Changes.{put_keys, are_distinct, puts_once}
+use Rattle.ev_store.specs.Changes.{put_keys, are_distinct}
 use Rattle.ev_store.specs.Repeats.{act_keys}
-use Rattle.ev_store.proofs.Tests.{or_first, or_second, or_false, and_first, and_second, and_both}
+use Rattle.std.proofs.lemmas.Bool.{not_from_false, not-true, or_parts, or_from, and_parts, and_from}
 
 after_changes-append : (r : ℤ) (m : Keys) (cs ds : List Change) → after_changes r m (cs ++ ds) ≡ after_changes r (after_changes r m cs) ds
 after_changes-append r m [] ds = refl
@@ -87,31 +88,22 @@ keys_step s m cs cs' a all acts front changes h =
     ∙ ap (λ xs. are_distinct (put_keys cs ++ act_keys xs)) (sym front) ∙ h
 
 any-front : (k : Bytes) (ks ls : List Bytes) → list_any (same k) (ks ++ ls) ≡ false → list_any (same k) ks ≡ false
-any-front k [] ls h = refl
-any-front k (x ∷ ks) ls h = or_false (same k x) (list_any (same k) ks) (or_first _ _ h) (any-front k ks ls (or_second _ _ h))
-
-not-false : (b : Bool) → b ≡ false → not b ≡ true
-not-false true h = cc
-not-false false h = refl
-
-not-true : (b : Bool) → not b ≡ true → b ≡ false
-not-true true h = cc
-not-true false h = refl
+any-front k ks ls h = (or_parts _ _ (sym (list_any-append (same k) ks ls) ∙ h)).0
 
 pub distinct-front : (ks ls : List Bytes) → are_distinct (ks ++ ls) ≡ true → are_distinct ks ≡ true
 distinct-front [] ls h = refl
 distinct-front (k ∷ ks) ls h =
-    and_both (not (list_any (same k) ks)) (are_distinct ks) (not-false _ (any-front k ks ls (not-true _ (and_first _ _ h)))) (distinct-front ks ls (and_second _ _ h))
+    and_from (not (list_any (same k) ks)) (are_distinct ks) (not_from_false _ (any-front k ks ls (not-true _ (and_parts _ _ h).0))) (distinct-front ks ls (and_parts _ _ h).1)
 
 not_put : (k : Bytes) (acts : List Act) → list_any (writes k) acts ≡ false → list_any (same k) (act_keys acts) ≡ false
 not_put k [] h = refl
-not_put k (Put x v lease ∷ acts) h = or_false (same k x) (list_any (same k) (act_keys acts)) (or_first _ _ h) (not_put k acts (or_second _ _ h))
-not_put k (Delete x ∷ acts) h = not_put k acts (or_second (same k x) (list_any (writes k) acts) h)
+not_put k (Put x v lease ∷ acts) h = or_from (same k x) (list_any (same k) (act_keys acts)) (or_parts _ _ h).0 (not_put k acts (or_parts _ _ h).1)
+not_put k (Delete x ∷ acts) h = not_put k acts (or_parts (same k x) (list_any (writes k) acts) h).1
 not_put k (Range q ∷ acts) h = not_put k acts h
 
 pub distinct-acts : (acts : List Act) → writes_twice acts ≡ false → are_distinct (act_keys acts) ≡ true
 distinct-acts [] h = refl
 distinct-acts (Put k v lease ∷ acts) h =
-    and_both (not (list_any (same k) (act_keys acts))) (are_distinct (act_keys acts)) (not-false _ (not_put k acts (or_first _ _ h))) (distinct-acts acts (or_second _ _ h))
-distinct-acts (Delete k ∷ acts) h = distinct-acts acts (or_second (list_any (puts k) acts) (writes_twice acts) h)
+    and_from (not (list_any (same k) (act_keys acts))) (are_distinct (act_keys acts)) (not_from_false _ (not_put k acts (or_parts _ _ h).0)) (distinct-acts acts (or_parts _ _ h).1)
+distinct-acts (Delete k ∷ acts) h = distinct-acts acts (or_parts (list_any (puts k) acts) (writes_twice acts) h).1
 distinct-acts (Range q ∷ acts) h = distinct-acts acts h

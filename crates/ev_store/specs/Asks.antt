@@ -1,7 +1,5 @@
 -- The asks that a store takes.
-use Rattle.std.specs.Prelude.{ℤ, pos, ◌^◌, ◌≤ℤ◌, ◌<ℤ◌}
-use Rattle.ev_types.specs.declared.ask.TxnReq.{TxnReq}
-use Rattle.ev_types.specs.declared.ask.RangeReq.{RangeReq}
+use Rattle.std.specs.Prelude.{pos, ◌^◌, ◌≤ℤ◌, ◌<ℤ◌}
 use Rattle.ev_types.specs.declared.ask.Ask.{Ask}
 use Rattle.ev_types.specs.declared.ask.Ask.TheVariants as ask
 

@@ -1,5 +1,5 @@
 -- A change as the store keeps it, and what every list of changes keeps.
-use Rattle.std.specs.Prelude.{ℕ, Bool, true, not, ◌&&◌, List, [], ◌∷◌, Option, Some, None}
+use Rattle.std.specs.Prelude.{Bool, true, not, ◌&&◌, List, [], ◌∷◌, Option, Some, None}
 use Rattle.std.specs.List.{list_any}
 use Rattle.ev_types.specs.Store.{Change, Puts, Removes}
 use Rattle.ev_store.specs.declared.change.Content.{Content}

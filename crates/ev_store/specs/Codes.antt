@@ -1,5 +1,5 @@
 -- How a proof tells two stores apart: by the parts of their records.
-use Rattle.std.specs.Prelude.{◌≡◌, ℕ, ℤ, List, Option, Some, None, refl}
+use Rattle.std.specs.Prelude.{◌≡◌, ℤ, List, Option, Some, None, refl}
 use Rattle.std.specs.Coded.{Coded, code_by, coded×, coded_ℕ, coded_ℤ, coded_list, coded_option}
 use Rattle.std.specs.FinMap as map
 use Rattle.std.specs.Ordering.{int_cmp}

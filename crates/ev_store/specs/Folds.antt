@@ -1,6 +1,6 @@
 -- What one key has after changes, without the other keys, as the store's look-ups compute it: a version stands still at
 -- the greatest i64. No public contract names these words; `proofs/Folding.antt` ties them to the store's keys.
-use Rattle.std.specs.Prelude.{ℕ, ◌+◌, Bool, ℤ, pos, ◌+ℤ◌, List, [], ◌∷◌, if◌then◌else◌, Option, Some, None}
+use Rattle.std.specs.Prelude.{ℕ, ◌+◌, ℤ, pos, ◌+ℤ◌, List, [], ◌∷◌, if◌then◌else◌, Option, Some, None}
 use Rattle.std.specs.Int.{saturate_signed, w64}
 use Rattle.ev_types.specs.declared.answer.Kv.{Kv}
 use Rattle.ev_types.specs.declared.ask.RangeReq.{RangeReq}

@@ -24,6 +24,7 @@ pub enum Denied {
     Full { revision: i64 },
 }
 
+/// Why an ask was not carried out. The store is as before.
 #[derive(Debug, Drop)]
 pub enum StoreFault {
     Denied(Denied),

@@ -10,6 +10,7 @@ mod change;
 mod fault;
 mod key;
 mod leases;
+mod name;
 mod operations;
 mod range;
 mod refusal;

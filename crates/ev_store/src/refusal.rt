@@ -1,7 +1,7 @@
 //! What the store refuses of an ask, before anything of it is done. Where several causes stand the first of these is
 //! named: the sizes of the lists, then a key that is written twice, then the operations of the chosen list in their order.
 
-ghost use Rattle.std.specs.Prelude.{◌≡◌, true, false, nat_lt, IfErr, OnOk, OnErr, IfSome, if◌then◌else◌, Option, Some, None};
+ghost use Rattle.std.specs.Prelude.{◌≡◌, true, false, nat_lt, IfErr, OnOk, OnErr, IfSome, Option, None};
 ghost use Rattle.std.specs.List.{list_any};
 ghost use Rattle.std.specs.Option.{option_copied};
 ghost use Rattle.ev_types.specs.Store as etcd;
@@ -139,16 +139,10 @@ fn written_again<'a>(act: &'a Act, later: &[Act]) -> Option<&'a Bytes>
     ensures { option_copied result ≡ again act.now later.now }
 {
     match act {
-        Act::Put { key, .. } => if_so(any_writes(later, key), key),
-        Act::Delete { key } => if_so(any_puts(later, key), key),
+        Act::Put { key, .. } => any_writes(later, key).then_some(key),
+        Act::Delete { key } => any_puts(later, key).then_some(key),
         Act::Range(_) => None,
     }
-}
-
-fn if_so(repeats: bool, key: &Bytes) -> Option<&Bytes>
-    ensures { option_copied result ≡ (if repeats then Some key.now else None) }
-{
-    if repeats { Some(key) } else { None }
 }
 
 /// A key that the list puts twice, or both puts and deletes.

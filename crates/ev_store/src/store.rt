@@ -161,7 +161,8 @@ impl Store {
         }
     }
 
-    /// Carries out one ask. The first of its causes, in the order that `refusal.rt` gives, is the one that a denial names.
+    /// Carries out one ask. Where several causes deny a transaction the first of these is named: a list that is too long,
+    /// a key that a list writes twice, what an operation of the chosen list names, in their order, a full store.
     pub fn carry_out(&mut self, ask: &Ask) -> Result<Answer, StoreFault>
         requires { IsGrantable ask.now }
         ensures carried { IfOk result (λ a. carry self.old ask.now ≡ Some (self.new, a)) }

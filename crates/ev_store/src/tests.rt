@@ -10,62 +10,102 @@ use zx_base::{Bytes, Memory, Seq};
 /// A key with its value, create_revision, mod_revision and version.
 type Row = (&'static str, &'static str, i64, i64, i64);
 
-fn bytes(alloc: Global, text: &str) -> Result<Bytes, Memory> {
-    Bytes::copy_of(alloc, text.as_bytes())
+/// A key, an end, a revision, a limit, and whether only keys are given.
+#[derive(Clone, Copy)]
+struct Look(&'static str, &'static str, i64, i64, bool);
+
+#[derive(Clone, Copy)]
+enum Op {
+    /// A key, its value and its lease.
+    Put(&'static str, &'static str, i64),
+    Delete(&'static str),
+    /// A range of one key, and one of the keys from the first up to the second.
+    One(&'static str),
+    Span(&'static str, &'static str),
+    Range(Look),
 }
 
-fn put(alloc: Global, key: &str, value: &str) -> Result<Act, Memory> {
-    put_under(alloc, key, value, 0)
+enum Part {
+    Put,
+    Deleted(i64),
+    /// The keys, whether there are more, and how many there are.
+    Range(&'static [Row], bool, i64),
 }
 
-fn put_under(alloc: Global, key: &str, value: &str, lease: i64) -> Result<Act, Memory> {
-    Ok(Act::Put {
-        key: bytes(alloc, key)?,
-        value: bytes(alloc, value)?,
-        lease,
-    })
+/// A transaction, and the revision after it, its choice and its answers.
+struct Step {
+    guards: &'static [(&'static str, i64)],
+    success: &'static [Op],
+    failure: &'static [Op],
+    revision: i64,
+    succeeded: bool,
+    parts: &'static [Part],
 }
 
-fn delete(alloc: Global, key: &str) -> Result<Act, Memory> {
-    Ok(Act::Delete {
-        key: bytes(alloc, key)?,
-    })
-}
-
-fn range(alloc: Global, key: &str, end: &str) -> Result<RangeReq, Memory> {
+fn range(alloc: Global, look: &Look) -> Result<RangeReq, Memory> {
     Ok(RangeReq {
-        key: bytes(alloc, key)?,
-        end: bytes(alloc, end)?,
-        revision: 0,
-        limit: 0,
-        keys_only: false,
+        key: Bytes::copy_of(alloc, look.0.as_bytes())?,
+        end: Bytes::copy_of(alloc, look.1.as_bytes())?,
+        revision: look.2,
+        limit: look.3,
+        keys_only: look.4,
     })
 }
 
-fn guard(alloc: Global, key: &str, mod_revision: i64) -> Result<Guard, Memory> {
-    Ok(Guard {
-        key: bytes(alloc, key)?,
-        mod_revision,
-    })
+fn span(alloc: Global, key: &'static str, end: &'static str) -> Result<RangeReq, Memory> {
+    range(alloc, &Look(key, end, 0, 0, false))
 }
 
-/// Carries out a transaction whose two lists are these.
+fn act(alloc: Global, op: &Op) -> Result<Act, Memory> {
+    match op {
+        Op::Put(key, value, lease) => Ok(Act::Put {
+            key: Bytes::copy_of(alloc, key.as_bytes())?,
+            value: Bytes::copy_of(alloc, value.as_bytes())?,
+            lease: *lease,
+        }),
+        Op::Delete(key) => Ok(Act::Delete {
+            key: Bytes::copy_of(alloc, key.as_bytes())?,
+        }),
+        Op::One(key) => Ok(Act::Range(span(alloc, key, "")?)),
+        Op::Span(key, end) => Ok(Act::Range(span(alloc, key, end)?)),
+        Op::Range(look) => Ok(Act::Range(range(alloc, look)?)),
+    }
+}
+
+fn acts(alloc: Global, ops: &[Op]) -> Result<Seq<Act>, Memory> {
+    let mut acts = Seq::new(alloc);
+    for op in ops {
+        acts.push(act(alloc, op)?)?;
+    }
+    Ok(acts)
+}
+
+fn guards(alloc: Global, rows: &[(&'static str, i64)]) -> Result<Seq<Guard>, Memory> {
+    let mut guards = Seq::new(alloc);
+    for (key, mod_revision) in rows {
+        guards.push(Guard {
+            key: Bytes::copy_of(alloc, key.as_bytes())?,
+            mod_revision: *mod_revision,
+        })?;
+    }
+    Ok(guards)
+}
+
 fn choose(
+    alloc: Global,
     store: &mut Store,
-    guards: Vec<Guard>,
-    success: Vec<Act>,
-    failure: Vec<Act>,
+    rows: &[(&'static str, i64)],
+    success: &[Op],
+    failure: &[Op],
 ) -> Result<Answer, StoreFault> {
+    let guards = guards(alloc, rows)?;
+    let success = acts(alloc, success)?;
+    let failure = acts(alloc, failure)?;
     store.carry_out(&Ask::Txn(TxnReq {
-        guards: Seq::from_vec(guards),
-        success: Seq::from_vec(success),
-        failure: Seq::from_vec(failure),
+        guards,
+        success,
+        failure,
     }))
-}
-
-/// Carries out these operations.
-fn run(alloc: Global, store: &mut Store, acts: Vec<Act>) -> Result<Answer, StoreFault> {
-    choose(store, Vec::new(alloc), acts, Vec::new(alloc))
 }
 
 fn expect_kv(rt: &impl Abort, kv: &Kv, row: &Row) {
@@ -85,378 +125,348 @@ fn expect_found(rt: &impl Abort, found: &RangeAns, rows: &[Row], more: bool, cou
     assert_eq!(rt; found.count, count);
 }
 
-/// What a range outside a transaction finds is this.
-fn expect(
-    rt: &impl Abort,
-    store: &mut Store,
-    range: RangeReq,
-    rows: &[Row],
-    more: bool,
-    count: i64,
-) -> Result<(), Fail> {
-    let present = store.revision();
-    match store.carry_out(&Ask::Range(range))? {
-        Answer::Range { revision, found } => {
-            assert_eq!(rt; revision, present);
-            expect_found(rt, &found, rows, more, count);
-        }
-        other => assert!(rt; false, "{other:?}"),
+fn expect_part(rt: &impl Abort, found: &ActAns, part: &Part) {
+    match (found, part) {
+        (ActAns::Put, Part::Put) => {}
+        (ActAns::Deleted(found), Part::Deleted(count)) => assert_eq!(rt; *found, *count),
+        (ActAns::Range(found), Part::Range(rows, more, count)) => expect_found(
+            rt, found, rows, *more, *count,
+        ),
+        (found, _) => assert!(rt; false, "{found:?}"),
     }
-    Ok(())
 }
 
-/// The transaction took the success list exactly where said, left this revision, and answered so many parts.
-fn expect_txn(rt: &impl Abort, answer: &Answer, revision: i64, succeeded: bool, parts: usize) {
+fn expect_step(rt: &impl Abort, answer: &Answer, step: &Step) {
     match answer {
-        Answer::Txn {
-            revision: now,
-            succeeded: taken,
-            parts: found,
-        } => {
-            assert_eq!(rt; *now, revision);
-            assert_eq!(rt; *taken, succeeded);
-            assert_eq!(rt; found.len(), parts);
-        }
-        other => assert!(rt; false, "{other:?}"),
-    }
-}
-
-#[test]
-fn counts_the_puts_of_a_key(rt: HostRuntime) -> Result<(), Fail> {
-    let alloc = rt.alloc();
-    let mut store = Store::new(alloc)?;
-    assert_eq!(rt; store.revision(), 1);
-    expect_txn(
-        &rt,
-        &run(alloc, &mut store, vec![in alloc; put(alloc, "a", "1")?]?)?,
-        2,
-        true,
-        1,
-    );
-    expect_txn(
-        &rt,
-        &run(alloc, &mut store, vec![in alloc; put(alloc, "a", "2")?]?)?,
-        3,
-        true,
-        1,
-    );
-    expect(
-        &rt,
-        &mut store,
-        range(alloc, "a", "")?,
-        &[("a", "2", 2, 3, 2)],
-        false,
-        1,
-    )?;
-    for (revision, removed) in [(4, 1), (4, 0)] {
-        match run(alloc, &mut store, vec![in alloc; delete(alloc, "a")?]?)? {
-            Answer::Txn {
-                revision: now,
-                parts,
-                ..
-            } => {
-                assert_eq!(rt; now, revision);
-                assert!(rt;
-                    matches!(parts.as_slice(), [ActAns::Deleted(count)] if *count == removed)
-                );
-            }
-            other => assert!(rt; false, "{other:?}"),
-        }
-    }
-    expect(&rt, &mut store, range(alloc, "a", "")?, &[], false, 0)?;
-    expect_txn(
-        &rt,
-        &run(alloc, &mut store, vec![in alloc; put(alloc, "a", "3")?]?)?,
-        5,
-        true,
-        1,
-    );
-    expect(
-        &rt,
-        &mut store,
-        range(alloc, "a", "")?,
-        &[("a", "3", 5, 5, 1)],
-        false,
-        1,
-    )?;
-    Ok(())
-}
-
-#[test]
-fn ranges_are_in_the_order_of_bytes(rt: HostRuntime) -> Result<(), Fail> {
-    let alloc = rt.alloc();
-    let mut store = Store::new(alloc)?;
-    let acts = vec![in alloc;
-        put(alloc, "b", "2")?,
-        put(alloc, "a", "0")?,
-        put(alloc, "c", "3")?,
-        put(alloc, "aa", "1")?,
-    ]?;
-    expect_txn(&rt, &run(alloc, &mut store, acts)?, 2, true, 4);
-    expect_txn(
-        &rt,
-        &run(
-            alloc,
-            &mut store,
-            vec![in alloc; put(alloc, "aa", "9")?, delete(alloc, "b")?]?,
-        )?,
-        3,
-        true,
-        2,
-    );
-    let old: [Row; 3] = [
-        ("a", "0", 2, 2, 1),
-        ("aa", "1", 2, 2, 1),
-        ("b", "2", 2, 2, 1),
-    ];
-    let new: [Row; 2] = [("a", "0", 2, 2, 1), ("aa", "9", 2, 3, 2)];
-    expect(&rt, &mut store, range(alloc, "a", "c")?, &new, false, 2)?;
-    expect(
-        &rt,
-        &mut store,
-        range(alloc, "aa", "b")?,
-        &new[1..],
-        false,
-        1,
-    )?;
-    for (limit, shown, more) in [
-        (0, 3, false),
-        (1, 1, true),
-        (2, 2, true),
-        (3, 3, false),
-        (9, 3, false),
-        (-1, 3, false),
-    ] {
-        let mut asked = range(alloc, "a", "c")?;
-        asked.revision = 2;
-        asked.limit = limit;
-        let rows = if shown < old.len() {
-            &old[..shown]
-        } else {
-            old.as_slice()
-        };
-        expect(&rt, &mut store, asked, rows, more, 3)?;
-    }
-    let mut keys = range(alloc, "a", "c")?;
-    keys.keys_only = true;
-    expect(
-        &rt,
-        &mut store,
-        keys,
-        &[("a", "", 2, 2, 1), ("aa", "", 2, 3, 2)],
-        false,
-        2,
-    )?;
-    let mut empty = range(alloc, "a", "c")?;
-    empty.revision = 1;
-    expect(&rt, &mut store, empty, &[], false, 0)?;
-    Ok(())
-}
-
-#[test]
-fn transactions_choose_and_see_their_own_puts(rt: HostRuntime) -> Result<(), Fail> {
-    let alloc = rt.alloc();
-    let mut store = Store::new(alloc)?;
-    // absent keys compare as 0
-    let guards = vec![in alloc; guard(alloc, "a", 0)?, guard(alloc, "b", 0)?]?;
-    let success = vec![in alloc;
-        put(alloc, "a", "1")?,
-        Act::Range(range(alloc, "a", "")?),
-        put(alloc, "b", "1")?,
-        Act::Range(range(alloc, "a", "c")?),
-    ]?;
-    match choose(&mut store, guards, success, Vec::new(alloc))? {
         Answer::Txn {
             revision,
             succeeded,
             parts,
         } => {
-            assert_eq!(rt; revision, 2);
-            assert!(rt; succeeded);
-            match parts.as_slice() {
-                [
-                    ActAns::Put,
-                    ActAns::Range(one),
-                    ActAns::Put,
-                    ActAns::Range(both),
-                ] => {
-                    expect_found(&rt, one, &[("a", "1", 2, 2, 1)], false, 1);
-                    expect_found(
-                        &rt,
-                        both,
-                        &[("a", "1", 2, 2, 1), ("b", "1", 2, 2, 1)],
-                        false,
-                        2,
-                    );
-                }
-                other => assert!(rt; false, "{other:?}"),
+            assert_eq!(rt; *revision, step.revision);
+            assert_eq!(rt; *succeeded, step.succeeded);
+            assert_eq!(rt; parts.len(), step.parts.len());
+            for (found, part) in parts.as_slice().iter().zip(step.parts) {
+                expect_part(rt, found, part);
             }
         }
         other => assert!(rt; false, "{other:?}"),
     }
-    // one guard that fails takes the failure list, which may put a key of the other one
-    let guards = vec![in alloc; guard(alloc, "a", 2)?, guard(alloc, "b", 0)?]?;
-    let success = vec![in alloc; put(alloc, "a", "7")?]?;
-    let failure = vec![in alloc; Act::Range(range(alloc, "a", "")?), put(alloc, "a", "8")?]?;
-    expect_txn(
-        &rt,
-        &choose(&mut store, guards, success, failure)?,
-        3,
-        false,
-        2,
-    );
-    expect(
-        &rt,
-        &mut store,
-        range(alloc, "a", "")?,
-        &[("a", "8", 2, 3, 2)],
-        false,
-        1,
-    )?;
-    // ranges alone, and deletes of absent keys, take no revision
-    let acts = vec![in alloc;
-        Act::Range(range(alloc, "b", "")?),
-        delete(alloc, "x")?,
-        delete(alloc, "x")?,
-    ]?;
-    expect_txn(&rt, &run(alloc, &mut store, acts)?, 3, true, 3);
+}
+
+/// Carries out the transactions in turn over a new store.
+fn run(rt: &impl Abort, alloc: Global, steps: &[Step]) -> Result<Store, Fail> {
+    let mut store = Store::new(alloc)?;
+    for step in steps {
+        let answer = choose(alloc, &mut store, step.guards, step.success, step.failure)?;
+        expect_step(rt, &answer, step);
+    }
+    Ok(store)
+}
+
+const ONE_KEY: &[Step] = &[
+    Step {
+        guards: &[],
+        success: &[Op::Put("a", "1", 0)],
+        failure: &[],
+        revision: 2,
+        succeeded: true,
+        parts: &[Part::Put],
+    },
+    Step {
+        guards: &[],
+        success: &[Op::Put("a", "2", 0)],
+        failure: &[],
+        revision: 3,
+        succeeded: true,
+        parts: &[Part::Put],
+    },
+    Step {
+        guards: &[],
+        success: &[Op::One("a")],
+        failure: &[],
+        revision: 3,
+        succeeded: true,
+        parts: &[Part::Range(&[("a", "2", 2, 3, 2)], false, 1)],
+    },
+    Step {
+        guards: &[],
+        success: &[Op::Delete("a")],
+        failure: &[],
+        revision: 4,
+        succeeded: true,
+        parts: &[Part::Deleted(1)],
+    },
+    Step {
+        guards: &[],
+        success: &[Op::Delete("a"), Op::One("a")],
+        failure: &[],
+        revision: 4,
+        succeeded: true,
+        parts: &[Part::Deleted(0), Part::Range(&[], false, 0)],
+    },
+    Step {
+        guards: &[],
+        success: &[Op::Put("a", "3", 0), Op::One("a")],
+        failure: &[],
+        revision: 5,
+        succeeded: true,
+        parts: &[Part::Put, Part::Range(&[("a", "3", 5, 5, 1)], false, 1)],
+    },
+];
+
+#[test]
+fn counts_the_puts_of_a_key(rt: HostRuntime) -> Result<(), Fail> {
+    let store = run(&rt, rt.alloc(), ONE_KEY)?;
+    assert_eq!(rt; store.revision(), 5);
     Ok(())
 }
+
+const CHOICES: &[Step] = &[
+    // an absent key compares as 0, and a range sees the earlier puts of its list
+    Step {
+        guards: &[("a", 0), ("b", 0)],
+        success: &[
+            Op::Put("a", "1", 0),
+            Op::One("a"),
+            Op::Put("b", "1", 0),
+            Op::Span("a", "c"),
+        ],
+        failure: &[],
+        revision: 2,
+        succeeded: true,
+        parts: &[
+            Part::Put,
+            Part::Range(&[("a", "1", 2, 2, 1)], false, 1),
+            Part::Put,
+            Part::Range(&[("a", "1", 2, 2, 1), ("b", "1", 2, 2, 1)], false, 2),
+        ],
+    },
+    // one guard that fails takes the failure list, and both lists may put one key
+    Step {
+        guards: &[("a", 2), ("b", 0)],
+        success: &[Op::Put("a", "7", 0)],
+        failure: &[Op::One("a"), Op::Put("a", "8", 0)],
+        revision: 3,
+        succeeded: false,
+        parts: &[Part::Range(&[("a", "1", 2, 2, 1)], false, 1), Part::Put],
+    },
+    // ranges, and deletes of absent keys, take no revision
+    Step {
+        guards: &[("a", 3)],
+        success: &[Op::One("a"), Op::Delete("x"), Op::Delete("x")],
+        failure: &[],
+        revision: 3,
+        succeeded: true,
+        parts: &[
+            Part::Range(&[("a", "8", 2, 3, 2)], false, 1),
+            Part::Deleted(0),
+            Part::Deleted(0),
+        ],
+    },
+];
+
+#[test]
+fn transactions_choose_by_their_guards(rt: HostRuntime) -> Result<(), Fail> {
+    let store = run(&rt, rt.alloc(), CHOICES)?;
+    assert_eq!(rt; store.revision(), 3);
+    Ok(())
+}
+
+const SOME_KEYS: &[Step] = &[
+    Step {
+        guards: &[],
+        success: &[
+            Op::Put("b", "2", 0),
+            Op::Put("a", "0", 0),
+            Op::Put("c", "3", 0),
+            Op::Put("aa", "1", 0),
+        ],
+        failure: &[],
+        revision: 2,
+        succeeded: true,
+        parts: &[Part::Put, Part::Put, Part::Put, Part::Put],
+    },
+    Step {
+        guards: &[],
+        success: &[Op::Put("aa", "9", 0), Op::Delete("b")],
+        failure: &[],
+        revision: 3,
+        succeeded: true,
+        parts: &[Part::Put, Part::Deleted(1)],
+    },
+];
+
+const OLD: &[Row] = &[
+    ("a", "0", 2, 2, 1),
+    ("aa", "1", 2, 2, 1),
+    ("b", "2", 2, 2, 1),
+];
+
+const LOOKS: &[(Look, &[Row], bool, i64)] = &[
+    (
+        Look("a", "c", 0, 0, false),
+        &[("a", "0", 2, 2, 1), ("aa", "9", 2, 3, 2)],
+        false,
+        2,
+    ),
+    (
+        Look("aa", "c", 0, 0, false),
+        &[("aa", "9", 2, 3, 2)],
+        false,
+        1,
+    ),
+    (Look("a", "a", 0, 0, false), &[], false, 0),
+    (Look("b", "", 0, 0, false), &[], false, 0),
+    (
+        Look("a", "c", 0, 0, true),
+        &[("a", "", 2, 2, 1), ("aa", "", 2, 3, 2)],
+        false,
+        2,
+    ),
+    (Look("a", "c", 1, 0, false), &[], false, 0),
+    (Look("a", "c", 2, 0, false), OLD, false, 3),
+    (Look("a", "c", 2, 1, false), &[("a", "0", 2, 2, 1)], true, 3),
+    (Look("a", "c", 2, 3, false), OLD, false, 3),
+    (Look("a", "c", 2, 9, false), OLD, false, 3),
+    (Look("a", "c", 2, -1, false), OLD, false, 3),
+];
+
+#[test]
+fn ranges_are_in_the_order_of_bytes(rt: HostRuntime) -> Result<(), Fail> {
+    let alloc = rt.alloc();
+    let mut store = run(&rt, alloc, SOME_KEYS)?;
+    for (look, rows, more, count) in LOOKS {
+        match store.carry_out(&Ask::Range(range(alloc, look)?))? {
+            Answer::Range { revision, found } => {
+                assert_eq!(rt; revision, 3);
+                expect_found(&rt, &found, rows, *more, *count);
+            }
+            other => assert!(rt; false, "{other:?}"),
+        }
+    }
+    Ok(())
+}
+
+const LEASED: &[Op] = &[Op::Put("a", "1", 7)];
 
 #[test]
 fn leases_have_their_seconds(rt: HostRuntime) -> Result<(), Fail> {
     let alloc = rt.alloc();
     let mut store = Store::new(alloc)?;
+    let absent = store.carry_out(&Ask::Alive { id: 7 })?;
     assert!(rt;
         matches!(
-            store.carry_out(&Ask::Alive { id: 7 }),
-            Ok(Answer::Alive {
+            absent,
+            Answer::Alive {
                 revision: 1,
                 id: 7,
                 ttl: 0
-            })
+            }
         )
     );
+    let granted = store.carry_out(&Ask::Grant { id: 7, ttl: 30 })?;
     assert!(rt;
         matches!(
-            store.carry_out(&Ask::Grant { id: 7, ttl: 30 }),
-            Ok(Answer::Granted {
+            granted,
+            Answer::Granted {
                 revision: 1,
                 id: 7,
                 ttl: 30
-            })
+            }
         )
     );
+    let denied = store.carry_out(&Ask::Grant { id: 7, ttl: 31 });
     assert!(rt;
         matches!(
-            store.carry_out(&Ask::Grant { id: 7, ttl: 31 }),
+            denied,
             Err(StoreFault::Denied(Denied::LeaseExists { id: 7 }))
-        )
+        ),
+        "{denied:?}"
     );
+    let alive = store.carry_out(&Ask::Alive { id: 7 })?;
     assert!(rt;
         matches!(
-            store.carry_out(&Ask::Alive { id: 7 }),
-            Ok(Answer::Alive {
+            alive,
+            Answer::Alive {
                 revision: 1,
                 id: 7,
                 ttl: 30
-            })
+            }
         )
     );
-    expect_txn(
-        &rt,
-        &run(
-            alloc,
-            &mut store,
-            vec![in alloc; put_under(alloc, "a", "1", 7)?]?,
-        )?,
-        2,
-        true,
-        1,
-    );
-    match store.carry_out(&Ask::Range(range(alloc, "a", "")?))? {
+    let answer = choose(alloc, &mut store, &[], LEASED, &[])?;
+    assert!(rt; matches!(answer, Answer::Txn { revision: 2, .. }));
+    match store.carry_out(&Ask::Range(span(alloc, "a", "")?))? {
         Answer::Range { found, .. } => assert!(rt;
             matches!(found.kvs.as_slice(), [Kv { lease: 7, .. }])
         ),
         other => assert!(rt; false, "{other:?}"),
     }
-    let denied = run(
-        alloc,
-        &mut store,
-        vec![in alloc; put_under(alloc, "b", "1", 8)?]?,
-    );
-    assert!(rt; matches!(denied, Err(StoreFault::Denied(Denied::NoLease { id: 8 }))));
-    assert_eq!(rt; store.revision(), 2);
     Ok(())
 }
+
+/// Operations of a list, and what an etcd denies them for. `b` is 98.
+const DENIALS: &[(&[Op], &str)] = &[
+    (&[Op::Put("a", "1", 8)], "NoLease { id: 8 }"),
+    (
+        &[Op::Range(Look("a", "", 2, 0, false))],
+        "Future { asked: 2, revision: 1 }",
+    ),
+    (
+        &[Op::Range(Look("a", "", -1, 0, false))],
+        "Compacted { asked: -1, floor: 0 }",
+    ),
+    (
+        &[
+            Op::Put("a", "1", 0),
+            Op::Put("b", "1", 0),
+            Op::Put("b", "2", 0),
+        ],
+        "Twice { key: Seq { items: [98] } }",
+    ),
+    (
+        &[Op::Delete("b"), Op::Put("a", "1", 0), Op::Put("b", "2", 0)],
+        "Twice { key: Seq { items: [98] } }",
+    ),
+    (
+        &[Op::Put("b", "2", 0), Op::Delete("a"), Op::Delete("b")],
+        "Twice { key: Seq { items: [98] } }",
+    ),
+];
 
 #[test]
 fn denials_name_their_cause(rt: HostRuntime) -> Result<(), Fail> {
     let alloc = rt.alloc();
     let mut store = Store::new(alloc)?;
-    let mut ahead = range(alloc, "a", "")?;
-    ahead.revision = 2;
-    assert!(rt;
-        matches!(
-            store.carry_out(&Ask::Range(ahead)),
-            Err(StoreFault::Denied(Denied::Future {
-                asked: 2,
-                revision: 1
-            }))
-        )
-    );
-    let mut below = range(alloc, "a", "")?;
-    below.revision = -1;
-    let denied = run(alloc, &mut store, vec![in alloc; Act::Range(below)]?);
+    for (ops, cause) in DENIALS {
+        match choose(alloc, &mut store, &[], ops, &[]) {
+            Err(StoreFault::Denied(denied)) => {
+                let text = format!(in alloc; "{denied:?}")?;
+                assert_eq!(rt; text.as_str(), *cause);
+            }
+            other => assert!(rt; false, "{other:?}"),
+        }
+        assert_eq!(rt; store.revision(), 1);
+    }
+    Ok(())
+}
+
+#[test]
+fn a_list_has_at_most_128_operations(rt: HostRuntime) -> Result<(), Fail> {
+    let alloc = rt.alloc();
+    let mut store = Store::new(alloc)?;
+    let deletes = [Op::Delete("a"); 129];
+    // the list that is not chosen counts too
+    let denied = choose(alloc, &mut store, &[], &[], &deletes);
     assert!(rt;
         matches!(
             denied,
-            Err(StoreFault::Denied(Denied::Compacted {
-                asked: -1,
-                floor: 0
-            }))
-        )
+            Err(StoreFault::Denied(Denied::TooMany { count: 129 }))
+        ),
+        "{denied:?}"
     );
-    // 128 deletes of one key are taken, and no more
-    for (size, denies) in [(128, false), (129, true)] {
-        let mut acts = Vec::new(alloc);
-        for _ in 0..size {
-            acts.push(delete(alloc, "a")?)?;
-        }
-        // also in the list that is not chosen
-        let denied = choose(&mut store, Vec::new(alloc), Vec::new(alloc), acts);
-        assert_eq!(rt;
-            matches!(
-                denied,
-                Err(StoreFault::Denied(Denied::TooMany { count: 129 }))
-            ),
-            denies,
-            "at {size}"
-        );
-    }
-    let twice = vec![in alloc;
-        put(alloc, "a", "1")?,
-        put(alloc, "b", "1")?,
-        put(alloc, "b", "2")?,
-    ]?;
-    let mixed = vec![in alloc;
-        delete(alloc, "b")?,
-        put(alloc, "a", "1")?,
-        put(alloc, "b", "2")?,
-    ]?;
-    for acts in [twice, mixed] {
-        match choose(&mut store, Vec::new(alloc), Vec::new(alloc), acts) {
-            Err(StoreFault::Denied(Denied::Twice { key })) => assert!(rt; key.is(b"b")),
-            other => assert!(rt; false, "{other:?}"),
-        }
-    }
-    // both lists may put a key
-    let both = choose(
-        &mut store,
-        Vec::new(alloc),
-        vec![in alloc; put(alloc, "a", "1")?]?,
-        vec![in alloc; put(alloc, "a", "2")?]?,
-    )?;
-    expect_txn(&rt, &both, 2, true, 1);
+    let taken = choose(alloc, &mut store, &[], &deletes[1..], &[])?;
+    assert!(rt; matches!(taken, Answer::Txn { revision: 1, .. }));
     Ok(())
 }

@@ -1,7 +1,9 @@
 -- What a line more does to states, legality and look-ups.
-use Rattle.std.proofs.Common.{◌≡◌, ℕ, ◌+◌, List, [], ◌∷◌, ◌++◌, refl, sym, ap, ◌∙◌, arith, append_assoc, append-nil, Bool, true, false}
+use Rattle.std.proofs.Common.{◌≡◌, ℕ, ◌+◌, List, [], ◌∷◌, ◌++◌, refl, sym, ap, ◌∙◌, arith, append_assoc, append-nil, true}
 use Rattle.std.specs.Prelude.{Option, Some, None, ◌&&◌, ℤ, nat_lt}
+use Rattle.std.proofs.lemmas.Bool.{and_parts}
 use Rattle.std.proofs.lemmas.Bool.Decides.{nat_tests}
+use Rattle.std.proofs.Math.Bool.{and-true, and_assoc}
 use Rattle.zk_model.specs.declared.transcript.TranscriptLine.{TranscriptLine}
 use Rattle.zk_model.specs.declared.transcript.TranscriptLine.TheVariants.{Update, Open, Frame, Send, Lapse, Close}
 use Rattle.zk_model.specs.declared.transcript.UpdateKind.{UpdateKind}
@@ -20,25 +22,13 @@ pub after-push : (ls : List TranscriptLine) (l : TranscriptLine) → after (ls +
 unfolding after
 after-push ls l = after_from-push [] nothing_yet ls l
 
-&&-assoc : (a b c : Bool) → (a && (b && c)) ≡ ((a && b) && c)
-&&-assoc true b c = refl
-&&-assoc false b c = refl
-
-&&-true : (a : Bool) → (a && true) ≡ a
-&&-true true = refl
-&&-true false = refl
-
 is_legal_from-push : (before : List TranscriptLine) (s : State) (ls : List TranscriptLine) (l : TranscriptLine)
     → is_legal_from before s (ls ++ l ∷ []) ≡ (is_legal_from before s ls && is_legal_line (before ++ ls) (after_from before s ls) l)
-is_legal_from-push before s [] l = &&-true _ ∙ ap (λ b. is_legal_line b s l) (sym (append-nil before))
+is_legal_from-push before s [] l = and-true _ ∙ ap (λ b. is_legal_line b s l) (sym (append-nil before))
 is_legal_from-push before s (x ∷ ls) l =
     ap (λ b. is_legal_line before s x && b) (is_legal_from-push (before ++ x ∷ []) (change before s x) ls l
     ∙ ap (λ b. is_legal_from (before ++ x ∷ []) (change before s x) ls && is_legal_line b (after_from (before ++ x ∷ []) (change before s x) ls) l) (append_assoc before (x ∷ []) ls))
-    ∙ &&-assoc (is_legal_line before s x) (is_legal_from (before ++ x ∷ []) (change before s x) ls) _
-
-&&-both : (a b : Bool) → (a && b) ≡ true → (a ≡ true) × (b ≡ true)
-&&-both true b h = (refl, h)
-&&-both false b h = absurd (cc)
+    ∙ sym (and_assoc (is_legal_line before s x) (is_legal_from (before ++ x ∷ []) (change before s x) ls) _)
 
 more_positive : (n : ℕ) → nat_lt 0 (n + 1) ≡ true
 more_positive n = grind (arith, nat_tests)
@@ -72,16 +62,16 @@ updates-change before s (Close c end) h = h
 pub is_legal-push : (ls : List TranscriptLine) (l : TranscriptLine) → is_legal ls ≡ true → is_legal_line ls (after ls) l ≡ true → is_legal (ls ++ l ∷ []) ≡ true
 unfolding is_legal after
 is_legal-push ls l legal line =
-    let both = &&-both (is_legal_from [] nothing_yet ls) (nat_lt 0 (after_from [] nothing_yet ls).updates) legal in
+    let both = and_parts (is_legal_from [] nothing_yet ls) (nat_lt 0 (after_from [] nothing_yet ls).updates) legal in
     rw (is_legal_from-push [] nothing_yet ls l, after_from-push [] nothing_yet ls l, both.0, line)
     (updates-change ls (after_from [] nothing_yet ls) l both.1)
 
 is_ordered_from-push : (before ls : List TranscriptLine) (l : TranscriptLine) → is_ordered_from before (ls ++ l ∷ []) ≡ (is_ordered_from before ls && is_in_order (before ++ ls) l)
-is_ordered_from-push before [] l = &&-true _ ∙ ap (λ b. is_in_order b l) (sym (append-nil before))
+is_ordered_from-push before [] l = and-true _ ∙ ap (λ b. is_in_order b l) (sym (append-nil before))
 is_ordered_from-push before (x ∷ ls) l =
     ap (λ b. is_in_order before x && b) (is_ordered_from-push (before ++ x ∷ []) ls l
     ∙ ap (λ b. is_ordered_from (before ++ x ∷ []) ls && is_in_order b l) (append_assoc before (x ∷ []) ls))
-    ∙ &&-assoc (is_in_order before x) (is_ordered_from (before ++ x ∷ []) ls) _
+    ∙ sym (and_assoc (is_in_order before x) (is_ordered_from (before ++ x ∷ []) ls) _)
 
 pub is_ordered-push : (ls : List TranscriptLine) (l : TranscriptLine) → is_ordered ls ≡ true → is_in_order ls l ≡ true → is_ordered (ls ++ l ∷ []) ≡ true
 unfolding is_ordered

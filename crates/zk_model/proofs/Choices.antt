@@ -1,10 +1,10 @@
 -- What one choice gives a connection on which nothing is armed.
-use Rattle.std.proofs.Common.{◌≡◌, ℕ, zero, suc, ◌+◌, ◌≤◌, ◌<◌, List, [], ◌∷◌, ◌++◌, length, take, refl, sym, ap, ◌∙◌, subst, arith, Bool, true, false, ℤ, pos, ◌≤ℤ◌}
-use Rattle.std.specs.Prelude.{Option, Some, None, nat_le, int_le, ◌==◌, ◌&&◌, if◌then◌else◌}
+use Rattle.std.proofs.Common.{◌≡◌, ℕ, ◌+◌, ◌≤◌, List, [], ◌∷◌, length, refl, ◌∙◌, arith, Bool, true, false, ℤ, pos, ◌≤ℤ◌}
+use Rattle.std.specs.Prelude.{Option, Some, None, nat_le, int_le, ◌==◌, if◌then◌else◌}
 use Rattle.std.proofs.lemmas.Bool.Decides.{nat_tests}
 use Rattle.std.proofs.lemmas.Int.{ints}
 use Rattle.std.proofs.Math.Seq.{take-length}
-use Rattle.std.specs.FinMap.{get, remove, empty, get-empty}
+use Rattle.std.specs.FinMap.{empty, get-empty}
 use Rattle.zx_base.proofs.MapLaws.{remove-absent}
 use Rattle.zk_model.specs.declared.node.Trigger.{Trigger}
 use Rattle.zk_model.specs.declared.node.Trigger.TheVariants.{Created, Deleted, Changed, Children}
@@ -16,12 +16,12 @@ use Rattle.zk_model.proofs.Walks.{first_place-bound}
 use Rattle.zk_model.specs.declared.request.Request.{Request}
 use Rattle.zk_model.specs.declared.transcript.TranscriptLine.{TranscriptLine}
 use Rattle.zk_model.specs.declared.transcript.UpdateRec.{UpdateRec}
-use Rattle.zk_model.specs.Requests.{Frame, Asks, read_request}
+use Rattle.zk_model.specs.Requests.{Asks, read_request}
 use Rattle.zk_model.specs.Packets.{reply_packet}
-use Rattle.zk_model.specs.Watches.{Watches, no_watches, fire, fire_all}
-use Rattle.zk_model.specs.History.{State, after, state_at, first_place, frame_shown}
-use Rattle.zk_model.specs.Answers.{Told, plain_request, tree_reply}
-use Rattle.zk_model.specs.Conversations.{Walker, Choice, Plain, Answer, Due, move, fired_at, is_above, then_fired, fired_from, fired_above, placed_frame, is_auth_refusal, later_of, plain_answer, answer_plainly, answer_as_of, answer_framed, answer_past, answered, answered_if, has_header, carried, unless_over, update_shown, after_place, after_update, response_at}
+use Rattle.zk_model.specs.Watches.{no_watches, fire, fire_all}
+use Rattle.zk_model.specs.History.{after, state_at, first_place, frame_shown}
+use Rattle.zk_model.specs.Answers.{plain_request, tree_reply}
+use Rattle.zk_model.specs.Conversations.{Walker, Plain, Answer, move, fired_at, is_above, then_fired, fired_from, fired_above, placed_frame, is_auth_refusal, later_of, answer_as_of, answer_framed, answer_past, carried, update_shown, after_place, after_update, response_at}
 
 -- ---- where nothing is armed, nothing fires
 
@@ -83,7 +83,13 @@ answer-now lines c id w own place bytes xid r may asks carries =
 -- the walker behind an answer as of now
 abbrev pub answered_now : List TranscriptLine → Walker → Walker
 answered_now lines w = record {
-  zxid = (after lines).zxid; since = after_update (after lines).zxid lines; watches = no_watches; next = w.next + 1; moment = length lines; over = false }
+  zxid = (after lines).zxid;
+  since = after_update (after lines).zxid lines;
+  watches = no_watches;
+  next = w.next + 1;
+  moment = length lines;
+  over = false;
+}
 
 -- a request that nothing carried out is answered by the tree
 pub answer-looked : (lines : List TranscriptLine) (c : ℕ) (w : Walker) (place : ℕ) (bytes : List ℕ) (xid : ℤ) (r : Request) (reply : Reply)

@@ -2,6 +2,7 @@
 use Rattle.std.proofs.Common.{◌≡◌, ℕ, suc, ◌+◌, List, [], ◌∷◌, ◌++◌, length, refl, sym, ap, ◌∙◌, arith, add-zero, zero-add, Bool, true, false}
 use Rattle.std.specs.Prelude.{◌&&◌, ◌==◌, nat_le, bytes_eq, if◌then◌else◌, None}
 use Rattle.std.specs.List.{list_all}
+use Rattle.std.proofs.lemmas.Bool.{and_parts}
 use Rattle.zk_model.specs.declared.transcript.TranscriptLine.{TranscriptLine}
 use Rattle.zk_model.specs.declared.transcript.TranscriptLine.TheVariants.{Update, Open, Frame, Send, Lapse, Close}
 use Rattle.zk_model.specs.History.{first_place}
@@ -34,9 +35,6 @@ packet-cons : (b : Bool) (p : Due) (ps qs : List Due) → (if b then p ∷ (ps +
 packet-cons true p ps qs = refl
 packet-cons false p ps qs = refl
 
-packets_from-move : (c k m : ℕ) (ls : List TranscriptLine) → (k + 1) + m ≡ k + suc m → packets_from c ((k + 1) + m) ls ≡ packets_from c (k + suc m) ls
-packets_from-move c k m ls e = ap (λ n. packets_from c n ls) e
-
 packets_from-append : (c k : ℕ) (ls more : List TranscriptLine) → packets_from c k (ls ++ more) ≡ packets_from c k ls ++ packets_from c (k + length ls) more
 packets_from-append c k [] more = ap (λ n. packets_from c n more) (sym (add-zero k))
 packets_from-append c k (l ∷ ls) more = step l (packets_from-append c (k + 1) ls more ∙ ap (λ n. packets_from c (k + 1) ls ++ packets_from c n more) (omega arith))
@@ -53,19 +51,14 @@ packets_from-append c k (l ∷ ls) more = step l (packets_from-append c (k + 1) 
 pub packets-append : (c : ℕ) (ls more : List TranscriptLine) → packets c (ls ++ more) ≡ packets c ls ++ packets_from c (length ls) more
 packets-append c ls more = packets_from-append c 0 ls more ∙ ap (λ n. packets c ls ++ packets_from c n more) (zero-add (length ls))
 
-&&-three : (a b d : Bool) → (a && b && d) ≡ true → (a ≡ true) × (b ≡ true) × (d ≡ true)
-&&-three true true d h = (refl, refl, h)
-&&-three true false d h = absurd (cc)
-&&-three false b d h = absurd (cc)
-
 -- packets that were due are sent, and one more
 pub are_sent-append : (ds es ps qs : List Due) → are_sent ds ps ≡ true → are_sent es qs ≡ true → are_sent (ds ++ es) (ps ++ qs) ≡ true
 are_sent-append [] es [] qs h g = g
 are_sent-append [] es (p ∷ ps) qs h g = absurd (cc)
 are_sent-append (d ∷ ds) es [] qs h g = absurd (cc)
 are_sent-append (d ∷ ds) es (p ∷ ps) qs h g =
-    let each = &&-three (nat_le d.0 p.0) (bytes_eq d.1 p.1) (are_sent ds ps) h in
-    rw (each.0, each.1) (are_sent-append ds es ps qs each.2 g)
+    let front = and_parts (nat_le d.0 p.0 && bytes_eq d.1 p.1) (are_sent ds ps) h in
+    rw front.0 (are_sent-append ds es ps qs front.1 g)
 
 all_before : (ps : List Due) → list_all (λ (p : Due). is_before p.0 None) ps ≡ true
 all_before [] = refl

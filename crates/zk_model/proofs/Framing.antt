@@ -1,9 +1,9 @@
 -- Frames, one after the other, and the one list of frames that a stream has.
-use Rattle.std.proofs.Common.{◌≡◌, ℕ, zero, suc, ◌+◌, ◌-◌, ◌<◌, ◌≤◌, Bool, true, false, cond, ltb, Option, Some, None, List, [], ◌∷◌, ◌++◌, length, take, drop, Result, Ok, Err, refl, sym, ap, subst, ◌∙◌, append_assoc, arith, ℤ, pos, negsuc, IsErr}
+use Rattle.std.proofs.Common.{◌≡◌, ℕ, ◌<◌, ◌≤◌, Bool, true, false, cond, ltb, Some, None, List, [], ◌∷◌, ◌++◌, length, take, drop, Result, Ok, Err, refl, sym, ap, subst, ◌∙◌, append_assoc, arith, ℤ, pos, negsuc, IsErr}
 use Rattle.std.proofs.lemmas.Bool.{ltb-false, le-ltb}
 use Rattle.std.proofs.lemmas.List.{append-nil, take_at, drop_at, take-append-drop, length-append, length-take}
 use Rattle.zk_model.specs.JuteValues.{IsInt, Spelled}
-use Rattle.zk_model.specs.JuteReading.{Read, ◌>>=◌, int_at}
+use Rattle.zk_model.specs.JuteReading.{Read, int_at}
 use Rattle.zk_model.specs.Frames.{most_frame, IsFrame, IsRest, Framed, out_of_range, out_of_range_in, bad_length, frame_of, frame_at}
 use Rattle.zk_model.proofs.JuteFields.{Takes, IsField, bind_ok, guard_ok, ok_is, joined, int_field}
 

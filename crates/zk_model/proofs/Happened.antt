@@ -24,9 +24,6 @@ RunsFrom-push r (g ∷ hs) h between r' runs happens = (runs.0, runs.1, RunsFrom
 
 -- ---- the moments of updates
 
-no_tick : Tick
-no_tick = record { clock = 0; lines = 0 }
-
 lines_before-front : (ticks more : List Tick) (k : ℕ) → k ≤ length ticks → lines_before (ticks ++ more) k ≡ lines_before ticks k
 lines_before-front ticks more zero h = refl
 lines_before-front ticks more (suc j) h =

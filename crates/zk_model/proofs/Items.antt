@@ -1,14 +1,18 @@
 -- The items that a multi lists, as a loop reads them.
-use Rattle.std.proofs.Common.{◌≡◌, ℕ, zero, suc, ◌+◌, ◌<◌, ◌≤◌, Bool, Option, Some, None, List, [], ◌∷◌, ◌++◌, length, Ok, Err, refl, sym, ap, ◌∙◌, append_assoc, arith, ℤ}
+use Rattle.std.proofs.Common.{◌≡◌, ℕ, zero, suc, ◌<◌, ◌≤◌, cond, Option, Some, None, List, [], ◌∷◌, ◌++◌, length, Ok, Err, refl, sym, ap, ◌∙◌, append_assoc, arith, ℤ}
+use Rattle.std.specs.Ordering.{int_eq}
 use Rattle.std.proofs.lemmas.List.{append-nil, length-append}
 use Rattle.zk_model.specs.declared.opcode.PartKind.{PartKind}
+use Rattle.zk_model.specs.declared.reply.PartResult.{PartResult}
+use Rattle.zk_model.specs.declared.reply.PartResult.TheVariants as results
 use Rattle.zk_model.specs.declared.request.Part.{Part}
 use Rattle.zk_model.specs.JuteValues.{Value, Kind}
 use Rattle.zk_model.specs.JuteReading.{Read, ◌>>=◌, int_at, boolean_at, values_at, until_last, all_until_last}
 use Rattle.zk_model.specs.Records.{part_fields}
-use Rattle.zk_model.specs.FromValues.{part_from}
+use Rattle.zk_model.specs.FromValues.{part_from, result_from}
 use Rattle.zk_model.specs.Requests.{part_begun, header_at, part_after, part_at}
-use Rattle.zk_model.proofs.JuteFields.{Takes, IsField, bind_ok, ok_is, int_field, boolean_field, values_take}
+use Rattle.zk_model.specs.Results.{Form, last, good, refused, none, form_of, result_fields, result_after, result_at}
+use Rattle.zk_model.proofs.JuteFields.{bind_ok, ok_is, ended_ok, int_field, boolean_field, values_take}
 
 -- what was read before, and what is still read
 abbrev pub with_front : {A : Type 0} → List A → Read (List A) → Read (List A)
@@ -96,3 +100,33 @@ pub part_shorter : Shortens part_at
 part_shorter bytes x rest e =
     let a = bind_ok (header_at bytes) (λ begun. part_after begun.0 begun.1) (Some x, rest) e in
     omega (arith, header_shorter bytes a.0.0 a.0.1 a.1, part_no_longer a.0.0 a.0.1 x rest a.2)
+
+result_no_longer : (left : ℕ) (err : ℤ) (form : Form) (bytes : List ℕ) (x : PartResult) (rest : List ℕ) → result_after left err form bytes ≡ Ok (Some x, rest) → length rest ≤ length bytes
+result_no_longer left err last bytes x rest e = absurd (none_some x (ap (λ (y : Option PartResult × List ℕ). y.0) (ok_is (None, bytes) (Some x, rest) e)))
+result_no_longer left err (good kind) bytes x rest e = values_no_longer (result_fields kind) bytes (λ vs. Some (result_from kind vs)) (Some x) rest e
+result_no_longer left err refused bytes x rest e =
+    let a = bind_ok (int_at bytes) (λ code. cond (int_eq code.0 err) (Ok (Some (results.Code code.0), code.1)) (Err left)) (Some x, rest) e in
+    let g = ended_ok (int_eq a.0.0 err) left (Some (results.Code a.0.0), a.0.1) (Some x, rest) a.2 in
+    let t = int_field.takes bytes a.0.0 a.0.1 a.1 in
+    omega (arith, ap length t.parts, length-append t.front a.0.1, ap (λ (y : Option PartResult × List ℕ). length y.1) g.1)
+result_no_longer left err none bytes x rest e = absurd cc
+
+pub result_shorter : Shortens result_at
+result_shorter bytes x rest e =
+    let a = bind_ok (int_at bytes) (λ type. boolean_at type.1 >>= λ is_last. int_at is_last.1 >>= λ err. result_after (length bytes) err.0 (form_of type.0 is_last.0 err.0) err.1) (Some x, rest) e in
+    let b = bind_ok (boolean_at a.0.1) (λ is_last. int_at is_last.1 >>= λ err. result_after (length bytes) err.0 (form_of a.0.0 is_last.0 err.0) err.1) (Some x, rest) a.2 in
+    let c = bind_ok (int_at b.0.1) (λ err. result_after (length bytes) err.0 (form_of a.0.0 b.0.0 err.0) err.1) (Some x, rest) b.2 in
+    let t = int_field.takes bytes a.0.0 a.0.1 a.1 in
+    let u = boolean_field.takes a.0.1 b.0.0 b.0.1 b.1 in
+    let v = int_field.takes b.0.1 c.0.0 c.0.1 c.1 in
+    omega (
+      arith,
+      ap length t.parts,
+      ap length u.parts,
+      ap length v.parts,
+      length-append t.front a.0.1,
+      length-append u.front b.0.1,
+      length-append v.front c.0.1,
+      v.spelled.0,
+      result_no_longer (length bytes) c.0.0 (form_of a.0.0 b.0.0 c.0.0) c.0.1 x rest c.2,
+    )

@@ -1,5 +1,5 @@
 -- The lengths of what is written, and that a frame whose length fits has no longer field.
-use Rattle.std.proofs.Common.{◌≡◌, ℕ, ◌+◌, ◌*◌, ◌^◌, ◌<◌, ◌≤◌, Bool, true, false, Option, None, Some, List, [], ◌∷◌, ◌++◌, length, refl, sym, ap, ◌∙◌, arith, ℤ, pos}
+use Rattle.std.proofs.Common.{◌≡◌, ℕ, ◌+◌, ◌^◌, ◌<◌, ◌≤◌, Bool, true, false, Option, None, Some, List, [], ◌∷◌, ◌++◌, length, refl, sym, ◌∙◌, arith, ℤ, pos}
 use Rattle.std.specs.List.{AllByRecursion, flat_map}
 use Rattle.std.proofs.lemmas.List.{length-append}
 use Rattle.byteorder.specs.Numbers.{length-bytes_high_first}
@@ -10,7 +10,7 @@ use Rattle.zk_model.specs.declared.reply.Reply.TheVariants as replies
 use Rattle.zk_model.specs.declared.request.Acl.{Acl}
 use Rattle.zk_model.specs.declared.request.Request.{Request}
 use Rattle.zk_model.specs.JuteValues.{Value, int, long, boolean, buffer, ustring, ustrings, acls, open_acl}
-use Rattle.zk_model.specs.JuteWriting.{int_bytes, long_bytes, string_bytes, vector_bytes, acl_bytes, canonical, IsShort, IsShortAcl, CanBeWritten, FitsLength, written}
+use Rattle.zk_model.specs.JuteWriting.{int_bytes, long_bytes, boolean_bytes, string_bytes, vector_bytes, acl_bytes, canonical, IsShort, IsShortAcl, CanBeWritten, FitsLength, written}
 use Rattle.zk_model.specs.Connects.{optional, connect_response_values}
 use Rattle.zk_model.specs.Numbers.{number_of, opcode_of}
 use Rattle.zk_model.specs.Sending.{request_bytes, asked_values}
@@ -25,8 +25,25 @@ pub length-long_bytes : (n : ℤ) → length (long_bytes n) ≡ 8
 unfolding long_bytes
 length-long_bytes n = length-bytes_high_first 8 (cast_unsigned w64 n)
 
-length-string_bytes : (bytes : List ℕ) → length (string_bytes bytes) ≡ length bytes + 4
+pub length-string_bytes : (bytes : List ℕ) → length (string_bytes bytes) ≡ length bytes + 4
 length-string_bytes bytes = omega (arith, length-append (int_bytes (pos (length bytes))) bytes, length-int_bytes (pos (length bytes)))
+
+pub length-boolean_bytes : (b : Bool) → length (boolean_bytes b) ≡ 1
+length-boolean_bytes true = refl
+length-boolean_bytes false = refl
+
+pub length-acl_bytes : (acl : Acl) → length (acl_bytes acl) ≡ 4 + length (string_bytes acl.scheme) + length (string_bytes acl.id)
+length-acl_bytes acl =
+    omega (arith, length-append (int_bytes acl.perms ++ string_bytes acl.scheme) (string_bytes acl.id), length-append (int_bytes acl.perms) (string_bytes acl.scheme), length-int_bytes acl.perms)
+
+pub length-vector_bytes : {A : Type 0} (each : A → List ℕ) (xs : List A) → length (vector_bytes each xs) ≡ 4 + length (flat_map each xs)
+length-vector_bytes {A = A} each xs = omega (arith, length-append (int_bytes (pos (length xs))) (flat_map each xs), length-int_bytes (pos (length xs)))
+
+pub length-open_acl : length (canonical open_acl) ≡ 27
+unfolding int_bytes
+length-open_acl = refl
+
+pub ruleset lengths = (length-int_bytes, length-long_bytes, length-boolean_bytes, length-string_bytes, length-acl_bytes, length-vector_bytes, length-open_acl)
 
 -- ---- what fits as a whole fits in its parts
 

@@ -4,6 +4,7 @@ pub mod Owned
 pub mod Sound
 pub mod PathDefects
 pub mod PathScans
+pub mod SequencePaths
 pub mod ValidPaths
 pub mod PieceLaws
 pub mod WrittenWords
@@ -24,3 +25,16 @@ pub mod Items
 pub mod Framing
 pub mod RequestLaws
 pub mod Lengths
+pub mod Stats
+pub mod ReplyLaws
+pub mod Numbered
+pub mod Conforming
+pub mod Listing
+pub mod JuteCanonical
+pub mod Lists
+pub mod PartLaws
+pub mod Headers
+pub mod ConnectLaws
+pub mod ResultLaws
+pub mod RoundTrips
+pub mod Contents

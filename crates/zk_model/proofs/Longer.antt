@@ -80,9 +80,6 @@ move-next lines c id w (Answer m) y h = omega (arith, answer-next lines c m id w
 
 -- ---- whole walks
 
-walk_step : (lines : List TranscriptLine) (c : ℕ) (id : ℤ) (w : Walker) (xs : List Choice) (o : Option (Walker × List Due)) → Option (Walker × List Due)
-walk_step lines c id w xs o = elim o [ None ↦ None | Some y ↦ then_due y.1 (walk lines c id y.0 xs) ]
-
 then_due-next : (first : List Due) (o : Option (Walker × List Due)) (r : Walker × List Due) → then_due first o ≡ Some r → (s : Walker × List Due) × (o ≡ Some s) × (s.0 ≡ r.0) × (first ++ s.1 ≡ r.1)
 then_due-next first None r h = absurd (cc)
 then_due-next first (Some s) r h = let e : (s.0, first ++ s.1) ≡ r = cc in (s, refl, ap (λ (p : Walker × List Due). p.0) e, ap (λ (p : Walker × List Due). p.1) e)

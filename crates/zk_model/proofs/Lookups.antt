@@ -6,9 +6,6 @@ use Rattle.zk_model.specs.History.{first_place, first_shown}
 
 -- ---- the first line that shows something
 
-first_place_step : {A : Type 0} (o : Option A) (k : ℕ) (later : Option (ℕ × A)) → Option (ℕ × A)
-first_place_step o k later = elim o [ Some x ↦ Some (k, x) | None ↦ later ]
-
 -- a line that doesn't show it changes nothing
 pub first_place-skip : {A : Type 0} (show : TranscriptLine → Option A) (k : ℕ) (ls : List TranscriptLine) (l : TranscriptLine)
     → show l ≡ None → first_place show k (ls ++ l ∷ []) ≡ first_place show k ls

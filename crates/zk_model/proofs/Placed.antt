@@ -1,6 +1,7 @@
 -- Each line of a legal history was legal where it stands; and what was carried out has its frame before it.
-use Rattle.std.proofs.Common.{◌≡◌, ℕ, zero, suc, ◌+◌, List, [], ◌∷◌, ◌++◌, take, drop, refl, ap, subst, append_assoc, append-nil, Bool, true, false, ℤ}
-use Rattle.std.specs.Prelude.{Option, Some, None, ◌&&◌, nat_lt, is_some, slice_get}
+use Rattle.std.proofs.Common.{◌≡◌, ℕ, zero, suc, ◌+◌, List, [], ◌∷◌, ◌++◌, take, drop, refl, ap, subst, append_assoc, append-nil, true, ℤ}
+use Rattle.std.specs.Prelude.{Option, Some, None, nat_lt, is_some, slice_get}
+use Rattle.std.proofs.lemmas.Bool.{and_parts}
 use Rattle.std.proofs.lemmas.List.{take-append-drop}
 use Rattle.zk_model.specs.declared.transcript.TranscriptLine.{TranscriptLine}
 use Rattle.zk_model.specs.declared.transcript.TranscriptLine.TheVariants.{Update}
@@ -9,29 +10,21 @@ use Rattle.zk_model.specs.History.{State, after, after_from, change, nothing_yet
 use Rattle.zk_model.specs.Legal.{is_legal, is_legal_from, is_legal_line, is_small_frame, may_update, is_within_parts}
 use Rattle.zk_model.proofs.Appending.{first_place-push}
 
-&&-first : (a b : Bool) → (a && b) ≡ true → a ≡ true
-&&-first true b h = refl
-&&-first false b h = absurd (cc)
-
-&&-second : (a b : Bool) → (a && b) ≡ true → b ≡ true
-&&-second true b h = h
-&&-second false b h = absurd (cc)
-
 is_legal_from-at : (before : List TranscriptLine) (s : State) (ls : List TranscriptLine) (k : ℕ) (l : TranscriptLine)
     → is_legal_from before s ls ≡ true → slice_get ls k ≡ Some l → is_legal_line (before ++ take k ls) (after_from before s (take k ls)) l ≡ true
 is_legal_from-at before s [] k l h g = absurd (cc)
 is_legal_from-at before s (x ∷ ls) zero l h g =
     let same : x ≡ l = cc in
-    rw (append-nil before) (subst (λ (y : TranscriptLine). is_legal_line before s y ≡ true) same (&&-first (is_legal_line before s x) (is_legal_from (before ++ x ∷ []) (change before s x) ls) h))
+    rw (append-nil before) (subst (λ (y : TranscriptLine). is_legal_line before s y ≡ true) same (and_parts (is_legal_line before s x) (is_legal_from (before ++ x ∷ []) (change before s x) ls) h).0)
 is_legal_from-at before s (x ∷ ls) (suc k) l h g =
-    let at = is_legal_from-at (before ++ x ∷ []) (change before s x) ls k l (&&-second (is_legal_line before s x) (is_legal_from (before ++ x ∷ []) (change before s x) ls) h) g in
+    let at = is_legal_from-at (before ++ x ∷ []) (change before s x) ls k l (and_parts (is_legal_line before s x) (is_legal_from (before ++ x ∷ []) (change before s x) ls) h).1 g in
     subst (λ (b : List TranscriptLine). is_legal_line b (after_from (before ++ x ∷ []) (change before s x) (take k ls)) l ≡ true) (append_assoc before (x ∷ []) (take k ls)) at
 
 -- a line was legal in the state before it
 pub is_legal-at : (lines : List TranscriptLine) (k : ℕ) (l : TranscriptLine)
     → is_legal lines ≡ true → slice_get lines k ≡ Some l → is_legal_line (take k lines) (state_at lines k) l ≡ true
 unfolding is_legal after
-is_legal-at lines k l h g = is_legal_from-at [] nothing_yet lines k l (&&-first (is_legal_from [] nothing_yet lines) (nat_lt 0 (after_from [] nothing_yet lines).updates) h) g
+is_legal-at lines k l h g = is_legal_from-at [] nothing_yet lines k l (and_parts (is_legal_from [] nothing_yet lines) (nat_lt 0 (after_from [] nothing_yet lines).updates) h).0 g
 
 -- what is shown has a first place
 pub first_place-shown : {A : Type 0} (show : TranscriptLine → Option A) (k : ℕ) (ls : List TranscriptLine) (x : A)
@@ -51,9 +44,9 @@ asked_frame : (before : List TranscriptLine) (s : State) (zxid : ℤ) (c i now :
     → is_legal_line before s (Update (record { zxid = zxid; kind = Asked c i now })) ≡ true → is_small_frame (frame c i before) ≡ true
 unfolding may_update
 asked_frame before s zxid c i now h =
-    let may = &&-first (may_update before s zxid (Asked c i now)) _ h in
-    let most = &&-first _ (is_some (asked_commit before s zxid c i now)) may in
-    &&-second _ (is_small_frame (frame c i before)) (&&-first _ (is_within_parts (request c i before)) most)
+    let may = (and_parts (may_update before s zxid (Asked c i now)) _ h).0 in
+    let most = (and_parts _ (is_some (asked_commit before s zxid c i now)) may).0 in
+    (and_parts _ (is_small_frame (frame c i before)) (and_parts _ (is_within_parts (request c i before)) most).0).1
 
 -- an update that was asked has the frame that asked it
 pub asked-framed : (lines : List TranscriptLine) (k : ℕ) (zxid : ℤ) (c i now : ℕ)

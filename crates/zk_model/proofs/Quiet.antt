@@ -1,5 +1,5 @@
 -- Lines that change nothing and are always legal: a connection opens, a frame comes, a packet is sent.
-use Rattle.std.proofs.Common.{◌≡◌, ℕ, ℤ, List, [], ◌∷◌, ◌++◌, refl, ◌∙◌, Bool, true, false}
+use Rattle.std.proofs.Common.{◌≡◌, ℕ, ℤ, List, [], ◌∷◌, ◌++◌, refl, ◌∙◌, true}
 use Rattle.zk_model.specs.declared.transcript.TranscriptLine.{TranscriptLine}
 use Rattle.zk_model.specs.declared.transcript.TranscriptLine.TheVariants.{Open, Frame, Send}
 use Rattle.zk_model.specs.History.{State, after, change}

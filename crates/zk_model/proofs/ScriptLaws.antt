@@ -1,10 +1,10 @@
 -- What is known of a script that comes piece by piece: some bytes more, a whole line more, and each end of the reading.
-use Rattle.std.proofs.Common.{◌≡◌, ℕ, zero, suc, ◌+◌, ◌-◌, ◌<◌, ◌≤◌, ◌==◌, Bool, true, false, ◌⊎◌, inl, inr, List, [], ◌∷◌, ◌++◌, length, take, Option, Some, None, if◌then◌else◌, refl, sym, ap, ◌∙◌, arith}
+use Rattle.std.proofs.Common.{◌≡◌, ℕ, suc, ◌+◌, ◌-◌, ◌<◌, ◌≤◌, ◌==◌, Bool, true, false, inl, inr, List, [], ◌∷◌, ◌++◌, length, take, drop, Option, Some, None, if◌then◌else◌, refl, sym, ap, ◌∙◌, arith}
 use Rattle.std.specs.Prelude.{nat_lt, Contains}
 use Rattle.std.proofs.Math.Seq.{take-append-add}
 use Rattle.std.proofs.lemmas.Bool.{cases_Bool, cases_eq, cases_lt, eq-eqb, eqb-true, false≢true, le-ltb, lt-ltb}
-use Rattle.std.proofs.lemmas.List.{append_assoc, append-nil, length-append, length_push, take_all, take-append-le, take_at}
-use Rattle.std.proofs.lemmas.List.Elements.{All-append, All-contains, All-cons, All-nil, All-push}
+use Rattle.std.proofs.lemmas.List.{append_assoc, append-nil, length-append, length-drop, length_push, length-take-le, take_all, take-append-drop, take_at}
+use Rattle.std.proofs.lemmas.List.Elements.{All-append, All-take, All-contains, All-cons, All-nil, All-push}
 use Rattle.zk_model.specs.declared.script.Happening.{Happening}
 use Rattle.zk_model.specs.declared.script.Unread.{Unread}
 use Rattle.zk_model.specs.declared.script.Unread.TheVariants.{Unreadable, TooLong}
@@ -77,15 +77,15 @@ script_from-long n room line (b ∷ rest) lacks long fits =
           let test = lt-ltb most_line (length line) long in
           script_from-cut n room line (b ∷ rest) lacks full (omega arith) ∙ ap (λ (t : Bool). ([], Some (n, if t then Unreadable else TooLong))) test
       | inr room_left ↦ elim (cases_Bool (b == 10)) [
-          | inl feed ↦
-              let none = line_read-long line long in
-              let same = eqb-true b 10 feed in
-              rw same (script_from-line n room line rest lacks (omega arith) ∙ rw none refl)
-          | inr other ↦
-              let more = length_push line b in
-              ap (script_from n room) (sym (append_assoc line (b ∷ []) rest))
-              ∙ script_from-long n room (line ++ b ∷ []) rest (All-push (λ x. (x == 10) ≡ false) line b lacks other) (omega arith) (omega arith)
-        ]
+        | inl feed ↦
+            let none = line_read-long line long in
+            let same = eqb-true b 10 feed in
+            rw same (script_from-line n room line rest lacks (omega arith) ∙ rw none refl)
+        | inr other ↦
+            let more = length_push line b in
+            ap (script_from n room) (sym (append_assoc line (b ∷ []) rest))
+            ∙ script_from-long n room (line ++ b ∷ []) rest (All-push (λ x. (x == 10) ≡ false) line b lacks other) (omega arith) (omega arith)
+      ]
     ]
 
 -- ---- a script that comes piece by piece
@@ -100,13 +100,14 @@ behind-push before h later = ap (λ (hs : List Happening). (hs, later.1)) (sym (
 behind-nothing : (before : List Happening) (end : Option (ℕ × Unread)) → behind before ([], end) ≡ (before, end)
 behind-nothing before end = ap (λ (hs : List Happening). (hs, end)) (append-nil before)
 
--- These bytes came. Their whole lines say `before`, and `pending` stands behind the last line feed.
+-- These bytes came, and pass no limit. Their whole lines say `before`, and `pending` stands behind the last line feed.
 pub record Scripting (bytes pending : List ℕ) (before : List Happening) : Type 0 where
   pub lines : List ℕ
   pub parts : bytes ≡ lines ++ pending
   pub whole : IsWholeLines lines
   pub unbroken : Lacks 10 pending
   pub within : length bytes ≤ most_script
+  pub short : length pending ≤ most_line
   pub read : (rest : List ℕ) → script (lines ++ rest) ≡ behind before (script_from (length before + 1) (most_script - length lines) rest)
 
 pub scripting-start : Scripting [] [] []
@@ -117,25 +118,27 @@ scripting-start = record {
   whole = inl refl;
   unbroken = All-nil (λ b. (b == 10) ≡ false);
   within = omega arith;
+  short = omega arith;
   read = λ rest. refl;
 }
 
 -- bytes without a line feed
-pub scripting-more : (bytes pending : List ℕ) (before : List Happening) (more : List ℕ) → Scripting bytes pending before → Lacks 10 more → length (bytes ++ more) ≤ most_script →
+pub scripting-more : (bytes pending : List ℕ) (before : List Happening) (more : List ℕ) → Scripting bytes pending before → Lacks 10 more → length bytes + length more ≤ most_script → length pending + length more ≤ most_line →
     Scripting (bytes ++ more) (pending ++ more) before
-scripting-more bytes pending before more s lacks within = record {
+scripting-more bytes pending before more s lacks within short = record {
   lines = s.lines;
   parts = ap (λ (xs : List ℕ). xs ++ more) s.parts ∙ append_assoc s.lines pending more;
   whole = s.whole;
   unbroken = All-append (λ b. (b == 10) ≡ false) pending more s.unbroken lacks;
-  within = within;
+  within = omega (arith, length-append bytes more);
+  short = omega (arith, length-append pending more);
   read = s.read;
 }
 
-pub scripting-byte : (bytes pending : List ℕ) (before : List Happening) (b : ℕ) → Scripting bytes pending before → (b == 10) ≡ false → length bytes < most_script →
+pub scripting-byte : (bytes pending : List ℕ) (before : List Happening) (b : ℕ) → Scripting bytes pending before → (b == 10) ≡ false → length bytes < most_script → length pending < most_line →
     Scripting (bytes ++ b ∷ []) (pending ++ b ∷ []) before
-scripting-byte bytes pending before b s other within =
-    scripting-more bytes pending before (b ∷ []) s (All-cons (λ x. (x == 10) ≡ false) b [] other (All-nil (λ x. (x == 10) ≡ false))) (omega (arith, length_push bytes b))
+scripting-byte bytes pending before b s other within short =
+    scripting-more bytes pending before (b ∷ []) s (All-cons (λ x. (x == 10) ≡ false) b [] other (All-nil (λ x. (x == 10) ≡ false))) (omega arith) (omega arith)
 
 -- the pending line and what stands behind it
 script-pending : (bytes pending : List ℕ) (before : List Happening) (rest : List ℕ) → (s : Scripting bytes pending before) →
@@ -168,50 +171,81 @@ scripting-line bytes pending before h s readable within =
       whole = inr (bytes, refl);
       unbroken = All-nil (λ b. (b == 10) ≡ false);
       within = omega arith;
+      short = omega arith;
       read = λ rest.
-        ap script (append_assoc bytes (10 ∷ []) rest)
-        ∙ script-fed bytes pending before rest s within
-        ∙ ap (λ (r : Option Happening). behind before (then_script (length before + 1) r (script_from (length before + 1 + 1) (most_script - length s.lines - (length pending + 1)) rest))) readable
-        ∙ ap (λ (k : ℕ). behind before (then_script (length before + 1) (Some h) (script_from k (most_script - length s.lines - (length pending + 1)) rest))) number
-        ∙ ap (λ (left : ℕ). behind before (then_script (length before + 1) (Some h) (script_from (length (before ++ h ∷ []) + 1) left rest))) room
-        ∙ behind-push before h (script_from (length (before ++ h ∷ []) + 1) (most_script - length (bytes ++ 10 ∷ [])) rest);
+          ap script (append_assoc bytes (10 ∷ []) rest)
+          ∙ script-fed bytes pending before rest s within
+          ∙ ap (λ (r : Option Happening). behind before (then_script (length before + 1) r (script_from (length before + 1 + 1) (most_script - length s.lines - (length pending + 1)) rest))) readable
+          ∙ ap (λ (k : ℕ). behind before (then_script (length before + 1) (Some h) (script_from k (most_script - length s.lines - (length pending + 1)) rest))) number
+          ∙ ap (λ (left : ℕ). behind before (then_script (length before + 1) (Some h) (script_from (length (before ++ h ∷ []) + 1) left rest))) room
+          ∙ behind-push before h (script_from (length (before ++ h ∷ []) + 1) (most_script - length (bytes ++ 10 ∷ [])) rest);
     }
 
 -- ---- the ends of the reading
 
 -- a line that can't be read, with its line feed
 pub script-unreadable : (bytes pending : List ℕ) (before : List Happening) (rest : List ℕ) → Scripting bytes pending before → line_read pending ≡ None → length bytes < most_script →
-    script (bytes ++ 10 ∷ rest) ≡ (before, Some (length before + 1, Unreadable))
+    script (bytes ++ 10 ∷ [] ++ rest) ≡ (before, Some (length before + 1, Unreadable))
 script-unreadable bytes pending before rest s unreadable within =
-    script-fed bytes pending before rest s within ∙ rw unreadable (behind-nothing before (Some (length before + 1, Unreadable)))
+    ap script (append_assoc bytes (10 ∷ []) rest)
+    ∙ script-fed bytes pending before rest s within
+    ∙ rw unreadable (behind-nothing before (Some (length before + 1, Unreadable)))
 
--- a line that is too long, whatever stands behind
-pub script-long_line : (bytes pending : List ℕ) (before : List Happening) (rest : List ℕ) → Scripting bytes pending before → most_line < length pending →
-    script (bytes ++ rest) ≡ (before, Some (length before + 1, Unreadable))
-script-long_line bytes pending before rest s long =
+-- a run of bytes without a line feed behind the pending line: its first k, and the others
+script-run : (bytes pending : List ℕ) (before : List Happening) (run rest : List ℕ) (k : ℕ) → (s : Scripting bytes pending before) →
+    script (bytes ++ run ++ rest) ≡ behind before (script_from (length before + 1) (most_script - length s.lines) ((pending ++ take k run) ++ (drop k run ++ rest)))
+script-run bytes pending before run rest k s =
+    let parts : pending ++ (run ++ rest) ≡ (pending ++ take k run) ++ (drop k run ++ rest) =
+    ap (λ (xs : List ℕ). pending ++ (xs ++ rest)) (sym (take-append-drop k run)) ∙ simp append_assoc in
+    ap script (append_assoc bytes run rest)
+    ∙ script-pending bytes pending before (run ++ rest) s
+    ∙ ap (λ (xs : List ℕ). behind before (script_from (length before + 1) (most_script - length s.lines) xs)) parts
+
+-- k of them make the line too long, and the script not
+pub script-long_line : (bytes pending : List ℕ) (before : List Happening) (run rest : List ℕ) (k : ℕ) → Scripting bytes pending before → Lacks 10 run → k ≤ length run →
+    length bytes + k ≤ most_script → most_line < length pending + k → script (bytes ++ run ++ rest) ≡ (before, Some (length before + 1, Unreadable))
+script-long_line bytes pending before run rest k s lacks some within long =
     let parts = length-parts bytes pending before s in
-    let within = s.within in
-    script-pending bytes pending before rest s
-    ∙ ap (behind before) (script_from-long (length before + 1) (most_script - length s.lines) pending rest s.unbroken long (omega arith))
+    let line = length-append pending (take k run) in
+    let front = length-take-le k run some in
+    let unbroken = All-append (λ b. (b == 10) ≡ false) pending (take k run) s.unbroken (All-take (λ b. (b == 10) ≡ false) k run lacks) in
+    script-run bytes pending before run rest k s
+    ∙ ap (behind before) (script_from-long (length before + 1) (most_script - length s.lines) (pending ++ take k run) (drop k run ++ rest) unbroken (omega arith) (omega arith))
     ∙ behind-nothing before (Some (length before + 1, Unreadable))
 
--- one byte more than a script may have, in a line that isn't too long
-pub script-too_long : (bytes pending : List ℕ) (before : List Happening) (b : ℕ) (rest : List ℕ) → Scripting bytes pending before → length pending ≤ most_line → length bytes ≡ most_script →
-    script (bytes ++ b ∷ rest) ≡ (before, Some (length before + 1, TooLong))
-script-too_long bytes pending before b rest s short full =
+-- k of them are the last that the script may have, and the line isn't too long
+pub script-long : (bytes pending : List ℕ) (before : List Happening) (run rest : List ℕ) (k : ℕ) → Scripting bytes pending before → Lacks 10 run → k < length run →
+    length bytes + k ≡ most_script → length pending + k ≤ most_line → script (bytes ++ run ++ rest) ≡ (before, Some (length before + 1, TooLong))
+script-long bytes pending before run rest k s lacks some full short =
     let parts = length-parts bytes pending before s in
-    let test = le-ltb most_line (length pending) short in
-    script-pending bytes pending before (b ∷ rest) s
-    ∙ ap (behind before) (script_from-cut (length before + 1) (most_script - length s.lines) pending (b ∷ rest) s.unbroken (omega arith) (omega arith))
+    let line = length-append pending (take k run) in
+    let front = length-take-le k run (omega arith) in
+    let others = length-append (drop k run) rest in
+    let left = length-drop k run in
+    let unbroken = All-append (λ b. (b == 10) ≡ false) pending (take k run) s.unbroken (All-take (λ b. (b == 10) ≡ false) k run lacks) in
+    let test = le-ltb most_line (length (pending ++ take k run)) (omega arith) in
+    script-run bytes pending before run rest k s
+    ∙ ap (behind before) (script_from-cut (length before + 1) (most_script - length s.lines) (pending ++ take k run) (drop k run ++ rest) unbroken (omega arith) (omega arith))
+    ∙ ap (λ (t : Bool). behind before ([], Some (length before + 1, if t then Unreadable else TooLong))) test
+    ∙ behind-nothing before (Some (length before + 1, TooLong))
+
+-- the script is full, and a byte comes, a line feed too
+pub script-full : (bytes pending : List ℕ) (before : List Happening) (more : List ℕ) → Scripting bytes pending before → length bytes ≡ most_script → 0 < length more →
+    script (bytes ++ more) ≡ (before, Some (length before + 1, TooLong))
+script-full bytes pending before more s full some =
+    let parts = length-parts bytes pending before s in
+    let test = le-ltb most_line (length pending) s.short in
+    script-pending bytes pending before more s
+    ∙ ap (behind before) (script_from-cut (length before + 1) (most_script - length s.lines) pending more s.unbroken (omega arith) some)
     ∙ ap (λ (t : Bool). behind before ([], Some (length before + 1, if t then Unreadable else TooLong))) test
     ∙ behind-nothing before (Some (length before + 1, TooLong))
 
 -- a line that can be read, behind which the reading stops
 pub script-stopped : (bytes pending : List ℕ) (before : List Happening) (h : Happening) (rest : List ℕ) → Scripting bytes pending before → line_read pending ≡ Some h → length bytes < most_script →
-    (later : List Happening) × (end : Option (ℕ × Unread)) × (script (bytes ++ 10 ∷ rest) ≡ (before ++ h ∷ later, end))
+    (later : List Happening) × (end : Option (ℕ × Unread)) × (script (bytes ++ 10 ∷ [] ++ rest) ≡ (before ++ h ∷ later, end))
 script-stopped bytes pending before h rest s readable within =
     let later = script_from (length before + 1 + 1) (most_script - length s.lines - (length pending + 1)) rest in
-    (later.0, later.1, script-fed bytes pending before rest s within ∙ rw readable refl)
+    (later.0, later.1, ap script (append_assoc bytes (10 ∷ []) rest) ∙ script-fed bytes pending before rest s within ∙ rw readable refl)
 
 -- the end of the input, behind a line feed
 script-last : (bytes pending : List ℕ) (before : List Happening) → (s : Scripting bytes pending before) → script bytes ≡ behind before (last_line false (length before + 1) pending)

@@ -1,9 +1,8 @@
 -- A transcript's text has one reading, and each of its lines ends in its only line feed.
-use Rattle.std.proofs.Common.{◌≡◌, ℕ, ◌<◌, ◌≤◌, ◌==◌, Bool, true, false, ◌&&◌, List, [], ◌∷◌, ◌++◌, length, get_or, Option, Some, None, option_map, refl, sym, ap, ◌∙◌, arith}
-use Rattle.std.specs.Prelude.{nat_lt, option_and_then, flat_map, Contains, codes, decimal}
-use Rattle.std.specs.Fmt.{signed_decimal}
-use Rattle.std.specs.List.{All, AllByRecursion, list_all}
-use Rattle.std.proofs.lemmas.Bool.{and_from, and_parts, false≢true, ltb-true, ne_eqb, eq-eqb}
+use Rattle.std.proofs.Common.{◌≡◌, ℕ, ◌≤◌, ◌==◌, Bool, true, false, List, [], ◌∷◌, ◌++◌, length, Option, Some, None, option_map, refl, sym, ap, ◌∙◌, arith}
+use Rattle.std.specs.Prelude.{nat_lt, option_and_then, flat_map, Contains}
+use Rattle.std.specs.List.{AllByRecursion, list_all}
+use Rattle.std.proofs.lemmas.Bool.{and_parts, false≢true, ltb-true, ne_eqb, eq-eqb}
 use Rattle.std.proofs.lemmas.List.{append_assoc, append-nil}
 use Rattle.std.proofs.lemmas.List.Elements.{All-append, All-cons, All-nil, All-contains}
 use Rattle.std.proofs.lemmas.List.Concat.{flat_map-append}
@@ -84,7 +83,7 @@ Lacks-behind [] words = All-nil (λ b. (b == 10) ≡ false)
 Lacks-behind (w ∷ ws) words =
     let parts = and_parts (is_word w) (are_words ws) words in
     All-cons (λ b. (b == 10) ≡ false) 32 (w ++ flat_map (λ (v : List ℕ). 32 ∷ v) ws) refl
-      (All-append (λ b. (b == 10) ≡ false) w (flat_map (λ (v : List ℕ). 32 ∷ v) ws) (Lacks-word 10 w (omega arith) parts.0) (Lacks-behind ws parts.1))
+    (All-append (λ b. (b == 10) ≡ false) w (flat_map (λ (v : List ℕ). 32 ∷ v) ws) (Lacks-word 10 w (omega arith) parts.0) (Lacks-behind ws parts.1))
 
 Lacks-spaced : (ws : List (List ℕ)) → are_words ws ≡ true → Lacks 10 (spaced ws)
 Lacks-spaced [] words = All-nil (λ b. (b == 10) ≡ false)

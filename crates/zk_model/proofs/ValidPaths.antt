@@ -43,7 +43,7 @@ same_root-long (x ∷ y ∷ ys) h = and_right (x == slash) false refl
 pub named-later : (p : Bytes) → 1 < length p → list_all is_name (names p) ≡ true → list_all is_name (later_names p) ≡ true
 named-later p h all = ap (λ t. list_all is_name (cond t [] (later_names p))) (sym (same_root-long p h)) ∙ all
 
-later-named : (p : Bytes) (is_root : Bool) → list_all is_name (later_names p) ≡ true → list_all is_name (cond is_root [] (later_names p)) ≡ true
+pub later-named : (p : Bytes) (is_root : Bool) → list_all is_name (later_names p) ≡ true → list_all is_name (cond is_root [] (later_names p)) ≡ true
 later-named p true all = refl
 later-named p false all = all
 
@@ -94,11 +94,11 @@ begins-front : (before after : Bytes) → 0 < length before → begins_with_slas
 begins-front [] after h begins = absurd (omega arith)
 begins-front (x ∷ xs) after h begins = begins
 
-boundary : (before after : Bytes) → IsCharBoundary (before ++ slash ∷ after) (length before)
-boundary before after = IsCharBoundary-before_ascii _ _ (omega (arith, length-append before (slash ∷ after))) (omega (arith, get_or-append_seam before slash after 0))
+boundary : (before : Bytes) (c : ℕ) (after : Bytes) → c < 128 → IsCharBoundary (before ++ c ∷ after) (length before)
+boundary before c after h = IsCharBoundary-before_ascii _ _ (omega (arith, length-append before (c ∷ after))) (omega (arith, h, get_or-append_seam before c after 0))
 
-front-is_text : (before after : Bytes) → IsUtf8 (before ++ slash ∷ after) → IsUtf8 before
-front-is_text before after h = subst IsUtf8 (take-append_seam before (slash ∷ after)) (IsUtf8-take _ (length before) h (boundary before after))
+pub front-is_text : (before : Bytes) (c : ℕ) (after : Bytes) → c < 128 → IsUtf8 (before ++ c ∷ after) → IsUtf8 before
+front-is_text before c after h text = subst IsUtf8 (take-append_seam before (c ∷ after)) (IsUtf8-take _ (length before) text (boundary before c after h))
 
 pub front-named : (before after : Bytes) → 0 < length before → Valid (before ++ slash ∷ after) → (list_all is_name (later_names before) ≡ true) × (list_all is_name (pieces after) ≡ true)
 front-named before after h v =
@@ -107,7 +107,7 @@ front-named before after h v =
 
 pub front-valid : (before after : Bytes) → 0 < length before → Valid (before ++ slash ∷ after) → Valid before
 front-valid before after h v =
-    let is_text = front-is_text before after v.is_text in
+    let is_text = front-is_text before slash after (omega arith) v.is_text in
     let split = ap (list_all is_path_char) (chars-append before (slash ∷ after) is_text) ∙ list_all-append is_path_char (chars before) (chars (slash ∷ after)) in
     record {
       short = omega (arith, length-append before (slash ∷ after), v.short);

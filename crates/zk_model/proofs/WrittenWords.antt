@@ -1,17 +1,16 @@
 -- The words of a transcript's lines: none has a blank or a line feed, and each is read back.
-use Rattle.std.proofs.Common.{◌≡◌, ℕ, zero, suc, ◌+◌, ◌-◌, zero-add, ◌*◌, ◌/◌, ◌%◌, ◌^◌, ◌<◌, ◌≤◌, ◌==◌, ltb, Bool, true, false, ◌&&◌, ◌⊎◌, inl, inr, List, [], ◌∷◌, ◌++◌, ℤ, pos, negsuc, ◌≤ℤ◌, Option, Some, None, option_map, if◌then◌else◌, refl, sym, ap, ◌∙◌, arith}
-use Rattle.std.specs.Prelude.{nat_abs, nat_lt, decimal, option_and_then, bytes_eq, codes}
+use Rattle.std.proofs.Common.{◌≡◌, ℕ, zero, suc, ◌+◌, ◌-◌, zero-add, ◌*◌, ◌/◌, ◌%◌, ◌^◌, ◌<◌, ◌==◌, Bool, true, false, inl, inr, List, [], ◌∷◌, ◌++◌, ℤ, pos, negsuc, Option, Some, None, option_map, refl, ap, ◌∙◌, arith}
+use Rattle.std.specs.Prelude.{nat_abs, nat_lt, decimal}
 use Rattle.std.specs.Fmt.{digits, digits_onto, digit_glyph, signed_decimal}
-use Rattle.std.specs.List.{AllByRecursion, list_all}
+use Rattle.std.specs.List.{list_all}
 use Rattle.std.specs.Int.{bytes_high_first, byte_at, from_be_bytes, to_be_bytes, w64}
 use Rattle.std.proofs.lemmas.Bool.{and_from, and_right, cases_Bool, lt-ltb}
 use Rattle.std.proofs.lemmas.Fmt.{decimal_by_steps}
 use Rattle.std.proofs.lemmas.Grind.{common_steps}
 use Rattle.std.proofs.lemmas.Int.{ints}
-use Rattle.std.proofs.lemmas.List.Folds.{list_all-append}
 use Rattle.std.proofs.lemmas.Nat.{from_be_bytes-to_be_bytes_8, mod_below}
 use Rattle.zk_model.specs.Scripts.{decimal_digit, digits_value, hex, hex_byte, hex_digit, hex_pairs, ◌>>=◌}
-use Rattle.zk_model.specs.Transcripts.{AreBytes, IsSessionNumber, IsSignedNumber, hex_byte_text, hex_digit_text, hex_digits, hex_text, id_text}
+use Rattle.zk_model.specs.Transcripts.{AreBytes, IsSessionNumber, IsSignedNumber, hex_digit_text, hex_digits, hex_text, id_text}
 
 -- ---- no blank and no line feed
 
@@ -20,9 +19,9 @@ is_word w = list_all (λ b. nat_lt 32 b) w
 
 glyph-is_word : (d : ℕ) → nat_lt 32 (digit_glyph false d) ≡ true
 glyph-is_word d = elim (cases_Bool (nat_lt d 10)) [
-    | inl small ↦ rw small (lt-ltb 32 (48 + d) (omega arith))
-    | inr large ↦ rw large (lt-ltb 32 (87 + d) (omega arith))
-  ]
+  | inl small ↦ rw small (lt-ltb 32 (48 + d) (omega arith))
+  | inr large ↦ rw large (lt-ltb 32 (87 + d) (omega arith))
+]
 
 digits_onto-is_word : (k n : ℕ) (more : List ℕ) → is_word more ≡ true → is_word (digits_onto k 10 false n more) ≡ true
 digits_onto-is_word zero n more words = words
@@ -43,9 +42,9 @@ signed_decimal-is_word (negsuc n) = decimal-is_word (suc n)
 
 hex_digit_text-is_word : (d : ℕ) → nat_lt 32 (hex_digit_text d) ≡ true
 hex_digit_text-is_word d = elim (cases_Bool (nat_lt d 10)) [
-    | inl small ↦ rw small (lt-ltb 32 (48 + d) (omega arith))
-    | inr large ↦ rw large (lt-ltb 32 (87 + d) (omega arith))
-  ]
+  | inl small ↦ rw small (lt-ltb 32 (48 + d) (omega arith))
+  | inr large ↦ rw large (lt-ltb 32 (87 + d) (omega arith))
+]
 
 hex_digits-is_word : (bytes : List ℕ) → is_word (hex_digits bytes) ≡ true
 unfolding hex_digits
@@ -71,7 +70,7 @@ digits_value-append : (n : ℕ) (xs ys : List ℕ) →
 digits_value-append n [] ys = refl
 digits_value-append n (x ∷ xs) ys =
     elim (decimal_digit x) as (λ o. (o >>= (λ (d : ℕ). digits_value 10 decimal_digit (n * 10 + d) (xs ++ ys)))
-      ≡ ((o >>= (λ (d : ℕ). digits_value 10 decimal_digit (n * 10 + d) xs)) >>= (λ (m : ℕ). digits_value 10 decimal_digit m ys))) [
+    ≡ ((o >>= (λ (d : ℕ). digits_value 10 decimal_digit (n * 10 + d) xs)) >>= (λ (m : ℕ). digits_value 10 decimal_digit m ys))) [
       | None ↦ refl
       | Some d ↦ digits_value-append (n * 10 + d) xs ys
     ]
@@ -83,11 +82,11 @@ pub natural-decimal : (n : ℕ) → n < 2 ^ 64 → natural (decimal n) ≡ Some 
 unfolding natural
 natural-decimal =
     decimal_by_steps (λ n ds. natural ds ≡ Some n)
-      (λ n small. let digit = decimal_digit-of n small in rw digit (ap Some (zero-add n)))
-      (λ n ds large front.
-        let digit = decimal_digit-of (n % 10) (omega arith) in
-        let whole : n / 10 * 10 + n % 10 ≡ n = omega arith in
-        digits_value-append 0 ds ((48 + n % 10) ∷ []) ∙ rw (front, digit, whole) refl)
+    (λ n small. let digit = decimal_digit-of n small in rw digit (ap Some (zero-add n)))
+    (λ n ds large front.
+    let digit = decimal_digit-of (n % 10) (omega arith) in
+    let whole : n / 10 * 10 + n % 10 ≡ n = omega arith in
+    digits_value-append 0 ds ((48 + n % 10) ∷ []) ∙ rw (front, digit, whole) refl)
 
 abbrev negative : List ℕ → Option ℤ
 negative [] = None

@@ -1,11 +1,11 @@
 -- The first frame of a connection and its answer (zookeeper.jute, `ConnectRequest`, `ConnectResponse`; the read-only byte
 -- of release 3.4 stands behind them).
-use Rattle.std.specs.Prelude.{ℕ, pos, Option, Some, None, Bool, List, [], ◌∷◌, Ok, Err}
+use Rattle.std.specs.Prelude.{ℕ, ◌==◌, pos, Option, Some, None, Bool, List, [], ◌∷◌, length, Ok, Err, if◌then◌else◌}
 use Rattle.zk_model.specs.declared.connect.ConnectRequest.{ConnectRequest}
 use Rattle.zk_model.specs.declared.connect.ConnectResponse.{ConnectResponse}
-use Rattle.zk_model.specs.JuteValues.{Value, int, long, boolean, buffer, Kind, an_int, a_long, a_boolean, a_buffer}
-use Rattle.zk_model.specs.JuteReading.{Read, ◌>>=◌, value_at, values_at, ended}
-use Rattle.zk_model.specs.FromValues.{value_in, number_in, flag_in, bytes_in}
+use Rattle.zk_model.specs.JuteValues.{Value, int, long, boolean, buffer, Kind, an_int, a_long, a_buffer}
+use Rattle.zk_model.specs.JuteReading.{Read, ◌>>=◌, boolean_at, values_at, ended}
+use Rattle.zk_model.specs.FromValues.{value_in, number_in, bytes_in}
 
 abbrev pub connect_fields : List Kind
 connect_fields = an_int ∷ a_long ∷ an_int ∷ a_long ∷ a_buffer ∷ []
@@ -36,8 +36,7 @@ connect_with v read_only = record {
 
 -- nothing stands after the fields, or a boolean does and nothing after it
 abbrev pub read_only_at : List ℕ → Read (Option Bool)
-read_only_at [] = Ok (None, [])
-read_only_at (b ∷ bytes) = value_at a_boolean (b ∷ bytes) >>= λ x. ended (Some (flag_in x.0), x.1)
+read_only_at bytes = if length bytes == 0 then Ok (None, bytes) else (boolean_at bytes >>= λ x. ended (Some x.0, x.1))
 
 abbrev pub connect_at : List ℕ → Read ConnectRequest
 connect_at bytes = values_at connect_fields bytes >>= λ x. read_only_at x.1 >>= λ read_only. Ok (connect_with (value_in x.0) read_only.0, read_only.1)

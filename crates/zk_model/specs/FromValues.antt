@@ -79,7 +79,7 @@ part_from kind vs = part_with kind (value_in vs)
 
 -- ---- replies
 
-abbrev pub stat_with : (ℕ → Value) → Stat
+unfoldable pub stat_with : (ℕ → Value) → Stat
 stat_with v = record {
   czxid = number_in (v 0);
   mzxid = number_in (v 1);

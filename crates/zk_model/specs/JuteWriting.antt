@@ -72,22 +72,22 @@ with_length frame = count_bytes (length frame) ++ frame
 abbrev pub FitsLength : List ℕ → Type 0
 FitsLength frame = length frame < 2 ^ 31
 
--- numbers in their range, texts in UTF-8: what reading may give
-pub record IsText (bytes : List ℕ) : Type 0 where
-  pub short : IsShort bytes
-  pub utf8 : IsUtf8 bytes
+-- ---- values that reading may give: numbers in their range, texts in UTF-8
 
 pub record IsAclValue (acl : Acl) : Type 0 where
   pub perms : FitsSigned w32 acl.perms
-  pub scheme : IsText acl.scheme
-  pub id : IsText acl.id
+  pub scheme : IsUtf8 acl.scheme
+  pub id : IsUtf8 acl.id
 
 abbrev pub IsValue : Value → Type 0
 IsValue (int n) = FitsSigned w32 n
 IsValue (long n) = FitsSigned w64 n
 IsValue (boolean b) = Unit {0}
-IsValue (buffer content) = IsShort content
-IsValue (ustring text) = IsText text
-IsValue (ustrings texts) = (length texts < 2 ^ 31) × AllByRecursion IsText texts
-IsValue (acls entries) = (length entries < 2 ^ 31) × AllByRecursion IsAclValue entries
+IsValue (buffer content) = Unit {0}
+IsValue (ustring text) = IsUtf8 text
+IsValue (ustrings texts) = AllByRecursion IsUtf8 texts
+IsValue (acls entries) = AllByRecursion IsAclValue entries
 IsValue open_acl = Unit {0}
+
+abbrev pub AreValues : List Value → Type 0
+AreValues vs = AllByRecursion IsValue vs

@@ -1,5 +1,5 @@
 -- The text of a script (this project's own format): a line for each thing that is to happen, its words separated by blanks.
-use Rattle.std.specs.Prelude.{◌≡◌, ℕ, ℤ, pos, ◌+◌, ◌*◌, ◌-◌, ◌^◌, Bool, true, false, ◌&&◌, List, [], ◌∷◌, length, nat_lt, nat_le, ◌==◌, bytes_eq, codes, Option, Some, None, option_map, option_and_then, take, if◌then◌else◌}
+use Rattle.std.specs.Prelude.{◌≡◌, ℕ, ℤ, pos, ◌+◌, ◌*◌, ◌-◌, ◌^◌, Bool, true, false, ◌&&◌, List, [], ◌∷◌, length, nat_lt, nat_le, ◌==◌, bytes_eq, codes, Option, Some, None, option_and_then, take, if◌then◌else◌}
 use Rattle.std.specs.List.{All, slice_split}
 use Rattle.zk_model.specs.declared.script.Happening.{Happening}
 use Rattle.zk_model.specs.declared.script.Happening.TheVariants as line
@@ -20,7 +20,7 @@ infixl 10 ◌>>=◌
 abbrev pub ◌>>=◌ : {A B : Type 0} → Option A → (A → Option B) → Option B
 o >>= f = option_and_then f o
 
--- the value of a decimal digit, and of a hex digit in lower case
+-- the value of a decimal digit, and of a hex digit in lower case (`0` to `9` are 48 to 57, `a` to `f` are 97 to 102)
 abbrev pub decimal_digit : ℕ → Option ℕ
 decimal_digit b = if nat_le 48 b && nat_le b 57 then Some (b - 48) else None
 
@@ -34,10 +34,11 @@ digits_value base digit n (b ∷ bs) = do
   d ← digit b
   digits_value base digit (n * base + d) bs
 
--- the greatest number of a line
+-- the greatest number that a line may have
 abbrev pub most_number : ℕ
 most_number = 4294967295
 
+-- 48, which is `0`, stands first, and isn't the whole
 abbrev pub is_zero_led : List ℕ → Bool
 is_zero_led (b ∷ c ∷ cs) = b == 48
 is_zero_led _ = false
@@ -175,7 +176,7 @@ numbered_line form words = do
   n ← number w
   of_number form n
 
--- The form of a line is told by its first word.
+-- the form of a line is told by its first word
 unfoldable pub line_of_form : List ℕ → List (List ℕ) → Option Happening
 line_of_form form words =
     if bytes_eq form (codes "open") then open_line words
@@ -197,7 +198,7 @@ most_line = 2200000
 abbrev pub most_script : ℕ
 most_script = 100000000
 
--- what a line says, if it is of one of the forms and not too long
+-- what a line says, if it is of one of the forms and not too long (32 is a blank)
 unfoldable pub line_read : List ℕ → Option Happening
 line_read line = if nat_lt most_line (length line) then None else happening (pieces 32 line)
 
@@ -222,9 +223,10 @@ lines_from is_cut n [] = ([], None)
 lines_from is_cut n (line ∷ []) = last_line is_cut n line
 lines_from is_cut n (line ∷ more ∷ lines) = then_script n (line_read line) (lines_from is_cut (n + 1) (more ∷ lines))
 
--- what line n and those behind it say, if no more than room bytes are read
+-- what line n and those behind it say, if no more than room bytes are read (10 is a line feed)
 unfoldable pub script_from : ℕ → ℕ → List ℕ → Script
 script_from n room bytes = lines_from (nat_lt room (length bytes)) n (pieces 10 (take room bytes))
 
+-- what a script says
 unfoldable pub script : List ℕ → Script
 script bytes = script_from 1 most_script bytes

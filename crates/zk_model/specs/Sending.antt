@@ -1,13 +1,11 @@
 -- The packets of requests, as clients write them.
 use Rattle.std.specs.Prelude.{ℕ, ℤ, pos, negsuc, Bool, true, false, List, [], ◌∷◌, ◌++◌}
-use Rattle.std.specs.List.{AllByRecursion, flat_map}
-use Rattle.std.specs.Int.{w32}
-use Rattle.std.specs.Int.RustNames.{FitsSigned}
+use Rattle.std.specs.List.{flat_map}
 use Rattle.zk_model.specs.declared.request.Part.{Part}
 use Rattle.zk_model.specs.declared.request.Request.{Request}
 use Rattle.zk_model.specs.declared.request.Request.TheVariants as requests
 use Rattle.zk_model.specs.JuteValues.{Value, int, boolean}
-use Rattle.zk_model.specs.JuteWriting.{written, with_length, FitsLength, IsValue}
+use Rattle.zk_model.specs.JuteWriting.{written, with_length, FitsLength}
 use Rattle.zk_model.specs.Numbers.{number_of, opcode_of, part_number, part_kind}
 use Rattle.zk_model.specs.Records.{values_of, part_values}
 
@@ -39,8 +37,3 @@ request_packet xid request = with_length (request_bytes xid request)
 -- the length of a request's frame is the same whatever its xid
 abbrev pub RequestCanBeSent : Request → Type 0
 RequestCanBeSent request = FitsLength (request_bytes (pos 0) request)
-
--- a request that reading may give: numbers in their range, texts in UTF-8
-pub record IsRequestValue (xid : ℤ) (request : Request) : Type 0 where
-  pub xid_fits : FitsSigned w32 xid
-  pub values : AllByRecursion IsValue (asked_values request)

@@ -14,7 +14,7 @@ use Rattle.zk_model.specs.declared.transcript.TranscriptLine.TheVariants.{Update
 
 -- ---- words
 
--- two hex digits in lower case for each byte, the high one first
+-- two hex digits in lower case for each byte, the high one first (`0` is 48, `a` is 97)
 abbrev pub hex_digit_text : ℕ → ℕ
 hex_digit_text n = if nat_lt n 10 then 48 + n else 87 + n
 
@@ -35,6 +35,7 @@ id_text id = hex_digits (to_be_bytes w64 (nat_abs id))
 
 -- ---- lines
 
+-- what an update was, behind its zxid
 abbrev pub kind_words : UpdateKind → List (List ℕ)
 kind_words (Begin now) = codes "begin" ∷ decimal now ∷ []
 kind_words (Session id c) = codes "session" ∷ id_text id ∷ decimal c ∷ []
@@ -43,6 +44,7 @@ kind_words (Asked c i now) = codes "asked" ∷ decimal c ∷ decimal i ∷ decim
 kind_words (Closed id c i) = codes "closed" ∷ id_text id ∷ decimal c ∷ decimal i ∷ []
 kind_words (Reaped id) = codes "reaped" ∷ id_text id ∷ []
 
+-- why a connection ended
 abbrev pub cause_words : Cause → List (List ℕ)
 cause_words cause.Closed = codes "closed" ∷ []
 cause_words (cause.ClientEnd place) = codes "client" ∷ decimal place ∷ []
@@ -63,12 +65,14 @@ cause_words (cause.Damaged key value) = codes "damaged" ∷ hex_text key ∷ hex
 cause_words cause.Restart = codes "restart" ∷ []
 cause_words cause.Memory = codes "memory" ∷ []
 
+-- how a connection or a reaper ended
 abbrev pub end_words : Ended → List (List ℕ)
 end_words (ended.Cause x) = cause_words x
 end_words (ended.Reaped z) = codes "reaped" ∷ signed_decimal z ∷ []
 end_words (ended.Kept rev) = codes "kept" ∷ signed_decimal rev ∷ []
 end_words (ended.Gone rev) = codes "gone" ∷ signed_decimal rev ∷ []
 
+-- the words of a line; the first tells its form
 abbrev pub line_words : TranscriptLine → List (List ℕ)
 line_words (Update u) = codes "update" ∷ signed_decimal u.zxid ∷ kind_words u.kind
 line_words (Open c p id pw) = codes "open" ∷ decimal c ∷ decimal p ∷ id_text id ∷ hex_text pw ∷ []
@@ -77,11 +81,12 @@ line_words (Send c bytes) = codes "send" ∷ decimal c ∷ hex_text bytes ∷ []
 line_words (Lapse rev id) = codes "lapse" ∷ signed_decimal rev ∷ id_text id ∷ []
 line_words (Close c end) = codes "close" ∷ decimal c ∷ end_words end
 
--- words with a blank before each but the first
+-- words with a blank (32) before each but the first
 abbrev pub spaced : List (List ℕ) → List ℕ
 spaced [] = []
 spaced (w ∷ ws) = w ++ flat_map (λ (v : List ℕ). 32 ∷ v) ws
 
+-- a line ends in a line feed (10)
 unfoldable pub line_text : TranscriptLine → List ℕ
 line_text l = spaced (line_words l) ++ 10 ∷ []
 

@@ -1,8 +1,8 @@
 //! Paths of znodes (Programmer's Guide, "The ZooKeeper Data Model").
 
-ghost use Rattle.std.specs.Prelude.{◌≡◌, length, ◌-◌, ◌+◌, drop, take, Some, ◌<◌, IfOk, IfErr, IfSome, IsTrue, option_map, not, nat_lt};
+ghost use Rattle.std.specs.Prelude.{◌≡◌, length, ◌-◌, ◌+◌, ◌++◌, drop, take, Some, ◌<◌, IfOk, OnOk, IfErr, IfSome, IsTrue, option_map, not, nat_lt};
 ghost use Rattle.std.specs.Str.{chars, IsValidUpTo};
-ghost use Rattle.zk_model.specs.Paths.{is_path, is_path_char, parent, depth, names, begins_with_slash, at_last_slash};
+ghost use Rattle.zk_model.specs.Paths.{is_path, is_path_char, is_sequence_prefix, sequence_path, fixed_digits, parent, depth, last_name, is_child, names, begins_with_slash, at_last_slash};
 ghost use Rattle.zk_model.specs.PathFaults.{tested, is_valid, most_bytes, ends_with_slash, IsFault, IsFirst, IsRefused, first_of, at, bad_name, bad_char, bad_text, bad_text_from, form_defect, defect_of, name_fault};
 ghost use Rattle.zk_model.specs.PathFaults.{first_name};
 ghost use Rattle.zk_model.specs.declared.path.PathFault.TheVariants.{NoSlash, EndSlash, BadText, TooLong};
@@ -52,6 +52,8 @@ pub enum PathFault {
 const MOST: usize = 1024;
 
 const MOST_SEQUENTIAL: usize = 1014;
+
+const SEQUENCE_DIGITS: u32 = 10;
 
 /// A fault, and the index of the byte where it begins.
 #[derive(Clone, Copy)]
@@ -232,6 +234,17 @@ fn defect_of(path: &[u8], text: &[u8], sequential: bool) -> Option<Defect>
     )
 }
 
+/// Adds the last digits of a number, so many.
+fn push_digits(text: &mut Vec<u8>, count: u32, number: u32) -> Result<(), AllocError>
+    ensures { OnOk result (text.new.items ≡ text.old.items ++ fixed_digits count number) }
+{
+    if count == 0 {
+        return Ok(());
+    }
+    push_digits(text, count - 1, number / 10)?;
+    Ok(text.push(b'0' + (number % 10) as u8)?)
+}
+
 impl Path {
     /// Reads a path; of a sequential one, the text with `1` behind it. A path's characters are U+0020 to U+007E, U+00A0
     /// to U+D7FF and U+F900 to U+FFEF.
@@ -249,6 +262,17 @@ impl Path {
             Some(defect) => Err(defect.fault),
             None => Ok(Path { text: path }),
         }
+    }
+
+    /// The path of a sequence node: the prefix, and the number as ten digits.
+    pub fn numbered(alloc: Global, prefix: &[u8], number: u32) -> Result<Path, Memory>
+        requires { IsTrue (is_sequence_prefix prefix.now) }
+        ensures { IfOk result (λ p. p ≡ sequence_path prefix.now number) }
+    {
+        let mut text = Vec::with_capacity(alloc, prefix.len() + SEQUENCE_DIGITS as usize)?;
+        text.extend_from_slice(prefix)?;
+        push_digits(&mut text, SEQUENCE_DIGITS, number)?;
+        Ok(Path { text })
     }
 
     /// The path's text.
@@ -281,6 +305,26 @@ impl Path {
             }
         }
         slashes
+    }
+
+    /// The name behind the last slash: of the root, none.
+    #[tactic(auto, unfolding(crate::specs::Paths::last_name))]
+    pub fn last_name(&self) -> &[u8]
+        ensures { result.now ≡ last_name self.now }
+    {
+        let place = last_slash(self.text.as_slice());
+        &self.text.as_slice()[place + 1..]
+    }
+
+    /// Whether the path is that of a child of this node.
+    #[tactic(auto, unfolding(crate::specs::Paths::is_child))]
+    pub fn is_child_of(&self, parent: &[u8]) -> bool
+        ensures { result ≡ is_child parent.now self.now }
+    {
+        match parent_text(self.text.as_slice()) {
+            None => false,
+            Some(text) => text == parent,
+        }
     }
 
     /// The path without its last name. The root has none.

@@ -135,7 +135,27 @@ fn takes_parents_to_the_root(rt: HostRuntime) -> Result<(), Fail> {
         assert_eq!(rt; path.bytes(), text);
     }
     assert_eq!(rt; path.depth(), 0);
+    assert_eq!(rt; path.last_name(), b"".as_slice());
     assert!(rt; path.parent(rt.alloc())?.is_none());
     assert_eq!(rt; path.copy(rt.alloc())?.bytes(), b"/".as_slice());
+    Ok(())
+}
+
+fn numbered(alloc: Global, prefix: &[u8], number: u32) -> Result<Path, PathFault> {
+    let _with_one = Path::read(alloc, prefix, true)?;
+    Path::numbered(alloc, prefix, number).map_err(|_| PathFault::Memory)
+}
+
+#[test]
+fn names_children_and_sequence_nodes(rt: HostRuntime) -> Result<(), Fail> {
+    let path = numbered(rt.alloc(), b"/q/n-", 12)?;
+    assert_eq!(rt; path.bytes(), b"/q/n-0000000012".as_slice());
+    assert_eq!(rt; path.last_name(), b"n-0000000012".as_slice());
+    assert!(rt; path.is_child_of(b"/q"));
+    assert!(rt; !path.is_child_of(b"/"));
+    assert!(rt; !path.is_child_of(b"/q/n-0000000012"));
+    let path = numbered(rt.alloc(), b"/", 1073741823)?;
+    assert_eq!(rt; path.bytes(), b"/1073741823".as_slice());
+    assert!(rt; path.is_child_of(b"/"));
     Ok(())
 }

@@ -1,8 +1,12 @@
 -- Values put one after the other into what takes them.
-use Rattle.std.specs.Prelude.{List, [], ◌∷◌}
+use Rattle.std.specs.Prelude.{ℕ, ◌-◌, ◌^◌, min, List, [], ◌∷◌}
 use Rattle.zk_model.specs.JuteValues.{Value}
 
 -- what stands there after the values
 abbrev pub put_all : {S : Type 0} → (S → Value → S) → S → List Value → S
 put_all {S = S} put held [] = held
 put_all {S = S} put held (v ∷ vs) = put_all put (put held v) vs
+
+-- a count of bytes stays at its type's end
+abbrev pub counted : ℕ → ℕ
+counted n = min n (2 ^ 64 - 1)

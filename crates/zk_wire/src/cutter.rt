@@ -1,10 +1,8 @@
 //! Cutting a stream into frames.
 
-ghost use Rattle.std.specs.Prelude.{◌≡◌, ℕ, ◌≢◌, ℤ, MatchOption, Some, List, [], ◌++◌, IfOk, Ok, Err, IsErr, Result};
-ghost use Rattle.std.specs.Global.{Vec as AVec};
+ghost use Rattle.std.specs.Prelude.{◌≡◌, ℤ, MatchOption, Some, IfOk, Ok, Err, IsErr};
 ghost use Rattle.zk_model.specs.Frames.{Framed, bad_length as bad_length_of, frame_at};
-ghost use Rattle.zk_wire.specs.Cutting.{Stream, unread, Takes, Call, Calls, taken, handed, all_taken, all_handed, Stands};
-ghost use Rattle.zk_wire.specs.declared.cutter.CutFault.{CutFault as ACutFault};
+ghost use Rattle.zk_wire.specs.Cutting.{Stream, unread, Takes};
 ghost use Rattle.zk_wire.specs.declared.cutter.CutFault.TheVariants as faults;
 
 use crate::reader::first_int;

@@ -24,17 +24,31 @@
 //! grown one by one. Writing reserves the packet's length once and copies each field once.
 #![tactic(auto)]
 
+mod connects;
 mod cutter;
 mod fault;
+mod laws;
 mod packets;
 mod reader;
+mod replies;
 mod reply_fields;
 mod request_fields;
 mod requests;
 mod sink;
+#[cfg(test)]
+mod tests;
 mod writer;
 
+pub use connects::read_connect;
 pub use cutter::{CutFault, Cutter};
 pub use fault::WireFault;
-pub use packets::{write_connect, write_notice, write_reply, write_request};
+pub use laws::{
+    connects_are_spelled, frames_in_any_pieces, replies_are_spelled, replies_come_back,
+    requests_are_spelled, requests_come_back,
+};
+pub use packets::{
+    notice_can_be_sent, reply_can_be_sent, request_can_be_sent, write_connect, write_notice,
+    write_reply, write_request,
+};
+pub use replies::read_reply;
 pub use requests::read_request;

@@ -2,7 +2,7 @@
 
 ghost use Rattle.std.specs.Prelude.{◌≡◌, ℕ, ◌<◌, ◌≤◌, List, Option, Some, Ok, length};
 ghost use Rattle.std.specs.Str.{is_utf8};
-ghost use Rattle.zk_model.specs.JuteReading.{Read, front_int, front_long, int_at, long_at, boolean_at, buffer_at, ustring_at, acl_at, count_at, items_at, vector_at, value_at, is_open, all_until_last};
+ghost use Rattle.zk_model.specs.JuteReading.{Read, front_int, front_long, int_at, long_at, boolean_at, buffer_at, ustring_at, acl_at, count_at, items_at, vector_at, value_at, is_open, all_until_last, ended as whole_of};
 ghost use Rattle.zk_model.specs.JuteValues.{open_acl, the_open_acl};
 ghost use Rattle.zk_wire.specs.Giving.{Gives};
 
@@ -36,11 +36,20 @@ impl<'a> Reader<'a> {
         Reader { alloc, rest: bytes }
     }
 
-    /// How many bytes are left.
     pub fn left(&self) -> usize
         ensures { result ≡ length self.now }
     {
         self.rest.len()
+    }
+
+    /// What was read, where nothing is left.
+    pub fn ended<T: Drop>(&self, value: T) -> Result<T, Fault>
+        ensures { Gives (λ x. x) result self.now (whole_of (value, self.now)) }
+    {
+        match self.rest.len() {
+            0 => Ok(value),
+            left => Err(Fault::Unreadable(left)),
+        }
     }
 
     pub fn int(&mut self) -> Result<i32, Fault>

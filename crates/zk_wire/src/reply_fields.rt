@@ -12,7 +12,6 @@ ghost use Rattle.zk_wire.specs.Putting.{put_all};
 
 use crate::sink::FieldSink;
 use zk_model::{Body, ConnectResponse, Notice, PartKind, PartResult, Reply, Stat};
-use zx_base::Memory;
 
 /// Puts a reply's header, and its body where it is no refusal.
 pub fn put_reply<S: FieldSink>(
@@ -20,7 +19,7 @@ pub fn put_reply<S: FieldSink>(
     xid: i32,
     zxid: i64,
     reply: &Reply,
-) -> Result<(), Memory>
+) -> Result<(), S::Fault>
     requires { AllByRecursion S.can_put (reply_values xid zxid reply.now) }
     ensures { OnOk result (sink.new ≡ put_all S.put sink.old (reply_values xid zxid reply.now)) }
 {
@@ -36,7 +35,7 @@ pub fn put_reply<S: FieldSink>(
 }
 
 /// Puts a notification: xid -1, zxid -1, no error, the kind, the state "connected", which is 3, and the path.
-pub fn put_notice<S: FieldSink>(sink: &mut S, notice: &Notice) -> Result<(), Memory>
+pub fn put_notice<S: FieldSink>(sink: &mut S, notice: &Notice) -> Result<(), S::Fault>
     requires { AllByRecursion S.can_put (notice_values notice.now) }
     ensures { OnOk result (sink.new ≡ put_all S.put sink.old (notice_values notice.now)) }
 {
@@ -49,7 +48,7 @@ pub fn put_notice<S: FieldSink>(sink: &mut S, notice: &Notice) -> Result<(), Mem
 }
 
 /// Puts the answer to a connect, of protocol version 0.
-pub fn put_connect<S: FieldSink>(sink: &mut S, response: &ConnectResponse) -> Result<(), Memory>
+pub fn put_connect<S: FieldSink>(sink: &mut S, response: &ConnectResponse) -> Result<(), S::Fault>
     requires { AllByRecursion S.can_put (connect_response_values response.now) }
     ensures { OnOk result (sink.new ≡ put_all S.put sink.old (connect_response_values response.now)) }
 {
@@ -60,7 +59,7 @@ pub fn put_connect<S: FieldSink>(sink: &mut S, response: &ConnectResponse) -> Re
     put_optional(sink, response.read_only)
 }
 
-fn put_optional<S: FieldSink>(sink: &mut S, flag: Option<bool>) -> Result<(), Memory>
+fn put_optional<S: FieldSink>(sink: &mut S, flag: Option<bool>) -> Result<(), S::Fault>
     ensures { OnOk result (sink.new ≡ put_all S.put sink.old (optional flag)) }
 {
     match flag {
@@ -69,7 +68,7 @@ fn put_optional<S: FieldSink>(sink: &mut S, flag: Option<bool>) -> Result<(), Me
     }
 }
 
-fn put_body<S: FieldSink>(sink: &mut S, body: &Body) -> Result<(), Memory>
+fn put_body<S: FieldSink>(sink: &mut S, body: &Body) -> Result<(), S::Fault>
     requires { AllByRecursion S.can_put (body_values body.now) }
     ensures { OnOk result (sink.new ≡ put_all S.put sink.old (body_values body.now)) }
 {
@@ -95,7 +94,7 @@ fn put_body<S: FieldSink>(sink: &mut S, body: &Body) -> Result<(), Memory>
 }
 
 #[tactic(auto, unfolding(zk_model::specs::Records::stat_values))]
-fn put_stat<S: FieldSink>(sink: &mut S, stat: &Stat) -> Result<(), Memory>
+fn put_stat<S: FieldSink>(sink: &mut S, stat: &Stat) -> Result<(), S::Fault>
     ensures { OnOk result (sink.new ≡ put_all S.put sink.old (stat_values stat.now)) }
 {
     sink.long(stat.czxid)?;
@@ -111,7 +110,7 @@ fn put_stat<S: FieldSink>(sink: &mut S, stat: &Stat) -> Result<(), Memory>
     sink.long(stat.pzxid)
 }
 
-fn put_results<S: FieldSink>(sink: &mut S, results: &[PartResult]) -> Result<(), Memory>
+fn put_results<S: FieldSink>(sink: &mut S, results: &[PartResult]) -> Result<(), S::Fault>
     requires { AllByRecursion S.can_put (body_values (bodies.Parts results.now)) }
     ensures { OnOk result (sink.new ≡ put_all S.put sink.old (body_values (bodies.Parts results.now))) }
 {
@@ -121,7 +120,7 @@ fn put_results<S: FieldSink>(sink: &mut S, results: &[PartResult]) -> Result<(),
     put_header(sink, -1, true, -1)
 }
 
-fn put_result<S: FieldSink>(sink: &mut S, outcome: &PartResult) -> Result<(), Memory>
+fn put_result<S: FieldSink>(sink: &mut S, outcome: &PartResult) -> Result<(), S::Fault>
     requires { AllByRecursion S.can_put (result_values outcome.now) }
     ensures { OnOk result (sink.new ≡ put_all S.put sink.old (result_values outcome.now)) }
 {
@@ -144,7 +143,7 @@ fn put_result<S: FieldSink>(sink: &mut S, outcome: &PartResult) -> Result<(), Me
 }
 
 /// Puts a header of a multi's reply.
-fn put_header<S: FieldSink>(sink: &mut S, kind: i32, last: bool, err: i32) -> Result<(), Memory>
+fn put_header<S: FieldSink>(sink: &mut S, kind: i32, last: bool, err: i32) -> Result<(), S::Fault>
     ensures { OnOk result (sink.new ≡ put_all S.put sink.old (result_header kind last err)) }
 {
     sink.int(kind)?;

@@ -9,10 +9,9 @@ ghost use Rattle.zk_wire.specs.Putting.{put_all};
 
 use crate::sink::FieldSink;
 use zk_model::{Opcode, Part, PartKind, Request};
-use zx_base::Memory;
 
 /// Puts a request's header and its body.
-pub fn put_request<S: FieldSink>(sink: &mut S, xid: i32, request: &Request) -> Result<(), Memory>
+pub fn put_request<S: FieldSink>(sink: &mut S, xid: i32, request: &Request) -> Result<(), S::Fault>
     requires { AllByRecursion S.can_put (request_values xid request.now) }
     ensures { OnOk result (sink.new ≡ put_all S.put sink.old (request_values xid request.now)) }
 {
@@ -21,7 +20,7 @@ pub fn put_request<S: FieldSink>(sink: &mut S, xid: i32, request: &Request) -> R
     put_body(sink, request)
 }
 
-fn put_body<S: FieldSink>(sink: &mut S, request: &Request) -> Result<(), Memory>
+fn put_body<S: FieldSink>(sink: &mut S, request: &Request) -> Result<(), S::Fault>
     requires { AllByRecursion S.can_put (asked_values request.now) }
     ensures { OnOk result (sink.new ≡ put_all S.put sink.old (asked_values request.now)) }
 {
@@ -79,7 +78,7 @@ fn put_body<S: FieldSink>(sink: &mut S, request: &Request) -> Result<(), Memory>
     }
 }
 
-fn put_parts<S: FieldSink>(sink: &mut S, parts: &[Part]) -> Result<(), Memory>
+fn put_parts<S: FieldSink>(sink: &mut S, parts: &[Part]) -> Result<(), S::Fault>
     requires { AllByRecursion S.can_put (multi_values parts.now) }
     ensures { OnOk result (sink.new ≡ put_all S.put sink.old (multi_values parts.now)) }
 {
@@ -89,7 +88,7 @@ fn put_parts<S: FieldSink>(sink: &mut S, parts: &[Part]) -> Result<(), Memory>
     put_header(sink, -1, true)
 }
 
-fn put_part<S: FieldSink>(sink: &mut S, part: &Part) -> Result<(), Memory>
+fn put_part<S: FieldSink>(sink: &mut S, part: &Part) -> Result<(), S::Fault>
     requires { AllByRecursion S.can_put (whole_part part.now) }
     ensures { OnOk result (sink.new ≡ put_all S.put sink.old (whole_part part.now)) }
 {
@@ -98,7 +97,7 @@ fn put_part<S: FieldSink>(sink: &mut S, part: &Part) -> Result<(), Memory>
 }
 
 /// Puts a header of a multi. Its error is -1.
-fn put_header<S: FieldSink>(sink: &mut S, kind: i32, last: bool) -> Result<(), Memory>
+fn put_header<S: FieldSink>(sink: &mut S, kind: i32, last: bool) -> Result<(), S::Fault>
     ensures { OnOk result (sink.new ≡ put_all S.put sink.old (header_values kind last)) }
 {
     sink.int(kind)?;
@@ -106,7 +105,7 @@ fn put_header<S: FieldSink>(sink: &mut S, kind: i32, last: bool) -> Result<(), M
     sink.int(-1)
 }
 
-fn put_part_fields<S: FieldSink>(sink: &mut S, part: &Part) -> Result<(), Memory>
+fn put_part_fields<S: FieldSink>(sink: &mut S, part: &Part) -> Result<(), S::Fault>
     requires { AllByRecursion S.can_put (part_values part.now) }
     ensures { OnOk result (sink.new ≡ put_all S.put sink.old (part_values part.now)) }
 {

@@ -1,7 +1,8 @@
 //! Reading requests.
 #![tactic(auto, unfolding(zk_model::specs::JuteReading::values_at))]
 
-ghost use Rattle.std.specs.Prelude.{◌≡◌, Some};
+ghost use Rattle.std.specs.Prelude.{◌≡◌, ◌≤◌, length, All, IfOk, Some};
+ghost use Rattle.zk_model.specs.Records.{contents_of};
 ghost use Rattle.zk_model.specs.Requests.{header_at, part_after, part_at, plain_at, body_at, whole_at, read_request as read_as};
 ghost use Rattle.zk_model.specs.declared.opcode.Opcode.TheVariants as opcodes;
 ghost use Rattle.zk_model.proofs.Items.{part_shorter};
@@ -160,15 +161,14 @@ fn whole(reader: &mut Reader, code: Opcode) -> Result<Request, Fault>
     ensures { Gives (λ x. x) result reader.new (whole_at code reader.old) }
 {
     let request = body(reader, code)?;
-    match reader.left() {
-        0 => Ok(request),
-        left => Err(Fault::Unreadable(left)),
-    }
+    reader.ended(request)
 }
 
 /// The request of a frame, with its xid. Copies each text and buffer once.
 pub fn read_request(alloc: Global, frame: &[u8]) -> Result<(i32, Request), WireFault>
     ensures exact { IsReadAs result (read_as frame.now) }
+    // The data of a request is no longer than its frame.
+    ensures short { IfOk result (λ x. All (λ content. length content ≤ length frame.now) (contents_of x.1)) }
 {
     if frame.len() < HEADER {
         return Err(WireFault::NoHeader);

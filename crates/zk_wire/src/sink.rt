@@ -1,120 +1,151 @@
 //! Where the fields of a record go, in order: one walk over a record serves its size and its bytes.
+#![tactic(auto, using(zk_model::proofs::Lengths::lengths))]
 
-ghost use Rattle.std.specs.Prelude.{◌≡◌, OnOk};
+ghost use Rattle.std.specs.Prelude.{◌≡◌, ◌+◌, length, OnOk};
 ghost use Rattle.zk_model.specs.JuteValues.{Value, int as int_value, long as long_value, boolean as boolean_value, buffer as buffer_value, ustring as ustring_value, ustrings as ustrings_value, acls as acls_value, open_acl as open_acl_value};
+ghost use Rattle.zk_model.specs.JuteWriting.{string_bytes, acl_bytes, canonical};
+ghost use Rattle.zk_wire.specs.Putting.{counted};
 
+use std::convert::Infallible;
 use std::marker::Model;
 use zk_model::Acl;
-use zx_base::{Memory, Text};
+use zx_base::Text;
 
 /// What takes values, one after the other.
 pub trait FieldSink {
+    /// Why it cannot take a value.
+    type Fault: Drop;
+
     // Which values it takes.
     ghost can_put: { Value → Type 0 };
 
     // What it is with one more.
     ghost put: { Self → Value → Self };
 
-    fn int(&mut self, number: i32) -> Result<(), Memory>
+    fn int(&mut self, number: i32) -> Result<(), Self::Fault>
         ensures { OnOk result (self.new ≡ put self.old (int_value number)) };
 
-    fn long(&mut self, number: i64) -> Result<(), Memory>
+    fn long(&mut self, number: i64) -> Result<(), Self::Fault>
         ensures { OnOk result (self.new ≡ put self.old (long_value number)) };
 
-    fn boolean(&mut self, flag: bool) -> Result<(), Memory>
+    fn boolean(&mut self, flag: bool) -> Result<(), Self::Fault>
         ensures { OnOk result (self.new ≡ put self.old (boolean_value flag)) };
 
-    fn buffer(&mut self, bytes: &[u8]) -> Result<(), Memory>
+    fn buffer(&mut self, bytes: &[u8]) -> Result<(), Self::Fault>
         requires { can_put (buffer_value bytes.now) }
         ensures { OnOk result (self.new ≡ put self.old (buffer_value bytes.now)) };
 
-    fn ustring(&mut self, text: &[u8]) -> Result<(), Memory>
+    fn ustring(&mut self, text: &[u8]) -> Result<(), Self::Fault>
         requires { can_put (ustring_value text.now) }
         ensures { OnOk result (self.new ≡ put self.old (ustring_value text.now)) };
 
-    fn ustrings(&mut self, texts: &[Text]) -> Result<(), Memory>
+    fn ustrings(&mut self, texts: &[Text]) -> Result<(), Self::Fault>
         requires { can_put (ustrings_value texts.now) }
         ensures { OnOk result (self.new ≡ put self.old (ustrings_value texts.now)) };
 
-    fn acls(&mut self, entries: &[Acl]) -> Result<(), Memory>
+    fn acls(&mut self, entries: &[Acl]) -> Result<(), Self::Fault>
         requires { can_put (acls_value entries.now) }
         ensures { OnOk result (self.new ≡ put self.old (acls_value entries.now)) };
 
-    fn open_acl(&mut self) -> Result<(), Memory>
+    fn open_acl(&mut self) -> Result<(), Self::Fault>
         ensures { OnOk result (self.new ≡ put self.old open_acl_value) };
 }
 
-/// How many bytes the values take. It is the room that a packet reserves, so contracts see nothing of it.
+/// How many bytes the values take; at 2^64 - 1 it stays.
 #[derive(Drop)]
 pub struct Size {
-    bytes: usize,
+    bytes: u64,
 }
 
 impl Model for Size {
-    ghost Value = { Unit {0} };
+    ghost use Rattle.std.specs.Prelude.{ℕ};
 
-    ghost view = { λ s. tt };
+    ghost Value = { ℕ };
+
+    ghost view = { λ s. s.bytes };
 }
 
 /// The bytes of an int, and of a length or a count.
-const INT: usize = 4;
+const INT: u64 = 4;
 
 /// The bytes of a long.
-const LONG: usize = 8;
+const LONG: u64 = 8;
+
+/// The bytes of a boolean.
+const BOOLEAN: u64 = 1;
 
 /// The bytes of the open access list: a count, and an entry of a number and two texts of 5 and 6 bytes.
-const OPEN_ACL: usize = 4 * INT + 11;
+const OPEN_ACL: u64 = 4 * INT + 11;
 
 impl Size {
-    pub fn new() -> Size {
+    pub fn new() -> Size
+        ensures { result ≡ 0 }
+    {
         Size { bytes: 0 }
     }
 
-    pub fn bytes(&self) -> usize {
+    pub fn bytes(&self) -> u64
+        ensures { result ≡ self.now }
+    {
         self.bytes
     }
 
-    fn add(&mut self, bytes: usize) {
+    fn add(&mut self, bytes: u64)
+        ensures { self.new ≡ counted (self.old + bytes) }
+    {
         self.bytes = self.bytes.saturating_add(bytes);
     }
 
-    fn add_string(&mut self, bytes: &[u8]) {
+    /// Adds the bytes of a buffer or of a text, with their length.
+    fn add_string(&mut self, bytes: &[u8])
+        ensures { self.new ≡ counted (self.old + length (string_bytes bytes.now)) }
+    {
         self.add(INT);
-        self.add(bytes.len());
+        self.add(bytes.len() as u64);
+    }
+
+    fn add_acl(&mut self, entry: &Acl)
+        ensures { self.new ≡ counted (self.old + length (acl_bytes entry.now)) }
+    {
+        self.add(INT);
+        self.add_string(entry.scheme.as_slice());
+        self.add_string(entry.id.as_slice());
     }
 }
 
 impl FieldSink for Size {
+    type Fault = Infallible;
+
     ghost can_put = { λ v. Unit {0} };
 
-    ghost put = { λ s v. s };
+    ghost put = { λ size v. counted (size + length (canonical v)) };
 
-    fn int(&mut self, _number: i32) -> Result<(), Memory> {
+    fn int(&mut self, _number: i32) -> Result<(), Infallible> {
         self.add(INT);
         Ok(())
     }
 
-    fn long(&mut self, _number: i64) -> Result<(), Memory> {
+    fn long(&mut self, _number: i64) -> Result<(), Infallible> {
         self.add(LONG);
         Ok(())
     }
 
-    fn boolean(&mut self, _flag: bool) -> Result<(), Memory> {
-        self.add(1);
+    fn boolean(&mut self, _flag: bool) -> Result<(), Infallible> {
+        self.add(BOOLEAN);
         Ok(())
     }
 
-    fn buffer(&mut self, bytes: &[u8]) -> Result<(), Memory> {
+    fn buffer(&mut self, bytes: &[u8]) -> Result<(), Infallible> {
         self.add_string(bytes);
         Ok(())
     }
 
-    fn ustring(&mut self, text: &[u8]) -> Result<(), Memory> {
+    fn ustring(&mut self, text: &[u8]) -> Result<(), Infallible> {
         self.add_string(text);
         Ok(())
     }
 
-    fn ustrings(&mut self, texts: &[Text]) -> Result<(), Memory> {
+    fn ustrings(&mut self, texts: &[Text]) -> Result<(), Infallible> {
         self.add(INT);
         for text in texts {
             self.add_string(text.as_slice());
@@ -122,17 +153,15 @@ impl FieldSink for Size {
         Ok(())
     }
 
-    fn acls(&mut self, entries: &[Acl]) -> Result<(), Memory> {
+    fn acls(&mut self, entries: &[Acl]) -> Result<(), Infallible> {
         self.add(INT);
         for entry in entries {
-            self.add(INT);
-            self.add_string(entry.scheme.as_slice());
-            self.add_string(entry.id.as_slice());
+            self.add_acl(entry);
         }
         Ok(())
     }
 
-    fn open_acl(&mut self) -> Result<(), Memory> {
+    fn open_acl(&mut self) -> Result<(), Infallible> {
         self.add(OPEN_ACL);
         Ok(())
     }

@@ -33,10 +33,10 @@ impl Model for Writer {
 
 impl Writer {
     /// An empty frame, with room for so many bytes.
-    pub fn new(alloc: Global, bytes: usize) -> Result<Writer, Memory>
+    pub fn new(alloc: Global, bytes: u64) -> Result<Writer, Memory>
         ensures { IfOk result (λ w. w ≡ []) }
     {
-        let mut packet = Vec::with_capacity(alloc, bytes.saturating_add(LENGTH))?;
+        let mut packet = Vec::with_capacity(alloc, (bytes as usize).saturating_add(LENGTH))?;
         packet.extend_from_slice(&[0; LENGTH])?;
         Ok(Writer { packet })
     }
@@ -87,6 +87,8 @@ impl Writer {
 }
 
 impl FieldSink for Writer {
+    type Fault = Memory;
+
     ghost can_put = { CanBeWritten };
 
     ghost put = { λ out v. out ++ canonical v };

@@ -11,7 +11,7 @@ use Rattle.zn_layout.specs.Keys.{Key, key_bytes, same_key}
 use Rattle.zn_layout.specs.StandsFor.{Stored, stored_of, at}
 use Rattle.zn_layout.specs.Changes.{Put, Change, act_at, act_of, acts_of, or_else, last}
 use Rattle.zn_layout.specs.Fits.{left}
-use Rattle.zn_layout.proofs.Keys.{same_key-true, same_key-false, key_bytes-injective}
+use Rattle.zn_layout.proofs.Keys.{same_key-true, same_key-false}
 
 pub acts_applied-append : (z : ℤ) (keys : Keys) (xs ys : List Act) → acts_applied z keys (xs ++ ys) ≡ acts_applied z (acts_applied z keys xs) ys
 acts_applied-append z keys [] ys = refl

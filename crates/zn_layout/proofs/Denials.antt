@@ -1,7 +1,7 @@
 -- An update's transaction, and one that only reads, isn't denied.
-use Rattle.std.proofs.Common.{◌≡◌, ◌≢◌, ℕ, suc, ◌+◌, ◌≤◌, ℤ, pos, negsuc, Bool, true, false, cond, List, [], ◌∷◌, ◌++◌, length, map, Option, Some, None, refl, sym, ap, ◌∙◌, subst, arith}
-use Rattle.std.specs.Prelude.{not, ◌&&◌, ◌||◌, int_lt, ◌<ℤ◌, nat_lt}
-use Rattle.std.specs.List.{list_any, list_all}
+use Rattle.std.proofs.Common.{◌≡◌, ◌+◌, ◌≤◌, pos, Bool, true, false, List, [], ◌∷◌, ◌++◌, length, Option, Some, None, refl, sym, ap, ◌∙◌, arith}
+use Rattle.std.specs.Prelude.{not, ◌&&◌, ◌||◌, int_lt, ◌<ℤ◌}
+use Rattle.std.specs.List.{list_any}
 use Rattle.std.specs.Ordering.{int_eq}
 use Rattle.std.proofs.lemmas.Bool.{and_parts, le-ltb, lt-ltb}
 use Rattle.std.proofs.lemmas.Bool.Decides.{Decides-int_eq}
@@ -15,13 +15,13 @@ use Rattle.ev_types.specs.declared.ask.Act.TheVariants as act
 use Rattle.ev_types.specs.declared.ask.TxnReq.{TxnReq}
 use Rattle.ev_types.specs.declared.ask.Ask.TheVariants as ask
 use Rattle.ev_types.specs.Store.{Store, Change as StoreChange, revision, last_revision, succeeds, chosen, worked}
-use Rattle.ev_types.specs.Denials.{names_no_lease, looks_ahead, looks_below, writes, puts, writes_twice, most_operations, has_lease, is_future, is_long, is_full, is_denied}
+use Rattle.ev_types.specs.Denials.{names_no_lease, looks_ahead, looks_below, writes, puts, writes_twice, most_operations, has_lease, is_future, is_full, is_denied}
 use Rattle.zk_model.specs.declared.node.Trigger.{Trigger}
 use Rattle.zx_base.specs.Maps.{Bytes, same}
 use Rattle.zx_base.proofs.MapLaws.{same-refl, same-false}
 use Rattle.zn_layout.specs.Keys.{Key, HeadKey, key_bytes, same_key}
 use Rattle.zn_layout.specs.Begin.{read_key}
-use Rattle.zn_layout.specs.Changes.{Put, Change, act_at, act_of, acts_of, head_put, update_acts, writes_key, are_distinct, is_free_put, are_free}
+use Rattle.zn_layout.specs.Changes.{Put, Change, act_at, act_of, acts_of, head_put, writes_key, are_distinct, is_free_put, are_free}
 use Rattle.zn_layout.specs.Commits.{is_present_read, are_present_reads, update_txn}
 use Rattle.zn_layout.proofs.Keys.{same_key-true, same_key-false}
 use Rattle.zn_layout.proofs.Transactions.{unchanged-reads}

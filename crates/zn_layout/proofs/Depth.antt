@@ -1,5 +1,5 @@
 -- The depth of a path, as slashes are counted.
-use Rattle.std.proofs.Common.{◌≡◌, ℕ, suc, ◌+◌, true, false, cond, refl, ap, ◌∙◌, arith, eqb}
+use Rattle.std.proofs.Common.{◌≡◌, suc, ◌+◌, true, false, cond, refl, ap, ◌∙◌, arith, eqb}
 use Rattle.std.specs.List.{count_by}
 use Rattle.std.proofs.lemmas.List.Recursion.{is_count_by}
 use Rattle.zx_base.specs.Maps.{Bytes, same}

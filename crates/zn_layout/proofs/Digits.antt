@@ -1,7 +1,7 @@
 -- A number's hex digits, written from the last one.
-use Rattle.std.proofs.Common.{◌≡◌, ℕ, ◌+◌, ◌-◌, ◌*◌, ◌^◌, ◌<◌, ◌≤◌, ◌/◌, ◌%◌, suc, List, [], ◌∷◌, length, drop, set, refl, sym, ap, ◌∙◌, subst, arith}
+use Rattle.std.proofs.Common.{◌≡◌, ℕ, ◌+◌, ◌-◌, ◌*◌, ◌^◌, ◌<◌, ◌≤◌, ◌/◌, ◌%◌, suc, ◌∷◌, length, drop, set, sym, ap, ◌∙◌, subst, arith}
 use Rattle.std.proofs.Math.Nat.{mul-le-mul_right, mul_assoc, mul_comm, pow-suc}
-use Rattle.std.proofs.lemmas.List.{drop-set, length-drop, length-set, nil_from_length}
+use Rattle.std.proofs.lemmas.List.{drop-set, length-set}
 use Rattle.zx_base.specs.Maps.{Bytes}
 use Rattle.zn_layout.specs.Keys.{hex_digit, hex_digits}
 
@@ -16,9 +16,6 @@ less rest p =
     let le : rest / 16 * 16 * p ≤ rest * p = mul-le-mul_right p (omega arith) in
     let e : rest / 16 * (p * 16) ≡ rest / 16 * 16 * p = ap (λ x. rest / 16 * x) (mul_comm p 16) ∙ sym (mul_assoc (rest / 16) 16 p) in
     omega arith
-
-pub begun : (n : ℕ) (digits : Bytes) → length digits ≡ 16 → AreWritten n (hex_digits 15 n []) 0 n digits
-begun n digits long = record { long = long; small = omega arith; same = ap (hex_digits 15 n) (nil_from_length (drop 16 digits) (omega (arith, length-drop 16 digits))) }
 
 next_same : (k rest : ℕ) (whole digits : Bytes) → k < 15 → length digits ≡ 16 → hex_digits (suc k) rest (drop (k + 2) digits) ≡ whole → hex_digits k (rest / 16) (drop (k + 1) (set digits (k + 1) (hex_digit (rest % 16)))) ≡ whole
 unfolding hex_digits
@@ -41,9 +38,6 @@ one_more n i rest whole digits lt w =
       small = subst (λ (p : ℕ). rest / 16 * p ≤ n) (sym power) (omega arith);
       same = (λ j. hex_digits k (rest / 16) (drop (sym e4 j) (set digits (sym e3 j) (hex_digit (rest % 16))))) ∙ after;
     }
-
-pub top_small : (n rest : ℕ) (whole digits : Bytes) → n < 2 ^ 63 → AreWritten n whole 15 rest digits → rest < 16
-top_small n rest whole digits lt w = let small = w.small in omega arith
 
 pub ended : (n rest : ℕ) (whole digits : Bytes) → AreWritten n whole 15 rest digits → set digits 0 (hex_digit rest) ≡ whole
 unfolding hex_digits

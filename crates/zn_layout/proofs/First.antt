@@ -1,17 +1,17 @@
 -- The first state: the root alone.
-use Rattle.std.proofs.Common.{◌≡◌, ◌≢◌, ℕ, ◌<◌, ◌≤◌, ◌^◌, ℤ, pos, Bool, true, false, cond, List, [], ◌∷◌, length, map, Option, Some, None, refl, sym, ap, ◌∙◌, subst, ⊎_elim, arith, lit≤}
+use Rattle.std.proofs.Common.{◌≡◌, ◌≢◌, ℕ, ◌≤◌, ℤ, pos, Bool, true, false, cond, List, [], length, map, Option, Some, None, refl, sym, ap, ◌∙◌, subst, ⊎_elim, arith}
 use Rattle.std.specs.Prelude.{◌≤ℤ◌, IsTrue}
 use Rattle.std.specs.Str.{is_utf8, chars}
 use Rattle.std.specs.Ordering.{nat_cmp, int_eq, int_cmp}
 use Rattle.std.specs.Cmp.Lexicographic.{slice_cmp}
-use Rattle.std.specs.FinMap.{get, insert, retain_keys, empty, entries, keys, len, get-empty, len-empty}
+use Rattle.std.specs.FinMap.{get, insert, retain_keys, empty, keys, len, get-empty, len-empty}
 use Rattle.std.proofs.lemmas.Bool.Decides.{Decides-int_eq}
 use Rattle.std.proofs.lemmas.Int.{ints}
 use Rattle.zk_model.specs.declared.node.Node.{Node}
 use Rattle.zk_model.specs.Paths.{root, parent, at_last_slash, is_child, is_path}
 use Rattle.zk_model.specs.Znodes.{Tree, num_children, is_owner, owned, new_node, root_alone}
-use Rattle.zk_model.specs.History.{State, Session, nothing_yet, session_at, updated, after, HasParent, IsNodeWithin, IsSound}
-use Rattle.zx_base.specs.Maps.{Bytes, Map}
+use Rattle.zk_model.specs.History.{State, updated, after, IsNodeWithin, IsSound}
+use Rattle.zx_base.specs.Maps.{Bytes}
 use Rattle.zx_base.proofs.MapLaws.{either, get-insert_same, get-insert_other, get-retain, retain-insert_out, ext}
 use Rattle.zn_layout.specs.Begin.{begin_lines}
 use Rattle.zn_layout.proofs.Found.{entries-empty}
@@ -47,10 +47,6 @@ either_none false = refl
 
 no_part : {X : Type 0} (f : Bytes → Bool) → retain_keys (empty {X = X} {R = slice_cmp nat_cmp}) f ≡ empty
 no_part f = ext _ _ (λ q. get-retain empty f q ∙ ap (λ o. cond (f q) o None) (get-empty (slice_cmp nat_cmp) q) ∙ either_none (f q) ∙ sym (get-empty (slice_cmp nat_cmp) q))
-
-root-parent : parent root ≡ None
-unfolding parent at_last_slash
-root-parent = refl
 
 root-no_child : (p : Bytes) → is_child p root ≡ false
 unfolding is_child parent at_last_slash

@@ -1,6 +1,6 @@
 -- The first transaction makes the first state of a new store.
-use Rattle.std.proofs.Common.{◌≡◌, ◌≢◌, ℕ, ◌<◌, ◌≤◌, ◌^◌, ◌+◌, ℤ, pos, ◌+ℤ◌, Bool, true, false, cond, List, [], ◌∷◌, ◌++◌, length, Option, Some, None, refl, sym, ap, ◌∙◌, subst, arith}
-use Rattle.std.specs.Prelude.{◌&&◌, ◌≤ℤ◌, ◌<ℤ◌, if◌then◌else◌}
+use Rattle.std.proofs.Common.{◌≡◌, ℕ, ◌<◌, ◌^◌, ℤ, pos, true, false, cond, List, [], ◌∷◌, Option, Some, None, refl, sym, ap, ◌∙◌, subst, arith}
+use Rattle.std.specs.Prelude.{◌&&◌}
 use Rattle.std.specs.Ordering.{nat_cmp, int_cmp, int_eq}
 use Rattle.std.specs.Cmp.Lexicographic.{slice_cmp}
 use Rattle.std.specs.FinMap.{get, empty, get-empty}
@@ -9,26 +9,24 @@ use Rattle.ev_types.specs.declared.answer.Kv.{Kv}
 use Rattle.ev_types.specs.declared.ask.Act.{Act}
 use Rattle.ev_types.specs.declared.ask.Ask.TheVariants as ask
 use Rattle.ev_types.specs.declared.ask.Guard.{Guard}
-use Rattle.ev_types.specs.declared.ask.TxnReq.{TxnReq}
 use Rattle.ev_types.specs.declared.answer.ActAns.{ActAns}
 use Rattle.ev_types.specs.declared.answer.Answer.TheVariants as answer
 use Rattle.ev_types.specs.Ranges.{Keys}
-use Rattle.ev_types.specs.Store.{Store, new_store, revision, last_revision, present, put_over, mod_of, succeeds, worked, grown, chosen, carried_out, txn_done, acts_applied}
+use Rattle.ev_types.specs.Store.{Store, new_store, revision, present, put_over, mod_of, succeeds, worked, grown, acts_applied}
 use Rattle.ev_types.specs.Denials.{is_denied, carry}
 use Rattle.zk_model.specs.declared.node.Node.{Node}
-use Rattle.zk_model.specs.declared.node.Trigger.{Trigger}
 use Rattle.zk_model.specs.Paths.{root}
 use Rattle.zk_model.specs.Znodes.{num_children, owned, new_node}
 use Rattle.zk_model.specs.History.{State, Session, nothing_yet, after, IsSound}
 use Rattle.zx_base.specs.Maps.{Bytes, same}
 use Rattle.zx_base.proofs.MapLaws.{same-true, apart-from_same}
 use Rattle.zn_layout.specs.Keys.{Key, HeadKey, DataKey, CountsKey, SessionKey, LeaseKey, key_bytes}
-use Rattle.zn_layout.specs.Records.{node_value, counts_value, head_value, IsLongCount, IsNodeRec, IsCountRec, IsHeadRec}
+use Rattle.zn_layout.specs.Records.{node_value, counts_value, head_value, IsLongCount, IsNodeRec}
 use Rattle.zn_layout.specs.StandsFor.{Stored, stored_of, at, Means, IsData, IsCounts, DataMeans, CountsMean, NodesMean, LifeMeans, IsHead, AreLayout, StandsFor}
 use Rattle.zn_layout.specs.Begin.{read_key, new_record, no_counts, begin_ask, begin_lines, Begins}
-use Rattle.zn_layout.specs.Changes.{Put, Change, put_key, update_acts, or_else, last}
-use Rattle.zn_layout.specs.Commits.{update_txn, IsCommitted}
-use Rattle.zn_layout.specs.Fits.{left, KeyFits, Fits}
+use Rattle.zn_layout.specs.Changes.{Change, put_key, update_acts, or_else, last}
+use Rattle.zn_layout.specs.Commits.{update_txn}
+use Rattle.zn_layout.specs.Fits.{KeyFits}
 use Rattle.zn_layout.proofs.First.{first_tree, first_state, first_there, first_other, first_childless, after-begin, first_sound}
 use Rattle.zn_layout.proofs.Stands.{stands_over}
 use Rattle.zn_layout.proofs.Denials.{update-not_denied}

@@ -1,9 +1,8 @@
 -- Changes that fit, one list after another.
-use Rattle.std.proofs.Common.{◌≡◌, ℤ, Bool, true, false, cond, List, [], ◌∷◌, ◌++◌, Option, Some, None, refl, sym, ap, ◌∙◌, subst}
+use Rattle.std.proofs.Common.{◌≡◌, ℤ, cond, List, [], ◌∷◌, ◌++◌, Option, Some, None, refl, sym, ap, ◌∙◌, subst}
 use Rattle.zk_model.specs.declared.node.Trigger.{Trigger}
 use Rattle.zk_model.specs.History.{State}
 use Rattle.zn_layout.specs.Keys.{Key, HeadKey, DataKey, CountsKey, SessionKey, LeaseKey, same_key}
-use Rattle.zn_layout.specs.StandsFor.{Stored, Means}
 use Rattle.zn_layout.specs.Changes.{Put, Change, head_put, or_else, last}
 use Rattle.zn_layout.specs.Fits.{left, KeyFits, Fits}
 
@@ -31,9 +30,6 @@ fits_append z cs ds old mid new f g = record { each = λ k. subst (λ l. KeyFits
 -- only what a list says last of each key counts
 pub fits_same : (z : ℤ) (cs ds : List Change) (old new : State) → ((k : Key) → last ds k ≡ last cs k) → Fits z cs old new → Fits z ds old new
 fits_same z cs ds old new e f = record { each = λ k. subst (λ l. KeyFits z l k old new) (sym (e k)) (f.each k) }
-
-pub fits_nothing : (z : ℤ) (s : State) → Fits z [] s s
-fits_nothing z s = record { each = λ k o h. h }
 
 head_fits : (z : ℤ) (ts : List Trigger) (s : State) (k : Key) → KeyFits z (last (head_put ts ∷ []) k) k s s
 head_fits z ts s HeadKey = tt

@@ -1,16 +1,16 @@
 -- What a range of one key finds.
-use Rattle.std.proofs.Common.{◌≡◌, ◌≢◌, ℤ, pos, true, false, cond, List, [], ◌∷◌, map, length, Option, Some, None, refl, sym, ap, ◌∙◌, subst, ⊎_elim, arith}
+use Rattle.std.proofs.Common.{◌≡◌, ◌≢◌, cond, List, [], ◌∷◌, map, Option, Some, None, refl, sym, ap, ◌∙◌, subst, ⊎_elim}
 use Rattle.std.proofs.lemmas.List.{nil_from_length}
 use Rattle.std.specs.Cmp.Lexicographic.{nat_list_cmp_total}
 use Rattle.std.specs.FinMap.{get, insert, retain_keys, empty, entries, put, values, entries-insert, len-entries, len-empty, get-empty}
 use Rattle.std.specs.Ordering.{nat_cmp}
 use Rattle.std.specs.Cmp.Lexicographic.{slice_cmp}
 use Rattle.ev_types.specs.declared.answer.Kv.{Kv}
-use Rattle.ev_types.specs.declared.ask.RangeReq.{RangeReq}
 use Rattle.ev_types.specs.Ranges.{Keys, is_within, in_range, found, found_among}
-use Rattle.zx_base.specs.Maps.{Bytes, same}
+use Rattle.zx_base.specs.Maps.{Bytes}
 use Rattle.zx_base.proofs.MapLaws.{either, same-refl, same-false, get-retain, get-insert_same, get-insert_other, ext}
-use Rattle.zn_layout.specs.Commits.{key_range, one_found}
+pub use Rattle.zn_layout.specs.Commits.{key_range}
+use Rattle.zn_layout.specs.Commits.{one_found}
 
 pub entries-empty : {X : Type 0} → entries (empty {X = X} {R = slice_cmp nat_cmp}) ≡ []
 entries-empty {X = X} = nil_from_length _ (sym (len-entries _) ∙ len-empty (slice_cmp nat_cmp) X)

@@ -1,13 +1,14 @@
 -- The record of a session's life and its value.
-use Rattle.std.proofs.Common.{◌≡◌, ◌≢◌, ℕ, ◌+◌, ℤ, pos, Option, Some, None, List, [], ◌∷◌, ◌++◌, length, drop, refl, sym, ap, ◌∙◌, subst, arith, append_assoc}
-use Rattle.std.specs.Prelude.{◌≤ℤ◌, MatchOption}
+use Rattle.std.proofs.Common.{◌≡◌, ◌≢◌, Option, Some, None, ◌∷◌, ◌++◌, length, drop, sym, ap, ◌∙◌, subst, arith, append_assoc}
+use Rattle.std.specs.Prelude.{MatchOption}
 use Rattle.std.proofs.lemmas.Int.{ints}
 use Rattle.std.proofs.lemmas.List.{length-append}
 use Rattle.zk_model.specs.JuteWriting.{int_bytes, long_bytes}
 use Rattle.zx_base.specs.Maps.{Bytes}
 use Rattle.zn_layout.specs.declared.record.LeaseRec.{LeaseRec}
-use Rattle.zn_layout.specs.Records.{lease_value, IsLongCount, IsLeaseRec}
-use Rattle.zn_layout.specs.Reading.{IsNoValue, IsReadAs, HasLife}
+use Rattle.zn_layout.specs.Records.{lease_value, IsLeaseRec}
+use Rattle.zn_layout.specs.Reading.{IsNoValue, IsReadAs}
+use Rattle.zn_layout.specs.ReadingSteps.{HasLife}
 use Rattle.zn_layout.proofs.Numbers.{length-int, length-long}
 use Rattle.zn_layout.proofs.Nodes.{int_fits, long_fits, int_same, long_same}
 

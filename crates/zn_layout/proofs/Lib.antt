@@ -15,3 +15,5 @@ pub mod First
 pub mod FirstUpdate
 pub mod Digits
 pub mod Leases
+pub mod Sessions
+pub mod Lists

@@ -1,17 +1,18 @@
 -- A node's record and its value.
-use Rattle.std.proofs.Common.{◌≡◌, ◌≢◌, ℕ, ◌+◌, ◌-◌, ◌≤◌, ◌<◌, ◌^◌, ℤ, pos, negsuc, List, [], ◌∷◌, ◌++◌, length, drop, refl, sym, ap, ◌∙◌, subst, arith, append_assoc}
+use Rattle.std.proofs.Common.{◌≡◌, ◌≢◌, ◌+◌, ◌<◌, ◌^◌, ℤ, pos, negsuc, [], ◌∷◌, ◌++◌, length, drop, refl, sym, ap, ◌∙◌, subst, arith, append_assoc}
 use Rattle.std.specs.Prelude.{◌≤ℤ◌, Option, Some, None, MatchOption}
 use Rattle.std.specs.Int.{w32, w64, cast_signed}
 use Rattle.std.specs.Int.RustNames.{FitsSigned}
 use Rattle.std.proofs.lemmas.Int.{ints}
-use Rattle.std.proofs.lemmas.List.{append-nil, length-append, length-drop, nil_from_length}
+use Rattle.std.proofs.lemmas.List.{append-nil, length-append, nil_from_length}
 use Rattle.byteorder.specs.Endian.{big_number}
 use Rattle.zk_model.specs.JuteWriting.{int_bytes, long_bytes}
 use Rattle.zx_base.specs.Maps.{Bytes}
 use Rattle.zn_layout.specs.declared.record.NodeRec.{NodeRec}
 use Rattle.zn_layout.specs.declared.record.CountRec.{CountRec}
-use Rattle.zn_layout.specs.Records.{node_value, counts_value, most_long, IsLongCount, IsNodeRec, IsCountRec}
-use Rattle.zn_layout.specs.Reading.{IsNoValue, IsReadAs, HasNumbers, HasCounts}
+use Rattle.zn_layout.specs.Records.{node_value, counts_value, IsLongCount, IsNodeRec, IsCountRec}
+use Rattle.zn_layout.specs.Reading.{IsNoValue, IsReadAs}
+use Rattle.zn_layout.specs.ReadingSteps.{HasNumbers, HasCounts}
 use Rattle.zn_layout.proofs.Numbers.{int_back, long_back, length-int, length-long, drop-int, drop-long}
 
 -- ---- numbers side by side

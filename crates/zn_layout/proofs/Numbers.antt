@@ -1,5 +1,5 @@
 -- Numbers as bytes, and back, with other bytes behind them.
-use Rattle.std.proofs.Common.{◌≡◌, ℕ, ◌+◌, ◌-◌, ◌*◌, ◌^◌, ◌<◌, ◌≤◌, ◌/◌, ◌%◌, zero, suc, ℤ, pos, List, [], ◌∷◌, ◌++◌, length, take, drop, get_or, refl, sym, ap, ◌∙◌, subst, arith}
+use Rattle.std.proofs.Common.{◌≡◌, ℕ, ◌+◌, ◌-◌, ◌*◌, ◌^◌, ◌<◌, ◌≤◌, ◌/◌, ◌%◌, zero, suc, ℤ, [], ◌∷◌, ◌++◌, length, take, drop, get_or, refl, sym, ap, ◌∙◌, arith}
 use Rattle.std.specs.Int.{w32, w64, byte_at, bytes_high_first, cast_signed, cast_unsigned}
 use lib.Signed.{mag}
 use mir.Val.{to_z, of_z}
@@ -7,7 +7,7 @@ use Rattle.std.specs.Int.RustNames.{FitsSigned}
 use Rattle.std.proofs.lemmas.Int.{to_z-of_z, of_z-to_z, ints}
 use Rattle.std.proofs.Math.Nat.{mod-lt}
 use Rattle.std.proofs.lemmas.Nat.{div-mul-add, mod-mul-add}
-use Rattle.std.proofs.lemmas.List.{append-nil, length-drop, length-take-le, take_all, take-append-drop, take_at, drop_at}
+use Rattle.std.proofs.lemmas.List.{append-nil, length-drop, length-take-le, take_all, take-append-drop, drop_at}
 use Rattle.byteorder.specs.Endian.{big_number, big_from, big_bytes}
 use Rattle.byteorder.specs.Numbers.{big_number-reads_back, big_from-cons, big_from-take, big_from-lt, length-bytes_high_first}
 use Rattle.zk_model.specs.JuteWriting.{int_bytes, long_bytes}
@@ -25,11 +25,6 @@ front_bytes zero xs h k = omega arith
 front_bytes (suc n) [] h k = omega arith
 front_bytes (suc n) (x ∷ xs) h zero = h 0
 front_bytes (suc n) (x ∷ xs) h (suc k) = front_bytes n xs (rest_bytes x xs h) k
-
-pub drop_bytes : (n : ℕ) (xs : Bytes) → AreBytes xs → AreBytes (drop n xs)
-drop_bytes zero xs h k = h k
-drop_bytes (suc n) [] h k = omega arith
-drop_bytes (suc n) (x ∷ xs) h k = drop_bytes n xs (rest_bytes x xs h) k
 
 byte_small : (k n : ℕ) → byte_at k n < 256
 byte_small zero n = mod-lt n (omega arith)

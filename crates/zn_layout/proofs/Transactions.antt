@@ -1,20 +1,16 @@
 -- What a transaction leaves of a store, by its operations alone.
-use Rattle.std.proofs.Common.{◌≡◌, ℕ, suc, ◌+◌, ℤ, pos, ◌+ℤ◌, Bool, true, false, cond, List, [], ◌∷◌, ◌++◌, length, take, map, Option, Some, None, refl, sym, ap, ◌∙◌, subst, arith, append_assoc}
-use Rattle.std.specs.List.{fold}
+use Rattle.std.proofs.Common.{◌≡◌, ℕ, suc, ◌+◌, ℤ, pos, ◌+ℤ◌, true, List, [], ◌∷◌, ◌++◌, length, map, Some, None, refl, sym, ap, ◌∙◌, arith, append_assoc}
 use Rattle.std.specs.FinMap.{get, remove, empty}
-use Rattle.std.proofs.lemmas.List.{append-nil, length-append, take_all}
+use Rattle.std.proofs.lemmas.List.{take_all}
 use Rattle.std.proofs.lemmas.List.Sums.{fold-append}
-use Rattle.ev_types.specs.declared.answer.Kv.{Kv}
-use Rattle.ev_types.specs.declared.answer.ActAns.{ActAns}
 use Rattle.ev_types.specs.declared.answer.ActAns.TheVariants as part
 use Rattle.ev_types.specs.declared.ask.RangeReq.{RangeReq}
 use Rattle.ev_types.specs.declared.ask.Act.{Act}
 use Rattle.ev_types.specs.declared.ask.Act.TheVariants as act
 use Rattle.ev_types.specs.Ranges.{Keys, found}
-use Rattle.ev_types.specs.Store.{Store, Change, Puts, Removes, Done, revision, changed, after_changes, keys_from, store_at, present, looked_at, removal, one_act, then_done, acts_from, worked, grown, act_changes, acts_applied}
+use Rattle.ev_types.specs.Store.{Store, Change, Done, revision, changed, after_changes, keys_from, store_at, present, looked_at, removal, one_act, then_done, acts_from, worked, grown, act_changes, acts_applied}
 use Rattle.zn_layout.specs.Commits.{are_present_reads}
 use Rattle.std.proofs.lemmas.Bool.{and_parts}
-use Rattle.zx_base.specs.Maps.{Bytes}
 use Rattle.zx_base.proofs.MapLaws.{remove-absent}
 
 -- ---- the keys of a store that grew

@@ -39,7 +39,7 @@ act_of c = act_at (key_bytes c.key) c.put
 abbrev pub acts_of : List Change → List Act
 acts_of cs = map act_of cs
 
--- what watches see of the update
+-- the head, with what watches see of the update
 abbrev pub head_put : List Trigger → Change
 head_put ts = put_key HeadKey (head_value ts)
 

@@ -6,3 +6,4 @@ pub mod Changes
 pub mod Fits
 pub mod Commits
 pub mod Reading
+pub mod ReadingSteps

@@ -1,13 +1,10 @@
 -- What reading a stored value answers.
 use Rattle.std.specs.Prelude.{◌≡◌, Option, Some, None}
 use Rattle.zx_base.specs.Maps.{Bytes}
-use Rattle.std.specs.Int.{w32, w64}
-use Rattle.std.specs.Int.RustNames.{FitsSigned}
-use Rattle.zn_layout.specs.declared.record.NodeRec.{NodeRec}
-use Rattle.zn_layout.specs.declared.record.CountRec.{CountRec}
-use Rattle.zn_layout.specs.declared.record.LeaseRec.{LeaseRec}
+use Rattle.zn_layout.specs.declared.record.HeadRec.{HeadRec}
 use Rattle.zn_layout.specs.declared.fault.RecordFault.{RecordFault}
 use Rattle.zn_layout.specs.declared.fault.RecordFault.TheVariants.{Damaged, Memory}
+use Rattle.zn_layout.specs.Records.{head_value, IsHeadRec}
 
 -- a record within its bounds, whose value this is
 abbrev pub IsValueOf : {R : Type 0} → (R → Bytes) → (R → Type 0) → Bytes → R → Type 0
@@ -32,18 +29,10 @@ abbrev pub IsReadAs : {R : Type 0} → (R → Bytes) → (R → Type 0) → Byte
 IsReadAs value_of IsWithin v (Some r) = IsValueOf value_of IsWithin v r
 IsReadAs value_of IsWithin v None = IsNoValue value_of IsWithin v
 
--- numbers that their fields can have, within the bounds or not
-pub record HasNumbers (r : NodeRec) : Type 0 where
-  pub czxid : FitsSigned w64 r.czxid
-  pub version : FitsSigned w32 r.version
-  pub ctime : FitsSigned w64 r.ctime
-  pub mtime : FitsSigned w64 r.mtime
-  pub owner : FitsSigned w64 r.owner
+-- ---- the head, as a record with its list
 
-pub record HasCounts (r : CountRec) : Type 0 where
-  pub creates : FitsSigned w32 r.creates
-  pub children : FitsSigned w32 r.children
+abbrev pub head_bytes : HeadRec → Bytes
+head_bytes r = head_value r.triggers
 
-pub record HasLife (r : LeaseRec) : Type 0 where
-  pub timeout : FitsSigned w32 r.timeout
-  pub attaches : FitsSigned w64 r.attaches
+abbrev pub IsHeadWithin : HeadRec → Type 0
+IsHeadWithin r = IsHeadRec r.triggers

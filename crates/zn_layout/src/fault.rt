@@ -6,9 +6,10 @@ ghost use Rattle.zn_layout.specs.Reading.{IsDamaged};
 use std::alloc::Global;
 use zx_base::{Bytes, Memory};
 
+/// Why a stored value is not read as a record.
 #[derive(Debug, Drop)]
 pub enum RecordFault {
-    /// The value under this key is no record of the key's kind.
+    /// The value under this key is no record of its kind.
     Damaged { key: Bytes, value: Bytes },
     Memory,
 }

@@ -12,6 +12,7 @@ ghost use Rattle.ev_types.specs.Store.{Store, revision, last_revision, acts_appl
 ghost use Rattle.zk_model.specs.declared.node.Trigger.{Trigger as AnyTrigger};
 ghost use Rattle.zk_model.specs.History.{State};
 ghost use Rattle.zn_layout.specs.declared.record.CountRec.{CountRec};
+ghost use Rattle.zn_layout.specs.declared.record.LeaseRec.{LeaseRec};
 ghost use Rattle.zn_layout.specs.declared.record.NodeRec.{NodeRec};
 ghost use Rattle.std.specs.FinMap.{get};
 ghost use Rattle.zx_base.specs.Maps.{Bytes};
@@ -20,7 +21,7 @@ ghost use Rattle.zn_layout.specs.Changes.{Change, head_put, update_acts, last, a
 ghost use Rattle.zn_layout.specs.Commits.{are_present_reads, key_range, one_found, update_txn, IsCommitted};
 ghost use Rattle.zn_layout.specs.Fits.{Fits, IsNext};
 ghost use Rattle.zn_layout.specs.Keys.{Key, HeadKey, key_bytes};
-ghost use Rattle.zn_layout.specs.Records.{node_value, counts_value, IsNodeRec, IsCountRec, IsHeadRec};
+ghost use Rattle.zn_layout.specs.Records.{node_value, counts_value, lease_value, head_value, IsNodeRec, IsCountRec, IsLeaseRec, IsHeadRec};
 ghost use Rattle.zn_layout.specs.StandsFor.{StandsFor};
 
 /// Keys with the same bytes are one key.
@@ -36,6 +37,16 @@ pub fn node_value_is_injective()
 /// A value has one record of counts within its bounds.
 pub fn counts_value_is_injective()
     ensures { (r q : CountRec) → IsCountRec r → IsCountRec q → counts_value r ≡ counts_value q → r ≡ q }
+{}
+
+/// A value has one record of a session's life within its bounds.
+pub fn lease_value_is_injective()
+    ensures { (r q : LeaseRec) → IsLeaseRec r → IsLeaseRec q → lease_value r ≡ lease_value q → r ≡ q }
+{}
+
+/// A value has one head's record within its bounds.
+pub fn head_value_is_injective()
+    ensures { (ts us : List AnyTrigger) → IsHeadRec ts → IsHeadRec us → head_value ts ≡ head_value us → ts ≡ us }
 {}
 
 /// Changes that fit one step, and then changes that fit the next, fit both together.

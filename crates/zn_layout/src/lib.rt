@@ -2,8 +2,17 @@
 //!
 //! A node has two keys, one for its data and one for the counts of its children, since a create below it must change the
 //! counts but leave the data, and its mod_revision is then the node's mzxid, or pzxid. The head holds the last update: its
-//! mod_revision is the zxid, its version the number of updates. `specs/Keys`, `specs/Records` and `specs/StandsFor` say all
-//! of it; the layout is this project's own.
+//! mod_revision is the zxid, its version the number of updates. A session has a key for the nodes that it owns, and one for
+//! its life, which is attached to its lease. `specs/Keys`, `specs/Records` and `specs/StandsFor` say all of it; the layout
+//! is this project's own.
+//!
+//! Keys and records are written and read exactly: a value is read as a record where it is that record's value, and
+//! otherwise as damaged. Each call that gives bytes takes memory once for each key and value.
+//!
+//! `specs/Changes` and `specs/Fits` say when changes of keys are those of one step of the service, and `specs/Commits` what
+//! an update's transaction does to a store. The laws on them are the functions of `laws`: what keys stand for after such
+//! changes ([`stands_after`]), and after the first transaction ([`begin_stands`]). What one key says of a state is in
+//! `proofs/Lookups`.
 #![tactic(auto)]
 
 mod act;
@@ -11,8 +20,11 @@ mod begin;
 mod fault;
 mod key;
 mod laws;
+mod list;
 mod read;
 mod record;
+#[cfg(test)]
+mod tests;
 mod write;
 mod writer;
 
@@ -21,10 +33,11 @@ pub use begin::begin_ask;
 pub use fault::RecordFault;
 pub use key::{counts_key, data_key, head_key, lease_key, session_key};
 pub use laws::{
-    begin_stands, counts_value_is_injective, fits_append, fits_same, key_bytes_is_injective,
-    node_value_is_injective, one_key_is_found, reads_are_allowed, stands_after, update_commits,
-    update_is_allowed,
+    begin_stands, counts_value_is_injective, fits_append, fits_same, head_value_is_injective,
+    key_bytes_is_injective, lease_value_is_injective, node_value_is_injective, one_key_is_found,
+    reads_are_allowed, stands_after, update_commits, update_is_allowed,
 };
+pub use list::read_head;
 pub use read::{read_counts, read_lease, read_node};
 pub use record::{CountRec, HeadRec, LeaseRec, NodeRec, SessionRec};
 pub use write::{write_counts, write_head, write_lease, write_node, write_session};

@@ -6,7 +6,8 @@ ghost use Rattle.std.specs.Int.RustNames.{FitsSigned};
 ghost use Rattle.zk_model.specs.JuteWriting.{int_bytes, long_bytes};
 ghost use Rattle.zx_base.specs.Maps.{Bytes as ListOfBytes};
 ghost use Rattle.zn_layout.specs.Records.{node_value, counts_value, lease_value, IsLongCount, IsNodeRec, IsCountRec, IsLeaseRec};
-ghost use Rattle.zn_layout.specs.Reading.{IsValueOf, IsFault, IsReadAs, HasNumbers, HasCounts, HasLife};
+ghost use Rattle.zn_layout.specs.Reading.{IsValueOf, IsFault, IsReadAs};
+ghost use Rattle.zn_layout.specs.ReadingSteps.{HasNumbers, HasCounts, HasLife};
 
 use crate::fault::{RecordFault, damaged};
 use crate::record::{CountRec, LeaseRec, NodeRec};
@@ -78,7 +79,7 @@ fn node_in(alloc: Global, value: &[u8]) -> Result<Option<NodeRec>, Memory>
 }
 
 /// What stands behind a record's first byte.
-fn behind_first(value: &[u8]) -> Option<&[u8]>
+pub(crate) fn behind_first(value: &[u8]) -> Option<&[u8]>
     ensures { MatchOption result ((rest : ListOfBytes) → value.now ≡ 1 ∷ rest → ⊥) (λ numbers. value.now ≡ 1 ∷ numbers.now) }
 {
     match value {
@@ -202,7 +203,7 @@ fn bounded_lease(lease: LeaseRec) -> Option<LeaseRec>
 }
 
 /// Four bytes as a number, and what stands behind them.
-fn split_int(bytes: &[u8]) -> (i32, &[u8])
+pub(crate) fn split_int(bytes: &[u8]) -> (i32, &[u8])
     requires { 4 ≤ length bytes.now }
     ensures parts { bytes.now ≡ int_bytes result.0 ++ result.1.now }
     ensures fits { FitsSigned w32 result.0 }

@@ -1,6 +1,6 @@
 -- What is true of the requests that are built.
 use Rattle.std.proofs.Common.{◌≡◌, ℕ, ◌≤◌, ℤ, Bool, true, false, refl, List, length, All, arith}
-use Rattle.std.specs.Prelude.{Option, Some, None, if◌then◌else◌, not}
+use Rattle.std.specs.Prelude.{Some, None, if◌then◌else◌, not}
 use Rattle.zk_model.specs.declared.reply.Reply.{Reply}
 use Rattle.zk_model.specs.declared.reply.Reply.TheVariants as reply
 use Rattle.zk_model.specs.declared.request.Request.{Request}
@@ -8,7 +8,7 @@ use Rattle.zk_model.specs.declared.request.Request.TheVariants as req
 use Rattle.zk_model.specs.Codes.{bad_arguments, invalid_acl}
 use Rattle.zk_model.specs.Paths.{is_path, is_sequence_prefix}
 use Rattle.zk_model.specs.Single.{form_refusal, path_refusal, or_else, is_sequential, is_create_mode, is_open_acl}
-use Rattle.zk_model.specs.Answers.{plain_request, refused_reply, path_reply}
+use Rattle.zk_model.specs.Answers.{plain_request, refused_reply}
 use Rattle.zk_model.specs.Legal.{is_within_parts}
 use Rattle.zk_model.specs.Conversations.{is_auth_refusal}
 use Rattle.zk_model.specs.Runs.{is_built, is_built_request}

@@ -1,34 +1,30 @@
 -- What is kept of a world, from effect to effect.
-use Rattle.std.proofs.Common.{◌≡◌, ℕ, ◌+◌, ◌≤◌, ◌<◌, List, [], ◌∷◌, ◌++◌, length, refl, sym, ap, ◌∙◌, subst, arith, append_assoc, append-nil, Bool, true, false, ℤ, pos, ◌<ℤ◌}
-use Rattle.std.specs.Prelude.{Option, Some, None, ◌==◌}
+use Rattle.std.proofs.Common.{◌≡◌, ℕ, ◌+◌, ◌≤◌, List, [], ◌∷◌, ◌++◌, length, refl, sym, ap, ◌∙◌, subst, arith, append_assoc, append-nil, true, ℤ}
+use Rattle.std.specs.Prelude.{Option, Some, None}
 use Rattle.std.specs.List.{All}
 use Rattle.std.proofs.lemmas.List.Elements.{All-nil, All-cons, All-append}
 use Rattle.ev_types.specs.Store.{Store, present, revision}
 use Rattle.zk_model.specs.declared.reply.Reply.{Reply}
-use Rattle.zk_model.specs.declared.reply.Reply.TheVariants as reply
 use Rattle.zk_model.specs.declared.request.Request.{Request}
 use Rattle.zk_model.specs.declared.transcript.TranscriptLine.{TranscriptLine}
-use Rattle.zk_model.specs.declared.transcript.TranscriptLine.TheVariants.{Update, Open, Frame as FrameLine, Send}
-use Rattle.zk_model.specs.declared.transcript.UpdateKind.TheVariants.{Asked}
+use Rattle.zk_model.specs.declared.transcript.TranscriptLine.TheVariants.{Open, Frame as FrameLine, Send}
 use Rattle.zk_model.specs.Frames.{most_frame}
 use Rattle.zk_model.specs.Requests.{Asks, read_request}
 use Rattle.zk_model.specs.Packets.{reply_packet}
-use Rattle.zk_model.specs.Watches.{no_watches}
-use Rattle.zk_model.specs.History.{State, IsSound, Commit, commit, committed, after, asked_commit}
-use Rattle.zk_model.specs.Answers.{plain_request, tree_reply}
-use Rattle.zk_model.specs.Single.{most_owned}
-use Rattle.zk_model.specs.Runs.{IsAnswerLine, frames_of, is_built_request, begin_line}
+use Rattle.zk_model.specs.History.{State, IsSound, after}
+use Rattle.zk_model.specs.Answers.{plain_request}
+use Rattle.zk_model.specs.Runs.{IsAnswerLine, frames_of, is_built_request}
 use Rattle.zk_model.proofs.Quiet.{IsQuiet, open_quiet, frame_quiet, send_quiet, after-quiet, is_legal-quiet, is_ordered-quiet}
 use Rattle.zk_model.proofs.Counts.{frames_of-append}
 use Rattle.zn_layout.specs.StandsFor.{StandsFor}
-use Rattle.zn_ops.specs.declared.answering.Answered.{Answered}
-use Rattle.zn_ops.specs.declared.answering.Answered.TheVariants.{Repeats, Looked, Updated}
+use Rattle.zn_ops.specs.declared.requests.Answered.{Answered}
+use Rattle.zn_ops.specs.declared.requests.Answered.TheVariants.{Repeats, Looked, Updated}
 use Rattle.zn_ops.specs.Answering.{Answers, IsLooked, IsUpdated}
 use Rattle.zp_alone.specs.declared.waiting.Waiting.{Waiting}
 use Rattle.zp_alone.specs.World.{World, IsLinked}
-use Rattle.zp_alone.specs.Talking.{Talks, AreQueued, IsQueued, StandsAt}
+use Rattle.zp_alone.specs.Talking.{Talks}
 use Rattle.zp_alone.specs.Reached.{IsKeptIn, IsNew, IsTalking, KeepsTo, IsKept}
-use Rattle.zp_alone.specs.Effects.{asked_line, opened, framed, ticked, answered, answer_lines, zxid_of, asked_next, AnswersOne, AnswersSome}
+use Rattle.zp_alone.specs.Effects.{asked_line, opened, framed, ticked, answered, answer_lines, asked_next, AnswersOne, AnswersSome}
 use Rattle.zp_alone.proofs.Linked.{linked-push, linked-open}
 use Rattle.zp_alone.proofs.Talked.{talks-open, talks-frame, talks-plain, talks-looked, talks-updated}
 use Rattle.zp_alone.proofs.Walked.{one_frame}
@@ -46,7 +42,7 @@ kept_in-quiet store lines l q k =
       ordered = is_ordered-quiet lines l q k.ordered;
     }
 
-talking : (c : ℕ) (w : World) → w.connection ≡ Some c → KeepsTo w.connection w → IsTalking c w
+pub talking : (c : ℕ) (w : World) → w.connection ≡ Some c → KeepsTo w.connection w → IsTalking c w
 talking c w linked keeps = subst (λ (o : Option ℕ). KeepsTo o w) linked keeps
 
 new : (w : World) → w.connection ≡ None → KeepsTo w.connection w → IsNew w
@@ -75,8 +71,8 @@ kept-frame w c bytes xid r linked read small built k =
     let l : TranscriptLine = FrameLine c (w.frames + 1) (revision w.store) bytes in
     let same : FrameLine c (frames_of c w.lines + 1) (revision w.store) bytes ≡ l = ap (λ n. FrameLine c (n + 1) (revision w.store) bytes) (sym t.counts) in
     let talks : Talks c (w.lines ++ l ∷ []) (w.waiting ++ asked_next w xid r ∷ []) w.told =
-        subst (λ (m : TranscriptLine). Talks c (w.lines ++ m ∷ []) (w.waiting ++ asked_next w xid r ∷ []) w.told) same
-          (talks-frame c w.lines w.waiting w.told (revision w.store) bytes (asked_next w xid r) t.talks (ap (λ n. n + 1) t.counts) read small built) in
+    subst (λ (m : TranscriptLine). Talks c (w.lines ++ m ∷ []) (w.waiting ++ asked_next w xid r ∷ []) w.told) same
+    (talks-frame c w.lines w.waiting w.told (revision w.store) bytes (asked_next w xid r) t.talks (ap (λ n. n + 1) t.counts) read small built) in
     record {
       kept = kept_in-quiet w.store w.lines l (frame_quiet c (w.frames + 1) (revision w.store) bytes) k.kept;
       linked = linked-push w.connection w.lines l (λ d. refl) refl k.linked;
@@ -136,10 +132,10 @@ kept-updated c w q qs store answer zxid linked oldest at updates k =
     let commits = asked_commit-of c next w.clock zxid w.lines (after w.lines) h.place h.bytes q.xid q.request h.frame h.read ∙ updates.commits in
     let kept = kept-asked c next w.clock zxid w.lines updates.made q w.store store k.kept talks.stands.least h talks.below updates.above commits (sym at) updates.stands updates.sound in
     let lines : (w.lines ++ u ∷ []) ++ l ∷ [] ≡ w.lines ++ (asked_line c q.index w.clock zxid ∷ l ∷ []) =
-        append_assoc w.lines (u ∷ []) (l ∷ []) ∙ ap (λ i. w.lines ++ (asked_line c i w.clock zxid ∷ l ∷ [])) (sym h.index) in
+    append_assoc w.lines (u ∷ []) (l ∷ []) ∙ ap (λ i. w.lines ++ (asked_line c i w.clock zxid ∷ l ∷ [])) (sym h.index) in
     let after_u = linked-push w.connection w.lines u (λ d. refl) refl k.linked in
     let told = subst (λ (r : Reply). Talks c ((w.lines ++ u ∷ []) ++ Send c (reply_packet q.xid zxid r) ∷ []) qs zxid) (sym updates.told)
-      (talks-updated c w.lines q qs w.told w.clock zxid updates.made talks updates.above commits) in
+    (talks-updated c w.lines q qs w.told w.clock zxid updates.made talks updates.above commits) in
     record {
       kept = subst (IsKeptIn store) lines (kept_in-quiet store (w.lines ++ u ∷ []) l (send_quiet c (reply_packet q.xid zxid answer)) kept);
       linked = subst (IsLinked w.connection) lines (linked-push w.connection (w.lines ++ u ∷ []) l (λ d. refl) refl after_u);
@@ -180,7 +176,7 @@ answers-then c first mid q qs store a some oldest answers = record {
   added = some.added ++ answer_lines c mid.clock q mid.told a;
   lines = ap (λ ls. ls ++ answer_lines c mid.clock q mid.told a) some.lines ∙ append_assoc first.lines some.added (answer_lines c mid.clock q mid.told a);
   each = All-append (IsAnswerLine c first.clock) some.added (answer_lines c mid.clock q mid.told a) some.each
-    (subst (λ (n : ℕ). All (IsAnswerLine c n) (answer_lines c mid.clock q mid.told a)) some.clock (answer_lines-each c mid.clock q mid.told a));
+      (subst (λ (n : ℕ). All (IsAnswerLine c n) (answer_lines c mid.clock q mid.told a)) some.clock (answer_lines-each c mid.clock q mid.told a));
 }
 
 pub answers-more : (c : ℕ) (first mid last : World) → AnswersSome c first mid → AnswersOne c mid last → AnswersSome c first last

@@ -5,3 +5,7 @@ pub mod Talked
 pub mod Linked
 pub mod Kept
 pub mod Reaching
+pub mod Refusals
+pub mod Worlds
+pub mod Answering
+pub mod Begun

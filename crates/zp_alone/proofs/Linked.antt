@@ -1,17 +1,16 @@
 -- Which connection the lines open.
 use Rattle.std.proofs.Common.{◌≡◌, ℕ, List, [], ◌∷◌, ◌++◌, refl, sym, ap, ◌∙◌, subst, Bool, true, false, ℤ}
 use Rattle.std.specs.Prelude.{Option, Some, None, is_some, ◌==◌, ◌||◌}
-use Rattle.std.specs.List.{list_any}
 use Rattle.std.proofs.lemmas.List.Folds.{list_any-append}
 use Rattle.zk_model.specs.declared.transcript.TranscriptLine.{TranscriptLine}
 use Rattle.zk_model.specs.declared.transcript.TranscriptLine.TheVariants.{Open, Send}
 use Rattle.zk_model.specs.History.{when, opening, open_shown}
-use Rattle.zk_model.specs.Runs.{is_opening, is_open}
+use Rattle.zk_model.specs.Runs.{is_opening}
 use Rattle.zk_model.proofs.Lookups.{first_shown-skip, first_shown-new}
-use Rattle.zp_alone.specs.World.{IsLinked, is_number}
+use Rattle.zp_alone.specs.World.{IsLinked}
 use Rattle.zp_alone.specs.Effects.{asked_line}
 
-not_there : {A : Type 0} (o : Option A) → is_some o ≡ false → o ≡ None
+pub not_there : {A : Type 0} (o : Option A) → is_some o ≡ false → o ≡ None
 not_there None h = refl
 not_there (Some x) h = absurd (cc)
 

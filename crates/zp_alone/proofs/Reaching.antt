@@ -1,9 +1,10 @@
 -- Worlds that happenings lead to, one happening more.
-use Rattle.std.proofs.Common.{◌≡◌, ℕ, zero, suc, ◌+◌, ◌≤◌, ◌<◌, List, [], ◌∷◌, ◌++◌, length, refl, sym, ap, ◌∙◌, subst, arith, append-nil, append_assoc, Bool, true, false, ℤ, pos}
-use Rattle.std.specs.Prelude.{Option, Some, None, ◌==◌, not, nat_lt, slice_get, is_some}
+use Rattle.std.proofs.Common.{◌≡◌, ℕ, zero, suc, ◌+◌, ◌≤◌, List, [], ◌∷◌, ◌++◌, length, refl, sym, ap, ◌∙◌, subst, arith, append-nil, Bool, true, false, ℤ, pos}
+use Rattle.std.specs.Prelude.{Option, Some, None, not, nat_lt, slice_get}
 use Rattle.std.specs.List.{All, list_any}
+use Rattle.std.proofs.lemmas.Bool.{not-false}
 use Rattle.std.proofs.lemmas.Bool.Decides.{nat_tests}
-use Rattle.ev_types.specs.Store.{Store, present, revision}
+use Rattle.ev_types.specs.Store.{Store, revision}
 use Rattle.zk_model.specs.declared.request.Request.{Request}
 use Rattle.zk_model.specs.declared.script.Happening.{Happening}
 use Rattle.zk_model.specs.declared.script.Happening.TheVariants as line
@@ -14,19 +15,18 @@ use Rattle.zk_model.specs.declared.transcript.UpdateKind.{UpdateKind}
 use Rattle.zk_model.specs.declared.transcript.UpdateKind.TheVariants.{Begin, Asked}
 use Rattle.zk_model.specs.Frames.{most_frame}
 use Rattle.zk_model.specs.Requests.{Asks, read_request}
-use Rattle.zk_model.specs.History.{IsSound, after, updated, state_at}
+use Rattle.zk_model.specs.History.{after, updated}
 use Rattle.zk_model.specs.Legal.{Tick, is_legal, is_ordered, may_update}
-use Rattle.zk_model.specs.Conversations.{IsLawfulAlone, walk, packets, is_walked, at_start}
-use Rattle.zk_model.specs.Runs.{IsAnswerLine, Adds, Settles, clock_after, refusal_of, is_open, is_opening, is_built, is_built_request, refused_if, frames_of, sends_of, begin_line, Run, new_run, run_after, Happens, RunsFrom, Runs, IsOneRun}
-use Rattle.zk_model.proofs.Counts.{frames_of-append, sends_of-append, before_close}
-use Rattle.zk_model.proofs.Happened.{AreWithin, within-new, within-runs, RunsFrom-push, punctual-happens, shown-happens}
-use Rattle.zn_layout.specs.StandsFor.{StandsFor}
-use Rattle.zp_alone.specs.declared.waiting.Waiting.{Waiting}
+use Rattle.zk_model.specs.Conversations.{IsLawfulAlone}
+use Rattle.zk_model.specs.Runs.{IsAnswerLine, Adds, clock_after, refusal_of, is_open, is_opening, is_built, is_built_request, refused_if, frames_of, sends_of, begin_line, Run, new_run, run_after, Happens, Runs, IsOneRun}
+use Rattle.zk_model.proofs.Counts.{frames_of-append, before_close}
+use Rattle.zk_model.proofs.Happened.{within-new, within-runs, RunsFrom-push, punctual-happens, shown-happens}
 use Rattle.zp_alone.specs.World.{World, IsLinked, is_number}
-use Rattle.zp_alone.specs.Talking.{Talks, AreQueued}
-use Rattle.zp_alone.specs.Reached.{IsKeptIn, IsNew, IsTalking, KeepsTo, IsKept, Reached}
+use Rattle.zp_alone.specs.Talking.{AreQueued}
+use Rattle.zp_alone.specs.Reached.{IsKeptIn, IsTalking, IsKept, Reached}
 use Rattle.zp_alone.specs.Effects.{IsBegun, begun, Plays, opened, framed, ticked, AnswersSome}
-use Rattle.zp_alone.proofs.Kept.{kept-open, kept-frame, kept-tick}
+use Rattle.zp_alone.proofs.Linked.{not_there}
+use Rattle.zp_alone.proofs.Kept.{talking, kept-open, kept-frame, kept-tick}
 
 -- ---- what is kept says that each open connection was served lawfully
 
@@ -36,15 +36,15 @@ lawful-talks c w t = record {
   in_time = before_close w.lines c t.talks.counted.unclosed;
 }
 
-same_number : (c d : ℕ) → is_number c (Some d) ≡ true → d ≡ c
-same_number c d h = grind (arith, nat_tests)
+number-same : (c : ℕ) (o : Option ℕ) → is_number c o ≡ true → o ≡ Some c
+number-same c None h = absurd (cc)
+number-same c (Some d) h = ap (λ n. Some n) (grind (arith, nat_tests))
 
-lawful : (c : ℕ) (o : Option ℕ) (w : World) → is_number c o ≡ true → KeepsTo o w → IsLawfulAlone w.lines c
-lawful c None w h k = absurd (cc)
-lawful c (Some d) w h k = subst (IsLawfulAlone w.lines) (same_number c d h) (lawful-talks d w k)
+linked_to : (w : World) (c : ℕ) → IsLinked w.connection w.lines → is_open c w.lines ≡ true → w.connection ≡ Some c
+linked_to w c l opens = number-same c w.connection (sym (l.each c) ∙ opens)
 
 pub lawful-kept : (w : World) → IsKept w → (c : ℕ) → is_open c w.lines ≡ true → IsLawfulAlone w.lines c
-lawful-kept w k c h = lawful c w.connection w (sym (k.linked.each c) ∙ h) k.keeps
+lawful-kept w k c h = lawful-talks c w (talking c w (linked_to w c k.linked h) k.keeps)
 
 -- ---- one happening more
 
@@ -81,21 +81,9 @@ reached-more hs h old new added r possible adds lines clock k =
 
 -- ---- what the tests for what is possible say
 
-is_none : {A : Type 0} (o : Option A) → is_some o ≡ false → o ≡ None
-is_none None h = refl
-is_none (Some x) h = absurd (cc)
-
-number-same : (c : ℕ) (o : Option ℕ) → is_number c o ≡ true → o ≡ Some c
-number-same c None h = absurd (cc)
-number-same c (Some d) h = ap (λ n. Some n) (grind (arith, nat_tests))
-
 not_refused : (b : Bool) (why : Why) (later : Option Why) → refused_if b why later ≡ None → (b ≡ false) × (later ≡ None)
 not_refused true why later h = absurd (cc)
 not_refused false why later h = (refl, h)
-
-not_false : (b : Bool) → not b ≡ false → b ≡ true
-not_false true h = refl
-not_false false h = absurd (cc)
 
 may_open : (lines : List TranscriptLine) (clock c p : ℕ) (id : ℤ) (pw : List ℕ) → refusal_of lines clock (line.Open c p id pw) ≡ None → list_any is_opening lines ≡ false
 unfolding refusal_of
@@ -107,14 +95,11 @@ may_frame lines clock c bytes h =
     let first = not_refused (not (is_open c lines)) _ _ h in
     let second = not_refused (nat_lt most_frame (length bytes)) _ _ first.1 in
     let third = not_refused (not (is_built bytes)) _ None second.1 in
-    (not_false (is_open c lines) first.0, second.0, not_false (is_built bytes) third.0)
+    (not-false (is_open c lines) first.0, second.0, not-false (is_built bytes) third.0)
 
 may_settle : (lines : List TranscriptLine) (clock c : ℕ) → refusal_of lines clock (line.Settle c) ≡ None → is_open c lines ≡ true
 unfolding refusal_of
-may_settle lines clock c h = not_false (is_open c lines) (not_refused (not (is_open c lines)) _ None h).0
-
-linked_to : (w : World) (c : ℕ) → IsLinked w.connection w.lines → is_open c w.lines ≡ true → w.connection ≡ Some c
-linked_to w c l opens = number-same c w.connection (sym (l.each c) ∙ opens)
+may_settle lines clock c h = not-false (is_open c lines) (not_refused (not (is_open c lines)) _ None h).0
 
 built_as : (bytes : List ℕ) (xid : ℤ) (q : Request) → is_built bytes ≡ true → read_request bytes ≡ Asks xid q → is_built_request q ≡ true
 unfolding is_built
@@ -124,11 +109,8 @@ built_as bytes xid q h read = rw read at h
 
 pub plays-open : (w : World) (c p : ℕ) (id : ℤ) (pw : List ℕ) → refusal_of w.lines w.clock (line.Open c p id pw) ≡ None → Plays w (line.Open c p id pw) (opened w c p id pw)
 plays-open w c p id pw possible = λ hs r.
-    let linked = is_none w.connection (sym r.kept.linked.any ∙ may_open w.lines w.clock c p id pw possible) in
+    let linked = not_there w.connection (sym r.kept.linked.any ∙ may_open w.lines w.clock c p id pw possible) in
     reached-more hs (line.Open c p id pw) w (opened w c p id pw) (Open c p id pw ∷ []) r possible refl refl refl (kept-open w c p id pw linked r.kept)
-
-talking : (c : ℕ) (w : World) → w.connection ≡ Some c → KeepsTo w.connection w → IsTalking c w
-talking c w linked keeps = subst (λ (o : Option ℕ). KeepsTo o w) linked keeps
 
 pub plays-frame : (w : World) (c : ℕ) (bytes : List ℕ) (xid : ℤ) (q : Request) → refusal_of w.lines w.clock (line.Frame c bytes) ≡ None → read_request bytes ≡ Asks xid q → Plays w (line.Frame c bytes) (framed w c bytes xid q)
 plays-frame w c bytes xid q possible read = λ hs r.
@@ -138,7 +120,7 @@ plays-frame w c bytes xid q possible read = λ hs r.
     let t = talking c w linked r.kept.keeps in
     let shows : FrameLine c (w.frames + 1) (revision w.store) bytes ≡ FrameLine c (frames_of c w.lines + 1) (after w.lines).zxid bytes = λ i. FrameLine c (t.counts i + 1) (r.kept.kept.revision i) bytes in
     reached-more hs (line.Frame c bytes) w (framed w c bytes xid q) (FrameLine c (w.frames + 1) (revision w.store) bytes ∷ []) r possible (ap (λ (l : TranscriptLine). l ∷ []) shows) refl refl
-      (kept-frame w c bytes xid q linked read small (built_as bytes xid q may.2 read) r.kept)
+    (kept-frame w c bytes xid q linked read small (built_as bytes xid q may.2 read) r.kept)
 
 pub plays-tick : (w : World) (millis : ℕ) → refusal_of w.lines w.clock (line.Tick millis) ≡ None → Plays w (line.Tick millis) (ticked w millis)
 plays-tick w millis possible = λ hs r. reached-more hs (line.Tick millis) w (ticked w millis) [] r possible refl (sym (append-nil w.lines)) refl (kept-tick w millis r.kept)
@@ -164,7 +146,7 @@ plays-settle old new c possible some idle = λ hs r.
     let t = talking c new (some.connection ∙ linked) k.keeps in
     let queued : AreQueued c new.lines t.talks.walker.next [] = subst (AreQueued c new.lines t.talks.walker.next) idle t.talks.queued in
     let answered : sends_of c (old.lines ++ some.added) ≡ frames_of c old.lines =
-        omega (arith, queued, t.talks.counted.sent, ap (sends_of c) some.lines, ap (frames_of c) some.lines, frames_of-append c old.lines some.added, no_frames c old.clock some.added some.each) in
+    omega (arith, queued, t.talks.counted.sent, ap (sends_of c) some.lines, ap (frames_of c) some.lines, frames_of-append c old.lines some.added, no_frames c old.clock some.added some.each) in
     reached-more hs (line.Settle c) old new some.added r possible (record { each = some.each; answered = answered }) some.lines some.clock k
 
 -- ---- the world begins
@@ -221,3 +203,17 @@ reached-begin store b = record {
     keeps = record { lines = refl; idle = refl; none = refl; told = refl };
   };
 }
+
+-- the world over it, from its parts
+pub reached-begun : (store : Store) (w : World) → IsBegun store → w.store ≡ store → w.lines ≡ begin_line ∷ [] → w.clock ≡ 0 → w.connection ≡ None → w.frames ≡ 0 → w.waiting ≡ [] → w.told ≡ pos 2 → Reached [] w
+reached-begun store w b same lines clock connection frames waiting told =
+    let is : w ≡ begun store = λ i. record {
+      store = same i;
+      lines = lines i;
+      clock = clock i;
+      connection = connection i;
+      frames = frames i;
+      waiting = waiting i;
+      told = told i;
+    } in
+    subst (Reached []) (sym is) (reached-begin store b)

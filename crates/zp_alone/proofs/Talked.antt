@@ -1,16 +1,14 @@
 -- One connection's conversation, from effect to effect: it opens, a frame comes, a request is answered.
-use Rattle.std.proofs.Common.{◌≡◌, ℕ, zero, suc, ◌+◌, ◌≤◌, ◌<◌, List, [], ◌∷◌, ◌++◌, length, take, refl, sym, ap, ◌∙◌, subst, arith, Bool, true, false, ℤ, pos, ◌≤ℤ◌, ◌<ℤ◌}
-use Rattle.std.specs.Prelude.{Option, Some, None, ◌==◌, ◌&&◌, nat_lt, nat_le, int_lt}
+use Rattle.std.proofs.Common.{◌≡◌, ℕ, ◌+◌, ◌≤◌, ◌<◌, List, [], ◌∷◌, ◌++◌, length, refl, ap, subst, arith, true, false, ℤ, pos, ◌<ℤ◌}
+use Rattle.std.specs.Prelude.{Some, None, ◌==◌}
 use Rattle.std.proofs.lemmas.Bool.Decides.{nat_tests}
 use Rattle.std.proofs.lemmas.Int.{ints}
-use Rattle.std.proofs.lemmas.List.{length-append}
 use Rattle.std.proofs.Math.Seq.{take-append_seam}
 use Rattle.std.specs.Int.Signed.{≤ℤ_refl}
 use Rattle.zk_model.specs.declared.reply.Reply.{Reply}
 use Rattle.zk_model.specs.declared.reply.Reply.TheVariants as reply
-use Rattle.zk_model.specs.declared.request.Request.{Request}
 use Rattle.zk_model.specs.declared.transcript.TranscriptLine.{TranscriptLine}
-use Rattle.zk_model.specs.declared.transcript.TranscriptLine.TheVariants.{Update, Open, Frame as FrameLine, Send}
+use Rattle.zk_model.specs.declared.transcript.TranscriptLine.TheVariants.{Open, Frame as FrameLine, Send}
 use Rattle.zk_model.specs.declared.transcript.UpdateKind.TheVariants.{Asked}
 use Rattle.zk_model.specs.Frames.{most_frame}
 use Rattle.zk_model.specs.Requests.{Asks, read_request}
@@ -18,22 +16,18 @@ use Rattle.zk_model.specs.Packets.{reply_packet}
 use Rattle.zk_model.specs.Watches.{no_watches}
 use Rattle.zk_model.specs.Answers.{plain_request, tree_reply}
 use Rattle.zk_model.specs.History.{State, Commit, after, updated, asked_commit}
-use Rattle.zk_model.specs.Single.{most_owned}
 use Rattle.zk_model.specs.Conversations.{Walker, Choice, Plain, Answer, at_start, walk, move, later_of, response_at, carried, carried_shown}
-use Rattle.zk_model.specs.Runs.{frames_of, sends_of, is_built_request, begin_line}
-use Rattle.zk_model.proofs.Quiet.{open_quiet, frame_quiet, send_quiet, after-quiet}
+use Rattle.zk_model.specs.Runs.{frames_of, is_built_request, begin_line}
+use Rattle.zk_model.proofs.Quiet.{frame_quiet, send_quiet, after-quiet}
 use Rattle.zk_model.proofs.Choices.{MayAnswer, AsksNext, answered_now, answered_plainly, answer-looked, answer-carried, answer-plain, plain-due, after_update-bound}
 use Rattle.zp_alone.specs.declared.waiting.Waiting.{Waiting}
 use Rattle.zp_alone.specs.Talking.{IsQueued, AreQueued, IsWalked, StandsAt, AreCounted, AreBelow, Talks}
 use Rattle.zp_alone.specs.Effects.{asked_line}
 use Rattle.zp_alone.proofs.Built.{built-goes_on}
-use Rattle.zp_alone.proofs.Walked.{walked-push, walked-send, stands-push, queued-push, queued-frame, counted-push, counted-send, counted-frame, below-later, below-push, uncarried}
+use Rattle.zp_alone.proofs.Walked.{same_number, longer, walked-push, walked-send, stands-push, queued-push, queued-frame, counted-push, counted-send, counted-frame, below-later, below-push, uncarried}
 use Rattle.zp_alone.proofs.Updated.{after-asked}
 use Rattle.zk_model.proofs.Lookups.{first_place-new}
 use Rattle.zk_model.specs.Legal.{index_shown, is_below}
-
-longer : (lines : List TranscriptLine) (l : TranscriptLine) → length (lines ++ l ∷ []) ≡ length lines + 1
-longer lines l = length-append lines (l ∷ [])
 
 -- ---- it opens behind the store's first update
 
@@ -96,7 +90,13 @@ asks_next c lines next q h = record { frame = h.frame; read = h.read }
 
 stands-now : (lines : List TranscriptLine) (w : Walker) → StandsAt lines w → StandsAt lines (answered_now lines w)
 stands-now lines w h = record {
-  zxid = ≤ℤ_refl (after lines).zxid; since = after_update-bound (after lines).zxid lines; moment = omega arith; watches = refl; goes_on = refl; least = omega (arith, h.least) }
+  zxid = ≤ℤ_refl (after lines).zxid;
+  since = after_update-bound (after lines).zxid lines;
+  moment = omega arith;
+  watches = refl;
+  goes_on = refl;
+  least = omega (arith, h.least);
+}
 
 -- without the tree: the reply repeats the zxid of the last
 pub talks-plain : (c : ℕ) (lines : List TranscriptLine) (q : Waiting) (qs : List Waiting) (told : ℤ) (answer : Reply) → Talks c lines (q ∷ qs) told
@@ -108,9 +108,15 @@ talks-plain c lines q qs told answer t plain =
     let moves = answer-plain lines c w h.place h.bytes q.xid q.request answer t.stands.goes_on (asks_next c lines w.next q h) plain no_auth in
     let due = plain-due lines c w h.place h.bytes t.stands.since h.frame in
     let stands : StandsAt lines (answered_plainly w) = record {
-      zxid = t.stands.zxid; since = t.stands.since; moment = t.stands.moment; watches = t.stands.watches; goes_on = refl; least = omega (arith, t.stands.least) } in
+      zxid = t.stands.zxid;
+      since = t.stands.since;
+      moment = t.stands.moment;
+      watches = t.stands.watches;
+      goes_on = refl;
+      least = omega (arith, t.stands.least);
+    } in
     let sent = sent-next c lines q qs w (answered_plainly w) Plain (later_of w.since (h.place + 1)) (reply_packet q.xid w.zxid answer)
-      t.begun t.walked moves due stands refl t.queued t.counted (below-later c w.next lines t.below) in
+    t.begun t.walked moves due stands refl t.queued t.counted (below-later c w.next lines t.below) in
     subst (λ (z : ℤ). Talks c (lines ++ Send c (reply_packet q.xid z answer) ∷ []) qs z) t.told_last sent
 
 -- by the tree as it is now
@@ -123,12 +129,9 @@ talks-looked c lines q qs told answer t plain looks =
     let own = uncarried c w.next w.next lines t.below (omega arith) in
     let moves = answer-looked lines c w h.place h.bytes q.xid q.request answer (may_answer lines w t.stands) (asks_next c lines w.next q h) own plain looks in
     sent-next c lines q qs w (answered_now lines w) (Answer (length lines)) (length lines) (reply_packet q.xid (after lines).zxid answer)
-      t.begun t.walked moves (omega arith) (stands-now lines w t.stands) refl t.queued t.counted (below-later c w.next lines t.below)
+    t.begun t.walked moves (omega arith) (stands-now lines w t.stands) refl t.queued t.counted (below-later c w.next lines t.below)
 
 -- ---- by an update of its own
-
-same_number : (c : ℕ) → (c == c) ≡ true
-same_number c = grind (arith, nat_tests)
 
 not_carried : (c i j now : ℕ) (zxid : ℤ) → j < i → carried_shown c j (asked_line c i now zxid) ≡ None
 not_carried c i j now zxid less =
@@ -158,13 +161,13 @@ talks-updated c lines q qs told now zxid made t above commits =
     let stands : StandsAt after_l w = stands-asked c w.next now zxid lines w above at t.stands in
     let queued : AreQueued c after_l w.next (q ∷ qs) = queued-push c lines l w.next (q ∷ qs) refl t.queued in
     let own : carried c w.next after_l ≡ Some (0 + length lines, record { zxid = zxid; kind = Asked c w.next now }) =
-        first_place-new (carried_shown c w.next) 0 lines l (record { zxid = zxid; kind = Asked c w.next now }) (uncarried c w.next w.next lines t.below (omega arith)) (carried-here c w.next now zxid) in
+    first_place-new (carried_shown c w.next) 0 lines l (record { zxid = zxid; kind = Asked c w.next now }) (uncarried c w.next w.next lines t.below (omega arith)) (carried-here c w.next now zxid) in
     let here : 0 + length lines ≡ length lines = omega arith in
     let own_here : carried c w.next after_l ≡ Some (length lines, record { zxid = zxid; kind = Asked c w.next now }) = rw here at own in
     let moves = answer-carried after_l c w queued.0.place queued.0.bytes q.xid q.request (length lines) w.next now zxid made.response
-      (may_answer after_l w stands) (asks_next c after_l w.next q queued.0) own_here (longer lines l) (response-asked c w.next now zxid lines made commits) in
+    (may_answer after_l w stands) (asks_next c after_l w.next q queued.0) own_here (longer lines l) (response-asked c w.next now zxid lines made commits) in
     let same_next : is_below (w.next + 1) (index_shown c l) ≡ true = rw (same_number c) (grind (arith, nat_tests)) in
     let sent = sent-next c after_l q qs w (answered_now after_l w) (Answer (length after_l)) (length after_l) (reply_packet q.xid (after after_l).zxid (reply.Good made.response))
-      (omega (arith, longer lines l)) (walked-push c lines l w t.begun (λ j less. not_carried c w.next j now zxid less) refl t.walked) moves (omega arith) (stands-now after_l w stands) refl queued
-      (counted-push c lines l w.next refl refl (λ i. refl) refl t.counted) (below-push c (w.next + 1) lines l same_next (below-later c w.next lines t.below)) in
+    (omega (arith, longer lines l)) (walked-push c lines l w t.begun (λ j less. not_carried c w.next j now zxid less) refl t.walked) moves (omega arith) (stands-now after_l w stands) refl queued
+    (counted-push c lines l w.next refl refl (λ i. refl) refl t.counted) (below-push c (w.next + 1) lines l same_next (below-later c w.next lines t.below)) in
     subst (λ (z : ℤ). Talks c (after_l ++ Send c (reply_packet q.xid z (reply.Good made.response)) ∷ []) qs z) at sent

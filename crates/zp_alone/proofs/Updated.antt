@@ -1,19 +1,16 @@
 -- An update that the oldest request asked: what its line does to the history, and the reply behind it.
-use Rattle.std.proofs.Common.{◌≡◌, ℕ, zero, suc, ◌+◌, ◌≤◌, ◌<◌, List, [], ◌∷◌, ◌++◌, length, take, refl, sym, ap, ◌∙◌, subst, arith, Bool, true, false, ℤ, pos, ◌≤ℤ◌, ◌<ℤ◌}
-use Rattle.std.specs.Prelude.{Option, Some, None, ◌==◌, ◌&&◌, ◌||◌, nat_lt, nat_le, int_lt, is_some, option_and_then}
+use Rattle.std.proofs.Common.{◌≡◌, ℕ, ◌≤◌, List, [], ◌∷◌, ◌++◌, refl, sym, ap, ◌∙◌, subst, arith, true, ℤ, pos, ◌<ℤ◌}
+use Rattle.std.specs.Prelude.{Some, nat_lt, int_lt, option_and_then}
+use Rattle.std.proofs.lemmas.Bool.{and_parts, eq-eqb}
 use Rattle.std.proofs.lemmas.Bool.Decides.{nat_tests}
 use Rattle.std.proofs.lemmas.Int.{ints}
 use Rattle.ev_types.specs.Store.{Store, present, revision}
 use Rattle.zk_model.specs.declared.request.Request.{Request}
 use Rattle.zk_model.specs.declared.transcript.TranscriptLine.{TranscriptLine}
-use Rattle.zk_model.specs.declared.transcript.TranscriptLine.TheVariants.{Update}
-use Rattle.zk_model.specs.declared.transcript.UpdateRec.{UpdateRec}
-use Rattle.zk_model.specs.declared.transcript.UpdateKind.TheVariants.{Asked}
-use Rattle.zk_model.specs.Frames.{most_frame}
 use Rattle.zk_model.specs.Requests.{Asks, read_request}
-use Rattle.zk_model.specs.History.{State, Commit, IsSound, commit, after, after_from, nothing_yet, updated, committed, asked_commit, frame, frame_shown, request, asked_in}
+use Rattle.zk_model.specs.History.{State, Commit, IsSound, commit, after, nothing_yet, updated, committed, asked_commit, frame, frame_shown, request, asked_in}
 use Rattle.zk_model.specs.Single.{most_owned}
-use Rattle.zk_model.specs.Legal.{is_legal, is_legal_from, is_legal_line, may_update, is_small_frame, is_within_parts, is_ordered, is_in_order}
+use Rattle.zk_model.specs.Legal.{is_legal, is_legal_from, is_legal_line, may_update, is_small_frame, is_within_parts}
 use Rattle.zk_model.specs.Conversations.{placed_frame}
 use Rattle.zk_model.proofs.Appending.{after-push, is_legal-push, is_ordered-push}
 use Rattle.zk_model.proofs.Lookups.{first_shown-place}
@@ -41,13 +38,9 @@ after-asked c i now zxid lines made commits = after-push lines (asked_line c i n
 
 -- ---- it is legal, and in order
 
-&&-second : (a b : Bool) → (a && b) ≡ true → b ≡ true
-&&-second true b h = h
-&&-second false b h = absurd (cc)
-
 begun-from_legal : (lines : List TranscriptLine) → is_legal lines ≡ true → nat_lt 0 (after lines).updates ≡ true
 unfolding is_legal
-begun-from_legal lines h = &&-second (is_legal_from [] nothing_yet lines) (nat_lt 0 (after lines).updates) h
+begun-from_legal lines h = (and_parts (is_legal_from [] nothing_yet lines) (nat_lt 0 (after lines).updates) h).1
 
 legal-asked : (c i now : ℕ) (zxid : ℤ) (lines : List TranscriptLine) (made : Commit) (q : Waiting)
     → is_legal lines ≡ true → 1 ≤ i → IsQueued c lines i q → (after lines).zxid <ℤ zxid → asked_commit lines (after lines) zxid c i now ≡ Some made
@@ -68,11 +61,10 @@ pub kept-asked : (c i now : ℕ) (zxid : ℤ) (lines : List TranscriptLine) (mad
     → IsKeptIn new (lines ++ asked_line c i now zxid ∷ [])
 kept-asked c i now zxid lines made q old new k least h below above commits at stands sound =
     let leads = after-asked c i now zxid lines made commits in
-    let same : (c == c) ≡ true = grind (arith, nat_tests) in
     record {
       stands = subst (StandsFor (present new)) (sym leads) stands;
       sound = subst IsSound (sym leads) sound;
       revision = at ∙ ap (λ (s : State). s.zxid) (sym leads);
       legal = is_legal-push lines (asked_line c i now zxid) k.legal (legal-asked c i now zxid lines made q k.legal least h above commits);
-      ordered = is_ordered-push lines (asked_line c i now zxid) k.ordered (rw same below);
+      ordered = is_ordered-push lines (asked_line c i now zxid) k.ordered (rw (eq-eqb c c refl) below);
     }

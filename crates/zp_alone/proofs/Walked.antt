@@ -1,8 +1,9 @@
 -- What a line more does to what is kept of a conversation.
-use Rattle.std.proofs.Common.{◌≡◌, ℕ, zero, suc, ◌+◌, ◌≤◌, ◌<◌, List, [], ◌∷◌, ◌++◌, length, take, refl, sym, ap, ◌∙◌, subst, arith, append-nil, add-zero, Bool, true, false, ℤ, pos, ◌≤ℤ◌}
-use Rattle.std.specs.Prelude.{Option, Some, None, ◌==◌, ◌&&◌, nat_le, nat_lt, bytes_eq}
+use Rattle.std.proofs.Common.{◌≡◌, ℕ, ◌+◌, ◌≤◌, ◌<◌, List, [], ◌∷◌, ◌++◌, length, refl, sym, ap, ◌∙◌, subst, arith, append-nil, Bool, true, false, ℤ, pos, ◌≤ℤ◌}
+use Rattle.std.specs.Prelude.{Option, Some, None, ◌==◌, ◌&&◌, nat_le, bytes_eq}
 use Rattle.std.specs.List.{list_all}
 use Rattle.std.proofs.lemmas.List.{length-append}
+use Rattle.std.proofs.lemmas.Bool.{and_parts, eq-eqb}
 use Rattle.std.proofs.lemmas.Bool.Decides.{nat_tests}
 use Rattle.std.proofs.lemmas.Int.{ints}
 use Rattle.std.proofs.lemmas.Slice.Eq.{bytes_eq-Decides}
@@ -15,12 +16,12 @@ use Rattle.zk_model.specs.Frames.{most_frame}
 use Rattle.zk_model.specs.Requests.{Asks, read_request}
 use Rattle.zk_model.specs.History.{State, after, state_at, first_place, frame_shown, when}
 use Rattle.zk_model.specs.Legal.{index_shown, index_in, is_below}
-use Rattle.zk_model.specs.Conversations.{Walker, Choice, Due, move, walk, at_start, packets, packets_from, are_sent, placed_frame, carried, carried_in, carried_shown, close_shown}
+use Rattle.zk_model.specs.Conversations.{Walker, Choice, Due, move, at_start, packets, packets_from, are_sent, placed_frame, carried, carried_in, carried_shown, close_shown}
 use Rattle.zk_model.specs.Runs.{frames_of, sends_of, is_built_request}
 use Rattle.zk_model.proofs.Appending.{first_place-push}
 use Rattle.zk_model.proofs.Lookups.{first_place-skip, first_place-new}
 use Rattle.zk_model.proofs.Walks.{state_at-push}
-use Rattle.zk_model.proofs.Longer.{Stays, stays-line, walk-push, walk-more}
+use Rattle.zk_model.proofs.Longer.{stays-line, walk-push, walk-more}
 use Rattle.zk_model.proofs.Counts.{frames_of-append, sends_of-append, packets-append, are_sent-append}
 use Rattle.zp_alone.specs.declared.waiting.Waiting.{Waiting}
 use Rattle.zp_alone.specs.Talking.{IsQueued, AreQueued, IsWalked, StandsAt, AreCounted, AreBelow}
@@ -43,8 +44,8 @@ walked-push c lines l w begun stays none k = record {
 bytes_eq-refl : (bytes : List ℕ) → bytes_eq bytes bytes ≡ true
 bytes_eq-refl bytes = (bytes_eq-Decides bytes bytes).1 refl
 
-same_number : (c : ℕ) → (c == c) ≡ true
-same_number c = grind (arith, nat_tests)
+pub same_number : (c : ℕ) → (c == c) ≡ true
+same_number c = eq-eqb c c refl
 
 sent-now : (c k n : ℕ) (packet : List ℕ) → k ≤ n → are_sent ((k, packet) ∷ []) (packets_from c n (Send c packet ∷ [])) ≡ true
 sent-now c k n packet small =
@@ -62,13 +63,13 @@ walked-send c lines w v x k packet begun moves due h =
       choices = h.choices ++ x ∷ [];
       dues = dues;
       walked = rw (start-push lines (Send c packet ∷ []) begun)
-        (walk-push lines (Send c packet ∷ []) c (pos 0) start (h.choices ++ x ∷ []) (v, dues) (stays-line lines (Send c packet) c v.next (λ j small. refl)) more);
+          (walk-push lines (Send c packet ∷ []) c (pos 0) start (h.choices ++ x ∷ []) (v, dues) (stays-line lines (Send c packet) c v.next (λ j small. refl)) more);
       sent = rw (packets-append c lines (Send c packet ∷ [])) (are_sent-append h.dues ((k, packet) ∷ []) (packets c lines) (packets_from c (length lines) (Send c packet ∷ [])) h.sent (sent-now c k (length lines) packet due));
     }
 
 -- ---- where the walker stands
 
-longer : (lines : List TranscriptLine) (l : TranscriptLine) → length (lines ++ l ∷ []) ≡ length lines + 1
+pub longer : (lines : List TranscriptLine) (l : TranscriptLine) → length (lines ++ l ∷ []) ≡ length lines + 1
 longer lines l = length-append lines (l ∷ [])
 
 pub stands-push : (lines : List TranscriptLine) (l : TranscriptLine) (w : Walker) → (after lines).zxid ≤ℤ (after (lines ++ l ∷ [])).zxid → StandsAt lines w → StandsAt (lines ++ l ∷ []) w
@@ -85,9 +86,13 @@ stands-push lines l w rises h = record {
 
 queued-line : (c : ℕ) (lines more : List TranscriptLine) (next : ℕ) (q : Waiting) → IsQueued c lines next q → IsQueued c (lines ++ more) next q
 queued-line c lines more next q h = record {
-  index = h.index; place = h.place; bytes = h.bytes;
+  index = h.index;
+  place = h.place;
+  bytes = h.bytes;
   frame = first_place-push (frame_shown c next) 0 lines more (h.place, h.bytes) h.frame;
-  read = h.read; small = h.small; built = h.built;
+  read = h.read;
+  small = h.small;
+  built = h.built;
 }
 
 -- a line that is no frame of c
@@ -135,12 +140,18 @@ pub queued-frame : (c : ℕ) (lines : List TranscriptLine) (z : ℤ) (bytes : Li
 queued-frame c lines z bytes q next [] index read small built new h =
     let i : ℕ = frames_of c lines + 1 in
     let l : TranscriptLine = FrameLine c i z bytes in
-    let placed : placed_frame c i (lines ++ l ∷ []) ≡ Some (0 + length lines, bytes) = first_place-new (frame_shown c i) 0 lines l bytes new (shown-frame c i z bytes) in
-    (record {
-      index = index ∙ sym h; place = 0 + length lines; bytes = bytes;
-      frame = subst (λ (n : ℕ). placed_frame c n (lines ++ l ∷ []) ≡ Some (0 + length lines, bytes)) (sym h) placed;
-      read = read; small = small; built = built;
-    }, omega (arith, frames_of-append c lines (l ∷ []), one_frame c i z bytes, h))
+    let placed : placed_frame c i (lines ++ l ∷ []) ≡ Some (0 + length lines, bytes) = first_place-new (frame_shown c i) 0 lines l bytes new (shown-frame c i z bytes) in (
+      record {
+        index = index ∙ sym h;
+        place = 0 + length lines;
+        bytes = bytes;
+        frame = subst (λ (n : ℕ). placed_frame c n (lines ++ l ∷ []) ≡ Some (0 + length lines, bytes)) (sym h) placed;
+        read = read;
+        small = small;
+        built = built;
+      },
+      omega (arith, frames_of-append c lines (l ∷ []), one_frame c i z bytes, h),
+    )
 queued-frame c lines z bytes q next (p ∷ ws) index read small built new h =
     (queued-line c lines (FrameLine c (frames_of c lines + 1) z bytes ∷ []) next p h.0, queued-frame c lines z bytes q (next + 1) ws index read small built new h.1)
 
@@ -160,20 +171,16 @@ is_below-later : (n : ℕ) (o : Option ℕ) → is_below n o ≡ true → is_bel
 is_below-later n None h = refl
 is_below-later n (Some j) h = grind (arith, nat_tests)
 
-&&-both : (a b : Bool) → (a && b) ≡ true → (a ≡ true) × (b ≡ true)
-&&-both true b h = (refl, h)
-&&-both false b h = absurd (cc)
-
 pub below-later : (c n : ℕ) (ls : List TranscriptLine) → AreBelow c ls n → AreBelow c ls (n + 1)
 below-later c n [] h = refl
 below-later c n (l ∷ ls) h =
-    let both = &&-both (is_below n (index_shown c l)) (list_all (λ x. is_below n (index_shown c x)) ls) h in
+    let both = and_parts (is_below n (index_shown c l)) (list_all (λ x. is_below n (index_shown c x)) ls) h in
     rw (is_below-later n (index_shown c l) both.0) (below-later c n ls both.1)
 
 pub below-push : (c n : ℕ) (ls : List TranscriptLine) (l : TranscriptLine) → is_below n (index_shown c l) ≡ true → AreBelow c ls n → AreBelow c (ls ++ l ∷ []) n
 below-push c n [] l here h = rw here refl
 below-push c n (x ∷ ls) l here h =
-    let both = &&-both (is_below n (index_shown c x)) (list_all (λ y. is_below n (index_shown c y)) ls) h in
+    let both = and_parts (is_below n (index_shown c x)) (list_all (λ y. is_below n (index_shown c y)) ls) h in
     rw both.0 (below-push c n ls l here both.1)
 
 apart_none : (b : Bool) (n i j : ℕ) (u : UpdateRec) → is_below n (when b j) ≡ true → n ≤ i → when (b && (i == j)) u ≡ None
@@ -201,7 +208,7 @@ line_none c n i (Close d end) h above = refl
 uncarried_from : (c n i k : ℕ) (ls : List TranscriptLine) → AreBelow c ls n → n ≤ i → first_place (carried_shown c i) k ls ≡ None
 uncarried_from c n i k [] h above = refl
 uncarried_from c n i k (l ∷ ls) h above =
-    let both = &&-both (is_below n (index_shown c l)) (list_all (λ x. is_below n (index_shown c x)) ls) h in
+    let both = and_parts (is_below n (index_shown c l)) (list_all (λ x. is_below n (index_shown c x)) ls) h in
     rw (line_none c n i l both.0 above, first_place) (uncarried_from c n i (k + 1) ls both.1 above)
 
 -- the next request was not carried out

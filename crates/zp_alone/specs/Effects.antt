@@ -1,5 +1,5 @@
 -- What each happening does to a world, and one answer.
-use Rattle.std.specs.Prelude.{◌≡◌, ℕ, ◌+◌, ℤ, pos, Bool, true, false, List, [], ◌∷◌, ◌++◌, Option, Some, None, Result, Ok, Err, All}
+use Rattle.std.specs.Prelude.{◌≡◌, ℕ, ◌+◌, ℤ, pos, Bool, true, false, List, [], ◌∷◌, ◌++◌, Some, None, Result, Ok, Err, All}
 use Rattle.ev_types.specs.Store.{Store, present, revision}
 use Rattle.zk_model.specs.declared.request.Request.{Request}
 use Rattle.zk_model.specs.declared.script.Happening.{Happening}
@@ -10,8 +10,8 @@ use Rattle.zk_model.specs.Packets.{reply_packet}
 use Rattle.zk_model.specs.History.{IsSound, after}
 use Rattle.zk_model.specs.Runs.{IsAnswerLine, begin_line, refusal_of}
 use Rattle.zn_layout.specs.StandsFor.{StandsFor}
-use Rattle.zn_ops.specs.declared.answering.Answered.{Answered}
-use Rattle.zn_ops.specs.declared.answering.Answered.TheVariants.{Repeats, Looked, Updated}
+use Rattle.zn_ops.specs.declared.requests.Answered.{Answered}
+use Rattle.zn_ops.specs.declared.requests.Answered.TheVariants.{Repeats, Looked, Updated}
 use Rattle.zn_ops.specs.Answering.{Answers}
 use Rattle.zp_alone.specs.declared.fault.ApplyFault.{ApplyFault}
 use Rattle.zp_alone.specs.declared.fault.ApplyFault.TheVariants as fault

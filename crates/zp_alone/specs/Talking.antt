@@ -1,5 +1,5 @@
 -- What is kept of one connection's conversation: the walk that gives what it was sent, and the requests that wait.
-use Rattle.std.specs.Prelude.{◌≡◌, ℕ, ◌+◌, ◌<◌, ◌≤◌, ℤ, pos, ◌≤ℤ◌, true, false, List, [], ◌∷◌, length, Option, Some, None}
+use Rattle.std.specs.Prelude.{◌≡◌, ℕ, ◌+◌, ◌<◌, ◌≤◌, ℤ, pos, ◌≤ℤ◌, true, false, List, [], ◌∷◌, length, Some, None}
 use Rattle.std.specs.List.{list_all}
 use Rattle.zk_model.specs.declared.transcript.TranscriptLine.{TranscriptLine}
 use Rattle.zk_model.specs.Frames.{most_frame}

@@ -13,7 +13,14 @@ use zk_wire::write_reply;
 use zn_ops::Answered;
 use zx_base::{Bytes, Memory};
 
-fn push_reply(alloc: Global, lines: &mut Vec<TranscriptLine>, connection: u32, xid: i32, zxid: i64, reply: &Reply) -> Result<(), Memory>
+fn push_reply(
+    alloc: Global,
+    lines: &mut Vec<TranscriptLine>,
+    connection: u32,
+    xid: i32,
+    zxid: i64,
+    reply: &Reply,
+) -> Result<(), Memory>
     requires { CanBeSent reply.now }
     ensures ok { OnOk result (lines.new.items ≡ lines.old.items ++ TranscriptLine.Send connection (reply_packet xid zxid reply.now) ∷ []) }
     ensures linked { (o : Option ℕ) → IsLinked o lines.old.items → IsLinked o lines.new.items }
@@ -26,7 +33,13 @@ fn push_reply(alloc: Global, lines: &mut Vec<TranscriptLine>, connection: u32, x
     Ok(())
 }
 
-fn push_update(lines: &mut Vec<TranscriptLine>, connection: u32, index: u64, now: u64, zxid: i64) -> Result<(), Memory>
+fn push_update(
+    lines: &mut Vec<TranscriptLine>,
+    connection: u32,
+    index: u64,
+    now: u64,
+    zxid: i64,
+) -> Result<(), Memory>
     ensures ok { OnOk result (lines.new.items ≡ lines.old.items ++ asked_line connection index now zxid ∷ []) }
     ensures linked { (o : Option ℕ) → IsLinked o lines.old.items → IsLinked o lines.new.items }
 {

@@ -48,7 +48,6 @@ pub struct Alone {
 
 impl Model for Alone {
     ghost use Rattle.zp_alone.specs.World.{World, IsWorld};
-
     ghost use Rattle.ev_store.specs.Codes.{store_code};
     ghost use Rattle.std.specs.Coded.{codes};
 
@@ -57,23 +56,23 @@ impl Model for Alone {
     ghost coded = { Prim.hlevel (codes, store_code) };
 
     ghost view = { λ a. record {
-        store = a.store;
-        lines = a.lines.items;
-        clock = a.clock;
-        connection = a.connection;
-        frames = a.frames;
-        waiting = a.waiting.items;
-        told = a.told;
+      store = a.store;
+      lines = a.lines.items;
+      clock = a.clock;
+      connection = a.connection;
+      frames = a.frames;
+      waiting = a.waiting.items;
+      told = a.told;
     } };
 
     ghost invariant = { λ a. IsWorld (record {
-        store = a.store;
-        lines = a.lines.items;
-        clock = a.clock;
-        connection = a.connection;
-        frames = a.frames;
-        waiting = a.waiting.items;
-        told = a.told;
+      store = a.store;
+      lines = a.lines.items;
+      clock = a.clock;
+      connection = a.connection;
+      frames = a.frames;
+      waiting = a.waiting.items;
+      told = a.told;
     }) };
 }
 
@@ -126,7 +125,13 @@ impl Alone {
         }
     }
 
-    fn open(&mut self, connection: u32, proxy: u32, id: i64, passwd: [u8; 16]) -> Result<(), ApplyFault>
+    fn open(
+        &mut self,
+        connection: u32,
+        proxy: u32,
+        id: i64,
+        passwd: [u8; 16],
+    ) -> Result<(), ApplyFault>
         ensures { Applies self.old (line.Open connection proxy id passwd) result self.new }
     {
         if self.is_open(connection) {
@@ -181,7 +186,10 @@ impl Alone {
     fn is_open(&self, connection: u32) -> bool
         ensures { result ≡ is_open connection self.now.lines }
     {
-        self.connection == Some(connection)
+        match self.connection {
+            Some(open) => connection == open,
+            None => false,
+        }
     }
 
     fn has_connection(&self) -> bool
@@ -191,7 +199,13 @@ impl Alone {
         self.connection.is_some()
     }
 
-    fn add_connection(&mut self, connection: u32, proxy: u32, id: i64, passwd: [u8; 16]) -> Result<(), Memory>
+    fn add_connection(
+        &mut self,
+        connection: u32,
+        proxy: u32,
+        id: i64,
+        passwd: [u8; 16],
+    ) -> Result<(), Memory>
         requires { is_some self.old.connection ≡ false }
         ensures { OnOk result (self.new ≡ opened self.old connection proxy id passwd) }
     {
@@ -206,7 +220,13 @@ impl Alone {
     }
 
     /// Adds a frame's line and its request to those that wait.
-    fn add_frame(&mut self, connection: u32, bytes: Bytes, xid: i32, request: Request) -> Result<(), Memory>
+    fn add_frame(
+        &mut self,
+        connection: u32,
+        bytes: Bytes,
+        xid: i32,
+        request: Request,
+    ) -> Result<(), Memory>
         requires { IsAnswerable request }
         ensures { OnOk result (self.new ≡ framed self.old connection bytes xid request) }
     {

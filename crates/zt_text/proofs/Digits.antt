@@ -1,5 +1,5 @@
 -- Laws of the digits of a word, from the first on.
-use Rattle.std.proofs.Common.{◌≡◌, ℕ, zero, suc, ◌+◌, ◌*◌, ◌%◌, ◌^◌, ◌<◌, ◌≤◌, List, [], ◌∷◌, ◌++◌, length, take, drop, get_or, Bool, true, false, if◌then◌else◌, Option, Some, None, option_map, set, refl, ap, sym, ◌∙◌, arith}
+use Rattle.std.proofs.Common.{◌≡◌, ℕ, ◌+◌, ◌*◌, ◌%◌, ◌^◌, ◌<◌, ◌≤◌, List, [], ◌∷◌, ◌++◌, length, take, drop, get_or, true, false, if◌then◌else◌, Option, Some, None, option_map, set, refl, ap, sym, ◌∙◌, arith}
 use Rattle.std.specs.Prelude.{option_and_then}
 use Rattle.std.proofs.lemmas.List.{append-nil, append_assoc, drop_all, drop_more, take_all, take_more_set}
 use Rattle.std.proofs.lemmas.Grind.{common_steps}
@@ -28,7 +28,7 @@ pub number-above : (word : List ℕ) (value at digit : ℕ) → digits_value 10 
 number-above word value at digit told within read above =
     let here = drop_more word at 0 within in
     let next : digits_value 10 decimal_digit 0 word ≡ digits_value 10 decimal_digit (value * 10 + digit) (drop (at + 1) word) =
-        sym told ∙ rw (here, read) refl in
+    sym told ∙ rw (here, read) refl in
     number-none word (ap (λ (o : Option ℕ). o >>= not_above most_number) next ∙ digits_value-above most_number (value * 10 + digit) (drop (at + 1) word) above)
 
 pub hex_digit-small : (b d : ℕ) → hex_digit b ≡ Some d → d < 16

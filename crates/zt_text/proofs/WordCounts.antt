@@ -1,5 +1,5 @@
 -- The words of a line, one after the other.
-use Rattle.std.proofs.Common.{◌≡◌, ℕ, List, [], ◌∷◌, Option, Some, None, refl, sym, ap, ◌∙◌}
+use Rattle.std.proofs.Common.{◌≡◌, ℕ, List, ◌∷◌, Option, Some, None, refl, ap, ◌∙◌}
 use Rattle.zk_model.specs.Scripts.{Lacks, pieces, one_word, two_words, three_words, four_words}
 use Rattle.zk_model.proofs.PieceLaws.{pieces-first, pieces-none, pieces-some}
 use Rattle.zt_text.specs.Words.{Slice, joined_at, words_of}

@@ -1,4 +1,12 @@
-//! The text of scripts and transcripts.
+//! The text of scripts, which tell what is to happen in a run of the service, and of transcripts, which show what did.
+//!
+//! A script is read line by line: [`first_line`] cuts bytes at a line feed, [`read_line`] says what a line means. It reads
+//! each form exactly: a line that it answers None for is of no form. A transcript is written line by line by
+//! [`push_line`], and its last line by [`push_done`], [`push_fault`] or [`push_unread`].
+//!
+//! Both formats are this project's own; `zk_model` has them in `specs/Scripts` and `specs/Transcripts`. Reading a line takes
+//! time in proportion to its bytes, and memory for the bytes that its hex digits spell; writing one grows the buffer and
+//! takes no other memory. What holds of every text is said by [`one_reading`] and [`one_line_feed`].
 #![tactic(auto)]
 
 mod argument;
@@ -7,6 +15,8 @@ mod ending;
 mod form;
 mod laws;
 mod script_line;
+#[cfg(test)]
+mod tests;
 mod transcript_line;
 mod word;
 mod words;

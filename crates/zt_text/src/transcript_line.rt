@@ -67,10 +67,46 @@ fn push_update(out: &mut Vec<u8>, zxid: i64, kind: UpdateKind) -> Result<(), Mem
 {
     match kind {
         UpdateKind::Begin { now } => push_kind(out, zxid, b"begin", &[Word::Number(now)]),
-        UpdateKind::Session { id, connection } => push_kind(out, zxid, b"session", &[Word::Session(id), Word::Number(u64::from(connection))]),
-        UpdateKind::Attach { id, connection } => push_kind(out, zxid, b"attach", &[Word::Session(id), Word::Number(u64::from(connection))]),
-        UpdateKind::Asked { connection, index, now } => push_kind(out, zxid, b"asked", &[Word::Number(u64::from(connection)), Word::Number(index), Word::Number(now)]),
-        UpdateKind::Closed { id, connection, index } => push_kind(out, zxid, b"closed", &[Word::Session(id), Word::Number(u64::from(connection)), Word::Number(index)]),
+        UpdateKind::Session { id, connection } => push_kind(
+            out,
+            zxid,
+            b"session",
+            &[Word::Session(id), Word::Number(u64::from(connection))],
+        ),
+        UpdateKind::Attach { id, connection } => push_kind(
+            out,
+            zxid,
+            b"attach",
+            &[Word::Session(id), Word::Number(u64::from(connection))],
+        ),
+        UpdateKind::Asked {
+            connection,
+            index,
+            now,
+        } => push_kind(
+            out,
+            zxid,
+            b"asked",
+            &[
+                Word::Number(u64::from(connection)),
+                Word::Number(index),
+                Word::Number(now),
+            ],
+        ),
+        UpdateKind::Closed {
+            id,
+            connection,
+            index,
+        } => push_kind(
+            out,
+            zxid,
+            b"closed",
+            &[
+                Word::Session(id),
+                Word::Number(u64::from(connection)),
+                Word::Number(index),
+            ],
+        ),
         UpdateKind::Reaped { id } => push_kind(out, zxid, b"reaped", &[Word::Session(id)]),
     }
 }
@@ -80,7 +116,12 @@ fn push_kind(out: &mut Vec<u8>, zxid: i64, kind: &[u8], words: &[Word<'_>]) -> R
     ensures ok { OnOk result (out.new.items ≡ out.old.items ++ update_text zxid (kind.now ∷ map word_text words.now)) }
     ensures err { OnErr result (out.new.items ≡ out.old.items) }
 {
-    push_words(out, b"update", &[Word::Signed(zxid), Word::Name(kind)], words)
+    push_words(
+        out,
+        b"update",
+        &[Word::Signed(zxid), Word::Name(kind)],
+        words,
+    )
 }
 
 fn push_close(out: &mut Vec<u8>, connection: u32, end: &Ended) -> Result<(), Memory>
@@ -104,25 +145,60 @@ fn push_cause(out: &mut Vec<u8>, connection: u32, cause: &Cause) -> Result<(), M
         Cause::ClientEnd { place } => push_end(out, connection, b"client", &[Word::Number(*place)]),
         Cause::ReadFault => push_end(out, connection, b"read", &[]),
         Cause::WriteFault => push_end(out, connection, b"write", &[]),
-        Cause::BadLength { place, length } => push_end(out, connection, b"length", &[Word::Number(*place), Word::Signed(i64::from(*length))]),
-        Cause::NoHeader { place } => push_end(out, connection, b"noheader", &[Word::Number(*place)]),
+        Cause::BadLength { place, length } => push_end(
+            out,
+            connection,
+            b"length",
+            &[Word::Number(*place), Word::Signed(i64::from(*length))],
+        ),
+        Cause::NoHeader { place } => push_end(
+            out,
+            connection,
+            b"noheader",
+            &[Word::Number(*place)],
+        ),
         Cause::AuthRefused => push_end(out, connection, b"auth", &[]),
         Cause::Unknown => push_end(out, connection, b"unknown", &[]),
-        Cause::ZxidAhead { client, head } => push_end(out, connection, b"ahead", &[Word::Signed(*client), Word::Signed(*head)]),
+        Cause::ZxidAhead { client, head } => push_end(
+            out,
+            connection,
+            b"ahead",
+            &[Word::Signed(*client), Word::Signed(*head)],
+        ),
         Cause::Taken { rev } => push_end(out, connection, b"taken", &[Word::Signed(*rev)]),
         Cause::Expired { rev } => push_end(out, connection, b"expired", &[Word::Signed(*rev)]),
-        Cause::Moved { mine, found } => push_end(out, connection, b"moved", &[Word::Signed(*mine), Word::Signed(*found)]),
+        Cause::Moved { mine, found } => push_end(
+            out,
+            connection,
+            b"moved",
+            &[Word::Signed(*mine), Word::Signed(*found)],
+        ),
         Cause::LinkFault => push_end(out, connection, b"link", &[]),
-        Cause::Lagged { cursor, floor } => push_end(out, connection, b"lagged", &[Word::Signed(*cursor), Word::Signed(*floor)]),
+        Cause::Lagged { cursor, floor } => push_end(
+            out,
+            connection,
+            b"lagged",
+            &[Word::Signed(*cursor), Word::Signed(*floor)],
+        ),
         Cause::FeedClosed => push_end(out, connection, b"feed", &[]),
-        Cause::Damaged { key, value } => push_end(out, connection, b"damaged", &[Word::Hex(key.as_slice()), Word::Hex(value.as_slice())]),
+        Cause::Damaged { key, value } => push_end(
+            out,
+            connection,
+            b"damaged",
+            &[Word::Hex(key.as_slice()), Word::Hex(value.as_slice())],
+        ),
         Cause::Restart => push_end(out, connection, b"restart", &[]),
         Cause::Memory => push_end(out, connection, b"memory", &[]),
     }
 }
 
 /// Adds the line of an end, by its words.
-fn push_end(out: &mut Vec<u8>, connection: u32, end: &[u8], words: &[Word<'_>]) -> Result<(), Memory>
+fn push_end(
+    out: &mut Vec<u8>,
+    connection: u32,
+    end: &[u8],
+    words: &[Word<'_>],
+) -> Result<(), Memory>
     ensures ok { OnOk result (out.new.items ≡ out.old.items ++ close_text connection (end.now ∷ map word_text words.now)) }
     ensures err { OnErr result (out.new.items ≡ out.old.items) }
 {

@@ -1,4 +1,4 @@
-use Rattle.std.proofs.Common.{IfOk, ◌≡◌, ◌+◌, ◌+ℤ◌, pos, length, subst, ap, ◌∙◌, w64, to_z, of_z, rules, arith}
+use Rattle.std.proofs.Common.{IfOk, ◌≡◌, ◌+◌, ◌+ℤ◌, pos, length, subst, ap, ◌∙◌, w64, to_z, of_z, rules}
 use Rattle.std.specs.BTreeMap as tree
 use Rattle.std.specs.Ordering.{nat_cmp}
 use Rattle.std.specs.Cmp.Lexicographic.{slice_cmp}

@@ -1,5 +1,4 @@
 use Rattle.std.proofs.Common.{◌≡◌, ◌+◌, ◌-◌, ◌/◌, [], set, ap, ◌∙◌, subst, arith, sym, ℕ}
-use Rattle.zx_base.specs.Maps.{Bytes}
 use Rattle.zn_layout.specs.Keys.{hex_digits}
 use Rattle.zn_layout.proofs.Digits.{AreWritten, one_more, ended}
 use Rattle.zn_layout.proofs.key.digits_of.Goals as goal

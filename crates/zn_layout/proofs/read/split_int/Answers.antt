@@ -1,4 +1,3 @@
-use Rattle.std.proofs.Common.{◌∙◌, ap, arith}
 use Rattle.zn_layout.proofs.Numbers.{int_split}
 use Rattle.zn_layout.proofs.read.split_int.Goals as goal
 

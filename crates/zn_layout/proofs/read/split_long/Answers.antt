@@ -1,4 +1,3 @@
-use Rattle.std.proofs.Common.{◌∙◌, ap, arith}
 use Rattle.zn_layout.proofs.Numbers.{long_split}
 use Rattle.zn_layout.proofs.read.split_long.Goals as goal
 

@@ -1,8 +1,7 @@
-use Rattle.std.proofs.Common.{◌≡◌, arith, subst, sym, ap}
+use Rattle.std.proofs.Common.{arith}
 use Rattle.std.proofs.lemmas.Grind.{common_steps}
-use Rattle.ev_store.specs.Changes.{puts_once}
 use Rattle.ev_store.proofs.Keys.{present-all, store_at-first}
-use Rattle.ev_store.proofs.Tests.{all-take}
+use Rattle.ev_store.proofs.Places.{all-take}
 use Rattle.ev_store.proofs.store.Store.find.Goals as goal
 
 pub returns-then-is_present : goal.returns-then-is_present

@@ -1,8 +1,7 @@
-use Rattle.std.proofs.Common.{◌≡◌, true, ap, sym, ◌∙◌, arith}
+use Rattle.std.proofs.Common.{◌≡◌, ap, ◌∙◌, arith}
 use Rattle.std.proofs.lemmas.Grind.{common_steps}
 use Rattle.std.proofs.lemmas.Result.{err_from_is_err_and}
 use Rattle.std.specs.List.{list_any}
-use Rattle.ev_types.specs.Store.{chosen}
 use Rattle.ev_types.specs.Denials.{chosen_acts}
 use Rattle.ev_store.specs.Causes.{is_cause, is_act_cause}
 use Rattle.ev_store.proofs.Denying.{txn_by_acts}

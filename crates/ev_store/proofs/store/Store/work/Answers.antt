@@ -1,10 +1,9 @@
-use Rattle.std.proofs.Common.{◌≡◌, ◌+◌, ◌+ℤ◌, ◌∷◌, [], pos, drop, ap, sym, ◌∙◌, arith, append-nil, true, ◌++◌}
-use Rattle.std.proofs.lemmas.Grind.{common_steps}
+use Rattle.std.proofs.Common.{◌≡◌, ◌+◌, ◌+ℤ◌, ◌∷◌, [], pos, drop, ap, ◌∙◌, ◌++◌}
 use Rattle.std.proofs.Math.ListN.{drop_of_length-le}
-use Rattle.ev_types.specs.Store.{Done, worked, revision, present, after_changes}
+use Rattle.ev_types.specs.Store.{Done, revision, present, after_changes}
 use Rattle.ev_store.specs.Changes.{put_keys, are_distinct}
 use Rattle.ev_store.specs.Repeats.{act_keys}
-use Rattle.ev_store.proofs.Tests.{front_of}
+use Rattle.ev_store.proofs.Places.{front_of}
 use Rattle.ev_store.proofs.Working.{done_with, done_step, done_all, keys_step, distinct-front, distinct-acts}
 use Rattle.ev_store.proofs.store.Store.work.Goals as goal
 

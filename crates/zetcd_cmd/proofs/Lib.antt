@@ -1,0 +1,5 @@
+pub mod ScriptLaws
+pub mod Progress
+pub mod Endings
+pub mod Reports
+pub mod Headlines

@@ -1,0 +1,32 @@
+use Rattle.std.proofs.Common.{◌≡◌, ◌≤◌, ◌++◌, length, refl, ◌∙◌}
+use Rattle.std.proofs.lemmas.Result.{err_from_is_err_and, on_ok_weaker, IfErr-weaker}
+use Rattle.zk_model.specs.Scripts.{most_line}
+use Rattle.zetcd_cmd.specs.declared.script.Stop.{Stop}
+use Rattle.zetcd_cmd.specs.Scripting.{IsKeptOut}
+use Rattle.zetcd_cmd.proofs.Progress.{Goes-line, Goes-halts, Goes-begun, Goes-kept_out}
+use Rattle.zetcd_cmd.proofs.script.Script.take_lines.Goals as goal
+
+pub returns-in_err-end_line-clause-err : goal.returns-in_err-end_line-clause-err
+returns-in_err-end_line-clause-err c =
+    let p = err_from_is_err_and c.from_residual.result c.from_residual.ensures.1 in
+    rw (p.1, p.2) (Goes-halts c.args.self.now c.lines.self c.end_line.new.self c.args.bytes.now c.lines.rest.now c.in-Some.line.now c.in-Some.later.now c.in_err-end_line.field-0.0
+    c.in-Some.ensures.0 c.in_err-end_line.ensures.err c.lines.invariant.goes)
+
+pub lines-preserved : goal.lines-preserved
+lines-preserved c = record {
+  goes = Goes-line c.args.self.now c.lines.self c.end_line.new.self c.args.bytes.now c.lines.rest.now c.in-Some.line.now c.in-Some.later.now c.in-Some.ensures.0 c.in_ok-end_line.ensures.ok c.lines.invariant.goes;
+  room = c.in_ok-end_line.ensures.room ∙ c.lines.invariant.room;
+}
+
+pub returns-clause-ok : goal.returns-clause-ok
+returns-clause-ok c =
+    on_ok_weaker c.keep.result
+    (λ (kept : (c.keep.new.pending.items ≡ c.lines.self.pending.items ++ c.lines.rest.now) × (length c.keep.new.pending.items ≤ most_line)).
+    Goes-begun c.args.self.now c.lines.self _ c.args.bytes.now c.lines.rest.now c.in_default.ensures kept.0 kept.1 refl refl c.lines.invariant.goes)
+    c.keep.ensures.ok
+
+pub returns-clause-err : goal.returns-clause-err
+returns-clause-err c =
+    IfErr-weaker c.keep.result (λ (why : Stop). IsKeptOut (c.lines.self.pending.items ++ c.lines.rest.now) why) _
+    (λ why out. Goes-kept_out c.args.self.now c.lines.self _ c.args.bytes.now c.lines.rest.now why c.in_default.ensures out refl refl c.lines.invariant.goes)
+    c.keep.ensures.err

@@ -1,0 +1,62 @@
+-- What the program did, by the status that it ends with. What is said of bytes holds where the input and the output tell them.
+use Rattle.std.specs.Prelude.{◌≡◌, ◌⊎◌, ⊤, ℕ, ◌+◌, ◌-◌, ◌^◌, ◌≤◌, min, List, [], ◌∷◌, ◌++◌, codes, Option, Some, None}
+use denote.Ref.{Bor}
+use Rattle.zk_model.specs.Runs.{IsReplayed, IsStopped, IsCutShort}
+use Rattle.zx_outside.specs.Counts.{Rose}
+use Rattle.zetcd_cmd.specs.declared.status.Status.{Status}
+use Rattle.zetcd_cmd.specs.declared.status.Status.TheVariants as status
+
+-- the one command that is built
+abbrev pub IsReplay : List (Bor (List ℕ)) → Type 0
+IsReplay [] = ⊥
+IsReplay (word ∷ []) = word.now ≡ codes "replay"
+IsReplay (word ∷ other ∷ words) = ⊥
+
+abbrev pub usage_text : List ℕ
+usage_text = codes "usage: zetcd replay | show | stress NUMBER CONNECTIONS STEPS | serve LISTEN ENDPOINT LIMIT | etcd LISTEN LIMIT\n"
+
+-- what was written is some output of which this holds
+abbrev pub Wrote : (List ℕ → Type 0) → Option (List ℕ) → Option (List ℕ) → Type 0
+Wrote P None taken' = taken' ≡ None
+Wrote P (Some taken) taken' = (output : List ℕ) × (taken' ≡ Some (taken ++ output)) × P output
+
+-- the whole input was read, and its replay was written
+abbrev pub Replays : Option (List ℕ) → Option (List ℕ) → Option (List ℕ) → Option (List ℕ) → Type 0
+Replays None left' taken taken' = ⊤
+Replays (Some input) left' taken taken' = (left' ≡ Some []) × Wrote (IsReplayed input) taken taken'
+
+-- the replay of the lines before this one was written, and why this one ended it
+abbrev pub Stops : ℕ → Option (List ℕ) → Option (List ℕ) → Option (List ℕ) → Type 0
+Stops line None taken taken' = ⊤
+Stops line (Some input) taken taken' = Wrote (λ output. IsStopped input output line) taken taken'
+
+-- the replay of the whole lines that came was written; `given` is what the input had given before this call
+abbrev pub CutsShort : Option (List ℕ) → Option (List ℕ) → Option (List ℕ) → Option (List ℕ) → Type 0
+CutsShort None given' taken taken' = ⊤
+CutsShort (Some given) given' taken taken' = (input : List ℕ) × (given' ≡ Some (given ++ input)) × Wrote (IsCutShort input) taken taken'
+
+-- so many idle turns of the input are a fault
+abbrev pub patience : ℕ
+patience = 1000
+
+-- the input had a fault, or was idle for so many turns
+abbrev pub Failed : ℕ → ℕ → ℕ → ℕ → Type 0
+Failed faults faults' idles idles' = Rose faults faults' ⊎ (min (idles + patience) (2 ^ 64 - 1) ≤ idles')
+
+-- neither a wrong command line, nor a fault of the input or the output
+abbrev pub IsFaultless : Status → Type 0
+IsFaultless status.Done = ⊤
+IsFaultless status.Usage = ⊥
+IsFaultless (status.Script line) = ⊤
+IsFaultless status.ReadFault = ⊥
+IsFaultless status.WriteFault = ⊥
+IsFaultless status.Memory = ⊤
+
+-- what the process ends with
+abbrev pub number_of : Status → ℕ
+number_of status.Done = 0
+number_of status.Usage = 2
+number_of (status.Script line) = 3
+number_of status.ReadFault = 4
+number_of status.WriteFault = 5
+number_of status.Memory = 7

@@ -1,0 +1,28 @@
+-- What is written of a replay, and the status that goes with it.
+use Rattle.std.specs.Prelude.{◌≡◌, ℕ, List, [], ◌++◌, Option}
+use Rattle.zk_model.specs.Runs.{done_text, fault_text, unread_text, why_text}
+use Rattle.zx_outside.specs.Writing.{Takes}
+use Rattle.zetcd_cmd.specs.declared.script.Stop.TheVariants as stop
+use Rattle.zetcd_cmd.specs.declared.report.End.{End}
+use Rattle.zetcd_cmd.specs.declared.report.End.TheVariants as end
+use Rattle.zetcd_cmd.specs.declared.status.Status.{Status}
+use Rattle.zetcd_cmd.specs.declared.status.Status.TheVariants as status
+
+-- the last line, by how the script ended before line n
+abbrev pub ending_text : End → ℕ → List ℕ
+ending_text end.Whole n = done_text
+ending_text (end.Stopped (stop.Unread why)) n = fault_text n (unread_text why)
+ending_text (end.Stopped (stop.Refused why)) n = fault_text n (why_text why)
+ending_text (end.Stopped stop.Memory) n = []
+ending_text end.ReadFault n = []
+
+abbrev pub status_after : End → ℕ → Status
+status_after end.Whole n = status.Done
+status_after (end.Stopped (stop.Unread why)) n = status.Script n
+status_after (end.Stopped (stop.Refused why)) n = status.Script n
+status_after (end.Stopped stop.Memory) n = status.Memory
+status_after end.ReadFault n = status.ReadFault
+
+-- bytes went through a buffer: some were written, and the buffer has the rest
+abbrev pub Passes : List ℕ → List ℕ → List ℕ → Option (List ℕ) → Option (List ℕ) → Type 0
+Passes bytes buffer buffer' taken taken' = (written : List ℕ) × (written ++ buffer' ≡ buffer ++ bytes) × Takes written taken taken'

@@ -1,0 +1,98 @@
+-- A script that comes piece by piece: what of it was read and applied, and what ended it.
+use Rattle.std.specs.Prelude.{◌≡◌, ℕ, ◌+◌, ◌<◌, ◌≤◌, Bool, false, ◌==◌, List, [], ◌∷◌, ◌++◌, length, Option, Some, None, All}
+use Rattle.zk_model.specs.declared.script.Happening.{Happening}
+use Rattle.zk_model.specs.declared.script.Unread.{Unread}
+use Rattle.zk_model.specs.declared.script.Unread.TheVariants.{Unreadable}
+use Rattle.zk_model.specs.Scripts.{Script as Reading, lines_from, pieces, script, line_read, most_line, most_script}
+use Rattle.zk_model.specs.Runs.{IsWholeLines, refusal_of}
+use Rattle.zp_alone.specs.World.{World}
+use Rattle.zp_alone.specs.Reached.{Reached}
+use Rattle.zetcd_cmd.specs.declared.script.Script.{Script}
+use Rattle.zetcd_cmd.specs.declared.script.Stop.{Stop}
+use Rattle.zetcd_cmd.specs.declared.script.Stop.TheVariants as stop
+
+abbrev pub HasNoLineFeed : List ℕ → Type 0
+HasNoLineFeed bytes = All (λ b. (b == 10) ≡ false) bytes
+
+-- bytes up to the first line feed, and the bytes behind it
+abbrev pub IsFirstLine : List ℕ → List ℕ → List ℕ → Type 0
+IsFirstLine bytes line later = (bytes ≡ line ++ 10 ∷ later) × HasNoLineFeed line
+
+-- ---- one line
+
+-- it was read and applied
+abbrev pub Plays : List ℕ → World → World → Type 0
+Plays line w w' = (happenings : List Happening) → Reached happenings w → (h : Happening) × (line_read line ≡ Some h) × Reached (happenings ++ h ∷ []) w'
+
+-- it can't be read, or what it says isn't possible; the world is as before
+abbrev pub Halts : List ℕ → World → Stop → World → Type 0
+Halts line w (stop.Unread why) w' = (why ≡ Unreadable) × (line_read line ≡ None) × (w' ≡ w)
+Halts line w (stop.Refused why) w' = (h : Happening) × (line_read line ≡ Some h) × (refusal_of w.lines w.clock h ≡ Some why) × (w' ≡ w)
+Halts line w stop.Memory w' = Unit {0}
+
+-- it is too long to be kept, or memory was refused
+abbrev pub IsKeptOut : List ℕ → Stop → Type 0
+IsKeptOut line (stop.Unread why) = (why ≡ Unreadable) × (most_line < length line)
+IsKeptOut line (stop.Refused why) = ⊥
+IsKeptOut line stop.Memory = Unit {0}
+
+-- ---- the script so far
+
+-- what was said before, and then
+abbrev pub behind : List Happening → Reading → Reading
+behind happenings later = (happenings ++ later.0, later.1)
+
+-- these bytes are whole lines that say these happenings, whatever comes behind them
+pub record Says (lines : List ℕ) (happenings : List Happening) : Type 0 where
+  pub says : (is_cut : Bool) (rest : List ℕ) → lines_from is_cut 1 (pieces 10 (lines ++ rest)) ≡ behind happenings (lines_from is_cut (length happenings + 1) (pieces 10 rest))
+  pub whole : IsWholeLines lines
+  pub many : length happenings ≤ length lines
+
+-- these bytes were read: each whole line of them was applied, and the line that is pending has no line feed yet
+pub record HasRead (seen : List ℕ) (s : Script) : Type 0 where
+  pub lines : List ℕ
+  pub happenings : List Happening
+  pub says : Says lines happenings
+  pub parts : seen ≡ lines ++ s.pending.items
+  pub begun : HasNoLineFeed s.pending.items
+  pub short : length s.pending.items ≤ most_line
+  pub number : s.line ≡ length happenings + 1
+  pub reached : Reached happenings s.world
+
+-- the same, and how many bytes may still come
+pub record Stands (seen : List ℕ) (s : Script) : Type 0 where
+  pub read : HasRead seen s
+  pub room : length seen + s.room ≡ most_script
+
+-- ---- how a script ends
+
+-- the whole input was applied
+pub record IsApplied (input : List ℕ) (s : Script) : Type 0 where
+  pub happenings : List Happening
+  pub reached : Reached happenings s.world
+  pub read : script input ≡ (happenings, None)
+
+-- what stands against line n
+abbrev pub IsAgainst : World → ℕ → List Happening → Option (ℕ × Unread) → Stop → Type 0
+IsAgainst w n [] end (stop.Unread why) = end ≡ Some (n, why)
+IsAgainst w n [] end (stop.Refused why) = ⊥
+IsAgainst w n [] end stop.Memory = ⊥
+IsAgainst w n (h ∷ later) end (stop.Unread why) = ⊥
+IsAgainst w n (h ∷ later) end (stop.Refused why) = refusal_of w.lines w.clock h ≡ Some why
+IsAgainst w n (h ∷ later) end stop.Memory = ⊥
+
+-- the lines before the next were applied, and this stands against the next
+pub record IsHalted (input : List ℕ) (s : Script) (why : Stop) : Type 0 where
+  pub before : List Happening
+  pub later : List Happening
+  pub end : Option (ℕ × Unread)
+  pub reached : Reached before s.world
+  pub number : s.line ≡ length before + 1
+  pub read : script input ≡ (before ++ later, end)
+  pub against : IsAgainst s.world s.line later end why
+
+-- the same, unless memory was refused
+abbrev pub Ends : List ℕ → Script → Stop → Type 0
+Ends input s (stop.Unread why) = IsHalted input s (stop.Unread why)
+Ends input s (stop.Refused why) = IsHalted input s (stop.Refused why)
+Ends input s stop.Memory = Unit {0}

@@ -1,0 +1,22 @@
+-- What the next piece of a source is, over reads and idle turns.
+use Rattle.std.specs.Prelude.{ℕ, ◌+◌, ◌-◌, ◌^◌, ◌<◌, ◌≤◌, min, List, take, Option}
+use Rattle.std.specs.Io.KnownBytes.{IsAtEnd}
+use Rattle.zx_outside.specs.Reading.{Gives, GivesNone}
+use Rattle.zetcd_cmd.specs.declared.streams.Piece.{Piece}
+use Rattle.zetcd_cmd.specs.declared.streams.Piece.TheVariants as piece
+
+-- at least one byte, and no more than the buffer holds
+abbrev pub Fits : Piece → ℕ → Type 0
+Fits (piece.Bytes n) room = (0 < n) × (n ≤ room)
+Fits piece.End room = Unit {0}
+Fits piece.Fault room = Unit {0}
+
+-- the bytes at the front of the buffer were given, or none; an end comes only where none is left
+abbrev pub Comes : Piece → List ℕ → Option (List ℕ) → Option (List ℕ) → Option (List ℕ) → Option (List ℕ) → Type 0
+Comes (piece.Bytes n) buffer given given' left left' = Gives (take n buffer) given given' left left'
+Comes piece.End buffer given given' left left' = IsAtEnd left × GivesNone given given' left left'
+Comes piece.Fault buffer given given' left left' = GivesNone given given' left left'
+
+-- there were so many idle turns since the count stood at the start
+abbrev pub Waited : ℕ → ℕ → ℕ → Type 0
+Waited start turns now = min (start + turns) (2 ^ 64 - 1) ≤ now

@@ -1,0 +1,139 @@
+//! What a replay writes: its transcript, and how the script ended.
+
+ghost use Rattle.std.specs.Prelude.{◌≡◌, ◌++◌, ◌≤◌, [], OnOk, OnErr, IfErr};
+ghost use Rattle.zk_model.specs.Transcripts.{line_text, transcript_text};
+ghost use Rattle.zx_outside.specs.Counts.{Rose};
+ghost use Rattle.zx_outside.specs.Writing.{Takes};
+ghost use Rattle.zetcd_cmd.specs.Reporting.{Passes, ending_text, status_after};
+
+use crate::script::Stop;
+use crate::status::Status;
+use crate::streams::write_all;
+use std::alloc::Global;
+use zk_model::TranscriptLine;
+use zt_text::{push_done, push_fault, push_line, push_unread};
+use zx_base::Memory;
+use zx_outside::Sink;
+
+/// About how many bytes are written at once.
+const MOST_KEPT: usize = 65_536;
+
+/// How the reading of a script ended.
+#[derive(Clone, Copy, Debug, PartialEq, Eq)]
+pub enum End {
+    /// All of it was applied.
+    Whole,
+    /// The line that is next was not applied.
+    Stopped(Stop),
+    /// The source had a fault, or was idle for too long.
+    ReadFault,
+}
+
+/// Why not all was written.
+#[derive(Clone, Copy, Debug, PartialEq, Eq)]
+pub enum Unwritten {
+    /// The sink had a fault.
+    Sink,
+    Memory,
+}
+
+impl From<Memory> for Unwritten {
+    ghost use Rattle.std.specs.Prelude.{◌≡◌};
+    ghost use Rattle.zetcd_cmd.specs.declared.report.Unwritten.TheVariants.{Memory};
+
+    ghost from_gives = { λ _ e. e ≡ Memory };
+
+    fn from(_refused: Memory) -> Unwritten {
+        Unwritten::Memory
+    }
+}
+
+/// The status of a replay that ended so before this line, and whose report was written.
+pub fn status_of(end: End, line: u64) -> Status
+    ensures { result ≡ status_after end line }
+{
+    match end {
+        End::Whole => Status::Done,
+        End::Stopped(Stop::Memory) => Status::Memory,
+        End::Stopped(_) => Status::Script { line },
+        End::ReadFault => Status::ReadFault,
+    }
+}
+
+/// Writes the transcript, and how the script ended before this line.
+pub fn report<O: Sink>(
+    alloc: Global,
+    lines: &[TranscriptLine],
+    end: End,
+    line: u64,
+    out: &mut O,
+) -> Result<(), Unwritten>
+    ensures ok { OnOk result (Takes (transcript_text lines.now ++ ending_text end line) (O.taken out.old) (O.taken out.new)) }
+    ensures err { IfErr result (λ e. e ≡ Unwritten.Sink → Rose (O.faults out.old) (O.faults out.new)) }
+    ensures faults_stay { O.faults out.old ≤ O.faults out.new }
+{
+    let mut text = Vec::new(alloc);
+    write_lines(lines, &mut text, out)?;
+    push_end(&mut text, end, line)?;
+    write_out(&mut text, out)
+}
+
+/// Writes lines; what is not written yet stays in `text`.
+fn write_lines<O: Sink>(
+    lines: &[TranscriptLine],
+    text: &mut Vec<u8>,
+    out: &mut O,
+) -> Result<(), Unwritten>
+    ensures ok { OnOk result (Passes (transcript_text lines.now) text.old.items text.new.items (O.taken out.old) (O.taken out.new)) }
+    ensures err { IfErr result (λ e. e ≡ Unwritten.Sink → Rose (O.faults out.old) (O.faults out.new)) }
+    ensures faults_stay { O.faults out.old ≤ O.faults out.new }
+{
+    for line in lines {
+        write_line(line, text, out)?;
+    }
+    Ok(())
+}
+
+/// Adds a line to `text`, and writes all of that once it is long enough.
+fn write_line<O: Sink>(
+    line: &TranscriptLine,
+    text: &mut Vec<u8>,
+    out: &mut O,
+) -> Result<(), Unwritten>
+    ensures ok { OnOk result (Passes (line_text line.now) text.old.items text.new.items (O.taken out.old) (O.taken out.new)) }
+    ensures err { IfErr result (λ e. e ≡ Unwritten.Sink → Rose (O.faults out.old) (O.faults out.new)) }
+    ensures faults_stay { O.faults out.old ≤ O.faults out.new }
+{
+    push_line(text, line)?;
+    if text.len() < MOST_KEPT {
+        return Ok(());
+    }
+    write_out(text, out)
+}
+
+/// Writes all of `text`, which is empty then and keeps its room.
+fn write_out<O: Sink>(text: &mut Vec<u8>, out: &mut O) -> Result<(), Unwritten>
+    ensures ok { OnOk result (Takes text.old.items (O.taken out.old) (O.taken out.new)) }
+    ensures empty { OnOk result (text.new.items ≡ []) }
+    ensures err { IfErr result (λ e. (e ≡ Unwritten.Sink) × Rose (O.faults out.old) (O.faults out.new)) }
+    ensures faults_stay { O.faults out.old ≤ O.faults out.new }
+{
+    if !write_all(out, text.as_slice()) {
+        return Err(Unwritten::Sink);
+    }
+    text.clear();
+    Ok(())
+}
+
+/// Adds the last line, which a fault of the input has not.
+fn push_end(text: &mut Vec<u8>, end: End, line: u64) -> Result<(), Memory>
+    ensures ok { OnOk result (text.new.items ≡ text.old.items ++ ending_text end line) }
+    ensures err { OnErr result (text.new.items ≡ text.old.items) }
+{
+    match end {
+        End::Whole => push_done(text),
+        End::Stopped(Stop::Unread(why)) => push_unread(text, line, why),
+        End::Stopped(Stop::Refused(why)) => push_fault(text, line, why),
+        End::Stopped(Stop::Memory) | End::ReadFault => Ok(()),
+    }
+}

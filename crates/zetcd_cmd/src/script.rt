@@ -1,0 +1,190 @@
+//! A script that comes piece by piece, and the world that its lines are applied to.
+
+ghost use Rattle.std.specs.Prelude.{◌≡◌, ◌+◌, ◌<◌, ◌≤◌, ◌++◌, ◌∷◌, [], ℕ, List, length, IfOk, OnOk, IfErr, MatchOption};
+ghost use Rattle.zk_model.specs.Scripts.{most_line, most_script};
+ghost use Rattle.zetcd_cmd.specs.Scripting.{HasNoLineFeed, IsFirstLine, Plays, Halts, HasRead, Stands, IsApplied, Ends, IsKeptOut};
+
+use std::alloc::Global;
+use zk_model::{TranscriptLine, Unread, Why};
+use zp_alone::{Alone, ApplyFault};
+use zt_text::{MOST_LINE, MOST_SCRIPT, read_line};
+use zx_base::Memory;
+
+const LINE_FEED: u8 = b'\n';
+
+/// Why no further line is applied.
+#[derive(Clone, Copy, Debug, PartialEq, Eq)]
+pub enum Stop {
+    /// The line cannot be read.
+    Unread(Unread),
+    /// What it says is not possible.
+    Refused(Why),
+    Memory,
+}
+
+/// A script of which some bytes came. Each line is applied once its line feed is there, before a later byte is looked
+/// at, so that no more than one line is kept.
+#[derive(Drop)]
+pub struct Script {
+    alloc: Global,
+    world: Alone,
+    /// What came of the line that is not whole yet.
+    pending: Vec<u8>,
+    /// The number of that line, from 1.
+    line: u64,
+    /// How many bytes may still come.
+    room: usize,
+}
+
+impl Script {
+    /// A script of which nothing came yet.
+    pub fn new(alloc: Global) -> Result<Script, Memory>
+        ensures { IfOk result (λ s. Stands [] s) }
+    {
+        let world = Alone::new(alloc)?;
+        Ok(Script {
+            alloc,
+            world,
+            pending: Vec::new(alloc),
+            line: 1,
+            room: MOST_SCRIPT,
+        })
+    }
+
+    /// What the lines that were applied show.
+    pub fn transcript(&self) -> &[TranscriptLine]
+        ensures { result.now ≡ self.now.world.lines }
+    {
+        self.world.lines()
+    }
+
+    /// The number of the line that is applied next, from 1.
+    pub fn line(&self) -> u64
+        ensures { result ≡ self.now.line }
+    {
+        self.line
+    }
+
+    /// Takes the next bytes, and applies each line that ends in them. Of a script that is too long, the bytes that
+    /// a script may have are taken, and then the line is refused that goes on.
+    pub fn take(&mut self, piece: &[u8]) -> Result<(), Stop>
+        ensures ok { OnOk result ((seen : List ℕ) → Stands seen self.old → Stands (seen ++ piece.now) self.new) }
+        ensures err { IfErr result (λ stop. (seen rest : List ℕ) → Stands seen self.old → Ends ((seen ++ piece.now) ++ rest) self.new stop) }
+        ensures room { OnOk result (self.new.room + length piece.now ≡ self.old.room) }
+    {
+        if piece.len() > self.room {
+            self.take_lines(&piece[..self.room])?;
+            return Err(Stop::Unread(Unread::TooLong));
+        }
+        self.take_lines(piece)?;
+        self.room -= piece.len();
+        Ok(())
+    }
+
+    /// Applies each line that ends in these bytes, and keeps what stands behind the last.
+    fn take_lines(&mut self, bytes: &[u8]) -> Result<(), Stop>
+        ensures ok { OnOk result ((seen : List ℕ) → HasRead seen self.old → length (seen ++ bytes.now) ≤ most_script → HasRead (seen ++ bytes.now) self.new) }
+        ensures err { IfErr result (λ stop. (seen rest : List ℕ) → HasRead seen self.old → length (seen ++ bytes.now) ≤ most_script → Ends ((seen ++ bytes.now) ++ rest) self.new stop) }
+        ensures room { self.new.room ≡ self.old.room }
+    {
+        let mut rest = bytes;
+        'lines: while let Some((line, later)) = first_line(rest) {
+            self.end_line(line)?;
+            rest = later;
+        }
+        keep(&mut self.pending, rest)
+    }
+
+    /// Applies the line that ends with these bytes.
+    fn end_line(&mut self, bytes: &[u8]) -> Result<(), Stop>
+        requires { HasNoLineFeed bytes.now }
+        ensures ok { OnOk result ((seen : List ℕ) → HasRead seen self.old → length (seen ++ bytes.now) < most_script → HasRead (seen ++ (bytes.now ++ 10 ∷ [])) self.new) }
+        ensures err { IfErr result (λ stop. (seen rest : List ℕ) → HasRead seen self.old → length (seen ++ bytes.now) < most_script → Ends (seen ++ (bytes.now ++ 10 ∷ rest)) self.new stop) }
+        ensures room { self.new.room ≡ self.old.room }
+    {
+        self.apply_with(bytes)?;
+        self.line = self.line.saturating_add(1);
+        Ok(())
+    }
+
+    /// Applies the line that is pending, with these bytes at its end.
+    fn apply_with(&mut self, bytes: &[u8]) -> Result<(), Stop>
+        ensures ok { OnOk result (Plays (self.old.pending.items ++ bytes.now) self.old.world self.new.world) }
+        ensures empty { OnOk result (self.new.pending.items ≡ []) }
+        ensures err { IfErr result (λ stop. Halts (self.old.pending.items ++ bytes.now) self.old.world stop self.new.world) }
+        ensures line { self.new.line ≡ self.old.line }
+        ensures room { self.new.room ≡ self.old.room }
+    {
+        if self.pending.is_empty() {
+            return apply_line(self.alloc, bytes, &mut self.world);
+        }
+        keep(&mut self.pending, bytes)?;
+        self.apply_pending()
+    }
+
+    /// Applies the line that is pending, of which nothing is kept then.
+    fn apply_pending(&mut self) -> Result<(), Stop>
+        ensures ok { OnOk result (Plays self.old.pending.items self.old.world self.new.world) }
+        ensures empty { OnOk result (self.new.pending.items ≡ []) }
+        ensures err { IfErr result (λ stop. Halts self.old.pending.items self.old.world stop self.new.world) }
+        ensures line { self.new.line ≡ self.old.line }
+        ensures room { self.new.room ≡ self.old.room }
+    {
+        apply_line(self.alloc, self.pending.as_slice(), &mut self.world)?;
+        self.pending.clear();
+        Ok(())
+    }
+
+    /// Applies what stands behind the last line feed, where that is anything.
+    pub fn finish(&mut self) -> Result<(), Stop>
+        ensures ok { OnOk result ((seen : List ℕ) → Stands seen self.old → IsApplied seen self.new) }
+        ensures err { IfErr result (λ stop. (seen : List ℕ) → Stands seen self.old → Ends seen self.new stop) }
+    {
+        if self.pending.is_empty() {
+            return Ok(());
+        }
+        apply_line(self.alloc, self.pending.as_slice(), &mut self.world)
+    }
+}
+
+/// The first line, without its line feed, and what stands behind that.
+fn first_line(bytes: &[u8]) -> Option<(&[u8], &[u8])>
+    ensures { MatchOption result (HasNoLineFeed bytes.now) (λ parts. IsFirstLine bytes.now parts.0.now parts.1.now) }
+{
+    for (at, byte) in bytes.iter().enumerate() {
+        if *byte == LINE_FEED {
+            return Some((&bytes[..at], &bytes[at + 1..]));
+        }
+    }
+    None
+}
+
+/// Adds these bytes to the line that is pending, unless it is too long then.
+fn keep(pending: &mut Vec<u8>, bytes: &[u8]) -> Result<(), Stop>
+    ensures ok { OnOk result ((pending.new.items ≡ pending.old.items ++ bytes.now) × (length pending.new.items ≤ most_line)) }
+    ensures err { IfErr result (λ stop. IsKeptOut (pending.old.items ++ bytes.now) stop) }
+{
+    if bytes.len() > MOST_LINE || pending.len() > MOST_LINE - bytes.len() {
+        return Err(Stop::Unread(Unread::Unreadable));
+    }
+    match pending.extend_from_slice(bytes) {
+        Ok(()) => Ok(()),
+        Err(_) => Err(Stop::Memory),
+    }
+}
+
+/// Reads a line, and applies what it says.
+fn apply_line(alloc: Global, line: &[u8], world: &mut Alone) -> Result<(), Stop>
+    ensures ok { OnOk result (Plays line.now world.old world.new) }
+    ensures err { IfErr result (λ stop. Halts line.now world.old stop world.new) }
+{
+    match read_line(alloc, line) {
+        Ok(Some(happening)) => match world.apply(happening) {
+            Ok(()) => Ok(()),
+            Err(ApplyFault::NotPossible { why }) => Err(Stop::Refused(why)),
+            Err(ApplyFault::Memory) => Err(Stop::Memory),
+        },
+        Ok(None) => Err(Stop::Unread(Unread::Unreadable)),
+        Err(Memory) => Err(Stop::Memory),
+    }
+}

@@ -1,0 +1,154 @@
+//! Reading the head, whose record is a list.
+
+ghost use Rattle.std.specs.Prelude.{◌≡◌, ◌↔◌, ℕ, List, ◌∷◌, [], IfOk, MatchOption, MatchResult, IsTrue};
+ghost use Rattle.zk_model.specs.JuteWriting.{string_bytes};
+ghost use Rattle.zn_layout.specs.Records.{trigger_bytes};
+ghost use Rattle.zn_layout.specs.Reading.{head_bytes, IsHeadWithin, IsValueOf, IsFault, IsReadAs};
+ghost use Rattle.zn_layout.specs.ReadingSteps.{IsValidPath, IsValidTrigger, TakesItem, TakesItems, IsOfKind, IsPathOf, IsCounted, IsNotCounted};
+
+use crate::fault::{RecordFault, damaged};
+use crate::read::{behind_first, split_int};
+use crate::record::HeadRec;
+use std::alloc::Global;
+use std::marker::Model;
+use zk_model::{Path, PathFault, Trigger};
+use zx_base::{Memory, Seq};
+
+/// The head's record of which this is the value under this key.
+pub fn read_head(alloc: Global, key: &[u8], value: &[u8]) -> Result<HeadRec, RecordFault>
+    ensures { MatchResult result (IsValueOf head_bytes IsHeadWithin value.now) (IsFault head_bytes IsHeadWithin key.now value.now) }
+{
+    match head_in(alloc, value)? {
+        Some(head) => Ok(head),
+        None => Err(damaged(alloc, key, value)),
+    }
+}
+
+fn head_in(alloc: Global, value: &[u8]) -> Result<Option<HeadRec>, Memory>
+    ensures { IfOk result (IsReadAs head_bytes IsHeadWithin value.now) }
+{
+    let Some(numbers) = behind_first(value) else {
+        return Ok(None);
+    };
+    let Some((count, rest)) = split_count(numbers) else {
+        return Ok(None);
+    };
+    let mut reader = Reader { rest };
+    let Some(triggers) = reader.triggers(alloc, count)? else {
+        return Ok(None);
+    };
+    if reader.is_done() {
+        Ok(Some(HeadRec { triggers }))
+    } else {
+        Ok(None)
+    }
+}
+
+/// What is still to be read of a value.
+#[derive(Drop)]
+struct Reader<'a> {
+    rest: &'a [u8],
+}
+
+impl<'a> Model for Reader<'a> {
+    ghost use Rattle.std.specs.Prelude.{ℕ, List};
+
+    ghost Value = { List ℕ };
+
+    ghost view = { λ r. r.rest.now };
+}
+
+impl<'a> Reader<'a> {
+    fn is_done(&self) -> bool
+        ensures { IsTrue result ↔ (self.now ≡ []) }
+    {
+        self.rest.is_empty()
+    }
+
+    fn triggers(&mut self, alloc: Global, count: usize) -> Result<Option<Seq<Trigger>>, Memory>
+        ensures { IfOk result (TakesItems trigger_bytes IsValidTrigger count self.old self.new) }
+    {
+        let mut triggers = Vec::new(alloc);
+        for _ in 0..count {
+            match self.trigger(alloc)? {
+                Some(trigger) => triggers.push(trigger)?,
+                None => return Ok(None),
+            }
+        }
+        Ok(Some(Seq::from_vec(triggers)))
+    }
+
+    fn trigger(&mut self, alloc: Global) -> Result<Option<Trigger>, Memory>
+        ensures { IfOk result (TakesItem trigger_bytes IsValidTrigger self.old self.new) }
+    {
+        let Some((kind, rest)) = split_byte(self.rest) else {
+            return Ok(None);
+        };
+        self.rest = rest;
+        match self.path(alloc)? {
+            Some(path) => Ok(trigger_of(kind, path)),
+            None => Ok(None),
+        }
+    }
+
+    fn path(&mut self, alloc: Global) -> Result<Option<Path>, Memory>
+        ensures { IfOk result (TakesItem string_bytes IsValidPath self.old self.new) }
+    {
+        let Some((length, rest)) = split_count(self.rest) else {
+            return Ok(None);
+        };
+        if rest.len() < length {
+            return Ok(None);
+        }
+        let (text, rest) = rest.split_at(length);
+        self.rest = rest;
+        path_of(alloc, text)
+    }
+}
+
+/// A byte, and what stands behind it.
+fn split_byte(bytes: &[u8]) -> Option<(u8, &[u8])>
+    ensures { MatchOption result (bytes.now ≡ []) (λ x. bytes.now ≡ x.0 ∷ x.1.now) }
+{
+    match bytes {
+        [byte, rest @ ..] => Some((*byte, rest)),
+        [] => None,
+    }
+}
+
+/// A length or a count, and what stands behind it.
+fn split_count(bytes: &[u8]) -> Option<(usize, &[u8])>
+    ensures { MatchOption result (IsNotCounted bytes.now) (λ x. IsCounted bytes.now x.0 x.1.now) }
+{
+    if bytes.len() < 4 {
+        return None;
+    }
+    let (number, rest) = split_int(bytes);
+    match usize::try_from(number) {
+        Ok(count) => Some((count, rest)),
+        Err(_) => None,
+    }
+}
+
+/// The path that a text is, if it is one.
+fn path_of(alloc: Global, text: &[u8]) -> Result<Option<Path>, Memory>
+    ensures { IfOk result (IsPathOf text.now) }
+{
+    match Path::read(alloc, text, false) {
+        Ok(path) => Ok(Some(path)),
+        Err(PathFault::Memory) => Err(Memory),
+        Err(_) => Ok(None),
+    }
+}
+
+fn trigger_of(kind: u8, path: Path) -> Option<Trigger>
+    ensures { IsOfKind kind path result }
+{
+    match kind {
+        1 => Some(Trigger::Created(path)),
+        2 => Some(Trigger::Deleted(path)),
+        3 => Some(Trigger::Changed(path)),
+        4 => Some(Trigger::Children(path)),
+        _ => None,
+    }
+}

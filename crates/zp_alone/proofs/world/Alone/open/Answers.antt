@@ -1,0 +1,21 @@
+use Rattle.std.proofs.Common.{◌≡◌, sym, ◌∙◌, subst, rules}
+use Rattle.zk_model.specs.declared.script.Why.TheVariants as why
+use Rattle.zp_alone.specs.Effects.{Plays, opened}
+use Rattle.zp_alone.proofs.Reaching.{plays-open}
+use Rattle.zp_alone.proofs.Refusals.{refuses, open-in_use, open-second, open-possible}
+use Rattle.zp_alone.proofs.world.Alone.open.Goals as goal
+
+pub returns-then-is_open : goal.returns-then-is_open
+returns-then-is_open c = refuses c.args.self.now _ why.NumberInUse c.refused.result (open-in_use _ _ _ _ _ _ (sym c.is_open.ensures ∙ c.if-is_open.true)) c.refused.ensures
+
+pub returns-then-has_connection : goal.returns-then-has_connection
+returns-then-has_connection c =
+    refuses c.args.self.now _ why.NotBuilt c.refused-then-has_connection.result
+    (open-second _ _ _ _ _ _ (sym c.is_open.ensures ∙ c.if-is_open.false) (sym c.has_connection.ensures.lines ∙ c.if-has_connection.true)) c.refused-then-has_connection.ensures
+
+pub returns : goal.returns
+returns c =
+    let possible = open-possible c.args.self.now.lines c.args.self.now.clock c.args.connection c.args.proxy c.args.id c.args.passwd
+    (sym c.is_open.ensures ∙ c.if-is_open.false) (sym c.has_connection.ensures.lines ∙ c.if-has_connection.false) in
+    let leaves : c.add_connection.new.self ≡ opened c.args.self.now c.args.connection c.args.proxy c.args.id c.args.passwd = search rules in
+    (possible, subst (Plays c.args.self.now _) (sym leaves) (plays-open c.args.self.now c.args.connection c.args.proxy c.args.id c.args.passwd possible))
