@@ -26,13 +26,6 @@ pub mod RequestLaws
 pub mod Lengths
 pub mod Stats
 pub mod ReplyLaws
-pub mod Paths
-pub mod Children
-pub mod Owned
-pub mod Sound
-pub mod PathDefects
-pub mod PathScans
-pub mod ValidPaths
 pub mod Numbered
 pub mod Conforming
 pub mod Listing
