@@ -24,7 +24,8 @@ use Rattle.zk_model.proofs.Happened.{within-new, within-runs, RunsFrom-push, pun
 use Rattle.zp_alone.specs.World.{World, IsLinked, is_number}
 use Rattle.zp_alone.specs.Talking.{AreQueued}
 use Rattle.zp_alone.specs.Reached.{IsKeptIn, IsTalking, IsKept, Reached}
-use Rattle.zp_alone.specs.Effects.{IsBegun, begun, Plays, opened, framed, ticked, AnswersSome}
+use Rattle.zp_alone.specs.Applying.{Plays}
+use Rattle.zp_alone.specs.Effects.{IsBegun, begun, opened, framed, ticked, AnswersSome}
 use Rattle.zp_alone.proofs.Linked.{not_there}
 use Rattle.zp_alone.proofs.Kept.{talking, kept-open, kept-frame, kept-tick}
 

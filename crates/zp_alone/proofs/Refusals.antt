@@ -15,7 +15,7 @@ use Rattle.zk_model.specs.declared.request.Request.{Request}
 use Rattle.zp_alone.specs.declared.fault.ApplyFault.{ApplyFault}
 use Rattle.zp_alone.specs.declared.fault.ApplyFault.TheVariants as fault
 use Rattle.zp_alone.specs.World.{World}
-use Rattle.zp_alone.specs.Effects.{Applies}
+use Rattle.zp_alone.specs.Applying.{Applies}
 
 pub refuses : (w : World) (h : Happening) (y : Why) (f : ApplyFault) → refusal_of w.lines w.clock h ≡ Some y → f ≡ fault.NotPossible y → Applies w h (Err f) w
 refuses w h y f refusal is = subst (λ (g : ApplyFault). Applies w h (Err g) w) (sym is) (refusal, refl)

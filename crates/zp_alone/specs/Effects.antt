@@ -1,23 +1,20 @@
--- What each happening does to a world, and one answer.
-use Rattle.std.specs.Prelude.{◌≡◌, ℕ, ◌+◌, ℤ, pos, Bool, true, false, List, [], ◌∷◌, ◌++◌, Some, None, Result, Ok, Err, All}
+-- What each happening writes, and each answer. No public contract names these words.
+use Rattle.std.specs.Prelude.{◌≡◌, ℕ, ◌+◌, ℤ, pos, Bool, true, false, List, [], ◌∷◌, ◌++◌, Some, None, All}
 use Rattle.ev_types.specs.Store.{Store, present, revision}
 use Rattle.zk_model.specs.declared.request.Request.{Request}
-use Rattle.zk_model.specs.declared.script.Happening.{Happening}
 use Rattle.zk_model.specs.declared.transcript.TranscriptLine.{TranscriptLine}
 use Rattle.zk_model.specs.declared.transcript.TranscriptLine.TheVariants.{Update, Open, Frame, Send}
 use Rattle.zk_model.specs.declared.transcript.UpdateKind.TheVariants.{Asked}
 use Rattle.zk_model.specs.Packets.{reply_packet}
 use Rattle.zk_model.specs.History.{IsSound, after}
-use Rattle.zk_model.specs.Runs.{IsAnswerLine, begin_line, refusal_of}
+use Rattle.zk_model.specs.Runs.{IsAnswerLine, begin_line}
 use Rattle.zn_layout.specs.StandsFor.{StandsFor}
 use Rattle.zn_ops.specs.declared.requests.Answered.{Answered}
 use Rattle.zn_ops.specs.declared.requests.Answered.TheVariants.{Repeats, Looked, Updated}
 use Rattle.zn_ops.specs.Answering.{Answers}
-use Rattle.zp_alone.specs.declared.fault.ApplyFault.{ApplyFault}
-use Rattle.zp_alone.specs.declared.fault.ApplyFault.TheVariants as fault
 use Rattle.zp_alone.specs.declared.waiting.Waiting.{Waiting}
 use Rattle.zp_alone.specs.World.{World}
-use Rattle.zp_alone.specs.Reached.{IsKept, Reached}
+use Rattle.zp_alone.specs.Reached.{IsKept}
 
 -- the store holds the root alone, made at moment 0 by its revision 2
 pub record IsBegun (store : Store) : Type 0 where
@@ -29,19 +26,13 @@ pub record IsBegun (store : Store) : Type 0 where
 abbrev pub begun : Store → World
 begun store = record { store = store; lines = begin_line ∷ []; clock = 0; connection = None; frames = 0; waiting = []; told = pos 2 }
 
--- whatever led to the old world leads, with one happening more, to the new one
-abbrev pub Plays : World → Happening → World → Type 0
-Plays old h new = (happenings : List Happening) → Reached happenings old → Reached (happenings ++ h ∷ []) new
+-- ---- one happening
 
--- a happening that is possible and was applied, or one that isn't, which changes nothing
-abbrev pub Applies : World → Happening → Result (Unit {0}) ApplyFault → World → Type 0
-Applies old h (Ok x) new = (refusal_of old.lines old.clock h ≡ None) × Plays old h new
-Applies old h (Err (fault.NotPossible why)) new = (refusal_of old.lines old.clock h ≡ Some why) × (new ≡ old)
-Applies old h (Err fault.Memory) new = Unit {0}
-
+-- the connection opens
 abbrev pub opened : World → ℕ → ℕ → ℤ → List ℕ → World
 opened w c proxy id passwd = record w { lines = w.lines ++ Open c proxy id passwd ∷ []; connection = Some c }
 
+-- a frame comes, and its request waits
 abbrev pub asked_next : World → ℤ → Request → Waiting
 asked_next w xid r = record { index = w.frames + 1; xid = xid; request = r }
 
@@ -49,6 +40,7 @@ abbrev pub framed : World → ℕ → List ℕ → ℤ → Request → World
 framed w c bytes xid r =
     record w { lines = w.lines ++ Frame c (w.frames + 1) (revision w.store) bytes ∷ []; frames = w.frames + 1; waiting = w.waiting ++ asked_next w xid r ∷ [] }
 
+-- milliseconds pass
 abbrev pub ticked : World → ℕ → World
 ticked w millis = record w { clock = w.clock + millis }
 

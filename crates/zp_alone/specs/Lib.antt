@@ -1,4 +1,5 @@
 pub mod World
-pub mod Talking
 pub mod Reached
+pub mod Applying
+pub mod Talking
 pub mod Effects

@@ -46,4 +46,5 @@ pub record Reached (happenings : List Happening) (w : World) : Type 0 where
   pub lines : run.lines ≡ w.lines
   pub clock : run.clock ≡ w.clock
   pub one_run : IsOneRun run
+  -- what the next happening stands on
   pub kept : IsKept w

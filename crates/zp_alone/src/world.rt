@@ -4,7 +4,8 @@ ghost use Rattle.std.specs.Prelude.{◌≡◌, [], false, IfOk, OnOk, is_some};
 ghost use Rattle.std.specs.List.{list_any};
 ghost use Rattle.zk_model.specs.declared.script.Happening.TheVariants as line;
 ghost use Rattle.zk_model.specs.Runs.{is_open, is_opening};
-ghost use Rattle.zp_alone.specs.Effects.{AnswersNext, Applies, framed, opened};
+ghost use Rattle.zp_alone.specs.Applying.{Applies};
+ghost use Rattle.zp_alone.specs.Effects.{AnswersNext, framed, opened};
 ghost use Rattle.zp_alone.specs.Reached.{Reached};
 ghost use Rattle.zp_alone.specs.World.{IsAnswerable};
 

@@ -3,7 +3,8 @@ use Rattle.zk_model.specs.declared.script.Happening.TheVariants as line
 use Rattle.zk_model.specs.declared.script.Why.TheVariants as why
 use Rattle.zk_model.specs.Frames.{most_frame}
 use Rattle.zp_alone.specs.World.{IsReadBuilt}
-use Rattle.zp_alone.specs.Effects.{Plays, framed}
+use Rattle.zp_alone.specs.Applying.{Plays}
+use Rattle.zp_alone.specs.Effects.{framed}
 use Rattle.zp_alone.proofs.Reaching.{plays-frame}
 use Rattle.zp_alone.proofs.Refusals.{refuses, frame-unknown, frame-long, frame-unbuilt, frame-possible}
 use Rattle.zp_alone.proofs.world.Alone.frame.Goals as goal

@@ -1,6 +1,7 @@
 use Rattle.std.proofs.Common.{◌≡◌, sym, ◌∙◌, subst, rules}
 use Rattle.zk_model.specs.declared.script.Why.TheVariants as why
-use Rattle.zp_alone.specs.Effects.{Plays, opened}
+use Rattle.zp_alone.specs.Applying.{Plays}
+use Rattle.zp_alone.specs.Effects.{opened}
 use Rattle.zp_alone.proofs.Reaching.{plays-open}
 use Rattle.zp_alone.proofs.Refusals.{refuses, open-in_use, open-second, open-possible}
 use Rattle.zp_alone.proofs.world.Alone.open.Goals as goal

@@ -3,7 +3,8 @@ use Rattle.zk_model.specs.declared.script.Happening.TheVariants as line
 use Rattle.zk_model.specs.declared.script.Why.TheVariants as why
 use Rattle.zk_model.specs.Runs.{last_moment}
 use Rattle.zp_alone.specs.World.{World}
-use Rattle.zp_alone.specs.Effects.{Plays, ticked}
+use Rattle.zp_alone.specs.Applying.{Plays}
+use Rattle.zp_alone.specs.Effects.{ticked}
 use Rattle.zp_alone.proofs.Reaching.{plays-tick}
 use Rattle.zp_alone.proofs.Refusals.{refuses, tick-past, tick-possible}
 use Rattle.zp_alone.proofs.world.Alone.tick.Goals as goal
