@@ -1,15 +1,14 @@
 //! Create of a plain node (ZooKeeper API, `create`).
 
-ghost use Rattle.std.specs.Prelude.{◌≡◌, ◌≤◌, ◌<◌, ◌+◌, ℕ, pos, IfOk, IfErr, IfSome, IsTrue, OnOk, OnErr, Some, None, length, map, false, is_some, ◌++◌, ◌∷◌, []};
+ghost use Rattle.std.specs.Prelude.{◌≡◌, ◌≤◌, ℕ, pos, IfOk, IfErr, IfSome, IsTrue, OnErr, Some, None, length, map};
 ghost use Rattle.ev_types.specs.Store.{present};
 ghost use Rattle.zk_model.specs.Frames.{most_frame};
 ghost use Rattle.zk_model.specs.Packets.{CanBeSent};
 ghost use Rattle.zk_model.specs.Paths.{is_path, most_path, parent};
 ghost use Rattle.zk_model.specs.Runs.{last_moment};
 ghost use Rattle.zk_model.specs.declared.request.Request.TheVariants as req;
-ghost use Rattle.zn_layout.specs.Begin.{new_record, no_counts};
-ghost use Rattle.zn_layout.specs.Changes.{act_of, put_key, head_put, update_acts};
-ghost use Rattle.zn_layout.specs.Keys.{HeadKey, DataKey, CountsKey, key_bytes};
+ghost use Rattle.zn_layout.specs.Begin.{new_record};
+ghost use Rattle.zn_layout.specs.Changes.{update_acts};
 ghost use Rattle.zn_layout.specs.Records.{IsNodeRec, IsCountRec};
 ghost use Rattle.zn_ops.specs.Answering.{Answers, HasRoom, reply_in};
 ghost use Rattle.zn_ops.specs.Choices.{IfMakes, create_choice, create_keys, create_changes, create_triggers};
@@ -38,6 +37,13 @@ use zx_base::{Bytes, Memory, Seq};
 
 /// The most creates of children that a node counts.
 const MOST_CREATES: i32 = 1_073_741_823;
+
+/// The places of the keys that a create looks up.
+const UP_DATA: usize = 0;
+
+const UP_COUNTS: usize = 1;
+
+const OWN_DATA: usize = 2;
 
 /// What a create comes to: a refusal, or the parent's counts after it.
 #[derive(Clone, Copy)]
@@ -105,8 +111,8 @@ fn look_up(alloc: Global, store: &mut Store, path: &Path, above: &Path) -> Resul
 {
     let view = look(alloc, store, keys(alloc, path, above)?)?;
     let zxid = view.zxid()?;
-    let up = show(alloc, view.at(0), view.at(1))?;
-    let taken = view.at(2).is_some();
+    let up = show(alloc, view.at(UP_DATA), view.at(UP_COUNTS))?;
+    let taken = view.at(OWN_DATA).is_some();
     Ok(Basis {
         view,
         zxid,

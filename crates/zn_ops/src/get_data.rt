@@ -1,6 +1,6 @@
 //! GetData without a watch (ZooKeeper API, `getData`).
 
-ghost use Rattle.std.specs.Prelude.{◌≡◌, ◌≤◌, ℕ, pos, length, false, IfOk, IfErr, IfSome, OnErr, option_copied};
+ghost use Rattle.std.specs.Prelude.{◌≡◌, ◌≤◌, ℕ, length, false, IfOk, IfErr, IfSome};
 ghost use Rattle.ev_types.specs.Store.{present};
 ghost use Rattle.zk_model.specs.Paths.{most_path};
 ghost use Rattle.zk_model.specs.Packets.{CanBeSent};
@@ -21,6 +21,11 @@ use std::alloc::Global;
 use zk_model::{Body, Path, Reply};
 use zn_layout::{counts_key, data_key};
 use zx_base::{Bytes, Memory, Seq};
+
+/// The places of the keys that a getData looks up.
+const DATA: usize = 0;
+
+const COUNTS: usize = 1;
 
 /// The keys of the node.
 fn keys(alloc: Global, path: &Path) -> Result<Seq<Bytes>, Memory>
@@ -57,7 +62,7 @@ fn get_data_at(alloc: Global, store: &mut Store, path: &Path) -> Result<Answered
 {
     let view = look(alloc, store, keys(alloc, path)?)?;
     let zxid = view.zxid()?;
-    let reply = reply_of(show(alloc, view.at(0), view.at(1))?);
+    let reply = reply_of(show(alloc, view.at(DATA), view.at(COUNTS))?);
     Ok(Answered::Looked { reply, zxid })
 }
 

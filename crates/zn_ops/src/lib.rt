@@ -12,6 +12,8 @@ mod fault;
 mod form;
 mod get_data;
 mod requests;
+#[cfg(test)]
+mod tests;
 mod transact;
 mod update;
 mod view;

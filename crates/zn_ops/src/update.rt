@@ -1,6 +1,6 @@
 //! The transaction that an update is.
 
-ghost use Rattle.std.specs.Prelude.{◌≡◌, ◌≤◌, pos, OnOk, OnErr, IfOk, true, false, length, map, ◌++◌, ◌∷◌, []};
+ghost use Rattle.std.specs.Prelude.{◌≡◌, OnOk, OnErr, IfOk, false, map};
 ghost use Rattle.ev_types.specs.Answers.{revision_in};
 ghost use Rattle.ev_types.specs.Store.{present, carried_out};
 ghost use Rattle.ev_types.specs.Denials.{is_denied};

@@ -1,14 +1,11 @@
 //! What a store has under some keys, all at one revision.
 
-ghost use Rattle.std.specs.Prelude.{◌≡◌, ◌≢◌, ◌≤◌, ◌<◌, ◌+◌, ℕ, IfOk, IfErr, OnOk, OnErr, Some, None, length, map, get_or, option_copied, ◌++◌, ◌∷◌, [], false};
+ghost use Rattle.std.specs.Prelude.{◌≡◌, ◌≤◌, ◌<◌, ◌+◌, IfOk, IfErr, Some, None, length, map, get_or, option_copied};
 ghost use Rattle.ev_types.specs.declared.answer.Kv.{Kv as KeyValue};
 ghost use Rattle.ev_types.specs.Store.{present, mod_of};
 ghost use Rattle.ev_types.specs.declared.ask.Ask.{Ask as SomeAsk};
-ghost use Rattle.zn_layout.specs.Begin.{read_key};
-ghost use Rattle.zn_layout.specs.Keys.{HeadKey, key_bytes};
 ghost use Rattle.zn_ops.specs.Transacting.{kv_in};
 ghost use Rattle.zn_ops.specs.Views.{reads_of, found_at, look_ask, guards_from};
-ghost use Rattle.zx_base.specs.Maps.{Bytes as ByteList};
 
 use crate::fault::Fault;
 use crate::transact::{into_parts, transact};
@@ -18,7 +15,7 @@ use std::alloc::Global;
 use zn_layout::{get_head, get_key};
 use zx_base::{Bytes, Memory, Seq};
 
-/// The most keys of a request that is built: more reads are not asked for at once.
+/// The most keys that one transaction looks up: a hundred reads with the head's, of 128 that an etcd takes.
 const MOST_KEYS: usize = 99;
 
 /// Keys that were looked up, and what was found under each of them and then under the head.

@@ -1,6 +1,6 @@
 //! A znode as its two keys show it.
 
-ghost use Rattle.std.specs.Prelude.{◌≡◌, ℕ, pos, IfOk, IfErr, IfSome, Option, option_copied};
+ghost use Rattle.std.specs.Prelude.{◌≡◌, ℕ, IfOk, IfErr, IfSome, Option, option_copied};
 ghost use Rattle.zk_model.specs.Znodes.{stat};
 ghost use Rattle.zk_model.specs.declared.node.Node.{Node as Znode};
 ghost use Rattle.zn_layout.specs.Records.{node_value, counts_value, IsNodeRec, IsCountRec};
