@@ -47,8 +47,12 @@ fn open_acl(alloc: Global) -> Result<Seq<Acl>, Memory> {
 
 /// Whether a packet is this frame behind its length, and no more room was reserved for it.
 fn is_packet(packet: &Vec<u8>, frame: &[u8]) -> bool {
-    packet.capacity() == packet.len()
-        && packet.len() == frame.len() + 4
-        && &packet[..4] == (frame.len() as u32).to_be_bytes().as_slice()
-        && &packet[4..] == frame
+    let Ok(length) = u32::try_from(frame.len()) else {
+        return false;
+    };
+    if packet.len() < 4 {
+        return false;
+    }
+    let (first, rest) = packet.as_slice().split_at(4);
+    packet.capacity() == packet.len() && first == length.to_be_bytes().as_slice() && rest == frame
 }
