@@ -2,7 +2,7 @@
 
 ghost use Rattle.std.specs.Prelude.{◌≡◌, length, ◌-◌, ◌+◌, ◌++◌, drop, take, Some, ◌<◌, IfOk, OnOk, IfErr, IfSome, IsTrue, option_map, not, nat_lt};
 ghost use Rattle.std.specs.Str.{chars, IsValidUpTo};
-ghost use Rattle.zk_model.specs.Paths.{is_path, is_path_char, is_sequence_prefix, sequence_path, fixed_digits, parent, depth, last_name, is_child, names, begins_with_slash, at_last_slash};
+ghost use Rattle.zk_model.specs.Paths.{root, is_path, is_path_char, is_sequence_prefix, sequence_path, fixed_digits, parent, depth, last_name, is_child, names, begins_with_slash, at_last_slash};
 ghost use Rattle.zk_model.specs.PathFaults.{tested, is_valid, most_bytes, ends_with_slash, IsFault, IsFirst, IsRefused, first_of, at, bad_name, bad_char, bad_text, bad_text_from, form_defect, defect_of, name_fault};
 ghost use Rattle.zk_model.specs.PathFaults.{first_name};
 ghost use Rattle.zk_model.specs.declared.path.PathFault.TheVariants.{NoSlash, EndSlash, BadText, TooLong};
@@ -262,6 +262,14 @@ impl Path {
             Some(defect) => Err(defect.fault),
             None => Ok(Path { text: path }),
         }
+    }
+
+    pub fn root(alloc: Global) -> Result<Path, Memory>
+        ensures { IfOk result (λ p. p ≡ root) }
+    {
+        Ok(Path {
+            text: Vec::from_slice(alloc, b"/")?,
+        })
     }
 
     /// The path of a sequence node: the prefix, and the number as ten digits.

@@ -138,6 +138,7 @@ fn takes_parents_to_the_root(rt: HostRuntime) -> Result<(), Fail> {
     assert_eq!(rt; path.last_name(), b"".as_slice());
     assert!(rt; path.parent(rt.alloc())?.is_none());
     assert_eq!(rt; path.copy(rt.alloc())?.bytes(), b"/".as_slice());
+    assert_eq!(rt; Path::root(rt.alloc())?.bytes(), b"/".as_slice());
     Ok(())
 }
 

@@ -1,0 +1,20 @@
+use Rattle.std.proofs.Common.{◌≡◌, ap, ◌∙◌, ◌∷◌, [], ℤ, pos, if◌then◌else◌, arith}
+use Rattle.std.proofs.lemmas.Int.{to_z-of_z}
+use Rattle.std.specs.FinMap.{insert}
+use Rattle.zk_model.specs.declared.node.Node.{Node}
+use Rattle.zk_model.specs.declared.node.Trigger.TheVariants as trigger
+use Rattle.zk_model.specs.declared.reply.PartResult.TheVariants as results
+use Rattle.zk_model.specs.Single.{Done, with_child, is_ephemeral}
+use Rattle.zk_model.specs.Znodes.{new_node}
+use Rattle.zk_plain.proofs.create.create_allowed.Goals as goal
+
+pub returns-clause-ok : goal.returns-clause-ok
+returns-clause-ok c =
+    let owner : c.is_owned_by.result ≡ if is_ephemeral c.args.flags then c.args.turn.now.session else pos 0 = grind (arith, to_z-of_z) in
+    let node : c.in_ok-node.node ≡ new_node c.args.content.now c.is_owned_by.result c.args.turn.now.zxid c.args.turn.now.moment = grind (arith, to_z-of_z) in
+    let up : c.in_ok-counted.counted ≡ with_child c.args.up.now c.args.turn.now.zxid = grind (arith, to_z-of_z) in
+    c.in_ok-made.ensures
+    ∙ ap (λ (up : Node). Done (results.Created c.args.path) (insert (insert c.args.tree.now c.args.parent up) c.args.path c.in_ok-node.node) (trigger.Created c.args.path ∷ trigger.Children c.args.parent ∷ []))
+    up
+    ∙ ap (λ (node : Node). Done (results.Created c.args.path) (insert (insert c.args.tree.now c.args.parent (with_child c.args.up.now c.args.turn.now.zxid)) c.args.path node) (trigger.Created c.args.path ∷ trigger.Children c.args.parent ∷ []))
+    (node ∙ ap (λ (id : ℤ). new_node c.args.content.now id c.args.turn.now.zxid c.args.turn.now.moment) owner)

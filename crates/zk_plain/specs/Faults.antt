@@ -1,0 +1,36 @@
+-- When a number is beyond its field: in no tree of a run, and for no data that a frame carries.
+use Rattle.std.specs.Prelude.{◌≡◌, ◌≤◌, ◌≤ℤ◌, ℕ, ℤ, pos, ⊤, List, [], ◌∷◌, Option, Some, length}
+use Rattle.std.specs.FinMap.{get}
+use Rattle.zx_base.specs.Maps.{Bytes}
+use Rattle.zk_model.specs.declared.node.Node.{Node}
+use Rattle.zk_model.specs.declared.request.Part.{Part}
+use Rattle.zk_model.specs.Frames.{most_frame}
+use Rattle.zk_model.specs.Multi.{data_len}
+use Rattle.zk_model.specs.Single.{Outcome, Refused, Done, single, most_creates}
+use Rattle.zk_model.specs.Znodes.{Tree, num_children}
+use Rattle.zk_plain.specs.declared.fault.Fault.{Fault}
+use Rattle.zk_plain.specs.declared.fault.Fault.TheVariants.{Memory, Beyond}
+
+-- a node's counts and data are those of a run
+pub record IsCounted (n : Node) (children : ℕ) : Type 0 where
+  pub counted : pos children ≤ℤ n.creates
+  pub creates : n.creates ≤ℤ most_creates
+  pub small : length n.content ≤ most_frame
+
+abbrev pub IsWithin : Tree → Type 0
+IsWithin t = (p : Bytes) (n : Node) → get t p ≡ Some n → IsCounted n (num_children t p)
+
+-- want of memory, or the numbers are not such
+abbrev pub BeyondUnless : Type 0 → Fault → Type 0
+BeyondUnless fits Memory = ⊤
+BeyondUnless fits Beyond = fits → ⊥
+
+abbrev pub After : Outcome → (Tree → Type 0) → Type 0
+After (Refused code) P = ⊤
+After (Done result tree triggers) P = P tree
+
+-- each tree to which a part comes is such
+unfoldable pub StaysWithin : Tree → ℕ → ℤ → List Part → ℤ → ℕ → Type 0
+StaysWithin t limit session [] zxid now = ⊤
+StaysWithin t limit session (p ∷ ps) zxid now =
+    IsWithin t × (data_len p ≤ most_frame) × After (single t limit session p zxid now) (λ u. StaysWithin u limit session ps zxid now)

@@ -1,0 +1,38 @@
+-- What the program answers, as the definitions' data.
+use Rattle.std.specs.Prelude.{◌≡◌, ℕ, ◌<◌, nat_le, if◌then◌else◌, ⊤, Bool, true, false, Option, Some, None}
+use Rattle.zx_base.specs.Maps.{Bytes}
+use Rattle.zk_model.specs.PathFaults.{is_valid, tested}
+use Rattle.zk_plain.specs.declared.outcome.Outcome.{Outcome as Answer}
+use Rattle.zk_plain.specs.declared.outcome.Outcome.TheVariants as answer
+use Rattle.zk_model.specs.Single.{Outcome, Refused, Done}
+use Rattle.zk_model.specs.Multi.{Parts, Stopped, Passed, Several, Denied, Codes, All as AllDone, most_load}
+use Rattle.zk_plain.specs.declared.multi.Parts.{Parts as Chain}
+use Rattle.zk_plain.specs.declared.multi.Parts.TheVariants as chain
+use Rattle.zk_plain.specs.declared.multi.Transaction.{Transaction}
+use Rattle.zk_plain.specs.declared.multi.Transaction.TheVariants as answers
+
+abbrev pub outcome_of : Answer → Outcome
+outcome_of (answer.Refused code) = Refused code
+outcome_of (answer.Done result tree triggers) = Done result tree triggers
+
+-- a path was read from a text exactly where the text is valid
+abbrev pub IsRead : Option Bytes → Bool → Bytes → Type 0
+IsRead None sequential text = is_valid sequential text ≡ false
+IsRead (Some path) sequential text = (path ≡ tested sequential text) × (is_valid sequential text ≡ true)
+
+abbrev pub parts_as : Chain → Parts
+parts_as (chain.Stopped place code) = Stopped place code
+parts_as (chain.Passed results tree triggers touched) = Passed results.items tree triggers.items touched.items
+
+abbrev pub IsPlacedBelow : Chain → ℕ → Type 0
+IsPlacedBelow (chain.Stopped place code) n = place < n
+IsPlacedBelow (chain.Passed results tree triggers touched) n = ⊤
+
+-- a load that is not above the most
+abbrev pub within : ℕ → Option ℕ
+within n = if nat_le n most_load then Some n else None
+
+abbrev pub several_as : Transaction → Several
+several_as (answers.Denied code) = Denied code
+several_as (answers.Codes row) = Codes row
+several_as (answers.All results tree triggers) = AllDone results tree triggers

@@ -1,0 +1,270 @@
+//! Creates (Programmer's Guide, "ZNodes", "Ephemeral Nodes", "Sequence Nodes -- Unique Naming").
+
+ghost use Rattle.std.specs.Prelude.{◌≡◌, ◌∷◌, [], ◌||◌, ◌&&◌, pos, ◌≤ℤ◌, nat_le, length, None, if◌then◌else◌, IfOk, IfErr, IsTrue};
+ghost use Rattle.std.specs.Ordering.{int_eq};
+ghost use Rattle.std.specs.FinMap.{get, insert};
+ghost use Rattle.zk_model.specs.declared.reply.PartResult.TheVariants as results;
+ghost use Rattle.zk_model.specs.declared.node.Trigger.TheVariants as trigger;
+ghost use Rattle.zk_model.specs.PathFaults.{is_valid, tested};
+ghost use Rattle.zk_model.specs.Single.{Done, most_creates, is_create_mode, is_ephemeral, is_sequential, is_open_acl, is_full, with_child, made_path, create_node, create_under, create};
+ghost use Rattle.zk_model.specs.Znodes.{new_node, owned, root_alone};
+ghost use Rattle.zk_plain.specs.Faults.{BeyondUnless, IsWithin};
+ghost use Rattle.zk_plain.specs.Outcomes.{outcome_of};
+
+use crate::code::{NO_CHILDREN_FOR_EPHEMERALS, NO_NODE, NODE_EXISTS, SYSTEM_ERROR};
+use crate::fault::Fault;
+use crate::node::copy_node;
+use crate::outcome::Outcome;
+use crate::tree::Tree;
+use crate::turn::Turn;
+use std::alloc::Global;
+use zk_model::{Acl, Node, PartResult, Path, Trigger};
+use zx_base::{Bytes, Memory, Seq, Text};
+
+/// The most creates of children that a node counts.
+const MOST_CREATES: i32 = 1073741823;
+
+pub fn is_create_mode(flags: i32) -> bool
+    ensures { result ≡ is_create_mode flags }
+{
+    matches!(flags, 0..=3)
+}
+
+pub fn is_ephemeral(flags: i32) -> bool
+    ensures { result ≡ is_ephemeral flags }
+{
+    flags == 1 || flags == 3
+}
+
+pub fn is_sequential(flags: i32) -> bool
+    ensures { result ≡ is_sequential flags }
+{
+    flags == 2 || flags == 3
+}
+
+/// Whether the list is `OPEN_ACL_UNSAFE`.
+pub fn is_open_acl(entries: &[Acl]) -> bool
+    ensures { result ≡ is_open_acl entries.now }
+{
+    match entries {
+        [entry] => { entry.perms == 31 && entry.scheme.is(b"world") && entry.id.is(b"anyone") }
+        _ => false,
+    }
+}
+
+/// A new node, made at this moment.
+fn new_node(alloc: Global, content: &[u8], owner: i64, turn: &Turn) -> Result<Node, Memory>
+    ensures { IfOk result (λ n. n ≡ new_node content.now owner turn.now.zxid turn.now.moment) }
+{
+    Ok(Node {
+        content: Bytes::copy_of(alloc, content)?,
+        czxid: turn.zxid,
+        mzxid: turn.zxid,
+        pzxid: turn.zxid,
+        ctime: turn.moment as i64,
+        mtime: turn.moment as i64,
+        version: 0,
+        creates: 0,
+        owner,
+    })
+}
+
+/// The tree of a new service: the root alone.
+pub fn begin(alloc: Global, turn: &Turn) -> Result<Tree, Memory>
+    ensures { IfOk result (λ t. t ≡ root_alone turn.now.zxid turn.now.moment) }
+{
+    let empty = Tree::new(alloc);
+    let node = new_node(alloc, b"".as_slice(), 0, turn)?;
+    empty.with(alloc, Path::root(alloc)?, node)
+}
+
+/// The parent after the create of a child.
+fn with_child(alloc: Global, parent: &Node, zxid: i64) -> Result<Node, Fault>
+    ensures ok { IfOk result (λ n. n ≡ with_child parent.now zxid) }
+    ensures beyond { IfErr result (BeyondUnless (parent.now.creates ≤ℤ most_creates)) }
+{
+    let Some(creates) = parent.creates.checked_add(1) else {
+        return Err(Fault::Beyond);
+    };
+    let mut node = copy_node(alloc, parent)?;
+    node.creates = creates;
+    node.pzxid = zxid;
+    Ok(node)
+}
+
+fn has_most(alloc: Global, tree: &Tree, limit: usize, session: i64) -> Result<bool, Memory>
+    ensures { IfOk result (λ most. most ≡ nat_le limit (length (owned tree.now session))) }
+{
+    Ok(limit <= tree.owned(alloc, session)?.len())
+}
+
+fn is_full_by(creates: i32, ephemeral: bool, most: bool) -> bool
+    ensures { result ≡ int_eq creates most_creates || (ephemeral && most) }
+{
+    creates == MOST_CREATES || (ephemeral && most)
+}
+
+/// Whether the parent or the session can have no more.
+fn is_full(
+    alloc: Global,
+    tree: &Tree,
+    turn: &Turn,
+    flags: i32,
+    parent: &Node,
+) -> Result<bool, Memory>
+    ensures { IfOk result (λ full. full ≡ is_full tree.now turn.now.limit turn.now.session flags parent.now) }
+{
+    let most = has_most(alloc, tree, turn.limit, turn.session)?;
+    Ok(is_full_by(parent.creates, is_ephemeral(flags), most))
+}
+
+fn is_owned_by(flags: i32, session: i64) -> i64
+    ensures { result ≡ if is_ephemeral flags then session else pos 0 }
+{
+    if is_ephemeral(flags) { session } else { 0 }
+}
+
+/// The outcome of a create that nothing refuses.
+fn made(
+    alloc: Global,
+    tree: &Tree,
+    parent: Path,
+    up: Node,
+    path: Path,
+    node: Node,
+) -> Result<Outcome, Memory>
+    ensures { IfOk result (λ o. outcome_of o ≡ Done (results.Created path) (insert (insert tree.now parent up) path node) (trigger.Created path ∷ trigger.Children parent ∷ [])) }
+{
+    let name = Text::copy_of(alloc, path.bytes())?;
+    let mut triggers = Seq::new(alloc);
+    triggers.push(Trigger::Created(path.copy(alloc)?))?;
+    triggers.push(Trigger::Children(parent.copy(alloc)?))?;
+    let counted = tree.with(alloc, parent, up)?;
+    Ok(Outcome::Done {
+        result: PartResult::Created(name),
+        tree: counted.with(alloc, path, node)?,
+        triggers,
+    })
+}
+
+/// A create that nothing refuses.
+fn create_allowed(
+    alloc: Global,
+    tree: &Tree,
+    turn: &Turn,
+    flags: i32,
+    content: &[u8],
+    parent: Path,
+    up: &Node,
+    path: Path,
+) -> Result<Outcome, Fault>
+    ensures ok { IfOk result (λ o. outcome_of o ≡ Done (results.Created path)
+        (insert (insert tree.now parent (with_child up.now turn.now.zxid)) path (new_node content.now (if is_ephemeral flags then turn.now.session else pos 0) turn.now.zxid turn.now.moment))
+        (trigger.Created path ∷ trigger.Children parent ∷ [])) }
+    ensures beyond { IfErr result (BeyondUnless (up.now.creates ≤ℤ most_creates)) }
+{
+    let node = new_node(alloc, content, is_owned_by(flags, turn.session), turn)?;
+    let counted = with_child(alloc, up, turn.zxid)?;
+    Ok(made(alloc, tree, parent, counted, path, node)?)
+}
+
+/// A create of a node that is not there.
+fn create_absent(
+    alloc: Global,
+    tree: &Tree,
+    turn: &Turn,
+    flags: i32,
+    content: &[u8],
+    parent: Path,
+    up: &Node,
+    path: Path,
+) -> Result<Outcome, Fault>
+    ensures ok { IfOk result (λ o. outcome_of o ≡ create_node tree.now turn.now.limit turn.now.session flags content.now turn.now.zxid turn.now.moment parent up.now path None) }
+    ensures beyond { IfErr result (BeyondUnless (up.now.creates ≤ℤ most_creates)) }
+{
+    if up.owner != 0 {
+        return Ok(Outcome::Refused(NO_CHILDREN_FOR_EPHEMERALS));
+    }
+    if is_full(alloc, tree, turn, flags, up)? {
+        return Ok(Outcome::Refused(SYSTEM_ERROR));
+    }
+    Ok(create_allowed(alloc, tree, turn, flags, content, parent, up, path)?)
+}
+
+/// A create under a parent that is there.
+fn create_node(
+    alloc: Global,
+    tree: &Tree,
+    turn: &Turn,
+    flags: i32,
+    content: &[u8],
+    parent: Path,
+    up: &Node,
+    path: Path,
+) -> Result<Outcome, Fault>
+    ensures ok { IfOk result (λ o. outcome_of o ≡ create_node tree.now turn.now.limit turn.now.session flags content.now turn.now.zxid turn.now.moment parent up.now path (get tree.now path)) }
+    ensures beyond { IfErr result (BeyondUnless (up.now.creates ≤ℤ most_creates)) }
+{
+    match tree.get(path.bytes()) {
+        Some(_) => Ok(Outcome::Refused(NODE_EXISTS)),
+        None => create_absent(alloc, tree, turn, flags, content, parent, up, path),
+    }
+}
+
+/// The path that a new node gets: a sequence node's ends in its parent's count of creates.
+fn made_path(alloc: Global, flags: i32, text: &[u8], named: Path, up: &Node) -> Result<Path, Memory>
+    requires valid { IsTrue (is_valid (is_sequential flags) text.now) }
+    requires named { named ≡ tested (is_sequential flags) text.now }
+    ensures { IfOk result (λ p. p ≡ made_path flags text.now up.now) }
+{
+    if is_sequential(flags) {
+        Path::numbered(alloc, text, up.creates.unsigned_abs())
+    } else {
+        Ok(named)
+    }
+}
+
+fn create_under(
+    alloc: Global,
+    tree: &Tree,
+    turn: &Turn,
+    flags: i32,
+    content: &[u8],
+    text: &[u8],
+    named: Path,
+    parent: Path,
+) -> Result<Outcome, Fault>
+    requires valid { IsTrue (is_valid (is_sequential flags) text.now) }
+    requires named { named ≡ tested (is_sequential flags) text.now }
+    ensures ok { IfOk result (λ o. outcome_of o ≡ create_under tree.now turn.now.limit turn.now.session flags content.now turn.now.zxid turn.now.moment text.now parent (get tree.now parent)) }
+    ensures beyond { IfErr result (BeyondUnless (IsWithin tree.now)) }
+{
+    match tree.get(parent.bytes()) {
+        None => Ok(Outcome::Refused(NO_NODE)),
+        Some(up) => {
+            let path = made_path(alloc, flags, text, named, up)?;
+            Ok(create_node(alloc, tree, turn, flags, content, parent, up, path)?)
+        }
+    }
+}
+
+/// A create whose text is valid.
+pub fn create(
+    alloc: Global,
+    tree: &Tree,
+    turn: &Turn,
+    flags: i32,
+    content: &[u8],
+    text: &[u8],
+    named: Path,
+) -> Result<Outcome, Fault>
+    requires valid { IsTrue (is_valid (is_sequential flags) text.now) }
+    requires named { named ≡ tested (is_sequential flags) text.now }
+    ensures ok { IfOk result (λ o. outcome_of o ≡ create tree.now turn.now.limit turn.now.session flags content.now turn.now.zxid turn.now.moment text.now) }
+    ensures beyond { IfErr result (BeyondUnless (IsWithin tree.now)) }
+{
+    match named.parent(alloc)? {
+        None => Ok(Outcome::Refused(NODE_EXISTS)),
+        Some(parent) => Ok(create_under(alloc, tree, turn, flags, content, text, named, parent)?),
+    }
+}

@@ -1,0 +1,28 @@
+//! The service's machine as a plain program over a sorted list of nodes: slow and obvious.
+//!
+//! Each function's contract is the definition of `zk_model` that it runs, so that a worked example run here is a run of
+//! the definition. Nothing of the service itself stands on this crate.
+#![tactic(auto)]
+
+mod code;
+mod create;
+mod delete;
+mod fault;
+mod multi;
+mod node;
+mod outcome;
+mod requests;
+mod stat;
+#[cfg(test)]
+mod tests;
+mod tree;
+mod turn;
+mod update;
+
+pub use create::begin;
+pub use fault::Fault;
+pub use multi::{Transaction, several};
+pub use outcome::Outcome;
+pub use requests::single;
+pub use tree::Tree;
+pub use turn::Turn;

@@ -1,0 +1,295 @@
+//! Several requests as one transaction (`multi` of the ZooKeeper API).
+
+ghost use Rattle.std.specs.Prelude.{◌≡◌, ◌∷◌, [], ◌+◌, ◌++◌, ◌<◌, ℕ, length, nat_lt, replicate, sum_by, IfOk, IfErr};
+ghost use Rattle.std.specs.FinMap.{get};
+ghost use Rattle.std.specs.Option.{option_to_list};
+ghost use Rattle.zk_model.specs.declared.reply.PartResult.TheVariants.{Code};
+ghost use Rattle.zk_model.specs.Multi.{data_len, distinct, load, most_load, row_of, several, parts_of, then_parts, touched_by, owner_list};
+ghost use Rattle.zk_model.specs.Znodes.{owned};
+ghost use Rattle.zk_plain.specs.Faults.{BeyondUnless, StaysWithin};
+ghost use Rattle.zk_plain.specs.Outcomes.{parts_as, IsPlacedBelow, several_as, within};
+
+use crate::code::{BAD_ARGUMENTS, OK, RUNTIME_INCONSISTENCY};
+use crate::create::is_ephemeral;
+use crate::fault::Fault;
+use crate::outcome::Outcome;
+use crate::requests::single;
+use crate::tree::Tree;
+use crate::turn::Turn;
+use std::alloc::Global;
+use std::collections::BTreeSet;
+use zk_model::{Part, PartResult, Path, Trigger};
+use zx_base::{Memory, Seq};
+
+/// What the parts make of the tree in turn.
+#[derive(Debug, Drop)]
+pub enum Parts {
+    /// The first part that is refused, and its code.
+    Stopped {
+        place: usize,
+        code: i32,
+    },
+    Passed {
+        results: Vec<PartResult>,
+        tree: Tree,
+        triggers: Vec<Trigger>,
+        /// The sessions whose nodes were made or removed, as they come.
+        touched: Vec<i64>,
+    },
+}
+
+fn owner(tree: &Tree, path: &[u8]) -> Option<i64>
+    ensures { option_to_list result ≡ owner_list (get tree.now path.now) }
+{
+    match tree.get(path) {
+        Some(node) if node.owner != 0 => Some(node.owner),
+        _ => None,
+    }
+}
+
+/// The session whose node a part makes or removes.
+fn touched_by(tree: &Tree, session: i64, part: &Part) -> Option<i64>
+    ensures { option_to_list result ≡ touched_by tree.now session part.now }
+{
+    match part {
+        Part::Create { flags, .. } if is_ephemeral(*flags) => Some(session),
+        Part::Delete { path, .. } => owner(tree, path.as_slice()),
+        _ => None,
+    }
+}
+
+/// Some items and others behind them.
+fn joined<T: Drop>(first: Vec<T>, rest: Vec<T>) -> Result<Vec<T>, Memory>
+    ensures { IfOk result (λ v. v.items ≡ first.items ++ rest.items) }
+{
+    let mut all = first;
+    let mut more = rest;
+    all.append(&mut more)?;
+    Ok(all)
+}
+
+fn listed<T: Drop>(alloc: Global, item: T) -> Result<Vec<T>, Memory>
+    ensures { IfOk result (λ v. v.items ≡ item ∷ []) }
+{
+    let mut items = Vec::new(alloc);
+    items.push(item)?;
+    Ok(items)
+}
+
+fn listed_if(alloc: Global, item: Option<i64>) -> Result<Vec<i64>, Memory>
+    ensures { IfOk result (λ v. v.items ≡ option_to_list item) }
+{
+    match item {
+        Some(item) => listed(alloc, item),
+        None => Ok(Vec::new(alloc)),
+    }
+}
+
+/// A part that was not refused, and what the later parts made of its tree.
+fn passed_on(
+    alloc: Global,
+    outcome: PartResult,
+    triggers: Seq<Trigger>,
+    touched: Option<i64>,
+    later: Parts,
+) -> Result<Parts, Memory>
+    requires { IsPlacedBelow later 18446744073709551615 }
+    ensures { IfOk result (λ p. parts_as p ≡ then_parts outcome triggers (option_to_list touched) (parts_as later)) }
+{
+    match later {
+        Parts::Stopped { place, code } => Ok(Parts::Stopped {
+            place: place + 1,
+            code,
+        }),
+        Parts::Passed {
+            results,
+            tree,
+            triggers: more,
+            touched: others,
+        } => Ok(Parts::Passed {
+            results: joined(listed(alloc, outcome)?, results)?,
+            tree,
+            triggers: joined(triggers.into_vec(), more)?,
+            touched: joined(listed_if(alloc, touched)?, others)?,
+        }),
+    }
+}
+
+/// What the parts make of the tree in turn. It recurs once a part.
+#[tactic(auto, unfolding(zk_model::specs::Multi::parts_of))]
+fn parts_of(alloc: Global, tree: &Tree, turn: &Turn, parts: &[Part]) -> Result<Parts, Fault>
+    ensures ok { IfOk result (λ p. parts_as p ≡ parts_of tree.now turn.now.limit turn.now.session parts.now turn.now.zxid turn.now.moment) }
+    ensures within { IfOk result (λ p. IsPlacedBelow p (length parts.now)) }
+    ensures beyond { IfErr result (BeyondUnless (StaysWithin tree.now turn.now.limit turn.now.session parts.now turn.now.zxid turn.now.moment)) }
+{
+    match parts {
+        [] => Ok(Parts::Passed {
+            results: Vec::new(alloc),
+            tree: tree.copy(alloc)?,
+            triggers: Vec::new(alloc),
+            touched: Vec::new(alloc),
+        }),
+        [first, rest @ ..] => match single(alloc, tree, turn, first)? {
+            Outcome::Refused(code) => Ok(Parts::Stopped { place: 0, code }),
+            Outcome::Done {
+                result: outcome,
+                tree: next,
+                triggers,
+            } => {
+                let touched = touched_by(tree, turn.session, first);
+                let later = parts_of(alloc, &next, turn, rest)?;
+                Ok(passed_on(alloc, outcome, triggers, touched, later)?)
+            }
+        },
+    }
+}
+
+/// The most bytes of a transaction's data and paths.
+const MOST_LOAD: usize = 1000000;
+
+/// A sum, unless it is above the most.
+fn add_within(sum: Option<usize>, more: usize) -> Option<usize>
+    ensures { (n : ℕ) → sum ≡ within n → result ≡ within (n + more) }
+{
+    match sum {
+        Some(sum) if more <= MOST_LOAD && sum <= MOST_LOAD - more => Some(sum + more),
+        _ => None,
+    }
+}
+
+/// The bytes of a part's data.
+fn data_len(part: &Part) -> usize
+    ensures { result ≡ data_len part.now }
+{
+    match part {
+        Part::Create { content, .. } => content.len(),
+        Part::SetData { content, .. } => content.len(),
+        _ => 0,
+    }
+}
+
+fn data_load(parts: &[Part]) -> Option<usize>
+    ensures { result ≡ within (sum_by data_len parts.now) }
+{
+    let mut sum = Some(0);
+    for part in parts {
+        sum = add_within(sum, data_len(part));
+    }
+    sum
+}
+
+/// The bytes of these paths, added.
+fn path_load(paths: &[Path], before: Option<usize>) -> Option<usize>
+    ensures { (n : ℕ) → before ≡ within n → result ≡ within (n + sum_by length paths.now) }
+{
+    let mut sum = before;
+    for path in paths {
+        sum = add_within(sum, path.bytes().len());
+    }
+    sum
+}
+
+/// Each session once, in the order of their numbers.
+fn distinct(alloc: Global, sessions: &[i64]) -> Result<Vec<i64>, Memory>
+    ensures { IfOk result (λ v. v.items ≡ distinct sessions.now) }
+{
+    let mut once = BTreeSet::new(alloc);
+    for session in sessions {
+        once.insert(*session)?;
+    }
+    Ok(once.iter().copied().collect(alloc)?)
+}
+
+/// The bytes of the paths that each of these sessions owns, added.
+fn owned_load(
+    alloc: Global,
+    tree: &Tree,
+    sessions: &[i64],
+    before: Option<usize>,
+) -> Result<Option<usize>, Memory>
+    ensures { IfOk result (λ sum. (n : ℕ) → before ≡ within n → sum ≡ within (n + sum_by (λ s. sum_by length (owned tree.now s)) sessions.now)) }
+{
+    let mut sum = before;
+    for session in sessions {
+        let paths = tree.owned(alloc, *session)?;
+        sum = path_load(&paths, sum);
+    }
+    Ok(sum)
+}
+
+/// Whether the load of a transaction on this tree is above the most.
+fn exceeds(alloc: Global, tree: &Tree, parts: &[Part], touched: &[i64]) -> Result<bool, Memory>
+    ensures { IfOk result (λ above. above ≡ nat_lt most_load (load tree.now parts.now touched.now)) }
+{
+    let sessions = distinct(alloc, touched)?;
+    Ok(owned_load(alloc, tree, &sessions, data_load(parts))?.is_none())
+}
+
+/// So many times the same code.
+fn codes(alloc: Global, len: usize, code: i32) -> Result<Vec<PartResult>, Memory>
+    ensures { IfOk result (λ v. v.items ≡ replicate len (Code code)) }
+{
+    let mut row = Vec::new(alloc);
+    for _ in 0..len {
+        row.push(PartResult::Code(code))?;
+    }
+    Ok(row)
+}
+
+/// The row of codes of a transaction whose part at this place is refused.
+fn row_of(alloc: Global, len: usize, place: usize, code: i32) -> Result<Vec<PartResult>, Memory>
+    requires { place < len }
+    ensures { IfOk result (λ row. row.items ≡ row_of len place code) }
+{
+    let earlier = codes(alloc, place, OK)?;
+    let refused = listed(alloc, PartResult::Code(code))?;
+    let later = codes(alloc, len - place - 1, RUNTIME_INCONSISTENCY)?;
+    Ok(joined(earlier, joined(refused, later)?)?)
+}
+
+#[derive(Debug, Drop)]
+pub enum Transaction {
+    /// The transaction is refused as a whole.
+    Denied(i32),
+    /// A part is refused: the code of each part.
+    Codes(Seq<PartResult>),
+    All {
+        results: Seq<PartResult>,
+        tree: Tree,
+        triggers: Seq<Trigger>,
+    },
+}
+
+/// What several requests make of the tree, as one transaction.
+#[tactic(auto, unfolding(zk_model::specs::Multi::several))]
+pub fn several(
+    alloc: Global,
+    tree: &Tree,
+    turn: &Turn,
+    parts: &[Part],
+) -> Result<Transaction, Fault>
+    ensures ok { IfOk result (λ s. several_as s ≡ several tree.now turn.now.limit turn.now.session parts.now turn.now.zxid turn.now.moment) }
+    ensures beyond { IfErr result (BeyondUnless (StaysWithin tree.now turn.now.limit turn.now.session parts.now turn.now.zxid turn.now.moment)) }
+{
+    match parts_of(alloc, tree, turn, parts)? {
+        Parts::Stopped { place, code } => {
+            let row = row_of(alloc, parts.len(), place, code)?;
+            Ok(Transaction::Codes(Seq::from_vec(row)))
+        }
+        Parts::Passed {
+            results,
+            tree: next,
+            triggers,
+            touched,
+        } => {
+            if exceeds(alloc, tree, parts, &touched)? {
+                return Ok(Transaction::Denied(BAD_ARGUMENTS));
+            }
+            Ok(Transaction::All {
+                results: Seq::from_vec(results),
+                tree: next,
+                triggers: Seq::from_vec(triggers),
+            })
+        }
+    }
+}

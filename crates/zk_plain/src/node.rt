@@ -1,0 +1,37 @@
+//! Copies of nodes and entries.
+
+ghost use Rattle.std.specs.Prelude.{◌≡◌, ◌++◌, IfOk, OnOk};
+
+use std::alloc::Global;
+use zk_model::{Node, Path};
+use zx_base::{Bytes, Memory};
+
+pub fn copy_node(alloc: Global, node: &Node) -> Result<Node, Memory>
+    ensures { IfOk result (λ n. n ≡ node.now) }
+{
+    Ok(Node {
+        content: Bytes::copy_of(alloc, node.content.as_slice())?,
+        czxid: node.czxid,
+        mzxid: node.mzxid,
+        pzxid: node.pzxid,
+        ctime: node.ctime,
+        mtime: node.mtime,
+        version: node.version,
+        creates: node.creates,
+        owner: node.owner,
+    })
+}
+
+/// Adds copies of the entries.
+pub fn copy_into(
+    alloc: Global,
+    entries: &mut Vec<(Path, Node)>,
+    from: &[(Path, Node)],
+) -> Result<(), Memory>
+    ensures { OnOk result (entries.new.items ≡ entries.old.items ++ from.now) }
+{
+    for (path, node) in from {
+        entries.push((path.copy(alloc)?, copy_node(alloc, node)?))?;
+    }
+    Ok(())
+}

@@ -1,0 +1,150 @@
+//! One request that may be part of a transaction.
+
+ghost use Rattle.std.specs.Prelude.{◌≡◌, ◌&&◌, not, Some, None, if◌then◌else◌, ◌≤◌, length, IfOk, IfErr};
+ghost use Rattle.std.specs.FinMap.{get};
+ghost use Rattle.zx_base.specs.Maps.{same};
+ghost use Rattle.zk_model.specs.Codes.{bad_arguments, invalid_acl};
+ghost use Rattle.zk_model.specs.Paths.{is_path, is_sequence_prefix, root};
+ghost use Rattle.zk_model.specs.Single.{single, unless_refused, or_else, path_refusal, is_create_mode, is_open_acl, is_sequential, create, delete, set_data, check};
+ghost use Rattle.zk_model.specs.Frames.{most_frame};
+ghost use Rattle.zk_model.specs.Multi.{data_len};
+ghost use Rattle.zk_plain.specs.Faults.{BeyondUnless, IsWithin};
+ghost use Rattle.zk_plain.specs.Outcomes.{outcome_of, IsRead};
+
+use crate::code::{BAD_ARGUMENTS, INVALID_ACL};
+use crate::create::{create, is_create_mode, is_open_acl, is_sequential};
+use crate::delete::delete;
+use crate::fault::Fault;
+use crate::outcome::Outcome;
+use crate::tree::Tree;
+use crate::turn::Turn;
+use crate::update::{check, set_data};
+use std::alloc::Global;
+use zk_model::{Acl, Part, Path, PathFault};
+use zx_base::Memory;
+
+/// The path of a text, where it is valid.
+fn read_path(alloc: Global, text: &[u8], sequential: bool) -> Result<Option<Path>, Memory>
+    ensures { IfOk result (λ o. IsRead o sequential text.now) }
+{
+    match Path::read(alloc, text, sequential) {
+        Ok(path) => Ok(Some(path)),
+        Err(PathFault::Memory) => Err(Memory),
+        Err(_) => Ok(None),
+    }
+}
+
+fn single_create(
+    alloc: Global,
+    tree: &Tree,
+    turn: &Turn,
+    text: &[u8],
+    content: &[u8],
+    acl: &[Acl],
+    flags: i32,
+) -> Result<Outcome, Fault>
+    ensures ok { IfOk result (λ o. outcome_of o ≡ unless_refused (or_else (path_refusal (if is_sequential flags then is_sequence_prefix text.now else is_path text.now))
+        (if not (is_create_mode flags) then Some bad_arguments else if not (is_open_acl acl.now) then Some invalid_acl else None))
+        (create tree.now turn.now.limit turn.now.session flags content.now turn.now.zxid turn.now.moment text.now)) }
+    ensures beyond { IfErr result (BeyondUnless (IsWithin tree.now)) }
+{
+    let Some(named) = read_path(alloc, text, is_sequential(flags))? else {
+        return Ok(Outcome::Refused(BAD_ARGUMENTS));
+    };
+    if !is_create_mode(flags) {
+        return Ok(Outcome::Refused(BAD_ARGUMENTS));
+    }
+    if !is_open_acl(acl) {
+        return Ok(Outcome::Refused(INVALID_ACL));
+    }
+    Ok(create(alloc, tree, turn, flags, content, text, named)?)
+}
+
+fn single_delete(
+    alloc: Global,
+    tree: &Tree,
+    turn: &Turn,
+    text: &[u8],
+    version: i32,
+) -> Result<Outcome, Memory>
+    ensures { IfOk result (λ o. outcome_of o ≡ unless_refused (path_refusal (is_path text.now && not (same text.now root)))
+        (delete tree.now text.now version turn.now.zxid (get tree.now text.now))) }
+{
+    match read_path(alloc, text, false)? {
+        Some(path) if path.bytes() != b"/".as_slice() => Ok(delete(
+            alloc, tree, path, version, turn.zxid,
+        )?),
+        _ => Ok(Outcome::Refused(BAD_ARGUMENTS)),
+    }
+}
+
+fn single_set(
+    alloc: Global,
+    tree: &Tree,
+    turn: &Turn,
+    text: &[u8],
+    content: &[u8],
+    version: i32,
+) -> Result<Outcome, Fault>
+    ensures ok { IfOk result (λ o. outcome_of o ≡ unless_refused (path_refusal (is_path text.now))
+        (set_data tree.now text.now content.now version turn.now.zxid turn.now.moment (get tree.now text.now))) }
+    ensures beyond { IfErr result (BeyondUnless (IsWithin tree.now × (length content.now ≤ most_frame))) }
+{
+    match read_path(alloc, text, false)? {
+        Some(path) => Ok(set_data(alloc, tree, turn, path, content, version)?),
+        None => Ok(Outcome::Refused(BAD_ARGUMENTS)),
+    }
+}
+
+fn single_check(alloc: Global, tree: &Tree, text: &[u8], version: i32) -> Result<Outcome, Memory>
+    ensures { IfOk result (λ o. outcome_of o ≡ unless_refused (path_refusal (is_path text.now)) (check tree.now version (get tree.now text.now))) }
+{
+    match read_path(alloc, text, false)? {
+        Some(path) => Ok(check(alloc, tree, path, version)?),
+        None => Ok(Outcome::Refused(BAD_ARGUMENTS)),
+    }
+}
+
+/// What one request makes of the tree.
+#[tactic(auto, unfolding(zk_model::specs::Single::single, zk_model::specs::Single::form_refusal, zk_model::specs::Single::effect))]
+pub fn single(alloc: Global, tree: &Tree, turn: &Turn, part: &Part) -> Result<Outcome, Fault>
+    ensures ok { IfOk result (λ o. outcome_of o ≡ single tree.now turn.now.limit turn.now.session part.now turn.now.zxid turn.now.moment) }
+    ensures beyond { IfErr result (BeyondUnless (IsWithin tree.now × (data_len part.now ≤ most_frame))) }
+{
+    match part {
+        Part::Create {
+            path,
+            content,
+            acl,
+            flags,
+        } => Ok(single_create(
+            alloc,
+            tree,
+            turn,
+            path.as_slice(),
+            content.as_slice(),
+            acl.as_slice(),
+            *flags,
+        )?),
+        Part::Delete { path, version } => Ok(single_delete(
+            alloc,
+            tree,
+            turn,
+            path.as_slice(),
+            *version,
+        )?),
+        Part::SetData {
+            path,
+            content,
+            version,
+        } => Ok(single_set(
+            alloc,
+            tree,
+            turn,
+            path.as_slice(),
+            content.as_slice(),
+            *version,
+        )?),
+        Part::Check { path, version } => Ok(single_check(alloc, tree, path.as_slice(), *version)?),
+    }
+}

@@ -1,0 +1,54 @@
+//! What a client is shown of a node.
+
+ghost use Rattle.std.specs.Prelude.{◌≡◌, ◌≤◌, ◌≤ℤ◌, ◌*ℤ◌, ◌-ℤ◌, pos, IfOk, IfErr};
+ghost use Rattle.zk_model.specs.Single.{most_creates};
+ghost use Rattle.zk_plain.specs.Faults.{BeyondUnless, IsCounted};
+ghost use Rattle.zk_model.specs.Znodes.{stat};
+
+use crate::fault::Fault;
+use zk_model::{Node, Stat};
+
+/// A length or a count as a number of the protocol.
+fn count(number: usize) -> Result<i32, Fault>
+    ensures ok { IfOk result (λ n. n ≡ pos number) }
+    ensures beyond { IfErr result (BeyondUnless (number ≤ 2147483647)) }
+{
+    match i32::try_from(number) {
+        Ok(number) => Ok(number),
+        Err(_) => Err(Fault::Beyond),
+    }
+}
+
+/// Twice the creates of children, less the children that are there.
+fn child_version(creates: i32, children: i32) -> Result<i32, Fault>
+    ensures ok { IfOk result (λ n. n ≡ (pos 2 *ℤ creates) -ℤ children) }
+    ensures beyond { IfErr result (BeyondUnless ((pos 0 ≤ℤ children) × (children ≤ℤ creates) × (creates ≤ℤ most_creates))) }
+{
+    match i32::try_from(2 * i64::from(creates) - i64::from(children)) {
+        Ok(number) => Ok(number),
+        Err(_) => Err(Fault::Beyond),
+    }
+}
+
+/// The stat of a node with so many children.
+pub fn stat(node: &Node, children: usize) -> Result<Stat, Fault>
+    ensures ok { IfOk result (λ s. s ≡ stat node.now children) }
+    ensures beyond { IfErr result (BeyondUnless (IsCounted node.now children)) }
+{
+    let num_children = count(children)?;
+    let data_length = count(node.content.len())?;
+    let cversion = child_version(node.creates, num_children)?;
+    Ok(Stat {
+        czxid: node.czxid,
+        mzxid: node.mzxid,
+        ctime: node.ctime,
+        mtime: node.mtime,
+        version: node.version,
+        cversion,
+        aversion: 0,
+        ephemeral_owner: node.owner,
+        data_length,
+        num_children,
+        pzxid: node.pzxid,
+    })
+}
