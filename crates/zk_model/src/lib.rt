@@ -10,7 +10,9 @@
 //! run of the service is).
 #![tactic(auto)]
 
+pub mod code;
 mod connect;
+pub mod limit;
 mod node;
 mod opcode;
 mod path;

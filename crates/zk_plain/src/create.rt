@@ -11,18 +11,16 @@ ghost use Rattle.zk_model.specs.Znodes.{new_node, owned, root_alone};
 ghost use Rattle.zk_plain.specs.Faults.{BeyondUnless, IsWithin};
 ghost use Rattle.zk_plain.specs.Outcomes.{outcome_of};
 
-use crate::code::{NO_CHILDREN_FOR_EPHEMERALS, NO_NODE, NODE_EXISTS, SYSTEM_ERROR};
 use crate::fault::Fault;
 use crate::node::copy_node;
 use crate::outcome::Outcome;
 use crate::tree::Tree;
 use crate::turn::Turn;
 use std::alloc::Global;
+use zk_model::code::{NO_CHILDREN_FOR_EPHEMERALS, NO_NODE, NODE_EXISTS, SYSTEM_ERROR};
+use zk_model::limit::MOST_CREATES;
 use zk_model::{Acl, Node, PartResult, Path, Trigger};
 use zx_base::{Bytes, Memory, Seq, Text};
-
-/// The most creates of children that a node counts.
-const MOST_CREATES: i32 = 1073741823;
 
 pub fn is_create_mode(flags: i32) -> bool
     ensures { result ≡ is_create_mode flags }

@@ -5,11 +5,11 @@ ghost use Rattle.std.specs.FinMap.{get};
 ghost use Rattle.zk_model.specs.Single.{delete, matches, removed, removal};
 ghost use Rattle.zk_plain.specs.Outcomes.{outcome_of};
 
-use crate::code::{BAD_VERSION, NO_NODE, NOT_EMPTY};
 use crate::node::copy_node;
 use crate::outcome::Outcome;
 use crate::tree::Tree;
 use std::alloc::Global;
+use zk_model::code::{BAD_VERSION, NO_NODE, NOT_EMPTY};
 use zk_model::{Node, PartResult, Path, Trigger};
 use zx_base::{Memory, Seq};
 

@@ -4,7 +4,6 @@
 //! the definition. Nothing of the service itself stands on this crate.
 #![tactic(auto)]
 
-mod code;
 mod create;
 mod delete;
 mod fault;

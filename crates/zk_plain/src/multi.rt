@@ -9,7 +9,6 @@ ghost use Rattle.zk_model.specs.Znodes.{owned};
 ghost use Rattle.zk_plain.specs.Faults.{BeyondUnless, StaysWithin};
 ghost use Rattle.zk_plain.specs.Outcomes.{parts_as, IsPlacedBelow, several_as, within};
 
-use crate::code::{BAD_ARGUMENTS, OK, RUNTIME_INCONSISTENCY};
 use crate::create::is_ephemeral;
 use crate::fault::Fault;
 use crate::outcome::Outcome;
@@ -18,6 +17,7 @@ use crate::tree::Tree;
 use crate::turn::Turn;
 use std::alloc::Global;
 use std::collections::BTreeSet;
+use zk_model::code::{BAD_ARGUMENTS, OK, RUNTIME_INCONSISTENCY};
 use zk_model::{Part, PartResult, Path, Trigger};
 use zx_base::{Memory, Seq};
 

@@ -11,7 +11,6 @@ ghost use Rattle.zk_model.specs.Multi.{data_len};
 ghost use Rattle.zk_plain.specs.Faults.{BeyondUnless, IsWithin};
 ghost use Rattle.zk_plain.specs.Outcomes.{outcome_of, IsRead};
 
-use crate::code::{BAD_ARGUMENTS, INVALID_ACL};
 use crate::create::{create, is_create_mode, is_open_acl, is_sequential};
 use crate::delete::delete;
 use crate::fault::Fault;
@@ -20,6 +19,7 @@ use crate::tree::Tree;
 use crate::turn::Turn;
 use crate::update::{check, set_data};
 use std::alloc::Global;
+use zk_model::code::{BAD_ARGUMENTS, INVALID_ACL};
 use zk_model::{Acl, Part, Path, PathFault};
 use zx_base::Memory;
 

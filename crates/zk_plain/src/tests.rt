@@ -1,6 +1,5 @@
 //! Worked examples of the machine. Their first zxid is 4, as after the first update of a store and one session.
 
-use crate::code::{BAD_ARGUMENTS, BAD_VERSION, NO_NODE, NOT_EMPTY, SYSTEM_ERROR};
 use crate::create::begin;
 use crate::fault::Fault;
 use crate::multi::{Transaction, several};
@@ -11,6 +10,7 @@ use crate::tree::Tree;
 use crate::turn::Turn;
 use std::alloc::Global;
 use std::test::Fail;
+use zk_model::code::{BAD_ARGUMENTS, BAD_VERSION, NO_NODE, NOT_EMPTY, SYSTEM_ERROR};
 use zk_model::{Acl, Part, PartResult, Stat};
 use zx_base::{Bytes, Memory, Seq, Text};
 

@@ -10,7 +10,6 @@ ghost use Rattle.zk_model.specs.Frames.{most_frame};
 ghost use Rattle.zk_plain.specs.Faults.{BeyondUnless, IsCounted, IsWithin};
 ghost use Rattle.zk_plain.specs.Outcomes.{outcome_of};
 
-use crate::code::{BAD_VERSION, NO_NODE, SYSTEM_ERROR};
 use crate::delete::matches;
 use crate::fault::Fault;
 use crate::node::copy_node;
@@ -19,6 +18,7 @@ use crate::stat::stat;
 use crate::tree::Tree;
 use crate::turn::Turn;
 use std::alloc::Global;
+use zk_model::code::{BAD_VERSION, NO_NODE, SYSTEM_ERROR};
 use zk_model::{Node, PartResult, Path, Trigger};
 use zx_base::{Bytes, Memory, Seq};
 

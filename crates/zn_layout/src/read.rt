@@ -14,13 +14,8 @@ use crate::record::{CountRec, LeaseRec, NodeRec};
 use crate::writer::RECORD;
 use byteorder::{BigEndian, ByteOrder};
 use std::alloc::Global;
+use zk_model::limit::{MOST_CREATES, MOST_FRAME};
 use zx_base::{Bytes, Memory};
-
-/// The most bytes of a node's data.
-const MOST_CONTENT: usize = 1_048_575;
-
-/// The most creates of children that a node counts.
-const MOST_CREATES: i32 = 1_073_741_823;
 
 /// How many bytes of a node's record stand between the first and the data.
 const NODE_NUMBERS: usize = 36;
@@ -117,7 +112,7 @@ fn bounded_node(node: NodeRec) -> Option<NodeRec>
     if !are_counts(node.czxid, node.owner) || !are_counts(node.ctime, node.mtime) {
         return None;
     }
-    if node.version < 0 || node.content.len() > MOST_CONTENT {
+    if node.version < 0 || node.content.len() > MOST_FRAME {
         return None;
     }
     Some(node)

@@ -19,7 +19,7 @@ ghost use Rattle.zn_ops.specs.Basis.{IsBasis};
 ghost use Rattle.zn_ops.specs.Shown.{IsWithin};
 ghost use Rattle.zn_ops.specs.Steps.{AnswersCreate, StandsForNone, HasNoState, IsMade};
 
-use crate::code::{NO_CHILDREN_FOR_EPHEMERALS, NO_NODE, NODE_EXISTS, SYSTEM_ERROR};
+use zk_model::code::{NO_CHILDREN_FOR_EPHEMERALS, NO_NODE, NODE_EXISTS, SYSTEM_ERROR};
 use crate::fault::Fault;
 use crate::form::{Form, create_form};
 use crate::requests::Answered;
@@ -29,14 +29,12 @@ use crate::znode::{Shown, show};
 use ev_store::Store;
 use ev_types::Act;
 use std::alloc::Global;
+use zk_model::limit::MOST_CREATES;
 use zk_model::{Acl, Body, Path, Reply, Trigger};
 use zn_layout::{
     CountRec, HeadRec, NodeRec, counts_key, data_key, get_head, put_counts, put_head, put_node,
 };
 use zx_base::{Bytes, Memory, Seq};
-
-/// The most creates of children that a node counts.
-const MOST_CREATES: i32 = 1_073_741_823;
 
 /// The places of the keys that a create looks up.
 const UP_DATA: usize = 0;

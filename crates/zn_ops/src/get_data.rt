@@ -10,7 +10,7 @@ ghost use Rattle.zn_ops.specs.Choices.{get_data_keys, get_data_reply};
 ghost use Rattle.zn_ops.specs.Shown.{IsWithin};
 ghost use Rattle.zn_ops.specs.Steps.{AnswersByTree, StandsForNone, HasNoState};
 
-use crate::code::{BAD_ARGUMENTS, NO_NODE};
+use zk_model::code::{BAD_ARGUMENTS, NO_NODE};
 use crate::fault::Fault;
 use crate::form::read_path;
 use crate::requests::Answered;

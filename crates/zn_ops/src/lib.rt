@@ -6,7 +6,6 @@
 //! head, whose revision is the update's zxid.
 #![tactic(auto)]
 
-mod code;
 mod create;
 mod fault;
 mod form;

@@ -18,15 +18,10 @@ use ev_store::Store;
 use std::alloc::Global;
 use std::collections::VecDeque;
 use std::marker::Model;
+use zk_model::limit::{LAST_MOMENT, MOST_FRAME};
 use zk_model::{Happening, Request, TranscriptLine, UpdateKind, UpdateRec, Why};
 use zn_ops::answer;
 use zx_base::{Bytes, Memory};
-
-/// The most bytes of a frame (`jute.maxbuffer`).
-const MOST_FRAME: usize = 1_048_575;
-
-/// The greatest reading of the clock, in milliseconds.
-const LAST_MOMENT: u64 = 9_000_000_000_000_000;
 
 /// More frames than any memory holds, since each has a line.
 const MOST_FRAMES: u64 = 2_305_843_009_213_693_952;

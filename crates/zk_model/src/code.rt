@@ -1,0 +1,33 @@
+//! Error codes of replies (`KeeperException.Code`, release 3.4).
+
+/// No error: of a part of a transaction that another part undid.
+pub const OK: i32 = 0;
+
+pub const SYSTEM_ERROR: i32 = -1;
+
+/// Of a part behind the one that was refused.
+pub const RUNTIME_INCONSISTENCY: i32 = -2;
+
+pub const MARSHALLING_ERROR: i32 = -5;
+
+pub const UNIMPLEMENTED: i32 = -6;
+
+pub const BAD_ARGUMENTS: i32 = -8;
+
+pub const NO_NODE: i32 = -101;
+
+pub const BAD_VERSION: i32 = -103;
+
+pub const NO_CHILDREN_FOR_EPHEMERALS: i32 = -108;
+
+pub const NODE_EXISTS: i32 = -110;
+
+pub const NOT_EMPTY: i32 = -111;
+
+pub const SESSION_EXPIRED: i32 = -112;
+
+pub const INVALID_ACL: i32 = -114;
+
+pub const AUTH_FAILED: i32 = -115;
+
+pub const SESSION_MOVED: i32 = -118;
