@@ -7,7 +7,7 @@ ghost use Rattle.std.specs.List.{list_all};
 ghost use Rattle.std.specs.Ordering.{nat_cmp};
 ghost use Rattle.std.specs.Cmp.Lexicographic.{slice_cmp};
 ghost use Rattle.ev_types.specs.declared.answer.Kv.{Kv};
-ghost use Rattle.ev_types.specs.Ranges.{is_within, shown, limited, found, found_among};
+ghost use Rattle.ev_types.specs.Ranges.{is_below, is_within, shown, limited, found, found_among};
 ghost use Rattle.ev_types.specs.Store.{keys_from, after_changes as keys_after_changes};
 ghost use Rattle.ev_store.specs.Changes.{puts_once};
 ghost use Rattle.ev_store.specs.Folds.{within_change, within_changes, within_revisions};
@@ -19,10 +19,17 @@ use crate::name::Name;
 use ev_types::{Kv, RangeAns, RangeReq};
 use std::alloc::Global;
 use std::collections::BTreeMap;
-use zx_base::{Memory, Seq};
+use zx_base::{Bytes, Memory, Seq};
 
 /// The keys of a range that are there.
 type Held<'a> = BTreeMap<Name<'a>, Found<'a>>;
+
+/// Whether a key is below the end of a range; the one byte 0 is no end.
+fn is_below(end: &Bytes, key: &[u8]) -> bool
+    ensures { result ≡ is_below end.now key.now }
+{
+    end.is(&[0]) || key.cmp(end.as_slice()).is_lt()
+}
 
 /// Whether a key is in the range.
 #[tactic(auto, unfolding(ev_types::specs::Ranges::is_within))]
@@ -32,7 +39,7 @@ fn has(range: &RangeReq, key: &[u8]) -> bool
     if range.end.is(&[]) {
         range.key.is(key)
     } else {
-        !key.cmp(range.key.as_slice()).is_lt() && key.cmp(range.end.as_slice()).is_lt()
+        !key.cmp(range.key.as_slice()).is_lt() && is_below(&range.end, key)
     }
 }
 

@@ -328,6 +328,14 @@ const LOOKS: &[(Look, &[Row], bool, i64)] = &[
     (Look("a", "c", 2, 0, false), OLD, false, 3),
     (Look("a", "c", 2, 1, false), &[("a", "0", 2, 2, 1)], true, 3),
     (Look("a", "c", 2, 3, false), OLD, false, 3),
+    // an end of the one byte 0 is no end; one that only begins with it is
+    (
+        Look("aa", "\0", 0, 0, false),
+        &[("aa", "9", 2, 3, 2), ("c", "3", 2, 2, 1)],
+        false,
+        2,
+    ),
+    (Look("a", "\0\0", 0, 0, false), &[], false, 0),
     (Look("a", "c", 2, 9, false), OLD, false, 3),
     (Look("a", "c", 2, -1, false), OLD, false, 3),
 ];

@@ -1,5 +1,5 @@
 -- Ranges of keys (etcd API reference, `RangeRequest`, `RangeResponse`).
-use Rattle.std.specs.Prelude.{ℤ, pos, nat_abs, Bool, not, ◌&&◌, List, [], length, take, map, nat_lt, int_lt, if◌then◌else◌}
+use Rattle.std.specs.Prelude.{ℤ, pos, nat_abs, Bool, not, ◌&&◌, ◌||◌, List, [], ◌∷◌, length, take, map, nat_lt, int_lt, if◌then◌else◌}
 use Rattle.std.specs.Ordering.{is_lt, nat_cmp}
 use Rattle.std.specs.Cmp.Lexicographic.{slice_cmp}
 use Rattle.std.specs.FinMap.{retain_keys, values}
@@ -16,9 +16,13 @@ Keys = Map Kv
 abbrev pub comes_before : Bytes → Bytes → Bool
 comes_before a b = is_lt (slice_cmp nat_cmp a b)
 
--- whether a key is in a range: it is the key where the end is empty, and else it isn't before the key and is before the end
+-- an end of the one byte 0 is no end
+abbrev pub is_below : Bytes → Bytes → Bool
+is_below end k = same end (0 ∷ []) || comes_before k end
+
+-- whether a key is in a range: it is the key where the end is empty, and else it isn't before the key and is below the end
 unfoldable pub is_within : Bytes → Bytes → Bytes → Bool
-is_within from end k = if same end [] then same k from else not (comes_before k from) && comes_before k end
+is_within from end k = if same end [] then same k from else not (comes_before k from) && is_below end k
 
 -- all that a range has, in the order of the keys
 unfoldable pub in_range : RangeReq → Keys → List Kv

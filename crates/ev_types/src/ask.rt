@@ -7,7 +7,7 @@ use zx_base::{Bytes, Seq};
 pub struct RangeReq {
     /// The first key.
     pub key: Bytes,
-    /// The end of the range, which is not in it. Empty: the range is the one key.
+    /// The end of the range, which is not in it. Empty: the range is the one key. The one byte 0: there is no end.
     pub end: Bytes,
     /// The revision that the range is read at. 0: the present.
     pub revision: i64,
