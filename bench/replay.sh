@@ -53,9 +53,13 @@ for n in 250 500 1000; do
   creates "$n" >"$work/script"
   measure "$n creates and reads" "$work/script"
 done
-for n in 10000000 50000000 99999998; do
+for n in 10000000 50000000; do
   ticks "$n" >"$work/script"
   measure "$n bytes of ticks" "$work/script"
 done
-printf 'tick 1\n' >>"$work/script"
-measure "too long by a line" "$work/script"
+# the longest script ends with status 0, and one byte more with status 3
+ticks 99999984 >"$work/script"
+printf 'tick 10\ntick 10\n' >>"$work/script"
+measure "100000000 bytes of ticks" "$work/script"
+printf 't' >>"$work/script"
+measure "100000001 bytes" "$work/script"

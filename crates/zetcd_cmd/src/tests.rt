@@ -139,7 +139,7 @@ done\n";
 
 #[test]
 fn a_line_that_is_not_applied_ends_the_script(rt: HostRuntime) -> Result<(), Fail> {
-    let cases: [(&[u8], u64, &[u8]); 14] = [
+    let cases: [(&[u8], u64, &[u8]); 22] = [
         (b"exec 9", 1, b"not built"),
         (b"exec 1\nnonsense\n", 1, b"not built"),
         (b"\ntick 1\n", 1, b"unreadable line"),
@@ -156,6 +156,22 @@ fn a_line_that_is_not_applied_ends_the_script(rt: HostRuntime) -> Result<(), Fai
             b"unreadable line",
         ),
         (b"tick 1\n\ntick 1", 2, b"unreadable line"),
+        (b"tick 1\r\n", 1, b"unreadable line"),
+        (b"tick  1\n", 1, b"unreadable line"),
+        (b"tick +1\n", 1, b"unreadable line"),
+        (b"tick 0\ntick -1\n", 2, b"unreadable line"),
+        (b"tick 4294967295\ntick 4294967296\n", 2, b"unreadable line"),
+        (b"settle 1 1\n", 1, b"unreadable line"),
+        (
+            b"open 1 1 8000000000000000 aaaaaaaaaaaaaaaaaaaaaaaaaaaaaaaa\n",
+            1,
+            b"unreadable line",
+        ),
+        (
+            b"open 1 1 0000000000000011 aaaaaaaaaaaaaaaaaaaaaaaaaaaaaaaA\n",
+            1,
+            b"unreadable line",
+        ),
         (b"frame 1 -\n", 1, b"no such connection"),
         (b"tick 7\ntick 8\nsettle 0", 3, b"no such connection"),
     ];
@@ -195,7 +211,7 @@ fn fault_after(
 #[test]
 fn a_connection_ends_the_script_by_what_is_not_possible(rt: HostRuntime) -> Result<(), Fail> {
     let open = b"open 1 1 0000000000000011 aaaaaaaaaaaaaaaaaaaaaaaaaaaaaaaa\n";
-    let cases: [(&[u8], &[u8]); 6] = [
+    let cases: [(&[u8], &[u8]); 11] = [
         (
             b"open 1 2 0000000000000012 aaaaaaaaaaaaaaaaaaaaaaaaaaaaaaaa\n",
             b"number in use",
@@ -216,6 +232,16 @@ fn a_connection_ends_the_script_by_what_is_not_possible(rt: HostRuntime) -> Resu
             b"not built",
         ),
         (b"exec 1\n", b"not built"),
+        // no request: nothing at all, and getData of paths that are not UTF-8 (a byte that begins nothing, a character
+        // cut short, a surrogate, a slash in two bytes)
+        (b"frame 1 -\n", b"not built"),
+        (b"frame 1 0000000100000004000000022fff00\n", b"not built"),
+        (b"frame 1 0000000100000004000000032fe28200\n", b"not built"),
+        (
+            b"frame 1 0000000100000004000000042feda08000\n",
+            b"not built",
+        ),
+        (b"frame 1 0000000100000004000000032fc0af00\n", b"not built"),
     ];
     for (line, cause) in cases {
         let script = joined(rt.alloc(), &[open, line, b"tick 1\n"])?;
@@ -243,6 +269,55 @@ fn a_frame_may_have_1048575_bytes(rt: HostRuntime) -> Result<(), Fail> {
         written.as_slice(),
         fault_after(alloc, open, 2, b"too long")?.as_slice()
     );
+    Ok(())
+}
+
+/// Adds a create of `/a` with 1,048,526 zeros by the open access list, xid 1: 1,048,575 bytes, in hex digits.
+fn push_longest_create(text: &mut Vec<u8>) -> Result<(), AllocError> {
+    text.extend_from_slice(b"0000000100000001000000022f61000fffce")?;
+    for _byte in 0..1_048_526 {
+        text.extend_from_slice(b"00")?;
+    }
+    text.extend_from_slice(b"000000010000001f00000005776f726c6400000006616e796f6e6500000000")
+}
+
+#[test]
+fn the_longest_frame_is_answered(rt: HostRuntime) -> Result<(), Fail> {
+    let alloc = rt.alloc();
+    let open = b"open 1 1 0000000000000011 aaaaaaaaaaaaaaaaaaaaaaaaaaaaaaaa\n";
+    let mut script = joined(alloc, &[open, b"frame 1 "])?;
+    push_longest_create(&mut script)?;
+    script.extend_from_slice(b"\nsettle 1\n")?;
+    let mut wanted = joined(alloc, &[b"update 2 begin 0\n", open, b"frame 1 1 2 "])?;
+    push_longest_create(&mut wanted)?;
+    wanted.extend_from_slice(
+        b"\nupdate 3 asked 1 1 0\nsend 1 0000001600000001000000000000000300000000000000022f61\ndone\n",
+    )?;
+    let (status, written) = replayed(alloc, script.as_slice(), Vec::new(alloc))?;
+    assert_eq!(rt; status, Status::Done);
+    assert!(rt; written.as_slice() == wanted.as_slice());
+    Ok(())
+}
+
+#[test]
+fn a_line_may_have_2200000_bytes(rt: HostRuntime) -> Result<(), Fail> {
+    let alloc = rt.alloc();
+    // a line of the greatest length is read, and is of a form that is not built
+    let cases: [(&[u8], usize, &[u8]); 2] = [
+        (b"bytes 1 ", 2_200_000, b"not built"),
+        (b"bytes 10 ", 2_200_001, b"unreadable line"),
+    ];
+    for (front, length, cause) in cases {
+        let mut script = Vec::from_slice(alloc, front)?;
+        script.resize(length, b'0')?;
+        script.push(b'\n')?;
+        let (status, written) = replayed(alloc, script.as_slice(), Vec::new(alloc))?;
+        assert_eq!(rt; status, Status::Script { line: 1 });
+        assert_eq!(rt;
+            written.as_slice(),
+            fault_after(alloc, b"", 1, cause)?.as_slice()
+        );
+    }
     Ok(())
 }
 
