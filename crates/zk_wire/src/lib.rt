@@ -35,6 +35,7 @@ mod reply_fields;
 mod request_fields;
 mod requests;
 mod sink;
+mod stat_bytes;
 #[cfg(test)]
 mod tests;
 mod writer;
