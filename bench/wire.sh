@@ -11,15 +11,20 @@ trap 'rm -rf "$work"' EXIT
 program=$here/crates/wire_bench/out/wire_bench
 rustc -O --edition 2021 -A dead_code -o "$work/plain" "$here/bench/wire.rs"
 
-best() { # best COMMAND..: the least microseconds of reading and of writing in five runs
-  for _ in 1 2 3 4 5; do "$@" | tail -n 1; done | awk '
+best() { # best FILE: the least microseconds of reading and of writing in its lines
+  awk '
     NR == 1 || $1 < reading { reading = $1 }
     NR == 1 || $2 < writing { writing = $2 }
-    END { print reading, writing }'
+    END { print reading, writing }' "$1"
 }
 
-read -r reads writes <<<"$(best "$program" "$count" time)"
-read -r plain_reads plain_writes <<<"$(best "$work/plain" "$count")"
+# By turns, so that both meet the same moments of a busy machine.
+for _ in 1 2 3 4 5; do
+  "$program" "$count" time | tail -n 1 >>"$work/ours"
+  "$work/plain" "$count" | tail -n 1 >>"$work/theirs"
+done
+read -r reads writes <<<"$(best "$work/ours")"
+read -r plain_reads plain_writes <<<"$(best "$work/theirs")"
 awk -v n="$count" -v a="$reads" -v b="$writes" -v c="$plain_reads" -v d="$plain_writes" 'BEGIN {
   printf "cut and read: zk_wire %.2f M frames/s, rustc %.2f, ratio %.2f\n", n / a, n / c, c / a
   printf "write:        zk_wire %.2f M replies/s, rustc %.2f, ratio %.2f\n", n / b, n / d, d / b

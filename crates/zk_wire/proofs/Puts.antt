@@ -1,6 +1,6 @@
 -- Lists of values put one behind the other.
 use Rattle.std.proofs.Common.{◌≡◌, ℕ, ◌+◌, List, [], ◌∷◌, ◌++◌, length, arith, refl, sym, ap, ◌∙◌, append_assoc}
-use Rattle.std.specs.List.{AllByRecursion, flat_map}
+use Rattle.std.specs.List.{flat_map}
 use Rattle.std.proofs.lemmas.Grind.{flat_map-append}
 use Rattle.std.proofs.lemmas.List.{append-nil, length-append}
 use Rattle.zk_model.specs.JuteValues.{Value}

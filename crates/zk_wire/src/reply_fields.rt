@@ -5,13 +5,12 @@ ghost use Rattle.std.specs.List.{AllByRecursion};
 ghost use Rattle.zk_model.specs.Connects.{connect_response_values, optional};
 ghost use Rattle.zk_model.specs.declared.reply.Body.TheVariants as bodies;
 ghost use Rattle.zk_model.specs.Packets.{reply_values, notice_values};
-ghost use Rattle.zk_model.specs.Records.{stat_values};
 ghost use Rattle.zk_model.specs.Replies.{body_values};
 ghost use Rattle.zk_model.specs.Results.{result_header, result_values};
 ghost use Rattle.zk_wire.specs.Putting.{put_all};
 
 use crate::sink::FieldSink;
-use zk_model::{Body, ConnectResponse, Notice, PartKind, PartResult, Reply, Stat};
+use zk_model::{Body, ConnectResponse, Notice, PartKind, PartResult, Reply};
 
 /// Puts a reply's header, and its body where it is no refusal.
 pub fn put_reply<S: FieldSink>(
@@ -75,39 +74,22 @@ fn put_body<S: FieldSink>(sink: &mut S, body: &Body) -> Result<(), S::Fault>
     match body {
         Body::Empty => Ok(()),
         Body::Path(path) => sink.ustring(path.as_slice()),
-        Body::Stat(stat) => put_stat(sink, stat),
+        Body::Stat(stat) => sink.stat(stat),
         Body::Content(content, stat) => {
             sink.buffer(content.as_slice())?;
-            put_stat(sink, stat)
+            sink.stat(stat)
         }
         Body::Names(names) => sink.ustrings(names.as_slice()),
         Body::NamesStat(names, stat) => {
             sink.ustrings(names.as_slice())?;
-            put_stat(sink, stat)
+            sink.stat(stat)
         }
         Body::OpenAcl(stat) => {
             sink.open_acl()?;
-            put_stat(sink, stat)
+            sink.stat(stat)
         }
         Body::Parts(results) => put_results(sink, results.as_slice()),
     }
-}
-
-#[tactic(auto, unfolding(zk_model::specs::Records::stat_values))]
-fn put_stat<S: FieldSink>(sink: &mut S, stat: &Stat) -> Result<(), S::Fault>
-    ensures { OnOk result (sink.new ≡ put_all S.put sink.old (stat_values stat.now)) }
-{
-    sink.long(stat.czxid)?;
-    sink.long(stat.mzxid)?;
-    sink.long(stat.ctime)?;
-    sink.long(stat.mtime)?;
-    sink.int(stat.version)?;
-    sink.int(stat.cversion)?;
-    sink.int(stat.aversion)?;
-    sink.long(stat.ephemeral_owner)?;
-    sink.int(stat.data_length)?;
-    sink.int(stat.num_children)?;
-    sink.long(stat.pzxid)
 }
 
 fn put_results<S: FieldSink>(sink: &mut S, results: &[PartResult]) -> Result<(), S::Fault>
@@ -132,7 +114,7 @@ fn put_result<S: FieldSink>(sink: &mut S, outcome: &PartResult) -> Result<(), S:
         PartResult::Deleted => put_header(sink, PartKind::Delete.number(), false, 0),
         PartResult::Set(stat) => {
             put_header(sink, PartKind::SetData.number(), false, 0)?;
-            put_stat(sink, stat)
+            sink.stat(stat)
         }
         PartResult::Checked => put_header(sink, PartKind::Check.number(), false, 0),
         PartResult::Code(code) => {

@@ -4,11 +4,12 @@
 ghost use Rattle.std.specs.Prelude.{◌≡◌, ◌+◌, length, OnOk};
 ghost use Rattle.zk_model.specs.JuteValues.{Value, int as int_value, long as long_value, boolean as boolean_value, buffer as buffer_value, ustring as ustring_value, ustrings as ustrings_value, acls as acls_value, open_acl as open_acl_value};
 ghost use Rattle.zk_model.specs.JuteWriting.{string_bytes, acl_bytes, canonical};
-ghost use Rattle.zk_wire.specs.Putting.{counted};
+ghost use Rattle.zk_model.specs.Records.{stat_values};
+ghost use Rattle.zk_wire.specs.Putting.{counted, put_all};
 
 use std::convert::Infallible;
 use std::marker::Model;
-use zk_model::Acl;
+use zk_model::{Acl, Stat};
 use zx_base::Text;
 
 /// What takes values, one after the other.
@@ -49,6 +50,24 @@ pub trait FieldSink {
 
     fn open_acl(&mut self) -> Result<(), Self::Fault>
         ensures { OnOk result (self.new ≡ put self.old open_acl_value) };
+
+    /// The numbers of a Stat, one after the other.
+    #[tactic(auto, unfolding(zk_model::specs::Records::stat_values))]
+    fn stat(&mut self, stat: &Stat) -> Result<(), Self::Fault>
+        ensures { OnOk result (self.new ≡ put_all put self.old (stat_values stat.now)) }
+    {
+        self.long(stat.czxid)?;
+        self.long(stat.mzxid)?;
+        self.long(stat.ctime)?;
+        self.long(stat.mtime)?;
+        self.int(stat.version)?;
+        self.int(stat.cversion)?;
+        self.int(stat.aversion)?;
+        self.long(stat.ephemeral_owner)?;
+        self.int(stat.data_length)?;
+        self.int(stat.num_children)?;
+        self.long(stat.pzxid)
+    }
 }
 
 /// How many bytes the values take; at 2^64 - 1 it stays.

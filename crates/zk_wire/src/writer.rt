@@ -6,10 +6,11 @@ ghost use Rattle.zk_model.specs.JuteValues.{open_acl};
 ghost use Rattle.zk_model.specs.JuteWriting.{int_bytes, long_bytes, boolean_bytes, count_bytes, string_bytes, acl_bytes, vector_bytes, canonical, CanBeWritten, IsShort, IsShortAcl, FitsLength, with_length};
 
 use crate::sink::FieldSink;
+use crate::stat_bytes::stat_bytes;
 use byteorder::{BigEndian, ByteOrder};
 use std::alloc::Global;
 use std::marker::Model;
-use zk_model::Acl;
+use zk_model::{Acl, Stat};
 use zx_base::{Memory, Text};
 
 /// The bytes of a packet's length.
@@ -140,5 +141,9 @@ impl FieldSink for Writer {
         self.int(31)?;
         self.string(b"world")?;
         self.string(b"anyone")
+    }
+
+    fn stat(&mut self, stat: &Stat) -> Result<(), Memory> {
+        self.bytes(&stat_bytes(stat))
     }
 }

@@ -2,12 +2,12 @@
 
 use super::{STAT, is_packet, text, texts};
 use crate::{
-    WireFault, notice_can_be_sent, read_reply, reply_can_be_sent, write_connect, write_notice,
-    write_reply,
+    WireFault, notice_can_be_sent, read_reply, replies_are_spelled, replies_come_back,
+    reply_can_be_sent, write_connect, write_notice, write_reply,
 };
 use std::alloc::Global;
 use std::test::Fail;
-use zk_model::{Body, ConnectResponse, Notice, PartResult, Reply};
+use zk_model::{Body, ConnectResponse, Notice, PartResult, Reply, Stat};
 use zx_base::{Memory, Seq};
 
 /// What a reply says.
@@ -23,6 +23,8 @@ enum Said {
     NamesStat,
     Parts,
     Codes,
+    /// One byte of a node that was made at this zxid, at 1,000 milliseconds.
+    Node(i64),
 }
 
 /// Frames with xid 1 and zxid 3, and the type of the request that each answers; `reply` makes what they spell.
@@ -89,6 +91,65 @@ const FRAMES: [(Said, i32, &'static [u8]); 10] = [
     ),
 ];
 
+/// What a server sends to a client that authenticates, creates `/a`, reads it, asks for a node that is not there, sends a
+/// multi that is refused and a ping, and closes: xid, zxid and the whole packet.
+const SENT: [(Said, i32, i64, &'static [u8]); 8] = [
+    (
+        Said::Empty,
+        -4,
+        3,
+        b"\0\0\0\x10\xff\xff\xff\xfc\0\0\0\0\0\0\0\x03\0\0\0\0",
+    ),
+    (
+        Said::Path,
+        1,
+        3,
+        b"\0\0\0\x16\0\0\0\x01\0\0\0\0\0\0\0\x03\0\0\0\0\0\0\0\x02/a",
+    ),
+    (
+        Said::Node(3),
+        2,
+        3,
+        b"\0\0\0\x59\0\0\0\x02\0\0\0\0\0\0\0\x03\0\0\0\0\0\0\0\x01x\
+\0\0\0\0\0\0\0\x03\0\0\0\0\0\0\0\x03\0\0\0\0\0\0\x03\xe8\0\0\0\0\0\0\x03\xe8\0\0\0\0\0\0\0\0\0\0\0\0\0\0\0\0\0\0\0\0\0\0\0\x01\0\0\0\0\0\0\0\0\0\0\0\x03",
+    ),
+    (
+        Said::Node(4),
+        2,
+        4,
+        b"\0\0\0\x59\0\0\0\x02\0\0\0\0\0\0\0\x04\0\0\0\0\0\0\0\x01x\
+\0\0\0\0\0\0\0\x04\0\0\0\0\0\0\0\x04\0\0\0\0\0\0\x03\xe8\0\0\0\0\0\0\x03\xe8\0\0\0\0\0\0\0\0\0\0\0\0\0\0\0\0\0\0\0\0\0\0\0\x01\0\0\0\0\0\0\0\0\0\0\0\x04",
+    ),
+    (
+        Said::Refused,
+        1,
+        3,
+        b"\0\0\0\x10\0\0\0\x01\0\0\0\0\0\0\0\x03\xff\xff\xff\x9b",
+    ),
+    (
+        Said::Codes,
+        7,
+        3,
+        b"\0\0\0\x40\0\0\0\x07\0\0\0\0\0\0\0\x03\0\0\0\0\
+\xff\xff\xff\xff\0\0\0\0\0\0\0\0\0\
+\xff\xff\xff\xff\0\xff\xff\xff\x9b\xff\xff\xff\x9b\
+\xff\xff\xff\xff\0\xff\xff\xff\xfe\xff\xff\xff\xfe\
+\xff\xff\xff\xff\x01\xff\xff\xff\xff",
+    ),
+    (
+        Said::Empty,
+        -2,
+        3,
+        b"\0\0\0\x10\xff\xff\xff\xfe\0\0\0\0\0\0\0\x03\0\0\0\0",
+    ),
+    (
+        Said::Empty,
+        2,
+        4,
+        b"\0\0\0\x10\0\0\0\x02\0\0\0\0\0\0\0\x04\0\0\0\0",
+    ),
+];
+
 fn reply(alloc: Global, said: Said) -> Result<Reply, Memory> {
     match said {
         Said::Refused => Ok(Reply::Refused(-101)),
@@ -106,7 +167,25 @@ fn body(alloc: Global, said: Said) -> Result<Body, Memory> {
         Said::NamesStat => Ok(Body::NamesStat(texts(alloc, &[b"b"])?, STAT)),
         Said::Parts => Ok(Body::Parts(parts(alloc)?)),
         Said::Codes => Ok(Body::Parts(codes(alloc)?)),
+        Said::Node(zxid) => Ok(Body::Content(text(alloc, b"x")?, made_at(zxid))),
         Said::Empty | Said::Refused => Ok(Body::Empty),
+    }
+}
+
+/// The Stat of a node of one byte that nothing has changed.
+fn made_at(zxid: i64) -> Stat {
+    Stat {
+        czxid: zxid,
+        mzxid: zxid,
+        ctime: 1000,
+        mtime: 1000,
+        version: 0,
+        cversion: 0,
+        aversion: 0,
+        ephemeral_owner: 0,
+        data_length: 1,
+        num_children: 0,
+        pzxid: zxid,
     }
 }
 
@@ -139,9 +218,24 @@ fn each_body_is_written(rt: HostRuntime) -> Result<(), Fail> {
     Ok(())
 }
 
+#[test]
+fn packets_of_a_session_are_written(rt: HostRuntime) -> Result<(), Fail> {
+    for (said, xid, zxid, packet) in SENT {
+        let reply = reply(rt.alloc(), said)?;
+        assert!(rt; reply_can_be_sent(&reply));
+        assert!(rt;
+            write_reply(rt.alloc(), xid, zxid, &reply)?.as_slice() == packet,
+            "xid {xid}"
+        );
+    }
+    Ok(())
+}
+
 /// What is read of a frame is written as that frame again.
 #[test]
 fn each_body_is_read(rt: HostRuntime) -> Result<(), Fail> {
+    replies_are_spelled();
+    replies_come_back();
     for (_, kind, frame) in FRAMES {
         let (xid, zxid, reply) = read_reply(rt.alloc(), frame, kind)?;
         assert!(rt; xid == 1 && zxid == 3);

@@ -1,7 +1,10 @@
 //! Requests and connects.
 
 use super::{is_packet, open_acl, text, texts};
-use crate::{WireFault, read_connect, read_request, request_can_be_sent, write_request};
+use crate::{
+    WireFault, connects_are_spelled, read_connect, read_request, request_can_be_sent,
+    requests_are_spelled, requests_come_back, write_request,
+};
 use std::alloc::Global;
 use std::test::Fail;
 use zk_model::{Opcode, Part, Request};
@@ -162,6 +165,8 @@ fn each_kind_is_written(rt: HostRuntime) -> Result<(), Fail> {
 /// What is read of a frame is written as that frame again.
 #[test]
 fn each_kind_is_read(rt: HostRuntime) -> Result<(), Fail> {
+    requests_are_spelled();
+    requests_come_back();
     for (_, frame) in FRAMES {
         let (xid, request) = read_request(rt.alloc(), frame)?;
         assert_eq!(rt; xid, 1);
@@ -298,6 +303,7 @@ fn cut_multi_is_unreadable(rt: HostRuntime) -> Result<(), Fail> {
 /// The connect of the usual Java client, and of an older one, which has no read-only byte.
 #[test]
 fn connects_are_read(rt: HostRuntime) -> Result<(), Fail> {
+    connects_are_spelled();
     let frame =
         b"\0\0\0\0\0\0\0\0\0\0\0\0\0\0\x75\x30\0\0\0\0\0\0\0\0\0\0\0\x10\0\0\0\0\0\0\0\0\0\0\0\0\0\0\0\0\0";
     let connect = read_connect(rt.alloc(), frame)?;
@@ -327,15 +333,38 @@ fn other_frames_are_no_connects(rt: HostRuntime) {
     );
 }
 
-/// An auth with xid -4 and a ping with xid -2, as the usual Java client sends them.
+/// Frames of real clients: the xid that each has.
+const ASKED: [(i32, &'static [u8]); 7] = [
+    (
+        1,
+        b"\0\0\0\x01\0\0\0\x01\0\0\0\x02/a\0\0\0\x01x\0\0\0\x01\0\0\0\x1f\0\0\0\x05world\0\0\0\x06anyone\0\0\0\0",
+    ),
+    (2, b"\0\0\0\x02\0\0\0\x04\0\0\0\x02/a\0"),
+    (
+        -4,
+        b"\xff\xff\xff\xfc\0\0\0\x64\0\0\0\0\0\0\0\x06digest\0\0\0\x03u:p",
+    ),
+    (1, b"\0\0\0\x01\0\0\0\x03\0\0\0\x02/a\x01"),
+    (-2, b"\xff\xff\xff\xfe\0\0\0\x0b"),
+    (2, b"\0\0\0\x02\xff\xff\xff\xf5"),
+    (
+        -8,
+        b"\xff\xff\xff\xf8\0\0\0\x65\0\0\0\0\0\0\0\x06\0\0\0\x01\0\0\0\x02/a\0\0\0\0\0\0\0\0",
+    ),
+];
+
+/// Each keeps its xid, auth, ping and setWatches their own ones too, and is written again as the client wrote it.
 #[test]
 fn client_frames_are_read(rt: HostRuntime) -> Result<(), Fail> {
-    let auth = read_request(
-        rt.alloc(),
-        b"\xff\xff\xff\xfc\0\0\0\x64\0\0\0\0\0\0\0\x06digest\0\0\0\x03u:p",
-    )?;
-    assert!(rt; matches!(auth, (-4, Request::Auth { kind: 0, .. })));
-    let ping = read_request(rt.alloc(), b"\xff\xff\xff\xfe\0\0\0\x0b")?;
-    assert!(rt; matches!(ping, (-2, Request::Ping)));
+    for (sent, frame) in ASKED {
+        let (xid, request) = read_request(rt.alloc(), frame)?;
+        assert_eq!(rt; xid, sent);
+        assert!(rt; request_can_be_sent(&request));
+        assert!(rt; is_packet(&write_request(rt.alloc(), xid, &request)?, frame));
+    }
+    let (_, auth) = read_request(rt.alloc(), ASKED[2].1)?;
+    assert!(rt; matches!(auth, Request::Auth { kind: 0, .. }));
+    let (_, ping) = read_request(rt.alloc(), ASKED[4].1)?;
+    assert!(rt; matches!(ping, Request::Ping));
     Ok(())
 }

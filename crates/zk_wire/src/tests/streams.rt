@@ -1,6 +1,6 @@
 //! Streams in pieces.
 
-use crate::{CutFault, Cutter};
+use crate::{CutFault, Cutter, frames_in_any_pieces};
 use std::test::Fail;
 use zx_base::{Bytes, Memory};
 
@@ -16,6 +16,7 @@ fn fault_of(cut: Result<Vec<Bytes>, CutFault>) -> Result<Option<CutFault>, Memor
 /// A frame, and then a length of one byte too many, in pieces of one byte.
 #[test]
 fn bad_length_stands_behind_a_frame(rt: HostRuntime) -> Result<(), Fail> {
+    frames_in_any_pieces();
     let mut cutter = Cutter::new(rt.alloc());
     let mut frames: Vec<Bytes> = Vec::new(rt.alloc());
     for piece in [0, 0, 0, 3, 1, 2, 3, 0, 16, 0].chunks(1) {
@@ -64,5 +65,23 @@ fn frame_waits_for_its_last_byte(rt: HostRuntime) -> Result<(), Fail> {
     let second = cutter.take(b"\x0b")?;
     assert!(rt; second.len() == 1);
     assert!(rt; second[0].is(b"\xff\xff\xff\xfe\0\0\0\x0b"));
+    Ok(())
+}
+
+/// The longest frame is waited for. A longer one, and one of a length below 0, is refused.
+#[test]
+fn longest_frame_is_waited_for(rt: HostRuntime) -> Result<(), Fail> {
+    let mut cutter = Cutter::new(rt.alloc());
+    assert!(rt; cutter.take(b"\0\x0f\xff\xff")?.is_empty());
+    let rows: [(&'static [u8], i32); 3] = [
+        (b"\0\x10\0\0", 1_048_576),
+        (b"\x7f\xff\xff\xff", 2_147_483_647),
+        (b"\x80\0\0\0", -2_147_483_648),
+    ];
+    for (front, length) in rows {
+        let mut cutter = Cutter::new(rt.alloc());
+        let bad = Some(CutFault::BadLength { place: 0, length });
+        assert!(rt; fault_of(cutter.take(front))? == bad, "{length}");
+    }
     Ok(())
 }

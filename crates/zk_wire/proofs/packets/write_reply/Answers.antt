@@ -1,4 +1,4 @@
-use Rattle.std.proofs.Common.{rules, arith, ◌≡◌, List, ℕ, length, pos, ap, ◌∙◌, w32, w64, SFits}
+use Rattle.std.proofs.Common.{rules, arith, ◌≡◌, length, pos, ap, ◌∙◌, w32, w64, SFits}
 use Rattle.std.proofs.lemmas.Int.{to_z-of_z}
 use Rattle.zk_model.specs.JuteWriting.{with_length}
 use Rattle.zk_model.specs.Packets.{reply_values, reply_bytes, reply_packet}

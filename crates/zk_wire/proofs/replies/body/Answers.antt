@@ -1,4 +1,3 @@
-use Rattle.std.proofs.Common.{◌≡◌, refl}
 use Rattle.zk_model.proofs.ReplyLaws.{content_then_stat, names_then_stat, acl_then_stat}
 use Rattle.zk_wire.proofs.replies.body.Goals as goal
 

@@ -1,8 +1,6 @@
-use Rattle.std.proofs.Common.{rules, arith, eqb, false, ◌≡◌, ℕ, List, [], ◌∷◌, ◌++◌, length, refl, sym, ap, ◌∙◌, subst, min, ◌+◌, ◌-◌, ◌^◌, None}
-use Rattle.std.proofs.lemmas.Grind.{common_steps}
+use Rattle.std.proofs.Common.{rules, eqb, false, ◌≡◌, [], ◌++◌, length, refl, sym, ap, ◌∙◌, None}
 use Rattle.std.proofs.lemmas.List.{nil_from_length}
-use Rattle.std.proofs.lemmas.Bool.{eqb-true}
-use Rattle.zk_model.specs.Frames.{Framed, bad_length}
+use Rattle.zk_model.specs.Frames.{bad_length}
 use Rattle.zk_wire.proofs.Pieces.{hands_none, hands_some, not_empty}
 use Rattle.zk_wire.proofs.cutter.Cutter.take.Goals as goal
 

@@ -1,4 +1,3 @@
-use Rattle.std.proofs.Common.{◌≡◌, ◌++◌, ◌∷◌, [], refl}
 use Rattle.std.proofs.lemmas.Result.{err_from_is_err_and}
 use Rattle.zk_model.specs.JuteReading.{items_at}
 use Rattle.zk_wire.proofs.Loop.{goes_on, ends, is_done}

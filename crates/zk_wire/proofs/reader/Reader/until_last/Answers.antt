@@ -1,4 +1,3 @@
-use Rattle.std.proofs.Common.{◌≡◌, refl}
 use Rattle.std.proofs.lemmas.Result.{err_from_is_err_and}
 use Rattle.zk_model.specs.JuteReading.{all_until_last}
 use Rattle.zk_model.proofs.Items.{goes_on, is_done}
