@@ -196,9 +196,7 @@ fn updated(
             connection,
             index,
             now,
-        } => Ok(asked(
-            alloc, before, state, zxid, connection, index, now,
-        )?),
+        } => Ok(asked(alloc, before, state, zxid, connection, index, now)?),
         UpdateKind::Closed { id, .. } => Ok(ended(alloc, state, zxid, id)?),
         UpdateKind::Reaped { id } => Ok(ended(alloc, state, zxid, id)?),
     }
@@ -228,9 +226,7 @@ pub fn change(
     ensures beyond { IfErr result (BeyondUnless (IsCountable state × Fits before.now state line.now)) }
 {
     match line {
-        TranscriptLine::Update(update) => {
-            Ok(updated(alloc, before, state, update)?)
-        }
+        TranscriptLine::Update(update) => { Ok(updated(alloc, before, state, update)?) }
         TranscriptLine::Lapse { id, .. } => Ok(lapsed(alloc, state, *id)?),
         _ => Ok(state),
     }

@@ -20,7 +20,7 @@ loop-place-preserved c =
     record {
       reached = stepped ∙ ap (λ (s : State). change (take k lines) s line) c.loop-place.invariant.reached ∙ sym (after-push (take k lines) line) ∙ ap after next;
       few = let bound : c.in_ok-state.state.updates ≤ c.loop-place.state.updates + 1 = subst (λ (s : State). s.updates ≤ c.loop-place.state.updates + 1) (sym stepped) more in
-      omega (arith, bound, c.loop-place.invariant.few);
+          omega (arith, bound, c.loop-place.invariant.few);
     }
 
 fits : (lines before : List TranscriptLine) (l : TranscriptLine) (rest : List TranscriptLine) (s : State) → s.updates < 18446744073709551615 → s ≡ after before → lines ≡ before ++ l ∷ rest
