@@ -1,5 +1,5 @@
 -- A line counts as at most one update.
-use Rattle.std.proofs.Common.{◌≡◌, ℕ, ℤ, ◌+◌, ◌≤◌, Option, Some, None, List, arith}
+use Rattle.std.proofs.Common.{ℤ, ◌+◌, ◌≤◌, Option, Some, None, List, arith}
 use Rattle.zk_model.specs.declared.transcript.TranscriptLine.{TranscriptLine}
 use Rattle.zk_model.specs.declared.transcript.TranscriptLine.TheVariants.{Update, Open, Frame, Send, Lapse, Close}
 use Rattle.zk_model.specs.declared.transcript.UpdateKind.{UpdateKind}

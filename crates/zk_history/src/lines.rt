@@ -21,7 +21,10 @@ use zx_base::{Memory, Seq};
 /// The most ephemeral nodes that a session may own.
 const MOST_OWNED: usize = 40;
 
-/// Who asks for an update, and when. A moment of 2^63 milliseconds is beyond its field.
+/// The last moment that the times of a node hold, in milliseconds.
+const LAST_MOMENT: u64 = 9223372036854775807;
+
+/// Who asks for an update, and when.
 fn turn(session: i64, zxid: i64, moment: u64) -> Result<Turn, Fault>
     ensures limit { IfOk result (λ t. t.limit ≡ 40) }
     ensures session { IfOk result (λ t. t.session ≡ session) }
@@ -29,7 +32,7 @@ fn turn(session: i64, zxid: i64, moment: u64) -> Result<Turn, Fault>
     ensures moment { IfOk result (λ t. t.moment ≡ moment) }
     ensures beyond { IfErr result (BeyondUnless (IsMoment moment)) }
 {
-    if 9223372036854775807 < moment {
+    if LAST_MOMENT < moment {
         return Err(Fault::Beyond);
     }
     Ok(Turn {
@@ -215,7 +218,8 @@ fn lapsed(alloc: Global, state: State, id: i64) -> Result<State, Memory>
     }
 }
 
-/// The state after a line that stands behind these.
+/// The state after a line that stands behind these. `Beyond` where a moment, a count of the tree or the number of updates is
+/// beyond its field, as in no transcript of a run.
 pub fn change(
     alloc: Global,
     before: &[TranscriptLine],

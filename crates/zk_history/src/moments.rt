@@ -11,7 +11,8 @@ use std::alloc::Global;
 use zk_model::TranscriptLine;
 use zk_plain::Fault;
 
-/// The state after the updates and lapses among these lines. Goes through the lines before each line again.
+/// The state after the updates and lapses among these lines; faults as in [`change`]. Goes through the lines before each
+/// line again.
 #[tactic(auto, unfolding(zk_model::specs::History::after))]
 pub fn after(alloc: Global, lines: &[TranscriptLine]) -> Result<State, Fault>
     ensures ok { IfOk result (λ s. s ≡ after lines.now) }

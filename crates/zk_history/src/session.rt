@@ -30,14 +30,19 @@ impl Model for Session {
     ghost view = { λ s. record { passwd = s.passwd; timeout = s.timeout; connection = s.connection; attached = s.attached; lapsed = s.lapsed } };
 }
 
+/// The range of the timeouts that are granted, in milliseconds.
+const LEAST_TIMEOUT: i32 = 4000;
+
+const MOST_TIMEOUT: i32 = 40000;
+
 /// A requested timeout, brought into the service's range. Both are in milliseconds.
 fn granted_timeout(asked: i32) -> i32
     ensures { result ≡ granted_timeout asked }
 {
-    if asked < 4000 {
-        4000
-    } else if 40000 < asked {
-        40000
+    if asked < LEAST_TIMEOUT {
+        LEAST_TIMEOUT
+    } else if MOST_TIMEOUT < asked {
+        MOST_TIMEOUT
     } else {
         asked
     }

@@ -13,6 +13,7 @@ use zk_model::Trigger;
 use zk_plain::{Fault, Tree};
 use zx_base::{Memory, Seq};
 
+/// The state of the service after an update: its tree, its open sessions, and what the update was.
 #[derive(Debug, Drop)]
 pub struct State {
     tree: Tree,
@@ -71,7 +72,7 @@ impl State {
         }
     }
 
-    /// The state after one more update, of which watches see this. Without a number for it there is none.
+    /// The state after one more update, of which watches see this; `Beyond` after the update of number 2^64 - 1.
     pub fn advanced(self, zxid: i64, triggers: Seq<Trigger>) -> Result<State, Fault>
         ensures ok { IfOk result (λ s. s ≡ advanced self zxid self.tree triggers self.sessions) }
         ensures beyond { IfErr result (BeyondUnless (self.updates < 18446744073709551615)) }
@@ -86,6 +87,7 @@ impl State {
         })
     }
 
+    /// The state with another tree.
     pub fn with_tree(self, tree: Tree) -> State
         ensures { result ≡ record self { tree = tree } }
     {
@@ -98,6 +100,7 @@ impl State {
         }
     }
 
+    /// The state with this session open under its number.
     pub fn with_session(self, id: i64, session: Session) -> Result<State, Memory>
         ensures { IfOk result (λ s. s ≡ record self { sessions = insert self.sessions id session }) }
     {
@@ -110,6 +113,7 @@ impl State {
         })
     }
 
+    /// The state without the session of this number.
     pub fn without_session(self, id: i64) -> State
         ensures { result ≡ record self { sessions = remove self.sessions id } }
     {
@@ -122,6 +126,7 @@ impl State {
         }
     }
 
+    /// The znodes.
     pub fn tree(&self) -> &Tree
         ensures { result.now ≡ self.now.tree }
     {
