@@ -1,0 +1,53 @@
+-- When each number of an update is within its field, beside the number of updates.
+use Rattle.std.specs.Prelude.{◌≡◌, ◌≤◌, ◌<◌, ℕ, ℤ, ⊤, List, ◌∷◌, ◌++◌, Option, Some}
+use Rattle.zk_model.specs.declared.request.Part.{Part}
+use Rattle.zk_model.specs.declared.request.Part.TheVariants as part
+use Rattle.zk_model.specs.declared.request.Request.{Request}
+use Rattle.zk_model.specs.declared.request.Request.TheVariants as req
+use Rattle.zk_model.specs.declared.transcript.UpdateKind.{UpdateKind}
+use Rattle.zk_model.specs.declared.transcript.UpdateKind.TheVariants.{Begin, Asked}
+use Rattle.zk_model.specs.declared.transcript.TranscriptLine.{TranscriptLine}
+use Rattle.zk_model.specs.declared.transcript.TranscriptLine.TheVariants.{Update}
+use Rattle.zk_model.specs.Frames.{most_frame}
+use Rattle.zk_model.specs.History.{State, after, request, session_of}
+use Rattle.zk_model.specs.Multi.{data_len}
+use Rattle.zk_model.specs.Single.{most_owned}
+use Rattle.zk_model.specs.Znodes.{Tree}
+use Rattle.zk_plain.specs.Faults.{IsWithin, StaysWithin}
+
+-- the tree's counts are those of a run, and the data are no more than a frame has
+abbrev pub PartFits : Tree → Part → Type 0
+PartFits t p = IsWithin t × (data_len p ≤ most_frame)
+
+abbrev pub RequestFits : Tree → ℕ → ℤ → Request → ℤ → ℕ → Type 0
+RequestFits t limit session (req.Create p d a f) zxid now = PartFits t (part.Create p d a f)
+RequestFits t limit session (req.Delete p v) zxid now = PartFits t (part.Delete p v)
+RequestFits t limit session (req.SetData p d v) zxid now = PartFits t (part.SetData p d v)
+RequestFits t limit session (req.Multi parts) zxid now = StaysWithin t limit session parts zxid now
+RequestFits t limit session _ zxid now = ⊤
+
+-- the moment of an update is below 2^63 milliseconds
+abbrev pub IsMoment : ℕ → Type 0
+IsMoment now = now < 9223372036854775808
+
+-- there is a number for one update more
+abbrev pub IsCountable : State → Type 0
+IsCountable s = s.updates < 18446744073709551615
+
+abbrev pub AskedFits : Tree → Option ℤ → Option Request → ℤ → ℕ → Type 0
+AskedFits t (Some session) (Some r) zxid now = RequestFits t most_owned session r zxid now
+AskedFits t _ _ zxid now = ⊤
+
+abbrev pub UpdateFits : List TranscriptLine → State → ℤ → UpdateKind → Type 0
+UpdateFits before s zxid (Begin now) = IsMoment now
+UpdateFits before s zxid (Asked c i now) = IsMoment now × AskedFits s.tree (session_of c s) (request c i before) zxid now
+UpdateFits before s zxid _ = ⊤
+
+-- a line that stands behind these and meets this state
+abbrev pub Fits : List TranscriptLine → State → TranscriptLine → Type 0
+Fits before s (Update u) = UpdateFits before s u.zxid u.kind
+Fits before s _ = ⊤
+
+-- each line of a transcript
+abbrev pub AllFit : List TranscriptLine → Type 0
+AllFit lines = (before : List TranscriptLine) (l : TranscriptLine) (rest : List TranscriptLine) → lines ≡ before ++ l ∷ rest → Fits before (after before) l

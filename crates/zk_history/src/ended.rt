@@ -1,0 +1,91 @@
+//! Sessions that end: their ephemeral nodes are removed (Programmer's Guide, "Ephemeral Nodes").
+
+ghost use Rattle.std.specs.Prelude.{◌≡◌, ◌++◌, flat_map, IfOk, IfErr, OnOk};
+ghost use Rattle.zk_model.specs.Single.{removed, removal, without_child};
+ghost use Rattle.zk_model.specs.History.{removed_all, session_ended};
+ghost use Rattle.zk_plain.specs.Faults.{BeyondUnless};
+ghost use Rattle.zk_history.specs.Fits.{IsCountable};
+
+use crate::state::State;
+use std::alloc::Global;
+use zk_model::{Node, Path, Trigger};
+use zk_plain::{Fault, Tree};
+use zx_base::{Bytes, Memory, Seq};
+
+/// The parent after the delete of a child.
+fn without_child(alloc: Global, parent: &Node, zxid: i64) -> Result<Node, Memory>
+    ensures { IfOk result (λ n. n ≡ without_child parent.now zxid) }
+{
+    Ok(Node {
+        content: Bytes::copy_of(alloc, parent.content.as_slice())?,
+        czxid: parent.czxid,
+        mzxid: parent.mzxid,
+        pzxid: zxid,
+        ctime: parent.ctime,
+        mtime: parent.mtime,
+        version: parent.version,
+        creates: parent.creates,
+        owner: parent.owner,
+    })
+}
+
+/// The tree without a node that has no children.
+fn removed(alloc: Global, tree: &Tree, path: &Path, zxid: i64) -> Result<Tree, Memory>
+    ensures { IfOk result (λ t. t ≡ removed tree.now path.now zxid) }
+{
+    let rest = tree.without(alloc, path.bytes())?;
+    let Some(parent) = path.parent(alloc)? else {
+        return Ok(rest);
+    };
+    match tree.get(parent.bytes()) {
+        None => Ok(rest),
+        Some(node) => rest.with(alloc, parent, without_child(alloc, node, zxid)?),
+    }
+}
+
+/// The tree without these nodes, removed one by one at one zxid.
+fn removed_all(alloc: Global, tree: &Tree, paths: &[Path], zxid: i64) -> Result<Tree, Memory>
+    ensures { IfOk result (λ t. t ≡ removed_all tree.now paths.now zxid) }
+{
+    let mut rest = tree.copy(alloc)?;
+    for path in paths {
+        rest = removed(alloc, &rest, path, zxid)?;
+    }
+    Ok(rest)
+}
+
+/// Adds what watches see of the removal of a node.
+fn add_removal(alloc: Global, triggers: &mut Vec<Trigger>, path: &Path) -> Result<(), Memory>
+    ensures { OnOk result (triggers.new.items ≡ triggers.old.items ++ removal path.now) }
+{
+    triggers.push(Trigger::Deleted(path.copy(alloc)?))?;
+    if let Some(parent) = path.parent(alloc)? {
+        triggers.push(Trigger::Children(parent))?;
+    }
+    Ok(())
+}
+
+/// What watches see of the removal of these nodes.
+fn removals(alloc: Global, paths: &[Path]) -> Result<Seq<Trigger>, Memory>
+    ensures { IfOk result (λ triggers. triggers ≡ flat_map removal paths.now) }
+{
+    let mut triggers = Vec::new(alloc);
+    for path in paths {
+        add_removal(alloc, &mut triggers, path)?;
+    }
+    Ok(Seq::from_vec(triggers))
+}
+
+/// The state after the update that ends a session.
+pub fn session_ended(alloc: Global, state: State, zxid: i64, id: i64) -> Result<State, Fault>
+    ensures ok { IfOk result (λ s. s ≡ session_ended state zxid id) }
+    ensures beyond { IfErr result (BeyondUnless (IsCountable state)) }
+{
+    let paths = state.tree().owned(alloc, id)?;
+    let rest = removed_all(alloc, state.tree(), &paths, zxid)?;
+    let triggers = removals(alloc, &paths)?;
+    state
+        .without_session(id)
+        .with_tree(rest)
+        .advanced(zxid, triggers)
+}

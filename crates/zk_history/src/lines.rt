@@ -1,0 +1,237 @@
+//! What one line of a transcript does to the state.
+
+ghost use Rattle.std.specs.Prelude.{◌≡◌, ℕ, List, option_map, IfOk, IfErr};
+ghost use Rattle.zk_model.specs.declared.transcript.UpdateKind.TheVariants as kind;
+ghost use Rattle.zk_model.specs.History.{State, attached_anew, asked_commit, change, committed, lapsed_in, request, session_at, session_of, updated};
+ghost use Rattle.zk_plain.specs.Faults.{BeyondUnless};
+ghost use Rattle.zk_history.specs.Commits.{commit_of};
+ghost use Rattle.zk_history.specs.Fits.{AskedFits, Fits, IsCountable, IsMoment, UpdateFits};
+
+use crate::ended::session_ended;
+use crate::outcome::Commit;
+use crate::requests::commit;
+use crate::session::Session;
+use crate::shown::{connect, opening, request};
+use crate::state::State;
+use std::alloc::Global;
+use zk_model::{TranscriptLine, UpdateKind, UpdateRec};
+use zk_plain::{Fault, Turn, begin};
+use zx_base::{Memory, Seq};
+
+/// The most ephemeral nodes that a session may own.
+const MOST_OWNED: usize = 40;
+
+/// The last moment that the times of a node hold, in milliseconds.
+const LAST_MOMENT: u64 = 9223372036854775807;
+
+/// Who asks for an update, and when.
+fn turn(session: i64, zxid: i64, moment: u64) -> Result<Turn, Fault>
+    ensures limit { IfOk result (λ t. t.limit ≡ 40) }
+    ensures session { IfOk result (λ t. t.session ≡ session) }
+    ensures zxid { IfOk result (λ t. t.zxid ≡ zxid) }
+    ensures moment { IfOk result (λ t. t.moment ≡ moment) }
+    ensures beyond { IfErr result (BeyondUnless (IsMoment moment)) }
+{
+    if LAST_MOMENT < moment {
+        return Err(Fault::Beyond);
+    }
+    Ok(Turn {
+        limit: MOST_OWNED,
+        session,
+        zxid,
+        moment,
+    })
+}
+
+/// The session of the requests of a connection. Each connection counts as attached to a session of number 0.
+fn session_of(_connection: u32, _state: &State) -> Option<i64>
+    ensures { result ≡ session_of _connection _state.now }
+{
+    Some(0)
+}
+
+/// The state after the first update.
+#[tactic(auto, unfolding(zk_model::specs::History::updated))]
+fn begun(alloc: Global, zxid: i64, moment: u64) -> Result<State, Fault>
+    ensures ok { IfOk result (λ s. (before : List TranscriptLine) (state : State) → s ≡ updated before state zxid (kind.Begin moment)) }
+    ensures beyond { IfErr result (BeyondUnless (IsMoment moment)) }
+{
+    let tree = begin(alloc, &turn(0, zxid, moment)?)?;
+    Ok(State::begun(alloc, tree, zxid))
+}
+
+/// The state after a session began on a connection.
+#[tactic(auto, unfolding(zk_model::specs::History::updated))]
+fn session_begun(
+    alloc: Global,
+    before: &[TranscriptLine],
+    state: State,
+    zxid: i64,
+    id: i64,
+    connection: u32,
+) -> Result<State, Fault>
+    ensures ok { IfOk result (λ s. s ≡ updated before.now state zxid (kind.Session id connection)) }
+    ensures beyond { IfErr result (BeyondUnless (IsCountable state)) }
+{
+    let asked = connect(alloc, before, connection)?;
+    let session = Session::new(alloc, opening(before, connection), &asked, connection, zxid)?;
+    state
+        .with_session(id, session)?
+        .advanced(zxid, Seq::new(alloc))
+}
+
+/// The state with a session attached to another connection: as it was, where the session is not open.
+fn with_attached(
+    alloc: Global,
+    state: State,
+    zxid: i64,
+    id: i64,
+    connection: u32,
+) -> Result<State, Memory>
+    ensures { IfOk result (λ s. s ≡ record state { sessions = attached_anew state zxid id connection (session_at id state) }) }
+{
+    match state.session(id) {
+        None => Ok(state),
+        Some(session) => {
+            let session = session.attached_anew(alloc, connection, zxid)?;
+            state.with_session(id, session)
+        }
+    }
+}
+
+/// The state after a session was attached to another connection.
+#[tactic(auto, unfolding(zk_model::specs::History::updated))]
+fn attached(
+    alloc: Global,
+    state: State,
+    zxid: i64,
+    id: i64,
+    connection: u32,
+) -> Result<State, Fault>
+    ensures ok { IfOk result (λ s. (before : List TranscriptLine) → s ≡ updated before state zxid (kind.Attach id connection)) }
+    ensures beyond { IfErr result (BeyondUnless (IsCountable state)) }
+{
+    with_attached(alloc, state, zxid, id, connection)?.advanced(zxid, Seq::new(alloc))
+}
+
+/// What the request of a frame does, where it is not refused.
+fn asked_commit(
+    alloc: Global,
+    before: &[TranscriptLine],
+    state: &State,
+    zxid: i64,
+    connection: u32,
+    index: u64,
+    moment: u64,
+) -> Result<Option<Commit>, Fault>
+    ensures ok { IfOk result (λ o. option_map commit_of o ≡ asked_commit before.now state.now zxid connection index moment) }
+    ensures beyond { IfErr result (BeyondUnless (IsMoment moment × AskedFits state.now.tree (session_of connection state.now) (request connection index before.now) zxid moment)) }
+{
+    let Some(session) = session_of(connection, state) else {
+        return Ok(None);
+    };
+    let Some(asked) = request(alloc, before, connection, index)? else {
+        return Ok(None);
+    };
+    let turn = turn(session, zxid, moment)?;
+    Ok(commit(alloc, state.tree(), &turn, asked)?)
+}
+
+/// The state after what a request did: as it was, where the request was refused.
+fn committed(state: State, zxid: i64, done: Option<Commit>) -> Result<State, Fault>
+    ensures ok { IfOk result (λ s. s ≡ committed state zxid (option_map commit_of done)) }
+    ensures beyond { IfErr result (BeyondUnless (IsCountable state)) }
+{
+    match done {
+        None => Ok(state),
+        Some(Commit { tree, triggers, .. }) => state.with_tree(tree).advanced(zxid, triggers),
+    }
+}
+
+/// The state after a request was carried out.
+#[tactic(auto, unfolding(zk_model::specs::History::updated))]
+fn asked(
+    alloc: Global,
+    before: &[TranscriptLine],
+    state: State,
+    zxid: i64,
+    connection: u32,
+    index: u64,
+    moment: u64,
+) -> Result<State, Fault>
+    ensures ok { IfOk result (λ s. s ≡ updated before.now state zxid (kind.Asked connection index moment)) }
+    ensures beyond { IfErr result (BeyondUnless (IsCountable state × IsMoment moment × AskedFits state.tree (session_of connection state) (request connection index before.now) zxid moment)) }
+{
+    let done = asked_commit(alloc, before, &state, zxid, connection, index, moment)?;
+    Ok(committed(state, zxid, done)?)
+}
+
+/// The state after a session ended, closed or reaped.
+#[tactic(auto, unfolding(zk_model::specs::History::updated))]
+fn ended(alloc: Global, state: State, zxid: i64, id: i64) -> Result<State, Fault>
+    ensures closed { IfOk result (λ s. (before : List TranscriptLine) (connection index : ℕ) → s ≡ updated before state zxid (kind.Closed id connection index)) }
+    ensures reaped { IfOk result (λ s. (before : List TranscriptLine) → s ≡ updated before state zxid (kind.Reaped id)) }
+    ensures beyond { IfErr result (BeyondUnless (IsCountable state)) }
+{
+    Ok(session_ended(alloc, state, zxid, id)?)
+}
+
+/// The state after an update.
+fn updated(
+    alloc: Global,
+    before: &[TranscriptLine],
+    state: State,
+    update: &UpdateRec,
+) -> Result<State, Fault>
+    ensures ok { IfOk result (λ s. s ≡ updated before.now state update.now.zxid update.now.kind) }
+    ensures beyond { IfErr result (BeyondUnless (IsCountable state × UpdateFits before.now state update.now.zxid update.now.kind)) }
+{
+    let zxid = update.zxid;
+    match update.kind {
+        UpdateKind::Begin { now } => Ok(begun(alloc, zxid, now)?),
+        UpdateKind::Session { id, connection } => Ok(session_begun(
+            alloc, before, state, zxid, id, connection,
+        )?),
+        UpdateKind::Attach { id, connection } => {
+            Ok(attached(alloc, state, zxid, id, connection)?)
+        }
+        UpdateKind::Asked {
+            connection,
+            index,
+            now,
+        } => Ok(asked(alloc, before, state, zxid, connection, index, now)?),
+        UpdateKind::Closed { id, .. } => Ok(ended(alloc, state, zxid, id)?),
+        UpdateKind::Reaped { id } => Ok(ended(alloc, state, zxid, id)?),
+    }
+}
+
+/// The state after the lapse of a session: as it was, where the session is not open.
+fn lapsed(alloc: Global, state: State, id: i64) -> Result<State, Memory>
+    ensures { IfOk result (λ s. s ≡ lapsed_in state id (session_at id state)) }
+{
+    match state.session(id) {
+        None => Ok(state),
+        Some(session) => {
+            let session = session.lapsed(alloc)?;
+            state.with_session(id, session)
+        }
+    }
+}
+
+/// The state after a line that stands behind these. `Beyond` where a moment, a count of the tree or the number of updates is
+/// beyond its field, as in no transcript of a run.
+pub fn change(
+    alloc: Global,
+    before: &[TranscriptLine],
+    state: State,
+    line: &TranscriptLine,
+) -> Result<State, Fault>
+    ensures ok { IfOk result (λ s. s ≡ change before.now state line.now) }
+    ensures beyond { IfErr result (BeyondUnless (IsCountable state × Fits before.now state line.now)) }
+{
+    match line {
+        TranscriptLine::Update(update) => { Ok(updated(alloc, before, state, update)?) }
+        TranscriptLine::Lapse { id, .. } => Ok(lapsed(alloc, state, *id)?),
+        _ => Ok(state),
+    }
+}

@@ -1,0 +1,156 @@
+//! Open sessions (Programmer's Guide, "ZooKeeper Sessions").
+
+ghost use Rattle.std.specs.Prelude.{◌≡◌, [], pos, option_map, IfOk, true};
+ghost use Rattle.zk_model.specs.History.{granted_timeout, new_session, or_nothing};
+
+use std::alloc::Global;
+use std::marker::Model;
+use zk_model::ConnectRequest;
+use zx_base::{Bytes, Memory};
+
+#[derive(Debug, Drop)]
+pub struct Session {
+    passwd: Bytes,
+    /// In milliseconds, as granted.
+    timeout: i32,
+    /// The connection that it is attached to, and the zxid of that attachment.
+    connection: u32,
+    attached: i64,
+    lapsed: bool,
+}
+
+impl Model for Session {
+    ghost use Rattle.zk_model.specs.History.{Session as Opened};
+    ghost use Rattle.zk_history.specs.Codes.{coded_session};
+
+    ghost Value = { Opened };
+
+    ghost coded = { coded_session };
+
+    ghost view = { λ s. record { passwd = s.passwd; timeout = s.timeout; connection = s.connection; attached = s.attached; lapsed = s.lapsed } };
+}
+
+/// The range of the timeouts that are granted, in milliseconds.
+const LEAST_TIMEOUT: i32 = 4000;
+
+const MOST_TIMEOUT: i32 = 40000;
+
+/// A requested timeout, brought into the service's range. Both are in milliseconds.
+fn granted_timeout(asked: i32) -> i32
+    ensures { result ≡ granted_timeout asked }
+{
+    if asked < LEAST_TIMEOUT {
+        LEAST_TIMEOUT
+    } else if MOST_TIMEOUT < asked {
+        MOST_TIMEOUT
+    } else {
+        asked
+    }
+}
+
+/// The password that a connection offered, if its opening is shown.
+fn offered(alloc: Global, opened: Option<(i64, [u8; 16])>) -> Result<Bytes, Memory>
+    ensures { IfOk result (λ passwd. passwd ≡ or_nothing [] (option_map (λ o. o.1) opened)) }
+{
+    match opened {
+        Some(opened) => {
+            let passwd = opened.1;
+            Bytes::copy_of(alloc, passwd.as_slice())
+        }
+        None => Ok(Bytes::new(alloc)),
+    }
+}
+
+/// The timeout that a connect asked for, in milliseconds: 0 where none was read.
+fn asked_timeout(asked: &Option<ConnectRequest>) -> i32
+    ensures { result ≡ or_nothing (pos 0) (option_map (λ r. r.timeout) asked.now) }
+{
+    match asked {
+        Some(request) => request.timeout,
+        None => 0,
+    }
+}
+
+impl Session {
+    /// A session that begins, by what the transcript shows of its connection.
+    pub fn new(
+        alloc: Global,
+        opened: Option<(i64, [u8; 16])>,
+        asked: &Option<ConnectRequest>,
+        connection: u32,
+        zxid: i64,
+    ) -> Result<Session, Memory>
+        ensures { IfOk result (λ s. s ≡ new_session opened asked.now connection zxid) }
+    {
+        Ok(Session {
+            passwd: offered(alloc, opened)?,
+            timeout: granted_timeout(asked_timeout(asked)),
+            connection,
+            attached: zxid,
+            lapsed: false,
+        })
+    }
+
+    /// The session attached to another connection.
+    pub fn attached_anew(
+        &self,
+        alloc: Global,
+        connection: u32,
+        zxid: i64,
+    ) -> Result<Session, Memory>
+        ensures { IfOk result (λ s. s ≡ record self.now { connection = connection; attached = zxid }) }
+    {
+        Ok(Session {
+            passwd: Bytes::copy_of(alloc, self.passwd.as_slice())?,
+            timeout: self.timeout,
+            connection,
+            attached: zxid,
+            lapsed: self.lapsed,
+        })
+    }
+
+    /// The session once its lease has lapsed.
+    pub fn lapsed(&self, alloc: Global) -> Result<Session, Memory>
+        ensures { IfOk result (λ s. s ≡ record self.now { lapsed = true }) }
+    {
+        Ok(Session {
+            passwd: Bytes::copy_of(alloc, self.passwd.as_slice())?,
+            timeout: self.timeout,
+            connection: self.connection,
+            attached: self.attached,
+            lapsed: true,
+        })
+    }
+
+    pub fn passwd(&self) -> &[u8]
+        ensures { result.now ≡ self.now.passwd }
+    {
+        self.passwd.as_slice()
+    }
+
+    /// In milliseconds, as granted.
+    pub fn timeout(&self) -> i32
+        ensures { result ≡ self.now.timeout }
+    {
+        self.timeout
+    }
+
+    pub fn connection(&self) -> u32
+        ensures { result ≡ self.now.connection }
+    {
+        self.connection
+    }
+
+    /// The zxid of its attachment to the connection.
+    pub fn attached(&self) -> i64
+        ensures { result ≡ self.now.attached }
+    {
+        self.attached
+    }
+
+    pub fn is_lapsed(&self) -> bool
+        ensures { result ≡ self.now.lapsed }
+    {
+        self.lapsed
+    }
+}

@@ -1,0 +1,64 @@
+//! The open sessions.
+
+ghost use Rattle.std.specs.Prelude.{◌≡◌, option_map, IfOk};
+ghost use Rattle.std.specs.FinMap.{empty, get, insert, remove};
+
+use crate::session::Session;
+use std::alloc::Global;
+use std::collections::BTreeMap;
+use std::marker::Model;
+use zx_base::Memory;
+
+/// The open sessions by their numbers.
+#[derive(Debug, Drop)]
+pub struct Sessions {
+    open: BTreeMap<i64, Session>,
+}
+
+impl Model for Sessions {
+    ghost use Rattle.std.specs.FinMap as map;
+    ghost use Rattle.zk_model.specs.History.{Sessions as Numbered};
+    ghost use Rattle.zk_history.specs.Codes.{coded_sessions};
+
+    ghost Value = { Numbered };
+
+    ghost coded = { coded_sessions };
+
+    ghost view = { λ s. map.from_entries s.open.entries };
+}
+
+impl Sessions {
+    /// No sessions.
+    pub fn new(alloc: Global) -> Sessions
+        ensures { result ≡ empty }
+    {
+        Sessions {
+            open: BTreeMap::new(alloc),
+        }
+    }
+
+    /// The session of a number.
+    pub fn get(&self, id: i64) -> Option<&Session>
+        ensures { option_map (λ s. s.now) result ≡ get self.now id }
+    {
+        self.open.get(&id)
+    }
+
+    /// The sessions with this one under its number.
+    pub fn with(self, id: i64, session: Session) -> Result<Sessions, Memory>
+        ensures { IfOk result (λ s. s ≡ insert self id session) }
+    {
+        let mut open = self.open;
+        open.insert(id, session)?;
+        Ok(Sessions { open })
+    }
+
+    /// The sessions without the one of this number.
+    pub fn without(self, id: i64) -> Sessions
+        ensures { result ≡ remove self id }
+    {
+        let mut open = self.open;
+        open.remove(&id);
+        Sessions { open }
+    }
+}

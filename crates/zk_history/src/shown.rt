@@ -1,0 +1,114 @@
+//! What the lines of a transcript show of a connection: the first line that shows it.
+
+ghost use Rattle.std.specs.Prelude.{◌≡◌, option_map, IfOk};
+ghost use Rattle.zk_model.specs.History.{open_shown, opening, frame_shown, frame, connect, request, asked_in};
+ghost use Rattle.zk_model.specs.Connects.{read_connect};
+ghost use Rattle.zk_model.specs.Requests.{read_request};
+
+use std::alloc::Global;
+use zk_model::{ConnectRequest, Request, TranscriptLine};
+use zk_wire::{WireFault, read_connect, read_request};
+use zx_base::Memory;
+
+fn open_shown(line: &TranscriptLine, connection: u32) -> Option<(i64, [u8; 16])>
+    ensures { result ≡ open_shown connection line.now }
+{
+    match line {
+        TranscriptLine::Open {
+            connection: opened,
+            id,
+            passwd,
+            ..
+        } if connection == *opened => Some((*id, *passwd)),
+        _ => None,
+    }
+}
+
+/// The number and the password that a connection offers for a new session.
+pub fn opening(lines: &[TranscriptLine], connection: u32) -> Option<(i64, [u8; 16])>
+    ensures { result ≡ opening connection lines.now }
+{
+    for line in lines {
+        if let Some(shown) = open_shown(line, connection) {
+            return Some(shown);
+        }
+    }
+    None
+}
+
+fn frame_shown(line: &TranscriptLine, connection: u32, index: u64) -> Option<&[u8]>
+    ensures { option_map (λ b. b.now) result ≡ frame_shown connection index line.now }
+{
+    match line {
+        TranscriptLine::Frame {
+            connection: sender,
+            index: place,
+            bytes,
+            ..
+        } if connection == *sender && index == *place => Some(bytes.as_slice()),
+        _ => None,
+    }
+}
+
+/// The bytes of a frame; frame 0 is the connect.
+pub fn frame(lines: &[TranscriptLine], connection: u32, index: u64) -> Option<&[u8]>
+    ensures { option_map (λ b. b.now) result ≡ frame connection index lines.now }
+{
+    for line in lines {
+        if let Some(bytes) = frame_shown(line, connection, index) {
+            return Some(bytes);
+        }
+    }
+    None
+}
+
+/// The connect request of a frame, where it is one.
+fn connect_of(alloc: Global, bytes: &[u8]) -> Result<Option<ConnectRequest>, Memory>
+    ensures { IfOk result (λ r. r ≡ read_connect bytes.now) }
+{
+    match read_connect(alloc, bytes) {
+        Ok(request) => Ok(Some(request)),
+        Err(WireFault::Memory) => Err(Memory),
+        Err(_) => Ok(None),
+    }
+}
+
+/// The connect request of a connection, where it is readable.
+pub fn connect(
+    alloc: Global,
+    lines: &[TranscriptLine],
+    connection: u32,
+) -> Result<Option<ConnectRequest>, Memory>
+    ensures { IfOk result (λ r. r ≡ connect connection lines.now) }
+{
+    match frame(lines, connection, 0) {
+        Some(bytes) => connect_of(alloc, bytes),
+        None => Ok(None),
+    }
+}
+
+/// The request of a frame's bytes, where they are one.
+fn request_of(alloc: Global, bytes: &[u8]) -> Result<Option<Request>, Memory>
+    ensures { IfOk result (λ r. r ≡ asked_in (read_request bytes.now)) }
+{
+    match read_request(alloc, bytes) {
+        Ok((_, request)) => Ok(Some(request)),
+        Err(WireFault::Memory) => Err(Memory),
+        Err(_) => Ok(None),
+    }
+}
+
+/// The request of a frame, where it is readable.
+pub fn request(
+    alloc: Global,
+    lines: &[TranscriptLine],
+    connection: u32,
+    index: u64,
+) -> Result<Option<Request>, Memory>
+    ensures { IfOk result (λ r. r ≡ request connection index lines.now) }
+{
+    match frame(lines, connection, index) {
+        Some(bytes) => request_of(alloc, bytes),
+        None => Ok(None),
+    }
+}

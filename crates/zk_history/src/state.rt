@@ -1,0 +1,163 @@
+//! The state of the service.
+
+ghost use Rattle.std.specs.Prelude.{◌≡◌, [], ◌+◌, ◌<◌, option_map, IfOk, IfErr};
+ghost use Rattle.std.specs.FinMap.{empty, insert, remove};
+ghost use Rattle.zk_model.specs.History.{advanced, nothing_yet, session_at};
+ghost use Rattle.zk_plain.specs.Faults.{BeyondUnless};
+
+use crate::session::Session;
+use crate::sessions::Sessions;
+use std::alloc::Global;
+use std::marker::Model;
+use zk_model::Trigger;
+use zk_plain::{Fault, Tree};
+use zx_base::{Memory, Seq};
+
+/// The state of the service after an update: its tree, its open sessions, and what the update was.
+#[derive(Debug, Drop)]
+pub struct State {
+    tree: Tree,
+    zxid: i64,
+    updates: u64,
+    triggers: Seq<Trigger>,
+    sessions: Sessions,
+}
+
+impl Model for State {
+    ghost use Rattle.zk_model.specs.History.{State as Reached};
+    ghost use Rattle.zk_history.specs.Codes.{coded_state};
+
+    ghost Value = { Reached };
+
+    ghost coded = { coded_state };
+
+    ghost view = { λ s. record { tree = s.tree; zxid = s.zxid; updates = s.updates; triggers = s.triggers; sessions = s.sessions } };
+}
+
+/// One update more.
+fn counted(updates: u64) -> Result<u64, Fault>
+    ensures ok { IfOk result (λ n. n ≡ updates + 1) }
+    ensures beyond { IfErr result (BeyondUnless (updates < 18446744073709551615)) }
+{
+    match updates.checked_add(1) {
+        Some(more) => Ok(more),
+        None => Err(Fault::Beyond),
+    }
+}
+
+impl State {
+    /// The state before the first update.
+    pub fn new(alloc: Global) -> State
+        ensures { result ≡ nothing_yet }
+    {
+        State {
+            tree: Tree::new(alloc),
+            zxid: 0,
+            updates: 0,
+            triggers: Seq::new(alloc),
+            sessions: Sessions::new(alloc),
+        }
+    }
+
+    /// The state after the first update, whose tree this is.
+    pub fn begun(alloc: Global, tree: Tree, zxid: i64) -> State
+        ensures { result ≡ record { tree = tree; zxid = zxid; updates = 1; triggers = []; sessions = empty } }
+    {
+        State {
+            tree,
+            zxid,
+            updates: 1,
+            triggers: Seq::new(alloc),
+            sessions: Sessions::new(alloc),
+        }
+    }
+
+    /// The state after one more update, of which watches see this; `Beyond` after the update of number 2^64 - 1.
+    pub fn advanced(self, zxid: i64, triggers: Seq<Trigger>) -> Result<State, Fault>
+        ensures ok { IfOk result (λ s. s ≡ advanced self zxid self.tree triggers self.sessions) }
+        ensures beyond { IfErr result (BeyondUnless (self.updates < 18446744073709551615)) }
+    {
+        let updates = counted(self.updates)?;
+        Ok(State {
+            tree: self.tree,
+            zxid,
+            updates,
+            triggers,
+            sessions: self.sessions,
+        })
+    }
+
+    /// The state with another tree.
+    pub fn with_tree(self, tree: Tree) -> State
+        ensures { result ≡ record self { tree = tree } }
+    {
+        State {
+            tree,
+            zxid: self.zxid,
+            updates: self.updates,
+            triggers: self.triggers,
+            sessions: self.sessions,
+        }
+    }
+
+    /// The state with this session open under its number.
+    pub fn with_session(self, id: i64, session: Session) -> Result<State, Memory>
+        ensures { IfOk result (λ s. s ≡ record self { sessions = insert self.sessions id session }) }
+    {
+        Ok(State {
+            tree: self.tree,
+            zxid: self.zxid,
+            updates: self.updates,
+            triggers: self.triggers,
+            sessions: self.sessions.with(id, session)?,
+        })
+    }
+
+    /// The state without the session of this number.
+    pub fn without_session(self, id: i64) -> State
+        ensures { result ≡ record self { sessions = remove self.sessions id } }
+    {
+        State {
+            tree: self.tree,
+            zxid: self.zxid,
+            updates: self.updates,
+            triggers: self.triggers,
+            sessions: self.sessions.without(id),
+        }
+    }
+
+    /// The znodes.
+    pub fn tree(&self) -> &Tree
+        ensures { result.now ≡ self.now.tree }
+    {
+        &self.tree
+    }
+
+    /// The zxid of the last update, or 0 before the first.
+    pub fn zxid(&self) -> i64
+        ensures { result ≡ self.now.zxid }
+    {
+        self.zxid
+    }
+
+    /// How many updates there were.
+    pub fn updates(&self) -> u64
+        ensures { result ≡ self.now.updates }
+    {
+        self.updates
+    }
+
+    /// What watches see of the last update, in order.
+    pub fn triggers(&self) -> &[Trigger]
+        ensures { result.now ≡ self.now.triggers }
+    {
+        self.triggers.as_slice()
+    }
+
+    /// The open session of this number.
+    pub fn session(&self, id: i64) -> Option<&Session>
+        ensures { option_map (λ s. s.now) result ≡ session_at id self.now }
+    {
+        self.sessions.get(id)
+    }
+}
