@@ -1,1 +1,5 @@
--- nothing yet
+pub mod Framings
+pub mod Passing
+pub mod Stopping
+pub mod OneText
+pub mod Taking

@@ -9,12 +9,12 @@ use Rattle.zk_model.specs.declared.request.Part.{Part}
 use Rattle.zk_model.specs.declared.request.Request.{Request}
 use Rattle.zk_model.specs.declared.request.Request.TheVariants as requests
 use Rattle.zk_model.specs.Connects.{read_connect}
-use Rattle.zk_model.specs.JuteValues.{int, long, buffer}
+use Rattle.zk_model.specs.JuteValues.{int, long}
 use Rattle.zk_model.specs.JuteWriting.{long_bytes}
 use Rattle.zk_model.specs.Numbers.{opcode_of, part_kind}
 use Rattle.zk_model.specs.Records.{values_of, part_values}
 use Rattle.zk_model.specs.Requests.{Frame, NoHeader, Unreadable, Unknown, Asks, read_request}
-use Rattle.zt_show.specs.FieldWords.{spaced, signed_word, boolean_word, vector_words, record_words}
+use Rattle.zt_show.specs.FieldWords.{spaced, signed_word, boolean_word, hex_word, vector_words, record_words}
 
 -- ---- requests
 
@@ -51,16 +51,20 @@ abbrev pub body_words : Request → List ℕ
 body_words (requests.Multi parts) = vector_words part_words parts
 body_words request = record_words (values_of request)
 
+-- the xid and a name, which begin the words of each request
+abbrev pub named : ℤ → List ℕ → List ℕ
+named xid name = signed_word xid ++ spaced name
+
 abbrev pub request_words : ℤ → Request → List ℕ
-request_words xid request = signed_word xid ++ spaced (request_name (opcode_of request)) ++ body_words request
+request_words xid request = named xid (request_name (opcode_of request)) ++ body_words request
 
 -- a body that cannot be read, with the offset in its frame that is to blame
 abbrev pub unreadable_words : ℤ → ℕ → List ℕ
-unreadable_words xid place = signed_word xid ++ spaced (codes "unreadable") ++ spaced (decimal place)
+unreadable_words xid place = named xid (codes "unreadable") ++ spaced (decimal place)
 
 -- a type that is not listed
 abbrev pub unknown_words : ℤ → ℤ → List ℕ
-unknown_words xid type = signed_word xid ++ spaced (codes "unknown") ++ signed_word type
+unknown_words xid type = named xid (codes "unknown") ++ signed_word type
 
 -- what stands behind the place; a frame that is too short for a header has no line
 abbrev pub frame_words : Frame → Option (List ℕ)
@@ -76,10 +80,13 @@ abbrev pub read_only_words : Option Bool → List ℕ
 read_only_words (Some flag) = boolean_word flag
 read_only_words None = spaced (codes "-")
 
--- its fields in order, with the session as 16 hex digits
-unfoldable pub connect_words : ConnectRequest → List ℕ
-connect_words r =
-    spaced (codes "connect") ++ record_words (int r.protocol ∷ long r.last_zxid ∷ int r.timeout ∷ buffer (long_bytes r.session) ∷ buffer r.passwd ∷ []) ++ read_only_words r.read_only
+-- the session as 16 hex digits, the password, and whether the client takes a server that only reads
+abbrev pub session_words : ConnectRequest → List ℕ
+session_words r = hex_word (long_bytes r.session) ++ hex_word r.passwd ++ read_only_words r.read_only
+
+-- its fields in order
+abbrev pub connect_words : ConnectRequest → List ℕ
+connect_words r = spaced (codes "connect") ++ record_words (int r.protocol ∷ long r.last_zxid ∷ int r.timeout ∷ []) ++ session_words r
 
 abbrev pub words_of_connect : Option ConnectRequest → Option (List ℕ)
 words_of_connect (Some request) = Some (connect_words request)

@@ -1,10 +1,11 @@
 //! The line of a frame.
 
-ghost use Rattle.std.specs.Prelude.{◌≡◌, ◌++◌, OnOk, IfOk};
+ghost use Rattle.std.specs.Prelude.{◌≡◌, ◌++◌, decimal, OnOk, IfOk};
 ghost use Rattle.zk_model.specs.Connects.{read_connect as connect_read};
+ghost use Rattle.zk_model.specs.JuteWriting.{long_bytes};
 ghost use Rattle.zk_model.specs.Requests.{read_request as request_read};
-ghost use Rattle.zt_show.specs.FrameLines.{part_words, body_words, request_words, unreadable_words, unknown_words, frame_words, connect_words, read_only_words, words_of_connect, line, line_of_words, line_of_frame, IsAdded};
-ghost use Rattle.zt_show.specs.FieldWords.{vector_words};
+ghost use Rattle.zt_show.specs.FrameLines.{part_words, body_words, named, request_words, unreadable_words, unknown_words, frame_words, session_words, connect_words, read_only_words, words_of_connect, line, line_of_words, line_of_frame, IsAdded};
+ghost use Rattle.zt_show.specs.FieldWords.{hex_word, vector_words};
 
 use crate::lines::Lines;
 use crate::name::{part_name, request_name};
@@ -52,7 +53,6 @@ fn push_connect_line(text: &mut Lines, place: u64, request: &ConnectRequest) -> 
     text.end_line()
 }
 
-#[tactic(auto, unfolding(crate::specs::FrameLines::connect_words, zk_model::specs::JuteWriting::long_bytes))]
 fn push_connect(text: &mut Lines, request: &ConnectRequest) -> Result<(), Memory>
     ensures { OnOk result (text.new ≡ text.old ++ connect_words request.now) }
 {
@@ -60,9 +60,23 @@ fn push_connect(text: &mut Lines, request: &ConnectRequest) -> Result<(), Memory
     text.int(request.protocol)?;
     text.long(request.last_zxid)?;
     text.int(request.timeout)?;
-    text.buffer(&request.session.to_be_bytes())?;
+    push_session_words(text, request)
+}
+
+fn push_session_words(text: &mut Lines, request: &ConnectRequest) -> Result<(), Memory>
+    ensures { OnOk result (text.new ≡ text.old ++ session_words request.now) }
+{
+    push_session(text, request.session)?;
     text.buffer(request.passwd.as_slice())?;
     push_read_only(text, request.read_only)
+}
+
+/// Adds a session's number as 16 hex digits.
+#[tactic(auto, unfolding(zk_model::specs::JuteWriting::long_bytes))]
+fn push_session(text: &mut Lines, session: i64) -> Result<(), Memory>
+    ensures { OnOk result (text.new ≡ text.old ++ hex_word (long_bytes session)) }
+{
+    text.buffer(&session.to_be_bytes())
 }
 
 fn push_read_only(text: &mut Lines, read_only: Option<bool>) -> Result<(), Memory>
@@ -95,17 +109,18 @@ fn push_request_line(
 ) -> Result<(), Memory>
     ensures { OnOk result (text.new ≡ text.old ++ line place (request_words xid request.now)) }
 {
-    text.number(place)?;
-    push_request(text, xid, request)?;
+    push_named(text, place, xid, request_name(request))?;
+    push_body(text, request)?;
     text.end_line()
 }
 
-fn push_request(text: &mut Lines, xid: i32, request: &Request) -> Result<(), Memory>
-    ensures { OnOk result (text.new ≡ text.old ++ request_words xid request.now) }
+/// Adds the words that begin the line of each request.
+fn push_named(text: &mut Lines, place: u64, xid: i32, name: &[u8]) -> Result<(), Memory>
+    ensures { OnOk result (text.new ≡ text.old ++ (decimal place ++ named xid name.now)) }
 {
+    text.number(place)?;
     text.int(xid)?;
-    text.word(request_name(request))?;
-    push_body(text, request)
+    text.word(name)
 }
 
 /// Adds the fields of a request; of a multi the count of its parts, and the parts.
@@ -139,9 +154,7 @@ fn push_part(text: &mut Lines, part: &Part) -> Result<(), Memory>
 fn push_unreadable(text: &mut Lines, place: u64, xid: i32, at: u64) -> Result<(), Memory>
     ensures { OnOk result (text.new ≡ text.old ++ line place (unreadable_words xid at)) }
 {
-    text.number(place)?;
-    text.int(xid)?;
-    text.word(b"unreadable")?;
+    push_named(text, place, xid, b"unreadable")?;
     text.count(at)?;
     text.end_line()
 }
@@ -150,9 +163,7 @@ fn push_unreadable(text: &mut Lines, place: u64, xid: i32, at: u64) -> Result<()
 fn push_unknown(text: &mut Lines, place: u64, xid: i32, kind: i32) -> Result<(), Memory>
     ensures { OnOk result (text.new ≡ text.old ++ line place (unknown_words xid kind)) }
 {
-    text.number(place)?;
-    text.int(xid)?;
-    text.word(b"unknown")?;
+    push_named(text, place, xid, b"unknown")?;
     text.int(kind)?;
     text.end_line()
 }

@@ -16,6 +16,7 @@ mod frame_line;
 mod laws;
 mod lines;
 mod name;
+mod progress;
 mod show;
 #[cfg(test)]
 mod tests;

@@ -1,6 +1,6 @@
 //! The text of lines, which takes the fields of a record as words.
 
-ghost use Rattle.std.specs.Prelude.{◌≡◌, ◌++◌, ◌∷◌, [], decimal, OnOk, Unit};
+ghost use Rattle.std.specs.Prelude.{◌≡◌, ◌++◌, ◌∷◌, [], decimal, OnOk};
 ghost use Rattle.std.specs.Fmt.{signed_decimal};
 ghost use Rattle.zt_show.specs.FieldWords.{spaced, signed_word, hex_word, acl_words, value_words};
 
