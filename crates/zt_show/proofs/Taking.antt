@@ -98,7 +98,7 @@ Adds-end old new piece text text' text'' end last frames written count = (
   text_end text text' text'' (joined frames.0) (ending_line end) frames.1 written,
   λ seen more lines f.
       let stops = frames.2 seen lines f in
-      (IsShown-stops (seen ++ piece) more (lines ++ frames.0) end new.progress stops, last_count new.progress last.lines (lines ++ frames.0) count stops.count stops.few),
+      (record { shown = IsShown-stops (seen ++ piece) more (lines ++ frames.0) end new.progress stops; count = last_count new.progress last.lines (lines ++ frames.0) count stops.count stops.few }, stops.stays),
 )
 
 -- a piece of which the room holds a front
@@ -117,8 +117,11 @@ Adds-long old new piece text text' text'' (Some end) last over frames written co
       let room = old.progress.room in
       let front = take room piece in
       let stops = frames.2 seen lines f in (
-        subst (λ (t : List ℕ). IsShownAs t (lines ++ frames.0) end) (regroup seen piece more room) (IsShown-stops (seen ++ front) (drop room piece ++ more) (lines ++ frames.0) end new.progress stops),
-        last_count new.progress last.lines (lines ++ frames.0) count stops.count stops.few,
+        record {
+          shown = subst (λ (t : List ℕ). IsShownAs t (lines ++ frames.0) end) (regroup seen piece more room) (IsShown-stops (seen ++ front) (drop room piece ++ more) (lines ++ frames.0) end new.progress stops);
+          count = last_count new.progress last.lines (lines ++ frames.0) count stops.count stops.few;
+        },
+        stops.stays,
       ),
 )
 Adds-long old new piece text text' text'' None last over frames written count = (
@@ -130,8 +133,11 @@ Adds-long old new piece text text' text'' None last over frames written count = 
       let follows = frames.2 seen lines f in
       let full : length (seen ++ front) ≡ most_stream = omega (arith, f.room, length-append seen front, length-take room piece) in
       let some : 0 < length (drop room piece ++ more) = omega (arith, length-append (drop room piece) more, ap length (take-append-drop room piece), length-append front (drop room piece), length-take room piece) in (
-        subst (λ (t : List ℕ). IsShownAs t (lines ++ frames.0) ending.Long) (regroup seen piece more room) (IsShown-long (seen ++ front) (drop room piece ++ more) (lines ++ frames.0) new follows full some),
-        last_count new.progress last.lines (lines ++ frames.0) count follows.count (omega (arith, follows.few, follows.place, follows.room)),
+        record {
+          shown = subst (λ (t : List ℕ). IsShownAs t (lines ++ frames.0) ending.Long) (regroup seen piece more room) (IsShown-long (seen ++ front) (drop room piece ++ more) (lines ++ frames.0) new follows full some);
+          count = last_count new.progress last.lines (lines ++ frames.0) count follows.count (omega (arith, follows.few, follows.place, follows.room));
+        },
+        refl,
       ),
 )
 
@@ -154,5 +160,5 @@ pub Finishes-from : (old : Showing) (text text' : List ℕ) (end : Ending) (last
     text' ≡ text ++ ending_line end → last.lines ≡ counted (old.progress.lines + 1) → Finishes end old text text' (showing [] last)
 Finishes-from old text text' end last is written count = (
   written,
-  λ seen lines f. (IsShown-whole seen lines old end f (is seen lines f), last_count old.progress last.lines lines count f.count (omega (arith, f.few, f.place, f.room))),
+  λ seen lines f. record { shown = IsShown-whole seen lines old end f (is seen lines f); count = last_count old.progress last.lines lines count f.count (omega (arith, f.few, f.place, f.room)) },
 )

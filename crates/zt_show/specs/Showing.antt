@@ -39,20 +39,26 @@ pub record Follows (seen : List ℕ) (lines : List (List ℕ)) (s : Showing) : T
 abbrev pub IsShownAs : List ℕ → List (List ℕ) → Ending → Type 0
 IsShownAs stream lines end = IsShown stream (record { lines = lines; ending = end })
 
+-- so many lines were added, the last included
+pub record Ends (stream : List ℕ) (lines : List (List ℕ)) (end : Ending) (added : ℕ) : Type 0 where
+  pub shown : IsShownAs stream lines end
+  pub count : added ≡ length lines + 1
+
 -- ---- what a piece adds
 
--- the lines of the frames that became whole, and the last line where the stream ends in the piece, whatever comes behind it
+-- the lines of the frames that became whole, and the last line where the stream ends in the piece, whatever comes behind it:
+-- neither at a frame's end nor inside one
 abbrev pub Adds : Option Ending → Showing → List ℕ → List ℕ → List ℕ → Showing → Type 0
 Adds None old piece text text' new =
     (added : List (List ℕ)) × (text' ≡ text ++ joined added) × ((seen : List ℕ) (lines : List (List ℕ)) → Follows seen lines old → Follows (seen ++ piece) (lines ++ added) new)
 Adds (Some end) old piece text text' new =
     (added : List (List ℕ)) × (text' ≡ text ++ (joined added ++ ending_line end))
-    × ((seen more : List ℕ) (lines : List (List ℕ)) → Follows seen lines old → IsShownAs ((seen ++ piece) ++ more) (lines ++ added) end × (new.progress.lines ≡ length (lines ++ added) + 1))
+    × ((seen more : List ℕ) (lines : List (List ℕ)) → Follows seen lines old → Ends ((seen ++ piece) ++ more) (lines ++ added) end new.progress.lines × (ending_before_more end ≡ end))
 
 -- the last line, where the stream ends behind what came
 abbrev pub Finishes : Ending → Showing → List ℕ → List ℕ → Showing → Type 0
 Finishes end old text text' new =
-    (text' ≡ text ++ ending_line end) × ((seen : List ℕ) (lines : List (List ℕ)) → Follows seen lines old → IsShownAs seen lines end × (new.progress.lines ≡ length lines + 1))
+    (text' ≡ text ++ ending_line end) × ((seen : List ℕ) (lines : List (List ℕ)) → Follows seen lines old → Ends seen lines end new.progress.lines)
 
 -- ---- frames
 

@@ -78,7 +78,8 @@ impl Progress {
         text: &mut Lines,
     ) -> Result<Option<Ending>, Memory>
         requires { length bytes.now ≤ self.old.room }
-        ensures { IfOk result (λ found. AddsFrames found (showing cutter.old.rest self.old) bytes.now text.old text.new (showing cutter.new.rest self.new)) }
+        ensures adds { IfOk result (λ found. AddsFrames found (showing cutter.old.rest self.old) bytes.now text.old text.new (showing cutter.new.rest self.new)) }
+        ensures room { IfOk result (λ _. self.new.room + length bytes.now ≡ self.old.room) }
     {
         self.room -= bytes.len() as u64;
         match cutter.take(bytes) {

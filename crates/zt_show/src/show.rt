@@ -1,6 +1,6 @@
 //! A stream that comes piece by piece.
 
-ghost use Rattle.std.specs.Prelude.{◌≡◌, IfOk};
+ghost use Rattle.std.specs.Prelude.{◌≡◌, ◌+◌, length, None, IfOk};
 ghost use Rattle.zt_show.specs.Showing.{Adds, Finishes, long_unless, unshown};
 
 use crate::ending::Ending;
@@ -59,7 +59,8 @@ impl Show {
     /// Adds the lines of the frames that are whole with this piece, and where the stream ends in it, whatever comes behind,
     /// the last line: at a length out of range, a frame without a header, or the 100,000,001st byte.
     pub fn take(&mut self, piece: &[u8], text: &mut Lines) -> Result<Option<Ending>, Memory>
-        ensures { IfOk result (λ ending. Adds ending self.old piece.now text.old text.new self.new) }
+        ensures adds { IfOk result (λ ending. Adds ending self.old piece.now text.old text.new self.new) }
+        ensures room { IfOk result (λ ending. ending ≡ None → self.new.progress.room + length piece.now ≡ self.old.progress.room) }
     {
         let room = self.progress.room;
         if piece.len() as u64 > room {
