@@ -49,7 +49,7 @@ pub fn zetcd<I: Source, O: Sink>(
     ensures faults_stay { (I.faults input.old ≤ I.faults input.new) × (O.faults out.old ≤ O.faults out.new) }
     ensures idles_stay { I.idles input.old ≤ I.idles input.new }
 {
-    match command(words) {
+    match command_of(words) {
         Some(Command::Replay) => replay(alloc, input, out),
         Some(Command::Show) => show(alloc, input, out),
         None => {
@@ -70,7 +70,7 @@ enum Command {
 }
 
 /// The command of these words.
-fn command(words: &[&str]) -> Option<Command>
+fn command_of(words: &[&str]) -> Option<Command>
     ensures { IsCommand result words.now }
 {
     let [word] = words else {
