@@ -16,10 +16,10 @@ use Rattle.zetcd_cmd.specs.Scripting.{Stands, IsApplied, Ends}
 use Rattle.zetcd_cmd.specs.Streams.{Waited}
 
 -- what was left at first is what was read and what is left
-whole_input : (seen input rest : List ℕ) (given given' : Option (List ℕ)) → Gives seen given given' (Some input) (Some rest) → input ≡ seen ++ rest
+pub whole_input : (seen input rest : List ℕ) (given given' : Option (List ℕ)) → Gives seen given given' (Some input) (Some rest) → input ≡ seen ++ rest
 whole_input seen input rest given given' gives = let whole : Some input ≡ Some (seen ++ rest) = gives.shrunk in cc
 
-untold : (seen input : List ℕ) (given given' : Option (List ℕ)) → Gives seen given given' (Some input) None → ⊥
+pub untold : (seen input : List ℕ) (given given' : Option (List ℕ)) → Gives seen given given' (Some input) None → ⊥
 untold seen input given given' gives = let none : Some input ≡ None = gives.shrunk in cc
 
 -- it ended at a line
@@ -31,7 +31,7 @@ EndsReading-stopped seen given given' (Some input) (Some rest) s why gives ends 
     subst (λ (t : List ℕ). Ends t s why) (sym (whole_input seen input rest given given' gives)) (ends rest)
 
 -- it came whole
-whole_end : (seen input rest : List ℕ) (given given' : Option (List ℕ)) → Gives seen given given' (Some input) (Some rest) → rest ≡ [] → seen ≡ input
+pub whole_end : (seen input rest : List ℕ) (given given' : Option (List ℕ)) → Gives seen given given' (Some input) (Some rest) → rest ≡ [] → seen ≡ input
 whole_end seen input rest given given' gives none = sym (whole_input seen input rest given given' gives ∙ ap (λ t. seen ++ t) none ∙ append-nil seen)
 
 pub EndsReading-all : (how : End) (seen : List ℕ) (given given' given'' left left' left'' : Option (List ℕ)) (s : Script) → Gives seen given given' left left' → IsAtEnd left' →
@@ -52,7 +52,7 @@ no_fault_at_end (end.Stopped why) seen s ends is = cc
 no_fault_at_end end.ReadFault seen s ends is = ends
 
 -- it was cut short
-given_more : (seen : List ℕ) (given given' left left' : Option (List ℕ)) (s : Script) → Gives seen given given' left left' → Stands seen s →
+pub given_more : (seen : List ℕ) (given given' left left' : Option (List ℕ)) (s : Script) → Gives seen given given' left left' → Stands seen s →
     IfSome given (λ before. (input : List ℕ) × (given' ≡ Some (before ++ input)) × Stands input s)
 given_more seen None given' left left' s gives read = tt {0}
 given_more seen (Some before) given' left left' s gives read = (seen, gives.grown, read)

@@ -21,7 +21,7 @@ use Rattle.zetcd_cmd.specs.Reporting.{ending_text, status_after}
 use Rattle.zetcd_cmd.specs.Scripting.{HasNoLineFeed, Stands, IsApplied, IsHalted, IsAgainst}
 use Rattle.zetcd_cmd.proofs.Progress.{script-lines}
 
-Wrote-output : (P : List ℕ → Type 0) (output : List ℕ) (taken taken' : Option (List ℕ)) → Takes output taken taken' → P output → Wrote P taken taken'
+pub Wrote-output : (P : List ℕ → Type 0) (output : List ℕ) (taken taken' : Option (List ℕ)) → Takes output taken taken' → P output → Wrote P taken taken'
 Wrote-output P output None taken' takes p = takes
 Wrote-output P output (Some taken) taken' takes p = (output, takes, p)
 

@@ -3,3 +3,4 @@ pub mod Progress
 pub mod Endings
 pub mod Reports
 pub mod Headlines
+pub mod Showings

@@ -9,6 +9,7 @@
 mod replay;
 mod report;
 mod script;
+mod show;
 mod status;
 mod streams;
 #[cfg(test)]

@@ -14,7 +14,7 @@ use std::alloc::Global;
 use zx_outside::{Sink, Source};
 
 /// How many bytes are read at once.
-const ROOM: usize = 65_536;
+pub const ROOM: usize = 65_536;
 
 /// Runs a script to its end, or to the first line that cannot be read or is not possible, and writes the transcript.
 ///

@@ -1,4 +1,6 @@
-//! The program over scripts in memory: exact output, by pieces of several sizes and with faults.
+//! The program over scripts and streams in memory: exact output, by pieces of several sizes and with faults.
+
+mod show;
 
 use crate::status::Status;
 use crate::zetcd::zetcd;
@@ -77,7 +79,14 @@ fn an_empty_script_has_the_first_update(rt: HostRuntime) -> Result<(), Fail> {
 #[test]
 fn other_words_get_the_usage(rt: HostRuntime) -> Result<(), Fail> {
     let alloc = rt.alloc();
-    let lists: [&[&str]; 4] = [&[], &["Replay"], &["replay", "x"], &["show"]];
+    let lists: [&[&str]; 6] = [
+        &[],
+        &["Replay"],
+        &["replay", "x"],
+        &["Show"],
+        &["show", ""],
+        &["stress"],
+    ];
     for words in lists {
         let input = MemSource::new(
             Vec::from_slice(alloc, CREATE_AND_READ)?,

@@ -53,4 +53,6 @@ pub use packets::{
     write_reply, write_request,
 };
 pub use replies::read_reply;
+pub use request_fields::{put_body, put_part_fields};
 pub use requests::read_request;
+pub use sink::FieldSink;

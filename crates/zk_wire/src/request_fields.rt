@@ -20,7 +20,8 @@ pub fn put_request<S: FieldSink>(sink: &mut S, xid: i32, request: &Request) -> R
     put_body(sink, request)
 }
 
-fn put_body<S: FieldSink>(sink: &mut S, request: &Request) -> Result<(), S::Fault>
+/// Puts a request's body, field by field.
+pub fn put_body<S: FieldSink>(sink: &mut S, request: &Request) -> Result<(), S::Fault>
     requires { AllByRecursion S.can_put (asked_values request.now) }
     ensures { OnOk result (sink.new ≡ put_all S.put sink.old (asked_values request.now)) }
 {
@@ -105,7 +106,8 @@ fn put_header<S: FieldSink>(sink: &mut S, kind: i32, last: bool) -> Result<(), S
     sink.int(-1)
 }
 
-fn put_part_fields<S: FieldSink>(sink: &mut S, part: &Part) -> Result<(), S::Fault>
+/// Puts the fields of a part of a multi, without its header.
+pub fn put_part_fields<S: FieldSink>(sink: &mut S, part: &Part) -> Result<(), S::Fault>
     requires { AllByRecursion S.can_put (part_values part.now) }
     ensures { OnOk result (sink.new ≡ put_all S.put sink.old (part_values part.now)) }
 {

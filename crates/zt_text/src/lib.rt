@@ -26,3 +26,4 @@ pub use ending::{push_done, push_fault, push_unread};
 pub use laws::{one_line_feed, one_reading};
 pub use script_line::{MOST_LINE, MOST_SCRIPT, read_line};
 pub use transcript_line::push_line;
+pub use word::{push_hex, push_number, push_signed};

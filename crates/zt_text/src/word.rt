@@ -20,8 +20,8 @@ pub(crate) enum Word<'a> {
     Hex(&'a [u8]),
 }
 
-/// Adds a number in decimal.
-fn push_number(out: &mut Vec<u8>, n: u64) -> Result<(), Memory>
+/// Adds a number in decimal. Without memory, what was there stays, here and below.
+pub fn push_number(out: &mut Vec<u8>, n: u64) -> Result<(), Memory>
     ensures ok { OnOk result (out.new.items ≡ out.old.items ++ decimal n) }
     ensures err { OnErr result (out.new.items ≡ out.old.items) }
 {
@@ -30,7 +30,8 @@ fn push_number(out: &mut Vec<u8>, n: u64) -> Result<(), Memory>
     Ok(())
 }
 
-fn push_signed(out: &mut Vec<u8>, n: i64) -> Result<(), Memory>
+/// Adds a signed number in decimal.
+pub fn push_signed(out: &mut Vec<u8>, n: i64) -> Result<(), Memory>
     ensures ok { OnOk result (out.new.items ≡ out.old.items ++ signed_decimal n) }
     ensures err { OnErr result (out.new.items ≡ out.old.items) }
 {
@@ -61,8 +62,9 @@ fn push_hex_digits(out: &mut Vec<u8>, bytes: &[u8]) -> Result<(), Memory>
     Ok(())
 }
 
+/// Adds bytes as hex, two lower-case digits for each, and `-` for none.
 #[tactic(auto, unfolding(zk_model::specs::Transcripts::hex_text))]
-fn push_hex(out: &mut Vec<u8>, bytes: &[u8]) -> Result<(), Memory>
+pub fn push_hex(out: &mut Vec<u8>, bytes: &[u8]) -> Result<(), Memory>
     ensures ok { OnOk result (out.new.items ≡ out.old.items ++ hex_text bytes.now) }
     ensures err { OnErr result (out.new.items ≡ out.old.items) }
 {

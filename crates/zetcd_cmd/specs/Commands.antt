@@ -1,0 +1,11 @@
+-- Which command the words name.
+use Rattle.std.specs.Prelude.{ℕ, List, Option, Some, None}
+use denote.Ref.{Bor}
+use Rattle.zetcd_cmd.specs.declared.zetcd.Command.{Command}
+use Rattle.zetcd_cmd.specs.declared.zetcd.Command.TheVariants as command
+use Rattle.zetcd_cmd.specs.Outcomes.{IsReplay, IsShow}
+
+abbrev pub IsCommand : Option Command → List (Bor (List ℕ)) → Type 0
+IsCommand (Some command.Replay) words = IsReplay words
+IsCommand (Some command.Show) words = IsShow words
+IsCommand None words = (¬ IsReplay words) × (¬ IsShow words)

@@ -1,0 +1,136 @@
+//! The command `show`: a client's stream in, a line for each of its frames out.
+
+ghost use Rattle.std.specs.Prelude.{◌≡◌, ◌≢◌, ◌+◌, ◌≤◌, ℕ, [], length, OnOk, IfErr};
+ghost use Rattle.zx_outside.specs.Counts.{Rose};
+ghost use Rattle.zt_show.specs.Showing.{unshown};
+ghost use Rattle.zetcd_cmd.specs.Outcomes.{Shows, Breaks, ShowsFront, Failed};
+ghost use Rattle.zetcd_cmd.specs.Streaming.{status_at, Passes, Closes, Finishes, Told};
+
+use crate::replay::ROOM;
+use crate::status::Status;
+use crate::streams::{Piece, next_piece, write_all};
+use std::alloc::Global;
+use zt_show::{Ending, Lines, Show};
+use zx_outside::{Sink, Source};
+
+/// Why no more of a stream is shown.
+#[derive(Clone, Copy, Debug, PartialEq, Eq)]
+pub enum Close {
+    /// It ended so, and the last line was written.
+    Ended(Ending),
+    /// The source had a fault, or was idle for too long.
+    ReadFault,
+    /// The sink had a fault.
+    WriteFault,
+    Memory,
+}
+
+/// Reads a stream to its end, or to where it cannot be read on, and writes a line for each of its frames and a last line
+/// that says how it ended.
+///
+/// The time is linear in the stream and its text; one frame, one piece and the text of that piece are kept.
+pub fn show<I: Source, O: Sink>(alloc: Global, input: &mut I, out: &mut O) -> Status
+    ensures shown { result ≡ Status.Done → Shows (I.left input.old) (I.left input.new) (O.taken out.old) (O.taken out.new) }
+    ensures broken { (line : ℕ) → result ≡ Status.Script line → Breaks line (I.left input.old) (I.left input.new) (O.taken out.old) (O.taken out.new) }
+    ensures read { result ≡ Status.ReadFault → Failed (I.faults input.old) (I.faults input.new) (I.idles input.old) (I.idles input.new) }
+    ensures cut { result ≡ Status.ReadFault → ShowsFront (I.given input.old) (I.given input.new) (O.taken out.old) (O.taken out.new) }
+    ensures write { result ≡ Status.WriteFault → Rose (O.faults out.old) (O.faults out.new) }
+    ensures never_usage { result ≢ Status.Usage }
+    ensures input_stays { (I.faults input.old ≤ I.faults input.new) × (I.idles input.old ≤ I.idles input.new) }
+    ensures output_stays { O.faults out.old ≤ O.faults out.new }
+{
+    let mut show = Show::new(alloc);
+    let close = show_pieces(alloc, input, out, &mut show);
+    status_of(close, show.lines())
+}
+
+/// The status of a stream that was shown so, in so many lines.
+fn status_of(close: Close, lines: u64) -> Status
+    ensures { result ≡ status_at close lines }
+{
+    match close {
+        Close::Ended(Ending::End { .. }) => Status::Done,
+        Close::Ended(_) => Status::Script { line: lines },
+        Close::ReadFault => Status::ReadFault,
+        Close::WriteFault => Status::WriteFault,
+        Close::Memory => Status::Memory,
+    }
+}
+
+/// Shows a stream of which nothing came yet, piece by piece.
+fn show_pieces<I: Source, O: Sink>(
+    alloc: Global,
+    input: &mut I,
+    out: &mut O,
+    show: &mut Show,
+) -> Close
+    requires { show.old ≡ unshown }
+    ensures told { Told result (I.given input.old) (I.given input.new) (I.left input.old) (I.left input.new) (O.taken out.old) (O.taken out.new) show.new.progress.lines }
+    ensures read { result ≡ Close.ReadFault → Failed (I.faults input.old) (I.faults input.new) (I.idles input.old) (I.idles input.new) }
+    ensures write { result ≡ Close.WriteFault → Rose (O.faults out.old) (O.faults out.new) }
+    ensures faults_stay { I.faults input.old ≤ I.faults input.new }
+    ensures idles_stay { I.idles input.old ≤ I.idles input.new }
+    ensures output_stays { O.faults out.old ≤ O.faults out.new }
+{
+    let Ok(mut buffer) = vec![in alloc; 0u8; ROOM] else {
+        return Close::Memory;
+    };
+    let mut text = Lines::new(alloc);
+    let mut idle = 0;
+    'pieces: loop {
+        match next_piece(input, buffer.as_mut_slice(), &mut idle) {
+            Piece::Bytes(count) => {
+                if let Err(close) = show_piece(show, &buffer[..count], &mut text, out) {
+                    return close;
+                }
+            }
+            Piece::End => return show_end(show, &mut text, out),
+            Piece::Fault => return Close::ReadFault,
+        }
+    }
+}
+
+/// Writes what a piece adds.
+fn show_piece<O: Sink>(
+    show: &mut Show,
+    piece: &[u8],
+    text: &mut Lines,
+    out: &mut O,
+) -> Result<(), Close>
+    requires { text.old ≡ [] }
+    ensures ok { OnOk result (Passes show.old piece.now (O.taken out.old) (O.taken out.new) show.new) }
+    ensures empty { OnOk result (text.new ≡ []) }
+    ensures room { OnOk result (show.new.progress.room + length piece.now ≡ show.old.progress.room) }
+    ensures err { IfErr result (λ close. Closes close show.old piece.now (O.taken out.old) (O.taken out.new) show.new.progress.lines) }
+    ensures write { IfErr result (λ close. close ≡ Close.WriteFault → Rose (O.faults out.old) (O.faults out.new)) }
+    ensures faults_stay { O.faults out.old ≤ O.faults out.new }
+{
+    let Ok(ending) = show.take(piece, text) else {
+        return Err(Close::Memory);
+    };
+    if !write_all(out, text.as_slice()) {
+        return Err(Close::WriteFault);
+    }
+    text.clear();
+    match ending {
+        None => Ok(()),
+        Some(ending) => Err(Close::Ended(ending)),
+    }
+}
+
+/// Writes the last line of a stream that came whole.
+fn show_end<O: Sink>(show: &mut Show, text: &mut Lines, out: &mut O) -> Close
+    requires { text.old ≡ [] }
+    ensures told { Finishes result show.old (O.taken out.old) (O.taken out.new) show.new.progress.lines }
+    ensures write { result ≡ Close.WriteFault → Rose (O.faults out.old) (O.faults out.new) }
+    ensures faults_stay { O.faults out.old ≤ O.faults out.new }
+{
+    let Ok(ending) = show.finish(text) else {
+        return Close::Memory;
+    };
+    if write_all(out, text.as_slice()) {
+        Close::Ended(ending)
+    } else {
+        Close::WriteFault
+    }
+}

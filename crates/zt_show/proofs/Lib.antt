@@ -1,0 +1,5 @@
+pub mod Framings
+pub mod Passing
+pub mod Stopping
+pub mod OneText
+pub mod Taking

@@ -1,0 +1,4 @@
+pub mod Shown
+pub mod FrameLines
+pub mod FieldWords
+pub mod Showing

@@ -1,0 +1,121 @@
+-- A stream that comes piece by piece: what of it was shown, and what a piece adds.
+use Rattle.std.specs.Prelude.{◌≡◌, ℕ, ◌+◌, ◌≤◌, Bool, true, false, Option, Some, None, List, [], ◌∷◌, ◌++◌, length, sum_by}
+use Rattle.zk_model.specs.Frames.{Framed, bad_length}
+use Rattle.zk_wire.specs.Putting.{counted}
+use Rattle.zt_show.specs.declared.ending.Ending.{Ending}
+use Rattle.zt_show.specs.declared.ending.Ending.TheVariants as ending
+use Rattle.zt_show.specs.declared.progress.Progress.{Progress}
+use Rattle.zt_show.specs.Shown.{Shown, joined, most_stream, ending_line, shown_from, IsShown, IsShownWhole, ending_before_more}
+
+-- what is known of a stream that came in part: the bytes of a frame that is not whole, and how far it is shown
+pub record Showing : Type 0 where
+  pub rest : List ℕ
+  pub progress : Progress
+
+-- a stream of which nothing came
+abbrev pub unshown : Showing
+unshown = record { rest = []; progress = record { is_begun = false; place = 0; room = most_stream; lines = 0 } }
+
+-- what was shown before, and then
+abbrev pub behind : List (List ℕ) → Shown → Shown
+behind lines later = record { lines = lines ++ later.lines; ending = later.ending }
+
+-- what is shown of later frames, from here on
+abbrev pub shown_on : Progress → List (List ℕ) → List ℕ → Shown
+shown_on p later rest = shown_from p.is_begun p.place later rest
+
+-- these bytes came, their whole frames have these lines, whatever comes behind them, and nothing of them ends the stream
+pub record Follows (seen : List ℕ) (lines : List (List ℕ)) (s : Showing) : Type 0 where
+  pub frames : List (List ℕ)
+  pub framed : Framed seen frames s.rest
+  pub good : bad_length s.rest ≡ None
+  pub says : (later : List (List ℕ)) (rest : List ℕ) → shown_from false 0 (frames ++ later) rest ≡ behind lines (shown_on s.progress later rest)
+  pub place : s.progress.place + length s.rest ≡ length seen
+  pub count : s.progress.lines ≡ length lines
+  pub few : s.progress.lines ≤ s.progress.place
+  pub room : length seen + s.progress.room ≡ most_stream
+
+-- this is shown of the stream
+abbrev pub IsShownAs : List ℕ → List (List ℕ) → Ending → Type 0
+IsShownAs stream lines end = IsShown stream (record { lines = lines; ending = end })
+
+-- so many lines were added, the last included
+pub record Ends (stream : List ℕ) (lines : List (List ℕ)) (end : Ending) (added : ℕ) : Type 0 where
+  pub shown : IsShownAs stream lines end
+  pub count : added ≡ length lines + 1
+
+-- ---- what a piece adds
+
+-- the lines of the frames that became whole, and the last line where the stream ends in the piece, whatever comes behind it:
+-- neither at a frame's end nor inside one
+abbrev pub Adds : Option Ending → Showing → List ℕ → List ℕ → List ℕ → Showing → Type 0
+Adds None old piece text text' new =
+    (added : List (List ℕ)) × (text' ≡ text ++ joined added) × ((seen : List ℕ) (lines : List (List ℕ)) → Follows seen lines old → Follows (seen ++ piece) (lines ++ added) new)
+Adds (Some end) old piece text text' new =
+    (added : List (List ℕ)) × (text' ≡ text ++ (joined added ++ ending_line end))
+    × ((seen more : List ℕ) (lines : List (List ℕ)) → Follows seen lines old → Ends ((seen ++ piece) ++ more) (lines ++ added) end new.progress.lines × (ending_before_more end ≡ end))
+
+-- the last line, where the stream ends behind what came
+abbrev pub Finishes : Ending → Showing → List ℕ → List ℕ → Showing → Type 0
+Finishes end old text text' new =
+    (text' ≡ text ++ ending_line end) × ((seen : List ℕ) (lines : List (List ℕ)) → Follows seen lines old → Ends seen lines end new.progress.lines)
+
+-- ---- frames
+
+-- the bytes of frames, with their lengths
+abbrev pub size_of : List (List ℕ) → ℕ
+size_of frames = sum_by (λ (frame : List ℕ). 4 + length frame) frames
+
+-- behind a frame with so many bytes
+abbrev pub passed : Progress → ℕ → Progress
+passed p size = record { is_begun = true; place = counted (counted (p.place + 4) + size); room = p.room; lines = counted (p.lines + 1) }
+
+-- each of the frames has a line
+pub record Passes (frames added : List (List ℕ)) (old new : Progress) : Type 0 where
+  pub says : (later : List (List ℕ)) (rest : List ℕ) → shown_on old (frames ++ later) rest ≡ behind added (shown_on new later rest)
+  pub place : new.place ≡ old.place + size_of frames
+  pub count : new.lines ≡ old.lines + length added
+  pub few : new.lines ≤ new.place
+
+-- one of them has no header
+pub record Blocks (frames added : List (List ℕ)) (old new : Progress) : Type 0 where
+  pub says : (later : List (List ℕ)) (rest : List ℕ) → shown_on old (frames ++ later) rest ≡ record { lines = added; ending = ending.NoHeader new.place }
+  pub count : new.lines ≡ old.lines + length added
+  pub few : new.lines ≤ most_stream
+
+abbrev pub PassesIf : Bool → List (List ℕ) → List (List ℕ) → Progress → Progress → Type 0
+PassesIf true frames added old new = Passes frames added old new
+PassesIf false frames added old new = Blocks frames added old new
+
+-- the lines of the frames were added, up to one without a header
+abbrev pub AddsLines : Bool → List (List ℕ) → Progress → List ℕ → List ℕ → Progress → Type 0
+AddsLines are_all frames old text text' new =
+    (added : List (List ℕ)) × (text' ≡ text ++ joined added) × (new.room ≡ old.room)
+    × (old.lines ≤ old.place → old.place + size_of frames ≤ most_stream → PassesIf are_all frames added old new)
+
+-- ---- within the limit
+
+-- nothing behind these bytes changes what is shown of them
+pub record Stops (seen : List ℕ) (lines : List (List ℕ)) (end : Ending) (p : Progress) : Type 0 where
+  pub shown : (more : List ℕ) → IsShownWhole (seen ++ more) (record { lines = lines; ending = end })
+  pub stays : ending_before_more end ≡ end
+  pub count : p.lines ≡ length lines
+  pub few : p.lines ≤ most_stream
+  pub room : length seen + p.room ≡ most_stream
+
+-- what came so far goes on, or ended
+abbrev pub Stands : Option Ending → List ℕ → List (List ℕ) → Showing → Type 0
+Stands None seen lines s = Follows seen lines s
+Stands (Some end) seen lines s = Stops seen lines end s.progress
+
+abbrev pub showing : List ℕ → Progress → Showing
+showing rest progress = record { rest = rest; progress = progress }
+
+-- the lines of the frames that became whole
+abbrev pub AddsFrames : Option Ending → Showing → List ℕ → List ℕ → List ℕ → Showing → Type 0
+AddsFrames found old bytes text text' new =
+    (added : List (List ℕ)) × (text' ≡ text ++ joined added) × ((seen : List ℕ) (lines : List (List ℕ)) → Follows seen lines old → Stands found (seen ++ bytes) (lines ++ added) new)
+
+abbrev pub long_unless : Option Ending → Ending
+long_unless (Some end) = end
+long_unless None = ending.Long

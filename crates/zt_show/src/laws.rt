@@ -1,0 +1,10 @@
+//! What is true of every stream. This function does nothing: each clause is a law of the definitions.
+
+ghost use Rattle.std.specs.Prelude.{◌≡◌, ℕ, List};
+ghost use Rattle.zt_show.specs.Shown.{Shown, IsShown};
+
+/// Exactly one text is shown of a stream.
+pub fn one_text()
+    ensures some { (stream : List ℕ) → (shown : Shown) × IsShown stream shown }
+    ensures only { (stream : List ℕ) (shown other : Shown) → IsShown stream shown → IsShown stream other → shown ≡ other }
+{}
