@@ -19,3 +19,5 @@ pub const NODE_EXISTS: i32 = -110;
 pub const NOT_EMPTY: i32 = -111;
 
 pub const INVALID_ACL: i32 = -114;
+
+pub const AUTH_FAILED: i32 = -115;

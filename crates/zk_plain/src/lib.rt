@@ -4,7 +4,7 @@
 //! the definition. Nothing of the service itself stands on this crate.
 #![tactic(auto)]
 
-mod code;
+pub mod code;
 mod create;
 mod delete;
 mod fault;
@@ -12,17 +12,20 @@ mod multi;
 mod node;
 mod outcome;
 mod requests;
-mod stat;
+mod stats;
 #[cfg(test)]
 mod tests;
 mod tree;
 mod turn;
 mod update;
 
-pub use create::begin;
+pub use create::{begin, is_create_mode, is_open_acl, is_sequential};
 pub use fault::Fault;
 pub use multi::{Transaction, several};
 pub use outcome::Outcome;
-pub use requests::single;
+pub use requests::{
+    read_path, single, single_check, single_create, single_delete, single_set_data,
+};
+pub use stats::stat;
 pub use tree::Tree;
 pub use turn::Turn;
