@@ -1,16 +1,21 @@
 -- What a service with one connection answers to a request, at the zxid and the moment that an update would have.
-use Rattle.std.specs.Prelude.{ℕ, ℤ, Option, Some, None, option_map}
+use Rattle.std.specs.Prelude.{ℕ, ℤ, pos, Option, Some, None, option_map}
 use Rattle.zk_model.specs.declared.reply.Reply.TheVariants as reply
 use Rattle.zk_model.specs.declared.request.Request.{Request}
-use Rattle.zk_model.specs.Answers.{Told, plain_request, tree_reply}
-use Rattle.zk_model.specs.Conversations.{no_more}
-use Rattle.zk_model.specs.History.{Commit, commit}
+use Rattle.zk_model.specs.Answers.{Told, plain_request}
+use Rattle.zk_model.specs.Conversations.{looked, no_more}
+use Rattle.zk_model.specs.History.{Commit, commit, nothing_yet}
+use Rattle.zk_model.specs.Requests.{Asks}
 use Rattle.zk_model.specs.Watches.{Watches, fire_all}
 use Rattle.zk_model.specs.Znodes.{Tree}
 
 pub record Answer : Type 0 where
   pub told : Told
   pub tree : Tree
+
+-- what a conversation gives at a state with this tree, where no answer without it stands
+abbrev pub seen_at : Tree → ℤ → Watches → Request → Option Told
+seen_at t session w r = looked (record nothing_yet { tree = t }) session w (Asks (pos 0) r) None
 
 -- the update's own notices stand before its reply
 abbrev pub told_update : Watches → Commit → Told
@@ -28,4 +33,4 @@ seen_or t (Some told) later = Some (record { told = told; tree = t })
 unfoldable pub answer : Tree → ℕ → ℤ → Watches → Request → ℤ → ℕ → Option Answer
 answer t limit session w r zxid now =
     seen_or t (option_map (no_more w) (plain_request r))
-    (seen_or t (tree_reply t session w r) (updated w (commit t limit session r zxid now)))
+    (seen_or t (seen_at t session w r) (updated w (commit t limit session r zxid now)))

@@ -32,7 +32,7 @@ enum Ask<'a> {
     GetChildren(&'a [u8], bool),
     GetChildren2(&'a [u8], bool),
     /// The relative zxid, and the data, exist and child paths.
-    SetWatches(i64, &'a [&'a [u8]], &'a [&'a [u8]], &'a [&'a [u8]]),
+    SetWatches(i64, &'a [u8], &'a [u8], &'a [u8]),
     Ping,
 }
 
@@ -46,10 +46,17 @@ fn open_acl(alloc: Global) -> Result<Seq<Acl>, Memory> {
     Ok(entries)
 }
 
-fn texts(alloc: Global, paths: &[&[u8]]) -> Result<Seq<Text>, Memory> {
+/// Texts from words, each with a blank behind it.
+fn texts(alloc: Global, words: &[u8]) -> Result<Seq<Text>, Memory> {
     let mut all = Seq::new(alloc);
-    for path in paths {
-        all.push(Text::copy_of(alloc, path)?)?;
+    let mut word = Text::new(alloc);
+    for byte in words {
+        if *byte == b' ' {
+            all.push(word)?;
+            word = Text::new(alloc);
+        } else {
+            word.push(*byte)?;
+        }
     }
     Ok(all)
 }
@@ -66,9 +73,9 @@ fn create(alloc: Global, path: &[u8], content: &[u8], flags: i32) -> Result<Requ
 fn set_watches(
     alloc: Global,
     relative: i64,
-    datas: &[&[u8]],
-    exists: &[&[u8]],
-    children: &[&[u8]],
+    datas: &[u8],
+    exists: &[u8],
+    children: &[u8],
 ) -> Result<Request, Memory> {
     Ok(Request::SetWatches {
         relative,
@@ -126,7 +133,8 @@ enum Want<'a> {
     /// czxid, mzxid, pzxid, version, cversion and numChildren.
     Shown(i64, i64, i64, i32, i32, i32),
     Data(&'a [u8]),
-    Names(&'a [&'a [u8]]),
+    /// Each with a blank behind it.
+    Names(&'a [u8]),
     Parts(usize),
 }
 
@@ -141,16 +149,23 @@ fn is_shown(stat: &Stat, want: Want) -> bool {
     }
 }
 
-fn are_names(names: &[Text], wanted: &[&[u8]]) -> bool {
-    if names.len() != wanted.len() {
-        return false;
+/// What is left of words behind this one and its blank.
+fn after_word<'a>(words: &'a [u8], word: &[u8]) -> Option<&'a [u8]> {
+    match words.strip_prefix(word) {
+        Some([b' ', rest @ ..]) => Some(rest),
+        _ => None,
     }
-    for (name, want) in names.iter().zip(wanted) {
-        if !name.is(want) {
+}
+
+fn are_names(names: &[Text], wanted: &[u8]) -> bool {
+    let mut left = wanted;
+    for name in names {
+        let Some(rest) = after_word(left, name.as_slice()) else {
             return false;
-        }
+        };
+        left = rest;
     }
-    true
+    left.is_empty()
 }
 
 fn is_body(body: &Body, want: Want) -> bool {
@@ -175,17 +190,27 @@ fn is_reply(reply: &Reply, want: Want) -> bool {
     }
 }
 
-/// Whether these are the notices, by kind and path, in order.
-fn are_notices(notices: &[Notice], wanted: &[(i32, &[u8])]) -> bool {
-    if notices.len() != wanted.len() {
-        return false;
+/// What is left of notices behind this one.
+fn after_notice<'a>(words: &'a [u8], notice: &Notice) -> Option<&'a [u8]> {
+    match words {
+        [digit, rest @ ..] if i32::from(*digit) - 48 == notice.kind => after_word(
+            rest,
+            notice.path.as_slice(),
+        ),
+        _ => None,
     }
-    for (notice, (kind, path)) in notices.iter().zip(wanted) {
-        if notice.kind != *kind || !notice.path.is(path) {
+}
+
+/// Whether these are the notices in order: for each its kind, its path and a blank.
+fn are_notices(notices: &[Notice], wanted: &[u8]) -> bool {
+    let mut left = wanted;
+    for notice in notices {
+        let Some(rest) = after_notice(left, notice) else {
             return false;
-        }
+        };
+        left = rest;
     }
-    true
+    left.is_empty()
 }
 
 /// A connection's tree and watches.
@@ -206,7 +231,7 @@ fn new_client(alloc: Global) -> Result<Client, Memory> {
 fn run(
     alloc: Global,
     first: Client,
-    table: &[(i64, Ask, &[(i32, &[u8])], Want)],
+    table: &[(i64, Ask, &[u8], Want)],
 ) -> Result<(Client, Option<usize>), Fault> {
     let mut client = first;
     for (place, (zxid, ask, notices, want)) in table.iter().enumerate() {
@@ -228,46 +253,46 @@ fn run(
 
 #[test]
 fn shows_a_parent_of_sequence_nodes(rt: HostRuntime) -> Result<(), Fail> {
-    let table: [(i64, Ask, &[(i32, &[u8])], Want); 9] = [
-        (4, Ask::Create(b"/q", b"", 0), &[], Want::Made(b"/q")),
+    let table: [(i64, Ask, &[u8], Want); 9] = [
+        (4, Ask::Create(b"/q", b"", 0), b"", Want::Made(b"/q")),
         (
             5,
             Ask::Create(b"/q/", b"", 2),
-            &[],
+            b"",
             Want::Made(b"/q/0000000000"),
         ),
         (
             6,
             Ask::Create(b"/q/n-", b"", 2),
-            &[],
+            b"",
             Want::Made(b"/q/n-0000000001"),
         ),
-        (7, Ask::Delete(b"/q/0000000000", -1), &[], Want::Empty),
+        (7, Ask::Delete(b"/q/0000000000", -1), b"", Want::Empty),
         (
             8,
             Ask::Create(b"/q/n-", b"", 2),
-            &[],
+            b"",
             Want::Made(b"/q/n-0000000002"),
         ),
         (
             9,
             Ask::Exists(b"/q", false),
-            &[],
+            b"",
             Want::Shown(4, 4, 8, 0, 4, 2),
         ),
         (
             9,
             Ask::GetChildren2(b"/q", false),
-            &[],
+            b"",
             Want::Shown(4, 4, 8, 0, 4, 2),
         ),
         (
             9,
             Ask::GetChildren2(b"/q", false),
-            &[],
-            Want::Names(&[b"n-0000000001", b"n-0000000002"]),
+            b"",
+            Want::Names(b"n-0000000001 n-0000000002 "),
         ),
-        (9, Ask::Ping, &[], Want::Empty),
+        (9, Ask::Ping, b"", Want::Empty),
     ];
     let (_, other) = run(rt.alloc(), new_client(rt.alloc())?, &table)?;
     assert_eq!(rt; other, None);
@@ -276,26 +301,26 @@ fn shows_a_parent_of_sequence_nodes(rt: HostRuntime) -> Result<(), Fail> {
 
 #[test]
 fn tells_a_connection_of_its_own_updates_first(rt: HostRuntime) -> Result<(), Fail> {
-    let table: [(i64, Ask, &[(i32, &[u8])], Want); 9] = [
-        (4, Ask::Exists(b"/a", true), &[], Want::Code(-101)),
-        (4, Ask::GetChildren(b"/", true), &[], Want::Names(&[])),
+    let table: [(i64, Ask, &[u8], Want); 9] = [
+        (4, Ask::Exists(b"/a", true), b"", Want::Code(-101)),
+        (4, Ask::GetChildren(b"/", true), b"", Want::Names(b"")),
         (
             4,
             Ask::Create(b"/a", b"x", 0),
-            &[(1, b"/a"), (4, b"/")],
+            b"1/a 4/ ",
             Want::Made(b"/a"),
         ),
-        (5, Ask::GetData(b"/a", true), &[], Want::Data(b"x")),
-        (5, Ask::GetChildren(b"/a", true), &[], Want::Names(&[])),
-        (5, Ask::GetData(b"/b", true), &[], Want::Code(-101)),
+        (5, Ask::GetData(b"/a", true), b"", Want::Data(b"x")),
+        (5, Ask::GetChildren(b"/a", true), b"", Want::Names(b"")),
+        (5, Ask::GetData(b"/b", true), b"", Want::Code(-101)),
         (
             5,
             Ask::Set(b"/a", b"y", 0),
-            &[(3, b"/a")],
+            b"3/a ",
             Want::Shown(4, 5, 4, 1, 0, 0),
         ),
-        (6, Ask::Delete(b"/a", -1), &[(2, b"/a")], Want::Empty),
-        (7, Ask::Create(b"/b", b"", 0), &[], Want::Made(b"/b")),
+        (6, Ask::Delete(b"/a", -1), b"2/a ", Want::Empty),
+        (7, Ask::Create(b"/b", b"", 0), b"", Want::Made(b"/b")),
     ];
     let (_, other) = run(rt.alloc(), new_client(rt.alloc())?, &table)?;
     assert_eq!(rt; other, None);
@@ -304,20 +329,20 @@ fn tells_a_connection_of_its_own_updates_first(rt: HostRuntime) -> Result<(), Fa
 
 #[test]
 fn tells_once_of_a_node_with_both_watches(rt: HostRuntime) -> Result<(), Fail> {
-    let table: [(i64, Ask, &[(i32, &[u8])], Want); 6] = [
-        (5, Ask::Create(b"/n", b"", 0), &[], Want::Made(b"/n")),
-        (5, Ask::GetData(b"/n", true), &[], Want::Data(b"")),
-        (5, Ask::GetChildren(b"/n", true), &[], Want::Names(&[])),
-        (6, Ask::Delete(b"/n", -1), &[(2, b"/n")], Want::Empty),
-        (7, Ask::Create(b"/n", b"", 0), &[], Want::Made(b"/n")),
-        (8, Ask::Delete(b"/n", -1), &[], Want::Empty),
+    let table: [(i64, Ask, &[u8], Want); 6] = [
+        (5, Ask::Create(b"/n", b"", 0), b"", Want::Made(b"/n")),
+        (5, Ask::GetData(b"/n", true), b"", Want::Data(b"")),
+        (5, Ask::GetChildren(b"/n", true), b"", Want::Names(b"")),
+        (6, Ask::Delete(b"/n", -1), b"2/n ", Want::Empty),
+        (7, Ask::Create(b"/n", b"", 0), b"", Want::Made(b"/n")),
+        (8, Ask::Delete(b"/n", -1), b"", Want::Empty),
     ];
     let (client, other) = run(rt.alloc(), new_client(rt.alloc())?, &table)?;
     assert_eq!(rt; other, None);
-    let table: [(i64, Ask, &[(i32, &[u8])], Want); 1] = [(
+    let table: [(i64, Ask, &[u8], Want); 1] = [(
         8,
         Ask::Exists(b"/n", false),
-        &[],
+        b"",
         Want::Code(-101),
     )];
     let (_, other) = run(rt.alloc(), client, &table)?;
@@ -353,15 +378,15 @@ fn is_made_anew(reply: &Reply) -> bool {
 
 #[test]
 fn tells_that_a_node_was_deleted_before_it_was_made_anew(rt: HostRuntime) -> Result<(), Fail> {
-    let table: [(i64, Ask, &[(i32, &[u8])], Want); 3] = [
-        (4, Ask::Create(b"/x", b"", 0), &[], Want::Made(b"/x")),
+    let table: [(i64, Ask, &[u8], Want); 3] = [
+        (4, Ask::Create(b"/x", b"", 0), b"", Want::Made(b"/x")),
         (
             5,
             Ask::Set(b"/x", b"", -1),
-            &[],
+            b"",
             Want::Shown(4, 5, 4, 1, 0, 0),
         ),
-        (5, Ask::GetData(b"/x", true), &[], Want::Data(b"")),
+        (5, Ask::GetData(b"/x", true), b"", Want::Data(b"")),
     ];
     let (client, other) = run(rt.alloc(), new_client(rt.alloc())?, &table)?;
     assert_eq!(rt; other, None);
@@ -378,22 +403,22 @@ fn tells_that_a_node_was_deleted_before_it_was_made_anew(rt: HostRuntime) -> Res
         return Ok(());
     };
     assert!(rt; is_made_anew(&told.reply));
-    assert!(rt; are_notices(told.notices.as_slice(), &[(2, b"/x")]));
+    assert!(rt; are_notices(told.notices.as_slice(), b"2/x "));
     let client = Client {
         tree,
         watches: told.watches,
     };
-    let table: [(i64, Ask, &[(i32, &[u8])], Want); 2] = [
+    let table: [(i64, Ask, &[u8], Want); 2] = [
         (
             6,
             Ask::Exists(b"/x", false),
-            &[],
+            b"",
             Want::Shown(6, 6, 6, 0, 0, 0),
         ),
         (
             6,
             Ask::Exists(b"/", false),
-            &[],
+            b"",
             Want::Shown(2, 2, 6, 0, 3, 1),
         ),
     ];
@@ -404,33 +429,33 @@ fn tells_that_a_node_was_deleted_before_it_was_made_anew(rt: HostRuntime) -> Res
 
 #[test]
 fn tells_what_happened_while_a_client_was_away(rt: HostRuntime) -> Result<(), Fail> {
-    let table: [(i64, Ask, &[(i32, &[u8])], Want); 8] = [
-        (4, Ask::Create(b"/w1", b"", 0), &[], Want::Made(b"/w1")),
-        (5, Ask::Create(b"/w2", b"", 0), &[], Want::Made(b"/w2")),
-        (6, Ask::Create(b"/w3", b"", 0), &[], Want::Made(b"/w3")),
+    let table: [(i64, Ask, &[u8], Want); 8] = [
+        (4, Ask::Create(b"/w1", b"", 0), b"", Want::Made(b"/w1")),
+        (5, Ask::Create(b"/w2", b"", 0), b"", Want::Made(b"/w2")),
+        (6, Ask::Create(b"/w3", b"", 0), b"", Want::Made(b"/w3")),
         (
             8,
             Ask::Set(b"/w1", b"", -1),
-            &[],
+            b"",
             Want::Shown(4, 8, 4, 1, 0, 0),
         ),
-        (9, Ask::Delete(b"/w2", -1), &[], Want::Empty),
+        (9, Ask::Delete(b"/w2", -1), b"", Want::Empty),
         (
             10,
-            Ask::SetWatches(6, &[b"/w1", b"/w2", b"/w3"], &[], &[]),
-            &[(3, b"/w1"), (2, b"/w2")],
+            Ask::SetWatches(6, b"/w1 /w2 /w3 ", b"", b""),
+            b"3/w1 2/w2 ",
             Want::Empty,
         ),
         (
             11,
             Ask::Set(b"/w3", b"", -1),
-            &[(3, b"/w3")],
+            b"3/w3 ",
             Want::Shown(6, 11, 6, 1, 0, 0),
         ),
         (
             12,
             Ask::Set(b"/w1", b"", -1),
-            &[],
+            b"",
             Want::Shown(4, 12, 4, 2, 0, 0),
         ),
     ];
@@ -441,37 +466,20 @@ fn tells_what_happened_while_a_client_was_away(rt: HostRuntime) -> Result<(), Fa
 
 #[test]
 fn goes_through_data_exist_and_child_paths_in_order(rt: HostRuntime) -> Result<(), Fail> {
-    let table: [(i64, Ask, &[(i32, &[u8])], Want); 5] = [
-        (4, Ask::Create(b"/a", b"", 0), &[], Want::Made(b"/a")),
+    let table: [(i64, Ask, &[u8], Want); 5] = [
+        (4, Ask::Create(b"/a", b"", 0), b"", Want::Made(b"/a")),
         (
             4,
-            Ask::SetWatches(
-                3,
-                &[b"/d", b"/a"],
-                &[b"/a", b"/e", b"e"],
-                &[b"/a", b"/c", b"c"],
-            ),
-            &[
-                (2, b"/d"),
-                (3, b"/a"),
-                (1, b"/a"),
-                (4, b"/a"),
-                (2, b"/c"),
-                (2, b"c"),
-            ],
+            Ask::SetWatches(3, b"/d /a ", b"/a /e e ", b"/a /c c "),
+            b"2/d 3/a 1/a 4/a 2/c 2c ",
             Want::Empty,
         ),
-        (4, Ask::SetWatches(4, &[], &[], &[b"/a"]), &[], Want::Empty),
-        (
-            5,
-            Ask::Create(b"/e", b"", 0),
-            &[(1, b"/e")],
-            Want::Made(b"/e"),
-        ),
+        (4, Ask::SetWatches(4, b"", b"", b"/a "), b"", Want::Empty),
+        (5, Ask::Create(b"/e", b"", 0), b"1/e ", Want::Made(b"/e")),
         (
             6,
             Ask::Create(b"/a/b", b"", 0),
-            &[(4, b"/a")],
+            b"4/a ",
             Want::Made(b"/a/b"),
         ),
     ];
@@ -495,10 +503,10 @@ fn told_to(
 
 #[test]
 fn tells_another_connection_of_an_update(rt: HostRuntime) -> Result<(), Fail> {
-    let table: [(i64, Ask, &[(i32, &[u8])], Want); 3] = [
-        (5, Ask::Create(b"/n", b"", 0), &[], Want::Made(b"/n")),
-        (6, Ask::GetData(b"/n", true), &[], Want::Data(b"")),
-        (6, Ask::GetChildren(b"/", true), &[], Want::Names(&[b"n"])),
+    let table: [(i64, Ask, &[u8], Want); 3] = [
+        (5, Ask::Create(b"/n", b"", 0), b"", Want::Made(b"/n")),
+        (6, Ask::GetData(b"/n", true), b"", Want::Data(b"")),
+        (6, Ask::GetChildren(b"/", true), b"", Want::Names(b"n ")),
     ];
     let (client, other) = run(rt.alloc(), new_client(rt.alloc())?, &table)?;
     assert_eq!(rt; other, None);
@@ -512,7 +520,7 @@ fn tells_another_connection_of_an_update(rt: HostRuntime) -> Result<(), Fail> {
         assert!(rt; false);
         return Ok(());
     };
-    assert!(rt; are_notices(notices.as_slice(), &[(2, b"/n"), (4, b"/")]));
+    assert!(rt; are_notices(notices.as_slice(), b"2/n 4/ "));
     let told = told_to(
         rt.alloc(),
         &client.tree,
@@ -566,9 +574,9 @@ fn is_answered(reply: Option<Reply>, want: Want) -> bool {
 
 #[test]
 fn bounds_the_nodes_of_a_session_and_the_parts_of_a_multi(rt: HostRuntime) -> Result<(), Fail> {
-    let table: [(i64, Ask, &[(i32, &[u8])], Want); 2] = [
-        (4, Ask::Create(b"/e", b"", 0), &[], Want::Made(b"/e")),
-        (4, Ask::Check(b"/e", -1), &[], Want::Empty),
+    let table: [(i64, Ask, &[u8], Want); 2] = [
+        (4, Ask::Create(b"/e", b"", 0), b"", Want::Made(b"/e")),
+        (4, Ask::Check(b"/e", -1), b"", Want::Empty),
     ];
     let (mut client, other) = run(rt.alloc(), new_client(rt.alloc())?, &table)?;
     assert_eq!(rt; other, None);
@@ -579,10 +587,10 @@ fn bounds_the_nodes_of_a_session_and_the_parts_of_a_multi(rt: HostRuntime) -> Re
         } else {
             Want::Code(-1)
         };
-        let table: [(i64, Ask, &[(i32, &[u8])], Want); 1] = [(
+        let table: [(i64, Ask, &[u8], Want); 1] = [(
             5 + i64::from(number),
             Ask::Create(&path, b"", 1),
-            &[],
+            b"",
             want,
         )];
         let (next, other) = run(rt.alloc(), client, &table)?;

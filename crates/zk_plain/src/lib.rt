@@ -8,6 +8,7 @@ pub mod code;
 mod create;
 mod delete;
 mod fault;
+mod laws;
 mod multi;
 mod node;
 mod outcome;
@@ -21,6 +22,7 @@ mod update;
 
 pub use create::{begin, is_create_mode, is_open_acl, is_sequential};
 pub use fault::Fault;
+pub use laws::sound_trees_fit;
 pub use multi::{Transaction, several};
 pub use outcome::Outcome;
 pub use requests::{
