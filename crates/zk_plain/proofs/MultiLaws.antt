@@ -1,5 +1,5 @@
 -- Parts of a transaction, one after another.
-use Rattle.std.proofs.Common.{◌≡◌, ℕ, ℤ, ◌≤◌, List, [], ◌∷◌, length, refl, ap, subst, ◌∙◌, get_or, drop, take, ◌-◌, sym, arith}
+use Rattle.std.proofs.Common.{◌≡◌, ℕ, ℤ, ◌≤◌, List, [], ◌∷◌, length, refl, ap, subst, get_or, drop, take, ◌-◌, sym, arith}
 use Rattle.std.proofs.lemmas.List.{take_all}
 use Rattle.zk_model.specs.declared.node.Trigger.{Trigger}
 use Rattle.zk_model.specs.declared.reply.PartResult.{PartResult}

@@ -1,5 +1,5 @@
 -- When a number is beyond its field: in no tree of a run, and for no data that a frame carries.
-use Rattle.std.specs.Prelude.{◌≡◌, ◌≤◌, ◌≤ℤ◌, ℕ, ℤ, pos, ⊤, List, [], ◌∷◌, Option, Some, length}
+use Rattle.std.specs.Prelude.{◌≡◌, ◌≤◌, ◌≤ℤ◌, ℕ, ℤ, pos, ⊤, List, [], ◌∷◌, Some, length}
 use Rattle.std.specs.FinMap.{get}
 use Rattle.zx_base.specs.Maps.{Bytes}
 use Rattle.zk_model.specs.declared.node.Node.{Node}

@@ -7,21 +7,26 @@
 mod create;
 mod delete;
 mod fault;
+mod laws;
 mod multi;
 mod node;
 mod outcome;
 mod requests;
-mod stat;
+mod stats;
 #[cfg(test)]
 mod tests;
 mod tree;
 mod turn;
 mod update;
 
-pub use create::begin;
+pub use create::{begin, is_create_mode, is_open_acl, is_sequential};
 pub use fault::Fault;
+pub use laws::sound_trees_fit;
 pub use multi::{Transaction, several};
 pub use outcome::Outcome;
-pub use requests::single;
+pub use requests::{
+    read_path, single, single_check, single_create, single_delete, single_set_data,
+};
+pub use stats::stat;
 pub use tree::Tree;
 pub use turn::Turn;

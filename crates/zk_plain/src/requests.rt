@@ -1,11 +1,10 @@
 //! One request that may be part of a transaction.
 
-ghost use Rattle.std.specs.Prelude.{◌≡◌, ◌&&◌, not, Some, None, if◌then◌else◌, ◌≤◌, length, IfOk, IfErr};
-ghost use Rattle.std.specs.FinMap.{get};
-ghost use Rattle.zx_base.specs.Maps.{same};
-ghost use Rattle.zk_model.specs.Codes.{bad_arguments, invalid_acl};
-ghost use Rattle.zk_model.specs.Paths.{is_path, is_sequence_prefix, root};
-ghost use Rattle.zk_model.specs.Single.{single, unless_refused, or_else, path_refusal, is_create_mode, is_open_acl, is_sequential, create, delete, set_data, check};
+#![tactic(auto, unfolding(zk_model::specs::Single::single, zk_model::specs::Single::form_refusal, zk_model::specs::Single::effect))]
+
+ghost use Rattle.std.specs.Prelude.{◌≡◌, ◌≤◌, length, IfOk, IfErr};
+ghost use Rattle.zk_model.specs.declared.request.Part.TheVariants as part;
+ghost use Rattle.zk_model.specs.Single.{single};
 ghost use Rattle.zk_model.specs.Frames.{most_frame};
 ghost use Rattle.zk_model.specs.Multi.{data_len};
 ghost use Rattle.zk_plain.specs.Faults.{BeyondUnless, IsWithin};
@@ -23,8 +22,8 @@ use zk_model::code::{BAD_ARGUMENTS, INVALID_ACL};
 use zk_model::{Acl, Part, Path, PathFault};
 use zx_base::Memory;
 
-/// The path of a text, where it is valid.
-fn read_path(alloc: Global, text: &[u8], sequential: bool) -> Result<Option<Path>, Memory>
+/// The path of a text, where it is valid; of a sequential one, the text with `1` behind it.
+pub fn read_path(alloc: Global, text: &[u8], sequential: bool) -> Result<Option<Path>, Memory>
     ensures { IfOk result (λ o. IsRead o sequential text.now) }
 {
     match Path::read(alloc, text, sequential) {
@@ -34,7 +33,8 @@ fn read_path(alloc: Global, text: &[u8], sequential: bool) -> Result<Option<Path
     }
 }
 
-fn single_create(
+/// A create as the only request (Programmer's Guide, "ZNodes", "Sequence Nodes -- Unique Naming").
+pub fn single_create(
     alloc: Global,
     tree: &Tree,
     turn: &Turn,
@@ -43,9 +43,7 @@ fn single_create(
     acl: &[Acl],
     flags: i32,
 ) -> Result<Outcome, Fault>
-    ensures ok { IfOk result (λ o. outcome_of o ≡ unless_refused (or_else (path_refusal (if is_sequential flags then is_sequence_prefix text.now else is_path text.now))
-        (if not (is_create_mode flags) then Some bad_arguments else if not (is_open_acl acl.now) then Some invalid_acl else None))
-        (create tree.now turn.now.limit turn.now.session flags content.now turn.now.zxid turn.now.moment text.now)) }
+    ensures ok { IfOk result (λ o. outcome_of o ≡ single tree.now turn.now.limit turn.now.session (part.Create text.now content.now acl.now flags) turn.now.zxid turn.now.moment) }
     ensures beyond { IfErr result (BeyondUnless (IsWithin tree.now)) }
 {
     let Some(named) = read_path(alloc, text, is_sequential(flags))? else {
@@ -60,15 +58,15 @@ fn single_create(
     Ok(create(alloc, tree, turn, flags, content, text, named)?)
 }
 
-fn single_delete(
+/// A delete as the only request.
+pub fn single_delete(
     alloc: Global,
     tree: &Tree,
     turn: &Turn,
     text: &[u8],
     version: i32,
 ) -> Result<Outcome, Memory>
-    ensures { IfOk result (λ o. outcome_of o ≡ unless_refused (path_refusal (is_path text.now && not (same text.now root)))
-        (delete tree.now text.now version turn.now.zxid (get tree.now text.now))) }
+    ensures { IfOk result (λ o. outcome_of o ≡ single tree.now turn.now.limit turn.now.session (part.Delete text.now version) turn.now.zxid turn.now.moment) }
 {
     match read_path(alloc, text, false)? {
         Some(path) if path.bytes() != b"/".as_slice() => Ok(delete(
@@ -78,7 +76,8 @@ fn single_delete(
     }
 }
 
-fn single_set(
+/// A setData as the only request.
+pub fn single_set_data(
     alloc: Global,
     tree: &Tree,
     turn: &Turn,
@@ -86,8 +85,7 @@ fn single_set(
     content: &[u8],
     version: i32,
 ) -> Result<Outcome, Fault>
-    ensures ok { IfOk result (λ o. outcome_of o ≡ unless_refused (path_refusal (is_path text.now))
-        (set_data tree.now text.now content.now version turn.now.zxid turn.now.moment (get tree.now text.now))) }
+    ensures ok { IfOk result (λ o. outcome_of o ≡ single tree.now turn.now.limit turn.now.session (part.SetData text.now content.now version) turn.now.zxid turn.now.moment) }
     ensures beyond { IfErr result (BeyondUnless (IsWithin tree.now × (length content.now ≤ most_frame))) }
 {
     match read_path(alloc, text, false)? {
@@ -96,8 +94,15 @@ fn single_set(
     }
 }
 
-fn single_check(alloc: Global, tree: &Tree, text: &[u8], version: i32) -> Result<Outcome, Memory>
-    ensures { IfOk result (λ o. outcome_of o ≡ unless_refused (path_refusal (is_path text.now)) (check tree.now version (get tree.now text.now))) }
+/// A check as the only request, which changes nothing.
+pub fn single_check(
+    alloc: Global,
+    tree: &Tree,
+    turn: &Turn,
+    text: &[u8],
+    version: i32,
+) -> Result<Outcome, Memory>
+    ensures { IfOk result (λ o. outcome_of o ≡ single tree.now turn.now.limit turn.now.session (part.Check text.now version) turn.now.zxid turn.now.moment) }
 {
     match read_path(alloc, text, false)? {
         Some(path) => Ok(check(alloc, tree, path, version)?),
@@ -106,7 +111,6 @@ fn single_check(alloc: Global, tree: &Tree, text: &[u8], version: i32) -> Result
 }
 
 /// What one request makes of the tree.
-#[tactic(auto, unfolding(zk_model::specs::Single::single, zk_model::specs::Single::form_refusal, zk_model::specs::Single::effect))]
 pub fn single(alloc: Global, tree: &Tree, turn: &Turn, part: &Part) -> Result<Outcome, Fault>
     ensures ok { IfOk result (λ o. outcome_of o ≡ single tree.now turn.now.limit turn.now.session part.now turn.now.zxid turn.now.moment) }
     ensures beyond { IfErr result (BeyondUnless (IsWithin tree.now × (data_len part.now ≤ most_frame))) }
@@ -137,7 +141,7 @@ pub fn single(alloc: Global, tree: &Tree, turn: &Turn, part: &Part) -> Result<Ou
             path,
             content,
             version,
-        } => Ok(single_set(
+        } => Ok(single_set_data(
             alloc,
             tree,
             turn,
@@ -145,6 +149,12 @@ pub fn single(alloc: Global, tree: &Tree, turn: &Turn, part: &Part) -> Result<Ou
             content.as_slice(),
             *version,
         )?),
-        Part::Check { path, version } => Ok(single_check(alloc, tree, path.as_slice(), *version)?),
+        Part::Check { path, version } => Ok(single_check(
+            alloc,
+            tree,
+            turn,
+            path.as_slice(),
+            *version,
+        )?),
     }
 }

@@ -5,7 +5,7 @@ use crate::fault::Fault;
 use crate::multi::{Transaction, several};
 use crate::outcome::Outcome;
 use crate::requests::single;
-use crate::stat::stat;
+use crate::stats::stat;
 use crate::tree::Tree;
 use crate::turn::Turn;
 use std::alloc::Global;

@@ -14,7 +14,7 @@ use crate::delete::matches;
 use crate::fault::Fault;
 use crate::node::copy_node;
 use crate::outcome::Outcome;
-use crate::stat::stat;
+use crate::stats::stat;
 use crate::tree::Tree;
 use crate::turn::Turn;
 use std::alloc::Global;

@@ -1,8 +1,7 @@
-use Rattle.std.proofs.Common.{◌≡◌, ◌++◌, ap, sym, ◌∙◌, map, append-nil}
+use Rattle.std.proofs.Common.{ap, sym, ◌∙◌, map}
 use Rattle.zk_model.specs.Paths.{is_child, last_name}
 use Rattle.zk_model.specs.Znodes.{Tree, child_names}
-use Rattle.zk_plain.specs.Entries.{order, Entries}
-use Rattle.zk_plain.proofs.EntryLaws.{where_end, keys-retain, names_where, named_end}
+use Rattle.zk_plain.proofs.EntryLaws.{keys-retain, names_where, named_end}
 use Rattle.zk_plain.proofs.tree.Tree.child_names.Goals as goal
 
 pub returns : goal.returns

@@ -1,7 +1,6 @@
-use Rattle.std.proofs.Common.{sym, ◌∙◌, ap, ◌≡◌, Option}
+use Rattle.std.proofs.Common.{sym, ◌∙◌, ap}
 use Rattle.std.specs.FinMap.{get}
 use Rattle.std.specs.FinMap.Entries.{find}
-use Rattle.zk_model.specs.declared.node.Node.{Node}
 use Rattle.zk_model.specs.Znodes.{Tree}
 use Rattle.zk_plain.specs.Entries.{order, Entries}
 use Rattle.zk_plain.proofs.EntryLaws.{get-tree, find-equal, find-other, find-end}

@@ -1,4 +1,4 @@
-use Rattle.std.proofs.Common.{ap, sym, ◌∙◌, ◌≡◌, true}
+use Rattle.std.proofs.Common.{ap, ◌∙◌, ◌≡◌}
 use Rattle.std.specs.FinMap.{insert}
 use Rattle.std.specs.FinMap.Entries.{put, is_sorted}
 use Rattle.zk_model.specs.Znodes.{Tree}

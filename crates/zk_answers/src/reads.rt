@@ -1,0 +1,154 @@
+//! Reads, and the watches that they arm (Programmer's Guide, "ZooKeeper Watches").
+
+ghost use Rattle.std.specs.Prelude.{◌≡◌, Some, IfOk, IfErr};
+ghost use Rattle.std.specs.FinMap.{get};
+ghost use Rattle.zk_model.specs.declared.reply.Body.TheVariants as body;
+ghost use Rattle.zk_model.specs.Answers.{about, listing, armed_data, armed_children};
+ghost use Rattle.zk_model.specs.Znodes.{stat_of, child_names};
+ghost use Rattle.zk_plain.specs.Faults.{BeyondUnless, IsWithin};
+ghost use Rattle.zk_answers.specs.Outcomes.{told_of};
+
+use crate::listings::{names_and_stat_fit, names_fit};
+use crate::told::{Told, good, refused};
+use crate::watches::Watches;
+use std::alloc::Global;
+use zk_model::{Body, Node, Stat};
+use zk_model::code::{NO_NODE, SYSTEM_ERROR};
+use zk_plain::{Fault, Tree, stat};
+use zx_base::{Bytes, Memory, Text};
+
+/// With a data watch, where one is asked for.
+fn armed_data(
+    alloc: Global,
+    is_watched: bool,
+    path: &[u8],
+    watches: &Watches,
+) -> Result<Watches, Memory>
+    ensures { IfOk result (λ w. w ≡ armed_data is_watched path.now watches.now) }
+{
+    if is_watched {
+        watches.arm_data(alloc, path)
+    } else {
+        watches.copy(alloc)
+    }
+}
+
+/// With a child watch, where one is asked for.
+fn armed_children(
+    alloc: Global,
+    is_watched: bool,
+    path: &[u8],
+    watches: &Watches,
+) -> Result<Watches, Memory>
+    ensures { IfOk result (λ w. w ≡ armed_children is_watched path.now watches.now) }
+{
+    if is_watched {
+        watches.arm_children(alloc, path)
+    } else {
+        watches.copy(alloc)
+    }
+}
+
+/// What a client is shown of the node at a path of the tree.
+fn stat_at(tree: &Tree, path: &[u8], node: &Node) -> Result<Stat, Fault>
+    requires { get tree.now path.now ≡ Some node.now }
+    ensures ok { IfOk result (λ s. s ≡ stat_of tree.now path.now node.now) }
+    ensures beyond { IfErr result (BeyondUnless (IsWithin tree.now)) }
+{
+    stat(node, tree.num_children(path))
+}
+
+/// exists arms also where there is no node.
+pub fn exists(
+    alloc: Global,
+    tree: &Tree,
+    watches: &Watches,
+    path: &Text,
+    is_watched: bool,
+) -> Result<Told, Fault>
+    ensures ok { IfOk result (λ t. Some (told_of t) ≡ about (armed_data is_watched path.now watches.now) (armed_data is_watched path.now watches.now) (get tree.now path.now) (λ n. body.Stat (stat_of tree.now path.now n))) }
+    ensures beyond { IfErr result (BeyondUnless (IsWithin tree.now)) }
+{
+    let armed = armed_data(alloc, is_watched, path.as_slice(), watches)?;
+    match tree.get(path.as_slice()) {
+        None => Ok(refused(alloc, &armed, NO_NODE)?),
+        Some(node) => Ok(good(
+            alloc,
+            armed,
+            Body::Stat(stat_at(tree, path.as_slice(), node)?),
+        )),
+    }
+}
+
+pub fn get_data(
+    alloc: Global,
+    tree: &Tree,
+    watches: &Watches,
+    path: &Text,
+    is_watched: bool,
+) -> Result<Told, Fault>
+    ensures ok { IfOk result (λ t. Some (told_of t) ≡ about (armed_data is_watched path.now watches.now) watches.now (get tree.now path.now) (λ n. body.Content n.content (stat_of tree.now path.now n))) }
+    ensures beyond { IfErr result (BeyondUnless (IsWithin tree.now)) }
+{
+    let Some(node) = tree.get(path.as_slice()) else {
+        return Ok(refused(alloc, watches, NO_NODE)?);
+    };
+    let content = Bytes::copy_of(alloc, node.content.as_slice())?;
+    let armed = armed_data(alloc, is_watched, path.as_slice(), watches)?;
+    let shown = stat_at(tree, path.as_slice(), node)?;
+    Ok(good(alloc, armed, Body::Content(content, shown)))
+}
+
+pub fn get_acl(alloc: Global, tree: &Tree, watches: &Watches, path: &Text) -> Result<Told, Fault>
+    ensures ok { IfOk result (λ t. Some (told_of t) ≡ about watches.now watches.now (get tree.now path.now) (λ n. body.OpenAcl (stat_of tree.now path.now n))) }
+    ensures beyond { IfErr result (BeyondUnless (IsWithin tree.now)) }
+{
+    let Some(node) = tree.get(path.as_slice()) else {
+        return Ok(refused(alloc, watches, NO_NODE)?);
+    };
+    let shown = stat_at(tree, path.as_slice(), node)?;
+    Ok(good(alloc, watches.copy(alloc)?, Body::OpenAcl(shown)))
+}
+
+/// The children's names in the order of their bytes.
+pub fn get_children(
+    alloc: Global,
+    tree: &Tree,
+    watches: &Watches,
+    path: &Text,
+    is_watched: bool,
+) -> Result<Told, Memory>
+    ensures { IfOk result (λ t. Some (told_of t) ≡ listing (armed_children is_watched path.now watches.now) watches.now (get tree.now path.now) (λ n. body.Names (child_names tree.now path.now))) }
+{
+    if tree.get(path.as_slice()).is_none() {
+        return refused(alloc, watches, NO_NODE);
+    }
+    let names = tree.child_names(alloc, path.as_slice())?;
+    if !names_fit(names.as_slice()) {
+        return refused(alloc, watches, SYSTEM_ERROR);
+    }
+    let armed = armed_children(alloc, is_watched, path.as_slice(), watches)?;
+    Ok(good(alloc, armed, Body::Names(names)))
+}
+
+pub fn get_children2(
+    alloc: Global,
+    tree: &Tree,
+    watches: &Watches,
+    path: &Text,
+    is_watched: bool,
+) -> Result<Told, Fault>
+    ensures ok { IfOk result (λ t. Some (told_of t) ≡ listing (armed_children is_watched path.now watches.now) watches.now (get tree.now path.now) (λ n. body.NamesStat (child_names tree.now path.now) (stat_of tree.now path.now n))) }
+    ensures beyond { IfErr result (BeyondUnless (IsWithin tree.now)) }
+{
+    let Some(node) = tree.get(path.as_slice()) else {
+        return Ok(refused(alloc, watches, NO_NODE)?);
+    };
+    let shown = stat_at(tree, path.as_slice(), node)?;
+    let names = tree.child_names(alloc, path.as_slice())?;
+    if !names_and_stat_fit(names.as_slice(), &shown) {
+        return Ok(refused(alloc, watches, SYSTEM_ERROR)?);
+    }
+    let armed = armed_children(alloc, is_watched, path.as_slice(), watches)?;
+    Ok(good(alloc, armed, Body::NamesStat(names, shown)))
+}

@@ -1,0 +1,179 @@
+//! Reads, and refusals by the tree.
+
+ghost use Rattle.std.specs.Prelude.{◌≡◌, Some, option_map, pos, IfOk, IfErr};
+ghost use Rattle.zk_model.specs.declared.reply.Body.TheVariants as body;
+ghost use Rattle.zk_model.specs.declared.reply.Reply.TheVariants as reply;
+ghost use Rattle.zk_model.specs.Answers.{told, checked, refusal_of, refusal_of_several, rearmed, tree_reply};
+ghost use Rattle.zk_plain.specs.Faults.{BeyondUnless};
+ghost use Rattle.zk_plain.specs.Outcomes.{outcome_of, several_as};
+ghost use Rattle.zk_answers.specs.Fits.{FitsRequest};
+ghost use Rattle.zk_answers.specs.Outcomes.{seen_of, told_of};
+
+use crate::reads::{exists, get_acl, get_children, get_children2, get_data};
+use crate::rearm::set_watches;
+use crate::told::{Told, good, refused};
+use crate::watches::{Seen, Watches};
+use std::alloc::Global;
+use zk_model::{Body, Reply, Request};
+use zk_plain::{
+    Fault, Outcome, Transaction, Tree, Turn, several, single_check, single_create, single_delete,
+    single_set_data,
+};
+use zx_base::{Memory, Text};
+
+/// The most nodes that a session may own.
+pub const MOST_OWNED: usize = 40;
+
+/// An update is answered by its refusal; one that succeeds is answered by what it commits.
+fn refusal_of(alloc: Global, watches: &Watches, outcome: Outcome) -> Result<Option<Told>, Memory>
+    ensures { IfOk result (λ o. option_map told_of o ≡ refusal_of watches.now (outcome_of outcome)) }
+{
+    match outcome {
+        Outcome::Refused(code) => Ok(Some(refused(alloc, watches, code)?)),
+        Outcome::Done { .. } => Ok(None),
+    }
+}
+
+/// A check by itself is a read.
+fn checked(alloc: Global, watches: &Watches, outcome: Outcome) -> Result<Told, Memory>
+    ensures { IfOk result (λ t. Some (told_of t) ≡ checked watches.now (outcome_of outcome)) }
+{
+    match outcome {
+        Outcome::Refused(code) => refused(alloc, watches, code),
+        Outcome::Done { .. } => Ok(good(alloc, watches.copy(alloc)?, Body::Empty)),
+    }
+}
+
+fn refusal_of_several(
+    alloc: Global,
+    watches: &Watches,
+    transaction: Transaction,
+) -> Result<Option<Told>, Memory>
+    ensures { IfOk result (λ o. option_map told_of o ≡ refusal_of_several watches.now (several_as transaction)) }
+{
+    match transaction {
+        Transaction::Denied(code) => Ok(Some(refused(alloc, watches, code)?)),
+        Transaction::Codes(row) => Ok(Some(good(alloc, watches.copy(alloc)?, Body::Parts(row)))),
+        Transaction::All { .. } => Ok(None),
+    }
+}
+
+fn sync(alloc: Global, watches: &Watches, path: &Text) -> Result<Told, Memory>
+    ensures { IfOk result (λ t. Some (told_of t) ≡ told watches.now (reply.Good (body.Path path.now))) }
+{
+    let path = Text::copy_of(alloc, path.as_slice())?;
+    Ok(good(alloc, watches.copy(alloc)?, Body::Path(path)))
+}
+
+/// The reply to a setWatches.
+fn rearmed(seen: Seen) -> Told
+    ensures { Some (told_of result) ≡ rearmed (seen_of seen) }
+{
+    Told {
+        reply: Reply::Good(Body::Empty),
+        notices: seen.notices,
+        watches: seen.watches,
+    }
+}
+
+/// The turn of a request that is only looked at: whether it is refused does not depend on zxid and moment.
+fn looking(session: i64) -> Turn
+    ensures { (result.limit ≡ 40) × (result.session ≡ session) × (result.zxid ≡ pos 0) × (result.moment ≡ 0) }
+{
+    Turn {
+        limit: MOST_OWNED,
+        session,
+        zxid: 0,
+        moment: 0,
+    }
+}
+
+/// The answer as the tree shows it: to a read, to a setWatches, and to an update that is refused. An update that
+/// succeeds has none here.
+#[tactic(auto, unfolding(zk_model::specs::Answers::tree_reply))]
+pub fn tree_reply(
+    alloc: Global,
+    tree: &Tree,
+    session: i64,
+    watches: &Watches,
+    request: &Request,
+) -> Result<Option<Told>, Fault>
+    ensures ok { IfOk result (λ o. option_map told_of o ≡ tree_reply tree.now session watches.now request.now) }
+    ensures beyond { IfErr result (BeyondUnless (FitsRequest tree.now 40 session request.now (pos 0) 0)) }
+{
+    let turn = looking(session);
+    match request {
+        Request::Exists { path, watch } => Ok(Some(exists(alloc, tree, watches, path, *watch)?)),
+        Request::GetData { path, watch } => Ok(Some(get_data(alloc, tree, watches, path, *watch)?)),
+        Request::GetAcl { path } => Ok(Some(get_acl(alloc, tree, watches, path)?)),
+        Request::GetChildren { path, watch } => Ok(Some(get_children(
+            alloc, tree, watches, path, *watch,
+        )?)),
+        Request::GetChildren2 { path, watch } => Ok(Some(get_children2(
+            alloc, tree, watches, path, *watch,
+        )?)),
+        Request::Sync { path } => Ok(Some(sync(alloc, watches, path)?)),
+        Request::SetWatches {
+            relative,
+            exists,
+            datas,
+            children,
+        } => {
+            let seen = set_watches(
+                alloc,
+                tree,
+                *relative,
+                datas.as_slice(),
+                exists.as_slice(),
+                children.as_slice(),
+                watches,
+            )?;
+            Ok(Some(rearmed(seen)))
+        }
+        Request::Check { path, version } => {
+            let outcome = single_check(alloc, tree, &turn, path.as_slice(), *version)?;
+            Ok(Some(checked(alloc, watches, outcome)?))
+        }
+        Request::Create {
+            path,
+            content,
+            acl,
+            flags,
+        } => {
+            let outcome = single_create(
+                alloc,
+                tree,
+                &turn,
+                path.as_slice(),
+                content.as_slice(),
+                acl.as_slice(),
+                *flags,
+            )?;
+            Ok(refusal_of(alloc, watches, outcome)?)
+        }
+        Request::Delete { path, version } => {
+            let outcome = single_delete(alloc, tree, &turn, path.as_slice(), *version)?;
+            Ok(refusal_of(alloc, watches, outcome)?)
+        }
+        Request::SetData {
+            path,
+            content,
+            version,
+        } => {
+            let outcome = single_set_data(
+                alloc,
+                tree,
+                &turn,
+                path.as_slice(),
+                content.as_slice(),
+                *version,
+            )?;
+            Ok(refusal_of(alloc, watches, outcome)?)
+        }
+        Request::Multi { parts } => {
+            let transaction = several(alloc, tree, &turn, parts.as_slice())?;
+            Ok(refusal_of_several(alloc, watches, transaction)?)
+        }
+        Request::Ping | Request::Auth { .. } | Request::Close => Ok(None),
+    }
+}

@@ -1,0 +1,191 @@
+//! Watches, and the notices that changes of the tree give (Programmer's Guide, "ZooKeeper Watches").
+
+ghost use Rattle.std.specs.Prelude.{◌≡◌, ◌||◌, IfOk};
+ghost use Rattle.std.specs.FinMap.{contains_key};
+ghost use Rattle.zk_model.specs.Watches.{no_watches, arm_data, arm_children, fired_data, fired_children, fire, fire_all, note};
+ghost use Rattle.zk_answers.specs.Outcomes.{fired_of};
+
+use crate::paths::PathSet;
+use std::alloc::Global;
+use std::marker::Model;
+use zk_model::{Notice, Path, Trigger};
+use zx_base::{Memory, Seq, Text};
+
+/// The kinds of notices (`Watcher.Event.EventType`).
+pub const CREATED: u8 = 1;
+
+pub const DELETED: u8 = 2;
+
+pub const CHANGED: u8 = 3;
+
+pub const CHILDREN: u8 = 4;
+
+/// The data watches and the child watches of a connection.
+#[derive(Debug, Drop)]
+pub struct Watches {
+    on_data: PathSet,
+    on_children: PathSet,
+}
+
+impl Model for Watches {
+    ghost use Rattle.zk_model.specs.Watches.{Watches as Armed};
+    ghost use Rattle.zk_answers.specs.Sets.{coded_watches};
+
+    ghost Value = { Armed };
+
+    ghost coded = { coded_watches };
+
+    ghost view = { λ w. record { on_data = w.on_data; on_children = w.on_children } };
+}
+
+/// What is armed, and the notices that were given before.
+#[derive(Debug, Drop)]
+pub struct Seen {
+    pub watches: Watches,
+    pub notices: Seq<Notice>,
+}
+
+/// One notice, or none.
+fn note(alloc: Global, is_hit: bool, kind: u8, path: &[u8]) -> Result<Seq<Notice>, Memory>
+    ensures { IfOk result (λ notices. notices ≡ note is_hit kind path.now) }
+{
+    let mut notices = Seq::new(alloc);
+    if is_hit {
+        notices.push(Notice {
+            kind: i32::from(kind),
+            path: Text::copy_of(alloc, path)?,
+        })?;
+    }
+    Ok(notices)
+}
+
+impl Watches {
+    /// Nothing is armed.
+    pub fn new(alloc: Global) -> Watches
+        ensures { result ≡ no_watches }
+    {
+        Watches {
+            on_data: PathSet::new(alloc),
+            on_children: PathSet::new(alloc),
+        }
+    }
+
+    pub fn copy(&self, alloc: Global) -> Result<Watches, Memory>
+        ensures { IfOk result (λ w. w ≡ self.now) }
+    {
+        Ok(Watches {
+            on_data: self.on_data.copy(alloc)?,
+            on_children: self.on_children.copy(alloc)?,
+        })
+    }
+
+    /// With a data watch on this path.
+    pub fn arm_data(&self, alloc: Global, path: &[u8]) -> Result<Watches, Memory>
+        ensures { IfOk result (λ w. w ≡ arm_data self.now path.now) }
+    {
+        Ok(Watches {
+            on_data: self.on_data.with(alloc, path)?,
+            on_children: self.on_children.copy(alloc)?,
+        })
+    }
+
+    /// With a child watch on this path.
+    pub fn arm_children(&self, alloc: Global, path: &[u8]) -> Result<Watches, Memory>
+        ensures { IfOk result (λ w. w ≡ arm_children self.now path.now) }
+    {
+        Ok(Watches {
+            on_data: self.on_data.copy(alloc)?,
+            on_children: self.on_children.with(alloc, path)?,
+        })
+    }
+
+    fn without_data(&self, alloc: Global, path: &[u8]) -> Result<Watches, Memory>
+        ensures { IfOk result (λ w. w ≡ fired_data self.now path.now) }
+    {
+        Ok(Watches {
+            on_data: self.on_data.without(alloc, path)?,
+            on_children: self.on_children.copy(alloc)?,
+        })
+    }
+
+    fn without_children(&self, alloc: Global, path: &[u8]) -> Result<Watches, Memory>
+        ensures { IfOk result (λ w. w ≡ fired_children self.now path.now) }
+    {
+        Ok(Watches {
+            on_data: self.on_data.copy(alloc)?,
+            on_children: self.on_children.without(alloc, path)?,
+        })
+    }
+
+    /// The path's data watch fires, where there is one.
+    fn fire_data(&self, alloc: Global, kind: u8, path: &Path) -> Result<Seen, Memory>
+        ensures { IfOk result (λ s. fired_of s ≡ (fired_data self.now path.now, note (contains_key self.now.on_data path.now) kind path.now)) }
+    {
+        Ok(Seen {
+            watches: self.without_data(alloc, path.bytes())?,
+            notices: note(
+                alloc,
+                self.on_data.contains(path.bytes()),
+                kind,
+                path.bytes(),
+            )?,
+        })
+    }
+
+    /// The path's child watch fires, where there is one.
+    fn fire_children(&self, alloc: Global, path: &Path) -> Result<Seen, Memory>
+        ensures { IfOk result (λ s. fired_of s ≡ (fired_children self.now path.now, note (contains_key self.now.on_children path.now) 4 path.now)) }
+    {
+        Ok(Seen {
+            watches: self.without_children(alloc, path.bytes())?,
+            notices: note(
+                alloc,
+                self.on_children.contains(path.bytes()),
+                CHILDREN,
+                path.bytes(),
+            )?,
+        })
+    }
+
+    /// Both watches of the path fire, with one notice.
+    fn fire_both(&self, alloc: Global, path: &Path) -> Result<Seen, Memory>
+        ensures { IfOk result (λ s. fired_of s ≡ (fired_children (fired_data self.now path.now) path.now, note (contains_key self.now.on_data path.now || contains_key self.now.on_children path.now) 2 path.now)) }
+    {
+        let is_hit = self.on_data.contains(path.bytes()) || self.on_children.contains(path.bytes());
+        let rest = self.without_data(alloc, path.bytes())?;
+        Ok(Seen {
+            watches: rest.without_children(alloc, path.bytes())?,
+            notices: note(alloc, is_hit, DELETED, path.bytes())?,
+        })
+    }
+
+    /// What a change leaves armed, and its notices.
+    pub fn fire(&self, alloc: Global, trigger: &Trigger) -> Result<Seen, Memory>
+        ensures { IfOk result (λ s. fired_of s ≡ fire self.now trigger.now) }
+    {
+        match trigger {
+            Trigger::Created(path) => self.fire_data(alloc, CREATED, path),
+            Trigger::Deleted(path) => self.fire_both(alloc, path),
+            Trigger::Changed(path) => self.fire_data(alloc, CHANGED, path),
+            Trigger::Children(path) => self.fire_children(alloc, path),
+        }
+    }
+
+    /// The same of several changes in turn.
+    pub fn fire_all(&self, alloc: Global, triggers: &[Trigger]) -> Result<Seen, Memory>
+        ensures { IfOk result (λ s. fired_of s ≡ fire_all self.now triggers.now) }
+    {
+        let mut watches = self.copy(alloc)?;
+        let mut notices = Vec::new(alloc);
+        for trigger in triggers {
+            let fired = watches.fire(alloc, trigger)?;
+            let mut told = fired.notices.into_vec();
+            notices.append(&mut told)?;
+            watches = fired.watches;
+        }
+        Ok(Seen {
+            watches,
+            notices: Seq::from_vec(notices),
+        })
+    }
+}
