@@ -19,7 +19,6 @@ ghost use Rattle.zn_ops.specs.Basis.{IsBasis};
 ghost use Rattle.zn_ops.specs.Shown.{IsWithin};
 ghost use Rattle.zn_ops.specs.Steps.{AnswersCreate, StandsForNone, HasNoState, IsMade};
 
-use zk_model::code::{NO_CHILDREN_FOR_EPHEMERALS, NO_NODE, NODE_EXISTS, SYSTEM_ERROR};
 use crate::fault::Fault;
 use crate::form::{Form, create_form};
 use crate::requests::Answered;
@@ -29,6 +28,7 @@ use crate::znode::{Shown, show};
 use ev_store::Store;
 use ev_types::Act;
 use std::alloc::Global;
+use zk_model::code::{NO_CHILDREN_FOR_EPHEMERALS, NO_NODE, NODE_EXISTS, SYSTEM_ERROR};
 use zk_model::limit::MOST_CREATES;
 use zk_model::{Acl, Body, Path, Reply, Trigger};
 use zn_layout::{

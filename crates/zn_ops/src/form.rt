@@ -6,8 +6,8 @@ ghost use Rattle.zk_model.specs.declared.request.Part.TheVariants as part;
 ghost use Rattle.zn_ops.specs.Forms.{IsPathOf, IsChecked};
 ghost use Rattle.zx_base.specs.Maps.{Bytes as ByteList};
 
-use zk_model::code::{BAD_ARGUMENTS, INVALID_ACL};
 use std::alloc::Global;
+use zk_model::code::{BAD_ARGUMENTS, INVALID_ACL};
 use zk_model::{Acl, Path, PathFault};
 use zx_base::Memory;
 

@@ -10,7 +10,6 @@ ghost use Rattle.zn_ops.specs.Choices.{get_data_keys, get_data_reply};
 ghost use Rattle.zn_ops.specs.Shown.{IsWithin};
 ghost use Rattle.zn_ops.specs.Steps.{AnswersByTree, StandsForNone, HasNoState};
 
-use zk_model::code::{BAD_ARGUMENTS, NO_NODE};
 use crate::fault::Fault;
 use crate::form::read_path;
 use crate::requests::Answered;
@@ -18,6 +17,7 @@ use crate::view::look;
 use crate::znode::{Shown, show};
 use ev_store::Store;
 use std::alloc::Global;
+use zk_model::code::{BAD_ARGUMENTS, NO_NODE};
 use zk_model::{Body, Path, Reply};
 use zn_layout::{counts_key, data_key};
 use zx_base::{Bytes, Memory, Seq};

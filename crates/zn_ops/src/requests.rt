@@ -9,12 +9,12 @@ ghost use Rattle.zk_model.specs.Runs.{last_moment, is_built_request};
 ghost use Rattle.zn_ops.specs.Answering.{Answers, HasRoom, reply_in};
 ghost use Rattle.zn_ops.specs.Steps.{HasNoState};
 
-use zk_model::code::RUNTIME_INCONSISTENCY;
 use crate::create::create;
 use crate::fault::Fault;
 use crate::get_data::get_data;
 use ev_store::Store;
 use std::alloc::Global;
+use zk_model::code::RUNTIME_INCONSISTENCY;
 use zk_model::{Reply, Request};
 use zx_base::Memory;
 
