@@ -23,7 +23,7 @@ use Rattle.zk_model.specs.Requests.{Frame, NoHeader, Unreadable, Unknown, Asks, 
 use Rattle.zk_model.specs.Packets.{reply_packet, notice_packet, connect_packet}
 use Rattle.zk_model.specs.Watches.{Watches, no_watches, is_unarmed, fire_all}
 use Rattle.zk_model.specs.History.{State, Session, session_at, after, state_at, first_place, when, frame_shown, connect, Commit, asked_commit, asked_in}
-use Rattle.zk_model.specs.Legal.{attach_of}
+use Rattle.zk_model.specs.Legal.{attach_of, index_shown, is_below}
 use Rattle.zk_model.specs.Answers.{Told, plain_reply, session_reply, tree_reply, xid_of}
 
 -- ---- updates and frames in a transcript, by their lines' places
@@ -199,12 +199,17 @@ has_header (Unreadable xid place) = true
 has_header (Unknown xid kind) = true
 has_header (Asks xid r) = true
 
--- The frame's line is past, the moment isn't before that of the last reply, and its last update isn't below the place.
+-- no later request of the connection was carried out
+abbrev pub is_not_overtaken : List TranscriptLine → ℕ → ℕ → Bool
+is_not_overtaken past c i = list_all (λ l. is_below (i + 1) (index_shown c l)) past
+
+-- The frame's line is past, the moment isn't before that of the last reply, its last update isn't below the place, and the
+-- request isn't overtaken.
 abbrev pub answer_framed : List TranscriptLine → ℕ → ℤ → Walker → Option (ℕ × UpdateRec) → Option (ℕ × List ℕ) → Option (Walker × List Due)
 answer_framed past c id w own None = None
 answer_framed past c id w own (Some f) =
     let x = read_request f.1 in
-    if nat_le w.moment (length past) && int_le w.zxid (after past).zxid && has_header x
+    if nat_le w.moment (length past) && int_le w.zxid (after past).zxid && has_header x && is_not_overtaken past c w.next
     then answer_as_of past c id w x (fired_above past w.zxid w.watches) own else None
 
 unfoldable pub answer_past : List TranscriptLine → ℕ → ℤ → Walker → Option (ℕ × UpdateRec) → Option (Walker × List Due)
