@@ -257,10 +257,14 @@ pub record IsNodeWithin (n : Node) (children : ℕ) : Type 0 where
   pub owner : pos 0 ≤ℤ n.owner
   pub small : length n.content ≤ most_frame
 
+-- the greatest `long` (jute)
+abbrev pub most_long : ℤ
+most_long = pos 9223372036854775807
+
 -- the numbers that sessions have
 pub record IsId (id : ℤ) : Type 0 where
   pub least : pos 1 ≤ℤ id
-  pub most : id ≤ℤ pos 9223372036854775807
+  pub most : id ≤ℤ most_long
 
 pub record IsSound (s : State) : Type 0 where
   pub valid : (p : Bytes) (n : Node) → get s.tree p ≡ Some n → IsTrue (is_path p)

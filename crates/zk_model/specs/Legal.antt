@@ -1,6 +1,6 @@
 -- Legal histories: each update is one that the service could make in the state before it (Programmer's Guide,
 -- "Consistency Guarantees", "ZooKeeper Sessions").
-use Rattle.std.specs.Prelude.{◌≡◌, ℕ, zero, suc, ℤ, pos, ◌<◌, ◌≤◌, Bool, true, false, not, ◌&&◌, ◌||◌, List, [], ◌∷◌, ◌++◌, length, nat_lt, nat_le, ◌==◌, int_lt, Option, Some, None, is_some, is_none, option_map, bytes_eq, slice_get, slice_index_or}
+use Rattle.std.specs.Prelude.{◌≡◌, ℕ, zero, suc, ℤ, pos, ◌<◌, ◌≤◌, Bool, true, false, not, ◌&&◌, List, [], ◌∷◌, ◌++◌, length, nat_lt, nat_le, ◌==◌, int_lt, int_le, Option, Some, None, is_some, is_none, option_map, bytes_eq, slice_get, slice_index_or}
 use Rattle.std.specs.List.{list_all}
 use Rattle.std.specs.Ordering.{int_eq}
 use Rattle.zk_model.specs.declared.request.Request.{Request}
@@ -9,10 +9,10 @@ use Rattle.zk_model.specs.declared.connect.ConnectRequest.{ConnectRequest}
 use Rattle.zk_model.specs.declared.transcript.UpdateKind.{UpdateKind}
 use Rattle.zk_model.specs.declared.transcript.UpdateKind.TheVariants.{Begin, Session as NewSession, Attach, Asked, Closed, Reaped}
 use Rattle.zk_model.specs.declared.transcript.TranscriptLine.{TranscriptLine}
-use Rattle.zk_model.specs.declared.transcript.TranscriptLine.TheVariants.{Update, Lapse}
+use Rattle.zk_model.specs.declared.transcript.TranscriptLine.TheVariants.{Update}
 use Rattle.zk_model.specs.Frames.{most_frame}
 use Rattle.zk_model.specs.Multi.{most_parts}
-use Rattle.zk_model.specs.History.{State, Session, nothing_yet, session_at, attached, opening, connect, frame, request, first_place, frame_shown, when, asked_commit, change, after}
+use Rattle.zk_model.specs.History.{State, Session, nothing_yet, session_at, attached, opening, connect, frame, request, first_place, frame_shown, when, asked_commit, change, most_long}
 
 -- the connection of a Session or Attach line; its place, with the zxid and the session
 abbrev pub attach_in : ℕ → ℤ → UpdateKind → Option (ℤ × ℤ)
@@ -84,24 +84,30 @@ may_update before s zxid (Closed id c i) =
     is_live_as id (attached c s) && nat_lt 0 i && is_small_frame (frame c i before) && is_close (request c i before)
 may_update before s zxid (Reaped id) = is_lapsed (session_at id s)
 
-abbrev pub is_begin : UpdateKind → Bool
-is_begin (Begin now) = true
-is_begin _ = false
+-- zxids rise, from 1 on, and each is a `long` (jute)
+abbrev pub is_next_zxid : ℤ → ℤ → Bool
+is_next_zxid last zxid = int_lt last zxid && int_le zxid most_long
 
--- Begin comes first and once, and zxids rise
 abbrev pub is_legal_line : List TranscriptLine → State → TranscriptLine → Bool
-is_legal_line before s (Update u) =
-    may_update before s u.zxid u.kind && (is_begin u.kind || (nat_lt 0 s.updates && int_lt s.zxid u.zxid))
-is_legal_line before s (Lapse revision id) = nat_lt 0 s.updates
+is_legal_line before s (Update u) = may_update before s u.zxid u.kind && is_next_zxid s.zxid u.zxid
 is_legal_line before s _ = true
 
 abbrev pub is_legal_from : List TranscriptLine → State → List TranscriptLine → Bool
 is_legal_from before s [] = true
 is_legal_from before s (l ∷ ls) = is_legal_line before s l && is_legal_from (before ++ l ∷ []) (change before s l) ls
 
--- every line is, and the first update is there
+abbrev pub is_begin : UpdateKind → Bool
+is_begin (Begin now) = true
+is_begin _ = false
+
+-- the first line is the store's first update
+abbrev pub begins : List TranscriptLine → Bool
+begins (Update u ∷ ls) = is_begin u.kind
+begins _ = false
+
+-- the first line is Begin, no other is, and every line is legal where it stands
 unfoldable pub is_legal : List TranscriptLine → Bool
-is_legal lines = is_legal_from [] nothing_yet lines && nat_lt 0 (after lines).updates
+is_legal lines = begins lines && is_legal_from [] nothing_yet lines
 
 -- ---- a session's requests are carried out in order, each at most once
 
