@@ -124,11 +124,12 @@ fired_from lines p k (l ∷ ls) x = fired_from lines p (k + 1) ls (then_fired li
 unfoldable pub fired_above : List TranscriptLine → ℤ → Watches → Watches × List Due
 fired_above lines p w = fired_from lines p 0 lines (w, [])
 
--- an answer without the tree repeats the place
+-- the refusal of an auth, behind which no request is answered
 abbrev pub is_auth_refusal : Reply → Bool
 is_auth_refusal (reply.Refused code) = int_eq code auth_failed
 is_auth_refusal (reply.Good b) = false
 
+-- an answer without the tree repeats the place
 abbrev pub plain_answer : Walker → ℕ → ℤ → Option Reply → Option (Walker × List Due)
 plain_answer w k xid None = None
 plain_answer w k xid (Some r) = Some (record w { next = w.next + 1; over = is_auth_refusal r }, (k, reply_packet xid w.zxid r) ∷ [])
@@ -159,11 +160,12 @@ answered_if past w xid over fired (Some t) = Some (answered past w xid over fire
 abbrev pub no_more : Watches → Reply → Told
 no_more w r = record { reply = r; notices = []; watches = w }
 
--- the session has expired or moved; or else the tree's answer, where none without it stands
+-- the tree's answer, where none without it stands
 abbrev pub looked : State → ℤ → Watches → Frame → Option Reply → Option Told
 looked s id w x (Some r) = None
 looked s id w x None = option_and_then (tree_reply s.tree id w) (asked_in x)
 
+-- the session has expired or moved, which ends the conversation; or else the tree's answer
 abbrev pub answer_seen : List TranscriptLine → ℤ → Walker → Frame → Watches × List Due → Option Reply → Option (Walker × List Due)
 answer_seen past id w x f (Some r) = Some (answered past w (xid_of x) true f.1 (no_more f.0 r))
 answer_seen past id w x f None = answered_if past w (xid_of x) false f.1 (looked (after past) id f.0 x (plain_reply x))

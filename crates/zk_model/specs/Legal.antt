@@ -72,16 +72,20 @@ abbrev pub is_lapsed : Option Session → Bool
 is_lapsed None = false
 is_lapsed (Some x) = x.lapsed
 
+-- the numbers that sessions have
+abbrev pub is_id : ℤ → Bool
+is_id id = int_lt (pos 0) id && int_le id most_long
+
 -- the condition of each kind of update in the state before it
 unfoldable pub may_update : List TranscriptLine → State → ℤ → UpdateKind → Bool
 may_update before s zxid (Begin now) = s.updates == 0
 may_update before s zxid (NewSession id c) =
-    is_none (session_at id s) && int_lt (pos 0) id && offers id (opening c before) && asks_anew (connect c before) && may_attach before c zxid (connect c before)
+    is_none (session_at id s) && is_id id && offers id (opening c before) && asks_anew (connect c before) && may_attach before c zxid (connect c before)
 may_update before s zxid (Attach id c) = is_resumed_by id (connect c before) (session_at id s) && may_attach before c zxid (connect c before)
 may_update before s zxid (Asked c i now) =
     is_live (attached c s) && nat_lt 0 i && is_small_frame (frame c i before) && is_within_parts (request c i before) && is_some (asked_commit before s zxid c i now)
 may_update before s zxid (Closed id c i) =
-    is_live_as id (attached c s) && nat_lt 0 i && is_small_frame (frame c i before) && is_close (request c i before)
+    is_id id && is_live_as id (attached c s) && nat_lt 0 i && is_small_frame (frame c i before) && is_close (request c i before)
 may_update before s zxid (Reaped id) = is_lapsed (session_at id s)
 
 -- zxids rise, from 1 on, and each is a `long` (jute)
@@ -160,10 +164,6 @@ IsClockBetween ticks first last now = (k : ℕ) × (t : Tick) × (slice_get tick
 
 abbrev pub frame_place : ℕ → ℕ → List TranscriptLine → Option ℕ
 frame_place c i lines = option_map (λ (x : ℕ × List ℕ). x.0) (first_place (frame_shown c i) 0 lines)
-
-abbrev pub moment_in : UpdateKind → Option (ℕ × ℕ × ℕ)
-moment_in (Asked c i now) = Some (c, i, now)
-moment_in _ = None
 
 -- each moment that the transcript shows is one of the script's clock
 abbrev pub IsPunctual : List Tick → List TranscriptLine → Type 0
