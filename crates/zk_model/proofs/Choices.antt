@@ -21,7 +21,7 @@ use Rattle.zk_model.specs.Packets.{reply_packet}
 use Rattle.zk_model.specs.Watches.{no_watches, fire, fire_all}
 use Rattle.zk_model.specs.History.{after, state_at, first_place, frame_shown}
 use Rattle.zk_model.specs.Answers.{plain_request, tree_reply}
-use Rattle.zk_model.specs.Conversations.{Walker, Plain, Answer, move, fired_at, is_above, then_fired, fired_from, fired_above, placed_frame, is_auth_refusal, later_of, answer_as_of, answer_framed, answer_past, carried, update_shown, after_place, after_update, response_at}
+use Rattle.zk_model.specs.Conversations.{Walker, Plain, Answer, move, is_not_overtaken, fired_at, is_above, then_fired, fired_from, fired_above, placed_frame, is_auth_refusal, later_of, answer_as_of, answer_framed, answer_past, carried, update_shown, after_place, after_update, response_at}
 
 -- ---- where nothing is armed, nothing fires
 
@@ -64,13 +64,14 @@ pub record MayAnswer (lines : List TranscriptLine) (w : Walker) : Type 0 where
 pub record AsksNext (c next : ℕ) (lines : List TranscriptLine) (place : ℕ) (bytes : List ℕ) (xid : ℤ) (r : Request) : Type 0 where
   pub frame : placed_frame c next lines ≡ Some (place, bytes)
   pub read : read_request bytes ≡ Asks xid r
+  pub ahead : is_not_overtaken lines c next ≡ true
 
 answer_framed-now : (past : List TranscriptLine) (c : ℕ) (id : ℤ) (w : Walker) (own : Option (ℕ × UpdateRec)) (place : ℕ) (bytes : List ℕ) (xid : ℤ) (r : Request)
-    → MayAnswer past w → read_request bytes ≡ Asks xid r → answer_framed past c id w own (Some (place, bytes)) ≡ answer_as_of past c id w (Asks xid r) (no_watches, []) own
-answer_framed-now past c id w own place bytes xid r may read =
+    → MayAnswer past w → is_not_overtaken past c w.next ≡ true → read_request bytes ≡ Asks xid r → answer_framed past c id w own (Some (place, bytes)) ≡ answer_as_of past c id w (Asks xid r) (no_watches, []) own
+answer_framed-now past c id w own place bytes xid r may ahead read =
     let late : nat_le w.moment (length past) ≡ true = grind (arith, nat_tests, may.moment) in
     let above : int_le w.zxid (after past).zxid ≡ true = grind (arith, ints, may.zxid) in
-    rw (read, late, above, may.watches, fired_above-none past w.zxid) refl
+    rw (read, late, above, ahead, may.watches, fired_above-none past w.zxid) refl
 
 pub answer-now : (lines : List TranscriptLine) (c : ℕ) (id : ℤ) (w : Walker) (own : Option (ℕ × UpdateRec)) (place : ℕ) (bytes : List ℕ) (xid : ℤ) (r : Request)
     → MayAnswer lines w → AsksNext c w.next lines place bytes xid r → carried c w.next lines ≡ own
@@ -78,7 +79,7 @@ pub answer-now : (lines : List TranscriptLine) (c : ℕ) (id : ℤ) (w : Walker)
 unfolding move answer_past
 answer-now lines c id w own place bytes xid r may asks carries =
     let whole : nat_le (length lines) (length lines) ≡ true = grind (arith, nat_tests) in
-    rw (may.goes_on, whole, take-length lines, carries, asks.frame) (answer_framed-now lines c id w own place bytes xid r may asks.read)
+    rw (may.goes_on, whole, take-length lines, carries, asks.frame) (answer_framed-now lines c id w own place bytes xid r may asks.ahead asks.read)
 
 -- the walker behind an answer as of now
 abbrev pub answered_now : List TranscriptLine → Walker → Walker

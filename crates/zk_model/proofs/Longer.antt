@@ -8,7 +8,7 @@ use Rattle.zk_model.specs.Requests.{Frame, read_request}
 use Rattle.zk_model.specs.History.{after}
 use Rattle.zk_model.specs.Watches.{Watches, is_unarmed}
 use Rattle.zk_model.specs.Answers.{Told, plain_reply, xid_of, session_reply}
-use Rattle.zk_model.specs.Conversations.{carried_shown, Walker, Choice, Tell, Plain, Answer, Due, move, walk, told_update, next_update, placed_frame, plain_answer, later_of, answer_plainly, answered, answered_if, no_more, answer_seen, carried_told, response_at, ends, answer_as_of, has_header, answer_framed, answer_past, fired_above, carried, then_due}
+use Rattle.zk_model.specs.Conversations.{carried_shown, Walker, Choice, Tell, Plain, Answer, Due, move, walk, told_update, next_update, placed_frame, plain_answer, later_of, answer_plainly, answered, answered_if, no_more, answer_seen, carried_told, response_at, ends, answer_as_of, has_header, answer_framed, answer_past, fired_above, carried, then_due, is_not_overtaken}
 use Rattle.zk_model.proofs.Lookups.{first_place-skip}
 use Rattle.zk_model.proofs.Walks.{move-push, tell-push, plain-push, unless-push}
 
@@ -37,7 +37,7 @@ answer_framed-next : (past : List TranscriptLine) (c : ℕ) (id : ℤ) (w : Walk
     → answer_framed past c id w own o ≡ Some y → y.0.next ≡ w.next + 1
 answer_framed-next past c id w own None y h = absurd (cc)
 answer_framed-next past c id w own (Some f) y h =
-    elim (nat_le w.moment (length past) && int_le w.zxid (after past).zxid && has_header (read_request f.1)) as (λ b. (if b then answer_as_of past c id w (read_request f.1) (fired_above past w.zxid w.watches) own else None) ≡ Some y → y.0.next ≡ w.next + 1) [
+    elim (nat_le w.moment (length past) && int_le w.zxid (after past).zxid && has_header (read_request f.1) && is_not_overtaken past c w.next) as (λ b. (if b then answer_as_of past c id w (read_request f.1) (fired_above past w.zxid w.watches) own else None) ≡ Some y → y.0.next ≡ w.next + 1) [
       | true ↦ λ e. answer_as_of-next past c id w (read_request f.1) _ own y e
       | false ↦ λ e. absurd (cc)
     ] h

@@ -1,13 +1,13 @@
 -- Each line of a legal history was legal where it stands; and what was carried out has its frame before it.
 use Rattle.std.proofs.Common.{◌≡◌, ℕ, zero, suc, ◌+◌, List, [], ◌∷◌, ◌++◌, take, drop, refl, ap, subst, append_assoc, append-nil, true, ℤ}
-use Rattle.std.specs.Prelude.{Option, Some, None, nat_lt, is_some, slice_get}
+use Rattle.std.specs.Prelude.{Option, Some, None, is_some, slice_get}
 use Rattle.std.proofs.lemmas.Bool.{and_parts}
 use Rattle.std.proofs.lemmas.List.{take-append-drop}
 use Rattle.zk_model.specs.declared.transcript.TranscriptLine.{TranscriptLine}
 use Rattle.zk_model.specs.declared.transcript.TranscriptLine.TheVariants.{Update}
 use Rattle.zk_model.specs.declared.transcript.UpdateKind.TheVariants.{Asked}
 use Rattle.zk_model.specs.History.{State, after, after_from, change, nothing_yet, state_at, first_place, first_shown, frame_shown, frame, request, asked_commit}
-use Rattle.zk_model.specs.Legal.{is_legal, is_legal_from, is_legal_line, is_small_frame, may_update, is_within_parts}
+use Rattle.zk_model.specs.Legal.{begins, is_legal, is_legal_from, is_legal_line, is_small_frame, may_update, is_within_parts}
 use Rattle.zk_model.proofs.Appending.{first_place-push}
 
 is_legal_from-at : (before : List TranscriptLine) (s : State) (ls : List TranscriptLine) (k : ℕ) (l : TranscriptLine)
@@ -24,7 +24,7 @@ is_legal_from-at before s (x ∷ ls) (suc k) l h g =
 pub is_legal-at : (lines : List TranscriptLine) (k : ℕ) (l : TranscriptLine)
     → is_legal lines ≡ true → slice_get lines k ≡ Some l → is_legal_line (take k lines) (state_at lines k) l ≡ true
 unfolding is_legal after
-is_legal-at lines k l h g = is_legal_from-at [] nothing_yet lines k l (and_parts (is_legal_from [] nothing_yet lines) (nat_lt 0 (after_from [] nothing_yet lines).updates) h).0 g
+is_legal-at lines k l h g = is_legal_from-at [] nothing_yet lines k l (and_parts (begins lines) (is_legal_from [] nothing_yet lines) h).1 g
 
 -- what is shown has a first place
 pub first_place-shown : {A : Type 0} (show : TranscriptLine → Option A) (k : ℕ) (ls : List TranscriptLine) (x : A)

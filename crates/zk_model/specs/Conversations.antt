@@ -23,7 +23,7 @@ use Rattle.zk_model.specs.Requests.{Frame, NoHeader, Unreadable, Unknown, Asks, 
 use Rattle.zk_model.specs.Packets.{reply_packet, notice_packet, connect_packet}
 use Rattle.zk_model.specs.Watches.{Watches, no_watches, is_unarmed, fire_all}
 use Rattle.zk_model.specs.History.{State, Session, session_at, after, state_at, first_place, when, frame_shown, connect, Commit, asked_commit, asked_in}
-use Rattle.zk_model.specs.Legal.{attach_of}
+use Rattle.zk_model.specs.Legal.{attach_of, index_shown, is_below}
 use Rattle.zk_model.specs.Answers.{Told, plain_reply, session_reply, tree_reply, xid_of}
 
 -- ---- updates and frames in a transcript, by their lines' places
@@ -124,11 +124,12 @@ fired_from lines p k (l ∷ ls) x = fired_from lines p (k + 1) ls (then_fired li
 unfoldable pub fired_above : List TranscriptLine → ℤ → Watches → Watches × List Due
 fired_above lines p w = fired_from lines p 0 lines (w, [])
 
--- an answer without the tree repeats the place
+-- the refusal of an auth, behind which no request is answered
 abbrev pub is_auth_refusal : Reply → Bool
 is_auth_refusal (reply.Refused code) = int_eq code auth_failed
 is_auth_refusal (reply.Good b) = false
 
+-- an answer without the tree repeats the place
 abbrev pub plain_answer : Walker → ℕ → ℤ → Option Reply → Option (Walker × List Due)
 plain_answer w k xid None = None
 plain_answer w k xid (Some r) = Some (record w { next = w.next + 1; over = is_auth_refusal r }, (k, reply_packet xid w.zxid r) ∷ [])
@@ -159,11 +160,12 @@ answered_if past w xid over fired (Some t) = Some (answered past w xid over fire
 abbrev pub no_more : Watches → Reply → Told
 no_more w r = record { reply = r; notices = []; watches = w }
 
--- the session has expired or moved; or else the tree's answer, where none without it stands
+-- the tree's answer, where none without it stands
 abbrev pub looked : State → ℤ → Watches → Frame → Option Reply → Option Told
 looked s id w x (Some r) = None
 looked s id w x None = option_and_then (tree_reply s.tree id w) (asked_in x)
 
+-- the session has expired or moved, which ends the conversation; or else the tree's answer
 abbrev pub answer_seen : List TranscriptLine → ℤ → Walker → Frame → Watches × List Due → Option Reply → Option (Walker × List Due)
 answer_seen past id w x f (Some r) = Some (answered past w (xid_of x) true f.1 (no_more f.0 r))
 answer_seen past id w x f None = answered_if past w (xid_of x) false f.1 (looked (after past) id f.0 x (plain_reply x))
@@ -199,12 +201,17 @@ has_header (Unreadable xid place) = true
 has_header (Unknown xid kind) = true
 has_header (Asks xid r) = true
 
--- The frame's line is past, the moment isn't before that of the last reply, and its last update isn't below the place.
+-- no later request of the connection was carried out
+abbrev pub is_not_overtaken : List TranscriptLine → ℕ → ℕ → Bool
+is_not_overtaken past c i = list_all (λ l. is_below (i + 1) (index_shown c l)) past
+
+-- The frame's line is past, the moment isn't before that of the last reply, its last update isn't below the place, and the
+-- request isn't overtaken.
 abbrev pub answer_framed : List TranscriptLine → ℕ → ℤ → Walker → Option (ℕ × UpdateRec) → Option (ℕ × List ℕ) → Option (Walker × List Due)
 answer_framed past c id w own None = None
 answer_framed past c id w own (Some f) =
     let x = read_request f.1 in
-    if nat_le w.moment (length past) && int_le w.zxid (after past).zxid && has_header x
+    if nat_le w.moment (length past) && int_le w.zxid (after past).zxid && has_header x && is_not_overtaken past c w.next
     then answer_as_of past c id w x (fired_above past w.zxid w.watches) own else None
 
 unfoldable pub answer_past : List TranscriptLine → ℕ → ℤ → Walker → Option (ℕ × UpdateRec) → Option (Walker × List Due)

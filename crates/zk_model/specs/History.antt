@@ -112,8 +112,8 @@ attached_in c (e ∷ es) = if is_attached_to c e then Some e else attached_in c 
 abbrev pub attached_session : ℕ → State → Option (ℤ × Session)
 attached_session c s = attached_in c (entries s.sessions)
 
--- Until there are sessions, each connection counts as attached to a session of number 0, which is never lapsed. This is the
--- one place, with `session_reply`, where that stage differs: with sessions it is `attached_session`.
+-- Until there are sessions, each connection counts as attached to a session of number 0, which is never lapsed: with sessions
+-- it is `attached_session`.
 abbrev pub session_zero : ℕ → Session
 session_zero c = record { passwd = []; timeout = pos 0; connection = c; attached = pos 0; lapsed = false }
 
@@ -231,7 +231,8 @@ after lines = after_from [] nothing_yet lines
 abbrev pub state_at : List TranscriptLine → ℕ → State
 state_at lines moment = after (take moment lines)
 
--- ---- what holds of the state after each legal history
+-- ---- sound states: the first update leads to one, and so does each update that is built, from one to the next. No clause says
+-- it of every legal history
 
 -- the parent of a path is there, and is no ephemeral node
 pub record HasParent (t : Tree) (p : Bytes) : Type 0 where
@@ -257,10 +258,14 @@ pub record IsNodeWithin (n : Node) (children : ℕ) : Type 0 where
   pub owner : pos 0 ≤ℤ n.owner
   pub small : length n.content ≤ most_frame
 
+-- the greatest `long` (jute)
+abbrev pub most_long : ℤ
+most_long = pos 9223372036854775807
+
 -- the numbers that sessions have
 pub record IsId (id : ℤ) : Type 0 where
   pub least : pos 1 ≤ℤ id
-  pub most : id ≤ℤ pos 9223372036854775807
+  pub most : id ≤ℤ most_long
 
 pub record IsSound (s : State) : Type 0 where
   pub valid : (p : Bytes) (n : Node) → get s.tree p ≡ Some n → IsTrue (is_path p)

@@ -1,6 +1,6 @@
 -- Legal histories: each update is one that the service could make in the state before it (Programmer's Guide,
 -- "Consistency Guarantees", "ZooKeeper Sessions").
-use Rattle.std.specs.Prelude.{◌≡◌, ℕ, zero, suc, ℤ, pos, ◌<◌, ◌≤◌, Bool, true, false, not, ◌&&◌, ◌||◌, List, [], ◌∷◌, ◌++◌, length, nat_lt, nat_le, ◌==◌, int_lt, Option, Some, None, is_some, is_none, option_map, bytes_eq, slice_get, slice_index_or}
+use Rattle.std.specs.Prelude.{◌≡◌, ℕ, zero, suc, ℤ, pos, ◌<◌, ◌≤◌, Bool, true, false, not, ◌&&◌, List, [], ◌∷◌, ◌++◌, length, nat_lt, nat_le, ◌==◌, int_lt, int_le, Option, Some, None, is_some, is_none, option_map, bytes_eq, slice_get, slice_index_or}
 use Rattle.std.specs.List.{list_all}
 use Rattle.std.specs.Ordering.{int_eq}
 use Rattle.zk_model.specs.declared.request.Request.{Request}
@@ -9,10 +9,10 @@ use Rattle.zk_model.specs.declared.connect.ConnectRequest.{ConnectRequest}
 use Rattle.zk_model.specs.declared.transcript.UpdateKind.{UpdateKind}
 use Rattle.zk_model.specs.declared.transcript.UpdateKind.TheVariants.{Begin, Session as NewSession, Attach, Asked, Closed, Reaped}
 use Rattle.zk_model.specs.declared.transcript.TranscriptLine.{TranscriptLine}
-use Rattle.zk_model.specs.declared.transcript.TranscriptLine.TheVariants.{Update, Lapse}
+use Rattle.zk_model.specs.declared.transcript.TranscriptLine.TheVariants.{Update}
 use Rattle.zk_model.specs.Frames.{most_frame}
 use Rattle.zk_model.specs.Multi.{most_parts}
-use Rattle.zk_model.specs.History.{State, Session, nothing_yet, session_at, attached, opening, connect, frame, request, first_place, frame_shown, when, asked_commit, change, after}
+use Rattle.zk_model.specs.History.{State, Session, nothing_yet, session_at, attached, opening, connect, frame, request, first_place, frame_shown, when, asked_commit, change, most_long}
 
 -- the connection of a Session or Attach line; its place, with the zxid and the session
 abbrev pub attach_in : ℕ → ℤ → UpdateKind → Option (ℤ × ℤ)
@@ -72,36 +72,46 @@ abbrev pub is_lapsed : Option Session → Bool
 is_lapsed None = false
 is_lapsed (Some x) = x.lapsed
 
+-- the numbers that sessions have
+abbrev pub is_id : ℤ → Bool
+is_id id = int_lt (pos 0) id && int_le id most_long
+
 -- the condition of each kind of update in the state before it
 unfoldable pub may_update : List TranscriptLine → State → ℤ → UpdateKind → Bool
 may_update before s zxid (Begin now) = s.updates == 0
 may_update before s zxid (NewSession id c) =
-    is_none (session_at id s) && int_lt (pos 0) id && offers id (opening c before) && asks_anew (connect c before) && may_attach before c zxid (connect c before)
+    is_none (session_at id s) && is_id id && offers id (opening c before) && asks_anew (connect c before) && may_attach before c zxid (connect c before)
 may_update before s zxid (Attach id c) = is_resumed_by id (connect c before) (session_at id s) && may_attach before c zxid (connect c before)
 may_update before s zxid (Asked c i now) =
     is_live (attached c s) && nat_lt 0 i && is_small_frame (frame c i before) && is_within_parts (request c i before) && is_some (asked_commit before s zxid c i now)
 may_update before s zxid (Closed id c i) =
-    is_live_as id (attached c s) && nat_lt 0 i && is_small_frame (frame c i before) && is_close (request c i before)
+    is_id id && is_live_as id (attached c s) && nat_lt 0 i && is_small_frame (frame c i before) && is_close (request c i before)
 may_update before s zxid (Reaped id) = is_lapsed (session_at id s)
 
-abbrev pub is_begin : UpdateKind → Bool
-is_begin (Begin now) = true
-is_begin _ = false
+-- zxids rise, from 1 on, and each is a `long` (jute)
+abbrev pub is_next_zxid : ℤ → ℤ → Bool
+is_next_zxid last zxid = int_lt last zxid && int_le zxid most_long
 
--- Begin comes first and once, and zxids rise
 abbrev pub is_legal_line : List TranscriptLine → State → TranscriptLine → Bool
-is_legal_line before s (Update u) =
-    may_update before s u.zxid u.kind && (is_begin u.kind || (nat_lt 0 s.updates && int_lt s.zxid u.zxid))
-is_legal_line before s (Lapse revision id) = nat_lt 0 s.updates
+is_legal_line before s (Update u) = may_update before s u.zxid u.kind && is_next_zxid s.zxid u.zxid
 is_legal_line before s _ = true
 
 abbrev pub is_legal_from : List TranscriptLine → State → List TranscriptLine → Bool
 is_legal_from before s [] = true
 is_legal_from before s (l ∷ ls) = is_legal_line before s l && is_legal_from (before ++ l ∷ []) (change before s l) ls
 
--- every line is, and the first update is there
+abbrev pub is_begin : UpdateKind → Bool
+is_begin (Begin now) = true
+is_begin _ = false
+
+-- the first line is the store's first update
+abbrev pub begins : List TranscriptLine → Bool
+begins (Update u ∷ ls) = is_begin u.kind
+begins _ = false
+
+-- the first line is Begin, no other is, and every line is legal where it stands
 unfoldable pub is_legal : List TranscriptLine → Bool
-is_legal lines = is_legal_from [] nothing_yet lines && nat_lt 0 (after lines).updates
+is_legal lines = begins lines && is_legal_from [] nothing_yet lines
 
 -- ---- a session's requests are carried out in order, each at most once
 
@@ -154,10 +164,6 @@ IsClockBetween ticks first last now = (k : ℕ) × (t : Tick) × (slice_get tick
 
 abbrev pub frame_place : ℕ → ℕ → List TranscriptLine → Option ℕ
 frame_place c i lines = option_map (λ (x : ℕ × List ℕ). x.0) (first_place (frame_shown c i) 0 lines)
-
-abbrev pub moment_in : UpdateKind → Option (ℕ × ℕ × ℕ)
-moment_in (Asked c i now) = Some (c, i, now)
-moment_in _ = None
 
 -- each moment that the transcript shows is one of the script's clock
 abbrev pub IsPunctual : List Tick → List TranscriptLine → Type 0

@@ -1,6 +1,6 @@
 -- A run of the service with one connection and no session: which lines each happening adds, and when it isn't possible.
 -- NOT BUILT yet are the other happenings and requests; they are refused with a cause of their own.
-use Rattle.std.specs.Prelude.{◌≡◌, ℕ, pos, ◌+◌, ◌⊎◌, Bool, true, false, not, List, [], ◌∷◌, ◌++◌, length, nat_lt, ◌==◌, if◌then◌else◌, Option, Some, None, is_some, IsTrue, All, Contains, codes, decimal}
+use Rattle.std.specs.Prelude.{◌≡◌, ℕ, ℤ, pos, ◌+◌, ◌+ℤ◌, ◌⊎◌, Bool, true, false, not, List, [], ◌∷◌, ◌++◌, length, nat_lt, ◌==◌, if◌then◌else◌, Option, Some, None, is_some, IsTrue, All, Contains, codes, decimal, ⊤}
 use Rattle.std.specs.List.{list_any}
 use Rattle.std.specs.Ordering.{int_eq}
 use Rattle.zk_model.specs.declared.request.Request.{Request}
@@ -88,9 +88,16 @@ IsAnswerLine c clock (Update u) = IsAskedNow c clock u.kind
 IsAnswerLine c clock (Send d bytes) = d ≡ c
 IsAnswerLine c clock _ = ⊥
 
+-- each update takes the store's next revision, since nothing else changes the store
+abbrev pub AreNumbered : ℤ → List TranscriptLine → Type 0
+AreNumbered last [] = ⊤
+AreNumbered last (Update u ∷ lines) = (u.zxid ≡ last +ℤ pos 1) × AreNumbered u.zxid lines
+AreNumbered last (_ ∷ lines) = AreNumbered last lines
+
 -- all frames of c are answered
 pub record Settles (c clock : ℕ) (lines added : List TranscriptLine) : Type 0 where
   pub each : All (IsAnswerLine c clock) added
+  pub numbered : AreNumbered (after lines).zxid added
   pub answered : sends_of c (lines ++ added) ≡ frames_of c lines
 
 abbrev pub Adds : Happening → ℕ → List TranscriptLine → List TranscriptLine → Type 0

@@ -1,6 +1,6 @@
 -- One request that may be part of a transaction, on a tree (Programmer's Guide, "Znodes", "Ephemeral Nodes",
 -- "Sequence Nodes", "ZooKeeper Stat Structure"; codes by `KeeperException.Code`). The order of the refusals is this project's.
-use Rattle.std.specs.Prelude.{ℕ, ℤ, pos, negsuc, nat_abs, ◌+ℤ◌, Bool, true, false, not, ◌&&◌, ◌||◌, List, [], ◌∷◌, length, nat_le, if◌then◌else◌, Option, Some, None, bytes_eq, codes, ◌==◌}
+use Rattle.std.specs.Prelude.{ℕ, ℤ, pos, negsuc, nat_abs, ◌+ℤ◌, Bool, true, false, not, ◌&&◌, ◌||◌, List, [], ◌∷◌, length, nat_le, if◌then◌else◌, Option, Some, None, ◌==◌}
 use Rattle.std.specs.Ordering.{int_eq}
 use Rattle.zk_model.specs.declared.request.Acl.{Acl}
 use Rattle.zk_model.specs.declared.node.Node.{Node}
@@ -13,6 +13,7 @@ use Rattle.zk_model.specs.declared.node.Trigger.TheVariants as trigger
 use Rattle.zk_model.specs.Codes.{system_error, bad_arguments, no_node, bad_version, no_children_for_ephemerals, node_exists, not_empty, invalid_acl}
 use Rattle.std.specs.FinMap.{get, insert, remove}
 use Rattle.zx_base.specs.Maps.{Bytes, same}
+use Rattle.zk_model.specs.JuteReading.{is_open}
 use Rattle.zk_model.specs.Paths.{is_path, is_sequence_prefix, sequence_path, with_one, parent, root}
 use Rattle.zk_model.specs.Znodes.{Tree, owned, num_children, new_node, stat_of}
 
@@ -34,9 +35,7 @@ is_sequential f = int_eq f (pos 2) || int_eq f (pos 3)
 
 -- `OPEN_ACL_UNSAFE`, the one access list that there is
 abbrev pub is_open_acl : List Acl → Bool
-is_open_acl [] = false
-is_open_acl (a ∷ []) = int_eq a.perms (pos 31) && bytes_eq a.scheme (codes "world") && bytes_eq a.id (codes "anyone")
-is_open_acl (a ∷ b ∷ more) = false
+is_open_acl acl = is_open acl
 
 -- the most creates of children that a node counts, and the most nodes that a session may own
 abbrev pub most_creates : ℤ

@@ -4,10 +4,10 @@
 //! The types are those of `zookeeper.jute` (release 3.4) and of the Programmer's Guide, with the fields that a client
 //! sees. Contracts see them as they are declared, with [`zx_base::Seq`] fields as lists.
 //!
-//! The definitions, in reading order: `Codes`, `Paths`, `Znodes`, `Single`, `Multi`, `Watches` (the machine);
-//! `JuteValues`, `JuteReading`, `JuteWriting`, `Records`, `Requests`, `Replies`, `Results`, `Connects`, `Frames`,
-//! `Packets` (the wire); `Transcripts`, `Scripts` (texts); `History`, `Legal`, `Answers`, `Conversations`, `Runs` (what a
-//! run of the service is).
+//! The definitions, in reading order: `Codes`, `Paths`, `PathFaults`, `Znodes`, `Single`, `Multi`, `Watches` (the
+//! machine); `JuteValues`, `JuteReading`, `JuteWriting`, `Numbers`, `Records`, `FromValues`, `Requests`, `Grammar`,
+//! `Sending`, `Results`, `Replies`, `ReplyReading`, `Connects`, `Frames`, `Packets` (the wire); `Transcripts`, `Scripts`
+//! (texts); `History`, `Legal`, `Answers`, `Conversations`, `Runs` (what a run of the service is).
 #![tactic(auto)]
 
 pub mod code;

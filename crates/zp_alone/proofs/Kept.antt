@@ -1,7 +1,8 @@
 -- What is kept of a world, from effect to effect.
-use Rattle.std.proofs.Common.{◌≡◌, ℕ, ◌+◌, ◌≤◌, List, [], ◌∷◌, ◌++◌, length, refl, sym, ap, ◌∙◌, subst, arith, append_assoc, append-nil, true, ℤ}
+use Rattle.std.proofs.Common.{◌≡◌, ℕ, ◌+◌, ◌≤◌, List, [], ◌∷◌, ◌++◌, length, refl, sym, ap, ◌∙◌, subst, arith, append_assoc, append-nil, true, ℤ, pos, ◌≤ℤ◌}
 use Rattle.std.specs.Prelude.{Option, Some, None}
 use Rattle.std.specs.List.{All}
+use Rattle.std.proofs.lemmas.Int.{ints}
 use Rattle.std.proofs.lemmas.List.Elements.{All-nil, All-cons, All-append}
 use Rattle.ev_types.specs.Store.{Store, present, revision}
 use Rattle.zk_model.specs.declared.reply.Reply.{Reply}
@@ -11,15 +12,15 @@ use Rattle.zk_model.specs.declared.transcript.TranscriptLine.TheVariants.{Open, 
 use Rattle.zk_model.specs.Frames.{most_frame}
 use Rattle.zk_model.specs.Requests.{Asks, read_request}
 use Rattle.zk_model.specs.Packets.{reply_packet}
-use Rattle.zk_model.specs.History.{State, IsSound, after}
+use Rattle.zk_model.specs.History.{State, IsSound, after, most_long}
 use Rattle.zk_model.specs.Answers.{plain_request}
-use Rattle.zk_model.specs.Runs.{IsAnswerLine, frames_of, is_built_request}
+use Rattle.zk_model.specs.Runs.{IsAnswerLine, AreNumbered, frames_of, is_built_request}
 use Rattle.zk_model.proofs.Quiet.{IsQuiet, open_quiet, frame_quiet, send_quiet, after-quiet, is_legal-quiet, is_ordered-quiet}
 use Rattle.zk_model.proofs.Counts.{frames_of-append}
 use Rattle.zn_layout.specs.StandsFor.{StandsFor}
 use Rattle.zn_ops.specs.declared.requests.Answered.{Answered}
 use Rattle.zn_ops.specs.declared.requests.Answered.TheVariants.{Repeats, Looked, Updated}
-use Rattle.zn_ops.specs.Answering.{Answers, IsLooked, IsUpdated}
+use Rattle.zn_ops.specs.Answering.{Answers, HasRoom, IsLooked, IsUpdated}
 use Rattle.zp_alone.specs.declared.waiting.Waiting.{Waiting}
 use Rattle.zp_alone.specs.World.{World, IsLinked}
 use Rattle.zp_alone.specs.Talking.{Talks}
@@ -121,8 +122,8 @@ kept-looked c w q qs store reply zxid linked oldest stays plain looks k =
 
 -- by an update
 kept-updated : (c : ℕ) (w : World) (q : Waiting) (qs : List Waiting) (store : Store) (answer : Reply) (zxid : ℤ) → w.connection ≡ Some c → w.waiting ≡ q ∷ qs
-    → zxid ≡ revision store → IsUpdated store (after w.lines) q.request w.clock answer zxid → IsKept w → IsKept (answered w c q qs store (Updated answer zxid))
-kept-updated c w q qs store answer zxid linked oldest at updates k =
+    → HasRoom w.store → length store.revisions ≡ length w.store.revisions + 1 → zxid ≡ revision store → IsUpdated store (after w.lines) q.request w.clock answer zxid → IsKept w → IsKept (answered w c q qs store (Updated answer zxid))
+kept-updated c w q qs store answer zxid linked oldest room grown at updates k =
     let t = talking c w linked k.keeps in
     let talks : Talks c w.lines (q ∷ qs) w.told = subst (λ (ws : List Waiting). Talks c w.lines ws w.told) oldest t.talks in
     let h = talks.queued.0 in
@@ -130,7 +131,8 @@ kept-updated c w q qs store answer zxid linked oldest at updates k =
     let u : TranscriptLine = asked_line c next w.clock zxid in
     let l : TranscriptLine = Send c (reply_packet q.xid zxid answer) in
     let commits = asked_commit-of c next w.clock zxid w.lines (after w.lines) h.place h.bytes q.xid q.request h.frame h.read ∙ updates.commits in
-    let kept = kept-asked c next w.clock zxid w.lines updates.made q w.store store k.kept talks.stands.least h talks.below updates.above commits (sym at) updates.stands updates.sound in
+    let long : zxid ≤ℤ most_long = rw at (grind (arith, ints, grown, room)) in
+    let kept = kept-asked c next w.clock zxid w.lines updates.made q w.store store k.kept talks.stands.least h talks.below updates.above long commits (sym at) updates.stands updates.sound in
     let lines : (w.lines ++ u ∷ []) ++ l ∷ [] ≡ w.lines ++ (asked_line c q.index w.clock zxid ∷ l ∷ []) =
     append_assoc w.lines (u ∷ []) (l ∷ []) ∙ ap (λ i. w.lines ++ (asked_line c i w.clock zxid ∷ l ∷ [])) (sym h.index) in
     let after_u = linked-push w.connection w.lines u (λ d. refl) refl k.linked in
@@ -146,12 +148,12 @@ kept-updated c w q qs store answer zxid linked oldest at updates k =
     }
 
 kept-answered : (c : ℕ) (w : World) (q : Waiting) (qs : List Waiting) (store : Store) (a : Answered) → w.connection ≡ Some c → w.waiting ≡ q ∷ qs
-    → Answers w.store store q.request w.clock a → IsKept w → IsKept (answered w c q qs store a)
-kept-answered c w q qs store (Repeats reply) linked oldest answers k = kept-repeats c w q qs store reply linked oldest answers.0 answers.1 k
-kept-answered c w q qs store (Looked reply zxid) linked oldest answers k =
+    → HasRoom w.store → Answers w.store store q.request w.clock a → IsKept w → IsKept (answered w c q qs store a)
+kept-answered c w q qs store (Repeats reply) linked oldest room answers k = kept-repeats c w q qs store reply linked oldest answers.0 answers.1 k
+kept-answered c w q qs store (Looked reply zxid) linked oldest room answers k =
     kept-looked c w q qs store reply zxid linked oldest answers.0 answers.1 (answers.2 (after w.lines) k.kept.stands k.kept.sound) k
-kept-answered c w q qs store (Updated reply zxid) linked oldest answers k =
-    kept-updated c w q qs store reply zxid linked oldest answers.1 (answers.3 (after w.lines) k.kept.stands k.kept.sound) k
+kept-answered c w q qs store (Updated reply zxid) linked oldest room answers k =
+    kept-updated c w q qs store reply zxid linked oldest room answers.0 answers.1 (answers.3 (after w.lines) k.kept.stands k.kept.sound) k
 
 -- ---- some answers, one after another
 
@@ -164,21 +166,31 @@ answer_lines-each c clock q told (Looked reply zxid) = send-each c clock (reply_
 answer_lines-each c clock q told (Updated reply zxid) =
     All-cons (IsAnswerLine c clock) (asked_line c q.index clock zxid) (Send c (reply_packet q.xid zxid reply) ∷ []) (refl, refl) (send-each c clock (reply_packet q.xid zxid reply))
 
+-- the update makes the store's next revision
+numbered-one : (c clock : ℕ) (q : Waiting) (told : ℤ) (old new : Store) (a : Answered) (more : List TranscriptLine)
+    → Answers old new q.request clock a → AreNumbered (revision new) more → AreNumbered (revision old) (answer_lines c clock q told a ++ more)
+numbered-one c clock q told old new (Repeats reply) more answers h = subst (λ (s : Store). AreNumbered (revision s) more) answers.0 h
+numbered-one c clock q told old new (Looked reply zxid) more answers h = subst (λ (s : Store). AreNumbered (revision s) more) answers.0 h
+numbered-one c clock q told old new (Updated reply zxid) more answers h =
+    (answers.1 ∙ ap pos answers.0, subst (λ (z : ℤ). AreNumbered z more) (sym answers.1) h)
+
 pub answers-none : (c : ℕ) (w : World) → AnswersSome c w w
-answers-none c w = record { kept = λ linked k. k; connection = refl; clock = refl; added = []; lines = sym (append-nil w.lines); each = All-nil (IsAnswerLine c w.clock) }
+answers-none c w = record { kept = λ linked k. k; connection = refl; clock = refl; added = []; lines = sym (append-nil w.lines); each = All-nil (IsAnswerLine c w.clock); numbered = λ more h. h }
 
 answers-then : (c : ℕ) (first mid : World) (q : Waiting) (qs : List Waiting) (store : Store) (a : Answered) → AnswersSome c first mid
-    → mid.waiting ≡ q ∷ qs → Answers mid.store store q.request mid.clock a → AnswersSome c first (answered mid c q qs store a)
-answers-then c first mid q qs store a some oldest answers = record {
-  kept = λ linked k. kept-answered c mid q qs store a (some.connection ∙ linked) oldest answers (some.kept linked k);
+    → mid.waiting ≡ q ∷ qs → HasRoom mid.store → Answers mid.store store q.request mid.clock a → AnswersSome c first (answered mid c q qs store a)
+answers-then c first mid q qs store a some oldest room answers = record {
+  kept = λ linked k. kept-answered c mid q qs store a (some.connection ∙ linked) oldest room answers (some.kept linked k);
   connection = some.connection;
   clock = some.clock;
   added = some.added ++ answer_lines c mid.clock q mid.told a;
   lines = ap (λ ls. ls ++ answer_lines c mid.clock q mid.told a) some.lines ∙ append_assoc first.lines some.added (answer_lines c mid.clock q mid.told a);
   each = All-append (IsAnswerLine c first.clock) some.added (answer_lines c mid.clock q mid.told a) some.each
       (subst (λ (n : ℕ). All (IsAnswerLine c n) (answer_lines c mid.clock q mid.told a)) some.clock (answer_lines-each c mid.clock q mid.told a));
+  numbered = λ more h. subst (AreNumbered (revision first.store)) (sym (append_assoc some.added (answer_lines c mid.clock q mid.told a) more))
+      (some.numbered (answer_lines c mid.clock q mid.told a ++ more) (numbered-one c mid.clock q mid.told mid.store store a more answers h));
 }
 
 pub answers-more : (c : ℕ) (first mid last : World) → AnswersSome c first mid → AnswersOne c mid last → AnswersSome c first last
 answers-more c first mid last some one =
-    subst (AnswersSome c first) (sym one.leaves) (answers-then c first mid one.request one.later one.store one.answer some one.oldest one.answers)
+    subst (AnswersSome c first) (sym one.leaves) (answers-then c first mid one.request one.later one.store one.answer some one.oldest one.room one.answers)

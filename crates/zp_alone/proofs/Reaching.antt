@@ -18,7 +18,7 @@ use Rattle.zk_model.specs.Requests.{Asks, read_request}
 use Rattle.zk_model.specs.History.{after, updated}
 use Rattle.zk_model.specs.Legal.{Tick, is_legal, is_ordered, may_update}
 use Rattle.zk_model.specs.Conversations.{IsLawfulAlone}
-use Rattle.zk_model.specs.Runs.{IsAnswerLine, Adds, clock_after, refusal_of, is_open, is_opening, is_built, is_built_request, refused_if, frames_of, sends_of, begin_line, Run, new_run, run_after, Happens, Runs, IsOneRun}
+use Rattle.zk_model.specs.Runs.{IsAnswerLine, AreNumbered, Adds, clock_after, refusal_of, is_open, is_opening, is_built, is_built_request, refused_if, frames_of, sends_of, begin_line, Run, new_run, run_after, Happens, Runs, IsOneRun}
 use Rattle.zk_model.proofs.Counts.{frames_of-append, before_close}
 use Rattle.zk_model.proofs.Happened.{within-new, within-runs, RunsFrom-push, punctual-happens, shown-happens}
 use Rattle.zp_alone.specs.World.{World, IsLinked, is_number}
@@ -148,7 +148,9 @@ plays-settle old new c possible some idle = λ hs r.
     let queued : AreQueued c new.lines t.talks.walker.next [] = subst (AreQueued c new.lines t.talks.walker.next) idle t.talks.queued in
     let answered : sends_of c (old.lines ++ some.added) ≡ frames_of c old.lines =
     omega (arith, queued, t.talks.counted.sent, ap (sends_of c) some.lines, ap (frames_of c) some.lines, frames_of-append c old.lines some.added, no_frames c old.clock some.added some.each) in
-    reached-more hs (line.Settle c) old new some.added r possible (record { each = some.each; answered = answered }) some.lines some.clock k
+    let numbered : AreNumbered (after old.lines).zxid some.added =
+    subst (λ (z : ℤ). AreNumbered z some.added) r.kept.kept.revision (subst (AreNumbered (revision old.store)) (append-nil some.added) (some.numbered [] tt)) in
+    reached-more hs (line.Settle c) old new some.added r possible (record { each = some.each; numbered = numbered; answered = answered }) some.lines some.clock k
 
 -- ---- the world begins
 

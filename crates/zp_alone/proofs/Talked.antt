@@ -85,8 +85,8 @@ sent-next c lines q qs w v x k packet begun walked moves due stands next queued 
 may_answer : (lines : List TranscriptLine) (w : Walker) → StandsAt lines w → MayAnswer lines w
 may_answer lines w h = record { zxid = h.zxid; moment = h.moment; watches = h.watches; goes_on = h.goes_on }
 
-asks_next : (c : ℕ) (lines : List TranscriptLine) (next : ℕ) (q : Waiting) (h : IsQueued c lines next q) → AsksNext c next lines h.place h.bytes q.xid q.request
-asks_next c lines next q h = record { frame = h.frame; read = h.read }
+asks_next : (c : ℕ) (lines : List TranscriptLine) (next : ℕ) (q : Waiting) (h : IsQueued c lines next q) → AreBelow c lines (next + 1) → AsksNext c next lines h.place h.bytes q.xid q.request
+asks_next c lines next q h below = record { frame = h.frame; read = h.read; ahead = below }
 
 stands-now : (lines : List TranscriptLine) (w : Walker) → StandsAt lines w → StandsAt lines (answered_now lines w)
 stands-now lines w h = record {
@@ -105,7 +105,8 @@ talks-plain c lines q qs told answer t plain =
     let w : Walker = t.walker in
     let h = t.queued.0 in
     let no_auth = built-goes_on q.request answer h.built plain in
-    let moves = answer-plain lines c w h.place h.bytes q.xid q.request answer t.stands.goes_on (asks_next c lines w.next q h) plain no_auth in
+    let below = below-later c w.next lines t.below in
+    let moves = answer-plain lines c w h.place h.bytes q.xid q.request answer t.stands.goes_on (asks_next c lines w.next q h below) plain no_auth in
     let due = plain-due lines c w h.place h.bytes t.stands.since h.frame in
     let stands : StandsAt lines (answered_plainly w) = record {
       zxid = t.stands.zxid;
@@ -116,7 +117,7 @@ talks-plain c lines q qs told answer t plain =
       least = omega (arith, t.stands.least);
     } in
     let sent = sent-next c lines q qs w (answered_plainly w) Plain (later_of w.since (h.place + 1)) (reply_packet q.xid w.zxid answer)
-    t.begun t.walked moves due stands refl t.queued t.counted (below-later c w.next lines t.below) in
+    t.begun t.walked moves due stands refl t.queued t.counted below in
     subst (λ (z : ℤ). Talks c (lines ++ Send c (reply_packet q.xid z answer) ∷ []) qs z) t.told_last sent
 
 -- by the tree as it is now
@@ -127,9 +128,10 @@ talks-looked c lines q qs told answer t plain looks =
     let w : Walker = t.walker in
     let h = t.queued.0 in
     let own = uncarried c w.next w.next lines t.below (omega arith) in
-    let moves = answer-looked lines c w h.place h.bytes q.xid q.request answer (may_answer lines w t.stands) (asks_next c lines w.next q h) own plain looks in
+    let below = below-later c w.next lines t.below in
+    let moves = answer-looked lines c w h.place h.bytes q.xid q.request answer (may_answer lines w t.stands) (asks_next c lines w.next q h below) own plain looks in
     sent-next c lines q qs w (answered_now lines w) (Answer (length lines)) (length lines) (reply_packet q.xid (after lines).zxid answer)
-    t.begun t.walked moves (omega arith) (stands-now lines w t.stands) refl t.queued t.counted (below-later c w.next lines t.below)
+    t.begun t.walked moves (omega arith) (stands-now lines w t.stands) refl t.queued t.counted below
 
 -- ---- by an update of its own
 
@@ -164,10 +166,11 @@ talks-updated c lines q qs told now zxid made t above commits =
     first_place-new (carried_shown c w.next) 0 lines l (record { zxid = zxid; kind = Asked c w.next now }) (uncarried c w.next w.next lines t.below (omega arith)) (carried-here c w.next now zxid) in
     let here : 0 + length lines ≡ length lines = omega arith in
     let own_here : carried c w.next after_l ≡ Some (length lines, record { zxid = zxid; kind = Asked c w.next now }) = rw here at own in
-    let moves = answer-carried after_l c w queued.0.place queued.0.bytes q.xid q.request (length lines) w.next now zxid made.response
-    (may_answer after_l w stands) (asks_next c after_l w.next q queued.0) own_here (longer lines l) (response-asked c w.next now zxid lines made commits) in
     let same_next : is_below (w.next + 1) (index_shown c l) ≡ true = rw (same_number c) (grind (arith, nat_tests)) in
+    let below = below-push c (w.next + 1) lines l same_next (below-later c w.next lines t.below) in
+    let moves = answer-carried after_l c w queued.0.place queued.0.bytes q.xid q.request (length lines) w.next now zxid made.response
+    (may_answer after_l w stands) (asks_next c after_l w.next q queued.0 below) own_here (longer lines l) (response-asked c w.next now zxid lines made commits) in
     let sent = sent-next c after_l q qs w (answered_now after_l w) (Answer (length after_l)) (length after_l) (reply_packet q.xid (after after_l).zxid (reply.Good made.response))
     (omega (arith, longer lines l)) (walked-push c lines l w t.begun (λ j less. not_carried c w.next j now zxid less) refl t.walked) moves (omega arith) (stands-now after_l w stands) refl queued
-    (counted-push c lines l w.next refl refl (λ i. refl) refl t.counted) (below-push c (w.next + 1) lines l same_next (below-later c w.next lines t.below)) in
+    (counted-push c lines l w.next refl refl (λ i. refl) refl t.counted) below in
     subst (λ (z : ℤ). Talks c (after_l ++ Send c (reply_packet q.xid z (reply.Good made.response)) ∷ []) qs z) at sent

@@ -1,6 +1,6 @@
 -- An update that the oldest request asked: what its line does to the history, and the reply behind it.
-use Rattle.std.proofs.Common.{◌≡◌, ℕ, ◌≤◌, List, [], ◌∷◌, ◌++◌, refl, sym, ap, ◌∙◌, subst, arith, true, ℤ, pos, ◌<ℤ◌}
-use Rattle.std.specs.Prelude.{Some, nat_lt, int_lt, option_and_then}
+use Rattle.std.proofs.Common.{◌≡◌, ℕ, ◌≤◌, List, [], ◌∷◌, ◌++◌, refl, sym, ap, ◌∙◌, subst, arith, true, ℤ, pos, ◌<ℤ◌, ◌≤ℤ◌}
+use Rattle.std.specs.Prelude.{Some, nat_lt, int_lt, int_le, option_and_then}
 use Rattle.std.proofs.lemmas.Bool.{and_parts, eq-eqb}
 use Rattle.std.proofs.lemmas.Bool.Decides.{nat_tests}
 use Rattle.std.proofs.lemmas.Int.{ints}
@@ -8,7 +8,7 @@ use Rattle.ev_types.specs.Store.{Store, present, revision}
 use Rattle.zk_model.specs.declared.request.Request.{Request}
 use Rattle.zk_model.specs.declared.transcript.TranscriptLine.{TranscriptLine}
 use Rattle.zk_model.specs.Requests.{Asks, read_request}
-use Rattle.zk_model.specs.History.{State, Commit, IsSound, commit, after, nothing_yet, updated, committed, asked_commit, frame, frame_shown, request, asked_in}
+use Rattle.zk_model.specs.History.{State, Commit, IsSound, commit, after, nothing_yet, updated, committed, asked_commit, frame, frame_shown, request, asked_in, most_long}
 use Rattle.zk_model.specs.Single.{most_owned}
 use Rattle.zk_model.specs.Legal.{is_legal, is_legal_from, is_legal_line, may_update, is_small_frame, is_within_parts}
 use Rattle.zk_model.specs.Conversations.{placed_frame}
@@ -38,33 +38,30 @@ after-asked c i now zxid lines made commits = after-push lines (asked_line c i n
 
 -- ---- it is legal, and in order
 
-begun-from_legal : (lines : List TranscriptLine) → is_legal lines ≡ true → nat_lt 0 (after lines).updates ≡ true
-unfolding is_legal
-begun-from_legal lines h = (and_parts (is_legal_from [] nothing_yet lines) (nat_lt 0 (after lines).updates) h).1
-
 legal-asked : (c i now : ℕ) (zxid : ℤ) (lines : List TranscriptLine) (made : Commit) (q : Waiting)
-    → is_legal lines ≡ true → 1 ≤ i → IsQueued c lines i q → (after lines).zxid <ℤ zxid → asked_commit lines (after lines) zxid c i now ≡ Some made
+    → 1 ≤ i → IsQueued c lines i q → (after lines).zxid <ℤ zxid → zxid ≤ℤ most_long → asked_commit lines (after lines) zxid c i now ≡ Some made
     → is_legal_line lines (after lines) (asked_line c i now zxid) ≡ true
 unfolding may_update
-legal-asked c i now zxid lines made q legal least h above commits =
+legal-asked c i now zxid lines made q least h above small_zxid commits =
     let shown : frame c i lines ≡ Some h.bytes = first_shown-place (frame_shown c i) 0 lines (h.place, h.bytes) h.frame in
     let small : is_small_frame (Some h.bytes) ≡ true = grind (arith, nat_tests, h.small) in
     let asks = request-of c i lines h.place h.bytes q.xid q.request h.frame h.read in
     let parts : is_within_parts (Some q.request) ≡ true = built-parts q.request h.built in
     let first : nat_lt 0 i ≡ true = grind (arith, nat_tests) in
     let rises : int_lt (after lines).zxid zxid ≡ true = grind (arith, ints) in
-    rw (commits, asks, shown, first, small, parts, begun-from_legal lines legal, rises) refl
+    let long : int_le zxid most_long ≡ true = grind (arith, ints) in
+    rw (commits, asks, shown, first, small, parts, rises, long) refl
 
 pub kept-asked : (c i now : ℕ) (zxid : ℤ) (lines : List TranscriptLine) (made : Commit) (q : Waiting) (old new : Store)
-    → IsKeptIn old lines → 1 ≤ i → IsQueued c lines i q → AreBelow c lines i → (after lines).zxid <ℤ zxid → asked_commit lines (after lines) zxid c i now ≡ Some made
+    → IsKeptIn old lines → 1 ≤ i → IsQueued c lines i q → AreBelow c lines i → (after lines).zxid <ℤ zxid → zxid ≤ℤ most_long → asked_commit lines (after lines) zxid c i now ≡ Some made
     → revision new ≡ zxid → StandsFor (present new) (committed (after lines) zxid (Some made)) → IsSound (committed (after lines) zxid (Some made))
     → IsKeptIn new (lines ++ asked_line c i now zxid ∷ [])
-kept-asked c i now zxid lines made q old new k least h below above commits at stands sound =
+kept-asked c i now zxid lines made q old new k least h below above long commits at stands sound =
     let leads = after-asked c i now zxid lines made commits in
     record {
       stands = subst (StandsFor (present new)) (sym leads) stands;
       sound = subst IsSound (sym leads) sound;
       revision = at ∙ ap (λ (s : State). s.zxid) (sym leads);
-      legal = is_legal-push lines (asked_line c i now zxid) k.legal (legal-asked c i now zxid lines made q k.legal least h above commits);
+      legal = is_legal-push lines (asked_line c i now zxid) k.legal (legal-asked c i now zxid lines made q least h above long commits);
       ordered = is_ordered-push lines (asked_line c i now zxid) k.ordered (rw (eq-eqb c c refl) below);
     }

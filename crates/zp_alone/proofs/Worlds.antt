@@ -1,6 +1,7 @@
 -- What holds of each world is kept by each write.
 use Rattle.std.proofs.Common.{◌≡◌, ℕ, suc, ◌+◌, ◌≤◌, ◌<◌, List, [], ◌∷◌, ◌++◌, length, refl, sym, ap, subst, arith, All, ℤ}
 use Rattle.std.specs.Prelude.{Option, Some, is_some, false}
+use Rattle.std.proofs.lemmas.Int.{ints}
 use Rattle.std.proofs.lemmas.List.{length-append}
 use Rattle.std.proofs.lemmas.List.Elements.{All-nil, All-cons, All-append}
 use Rattle.ev_types.specs.Store.{Store}
@@ -9,7 +10,7 @@ use Rattle.zk_model.specs.declared.transcript.TranscriptLine.{TranscriptLine}
 use Rattle.zk_model.specs.declared.transcript.TranscriptLine.TheVariants.{Open, Frame as FrameLine}
 use Rattle.zn_ops.specs.declared.requests.Answered.{Answered}
 use Rattle.zn_ops.specs.declared.requests.Answered.TheVariants.{Repeats, Looked, Updated}
-use Rattle.zn_ops.specs.Answering.{Answers}
+use Rattle.zn_ops.specs.Answering.{Answers, HasRoom}
 use Rattle.zp_alone.specs.declared.waiting.Waiting.{Waiting}
 use Rattle.zp_alone.specs.World.{World, IsWorld, IsLinked, IsAnswerable, most_frames}
 use Rattle.zp_alone.proofs.Linked.{not_there, linked-push, linked-open}
@@ -50,6 +51,10 @@ world-waiting w lines waiting q c i z bytes few e more answerable h =
       many = omega (arith, few);
       moment = h.moment;
     }
+
+-- the store can take one revision more
+pub room-left : (w : World) → IsWorld w → HasRoom w.store
+room-left w h = let small : length w.store.revisions < 4611686018427387903 = omega (arith, h.room, h.many) in grind (arith, ints)
 
 pub answers-length : (old new : Store) (r : Request) (now : ℕ) (a : Answered) → Answers old new r now a → length new.revisions ≤ length old.revisions + 1
 answers-length old new r now (Repeats reply) h = omega (arith, ap (λ (s : Store). length s.revisions) h.0)

@@ -7,11 +7,11 @@ use Rattle.zk_model.specs.declared.transcript.TranscriptLine.TheVariants.{Update
 use Rattle.zk_model.specs.declared.transcript.UpdateKind.TheVariants.{Asked}
 use Rattle.zk_model.specs.Packets.{reply_packet}
 use Rattle.zk_model.specs.History.{IsSound, after}
-use Rattle.zk_model.specs.Runs.{IsAnswerLine, begin_line}
+use Rattle.zk_model.specs.Runs.{IsAnswerLine, AreNumbered, begin_line}
 use Rattle.zn_layout.specs.StandsFor.{StandsFor}
 use Rattle.zn_ops.specs.declared.requests.Answered.{Answered}
 use Rattle.zn_ops.specs.declared.requests.Answered.TheVariants.{Repeats, Looked, Updated}
-use Rattle.zn_ops.specs.Answering.{Answers}
+use Rattle.zn_ops.specs.Answering.{Answers, HasRoom}
 use Rattle.zp_alone.specs.declared.waiting.Waiting.{Waiting}
 use Rattle.zp_alone.specs.World.{World}
 use Rattle.zp_alone.specs.Reached.{IsKept}
@@ -73,6 +73,7 @@ pub record AnswersOne (c : ℕ) (old new : World) : Type 0 where
   pub store : Store
   pub answer : Answered
   pub oldest : old.waiting ≡ request ∷ later
+  pub room : HasRoom old.store
   pub answers : Answers old.store store request.request old.clock answer
   pub leaves : new ≡ answered old c request later store answer
 
@@ -89,3 +90,5 @@ pub record AnswersSome (c : ℕ) (old new : World) : Type 0 where
   pub added : List TranscriptLine
   pub lines : new.lines ≡ old.lines ++ added
   pub each : All (IsAnswerLine c old.clock) added
+  -- the updates among them made the revisions between the two stores
+  pub numbered : (more : List TranscriptLine) → AreNumbered (revision new.store) more → AreNumbered (revision old.store) (added ++ more)

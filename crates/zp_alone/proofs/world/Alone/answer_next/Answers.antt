@@ -3,7 +3,7 @@ use Rattle.std.proofs.lemmas.Int.{to_z-of_z}
 use Rattle.ev_types.specs.Store.{Store}
 use Rattle.zp_alone.specs.Effects.{zxid_of}
 use Rattle.zp_alone.proofs.Answering.{answers-one}
-use Rattle.zp_alone.proofs.Worlds.{world-answered, answers-length}
+use Rattle.zp_alone.proofs.Worlds.{world-answered, answers-length, room-left}
 use Rattle.zp_alone.proofs.world.Alone.answer_next.Goals as goal
 
 pub invariant_of-self-in_err-answered : goal.invariant_of-self-in_err-answered
@@ -31,4 +31,4 @@ returns c =
     let lines = rw same at c.in_ok-self-inside.ensures.ok in
     let told : to_z w64 (of_z w64 c.in_ok-self-inside.field-0) ≡ zxid_of c.self.inside.told c.in_ok-answered.answered = search rules in
     answers-one c.args.connection _ c.args.self.now _ c.in-Some.next c.pop_front.new.self.items c.answer.new.store c.in_ok-answered.answered
-    c.self.view_is c.in-Some.ensures.items c.in_ok-answered.ensures.ok refl lines refl refl refl refl told
+    c.self.view_is c.in-Some.ensures.items (room-left _ c.self.invariant) c.in_ok-answered.ensures.ok refl lines refl refl refl refl told
