@@ -155,26 +155,6 @@ close_read close.ReadFault count is = refl
 close_read close.WriteFault count is = absurd cc
 close_read close.Memory count is = absurd cc
 
-pub close_write : (how : Close) (count : ℕ) → status_at how count ≡ status.WriteFault → how ≡ close.WriteFault
-close_write (close.Ended (ending.End place)) count is = absurd cc
-close_write (close.Ended (ending.Cut place)) count is = absurd cc
-close_write (close.Ended (ending.Length place n)) count is = absurd cc
-close_write (close.Ended (ending.NoHeader place)) count is = absurd cc
-close_write (close.Ended ending.Long) count is = absurd cc
-close_write close.ReadFault count is = absurd cc
-close_write close.WriteFault count is = refl
-close_write close.Memory count is = absurd cc
-
-pub close_usage : (how : Close) (count : ℕ) → status_at how count ≡ status.Usage → ⊥
-close_usage (close.Ended (ending.End place)) count is = cc
-close_usage (close.Ended (ending.Cut place)) count is = cc
-close_usage (close.Ended (ending.Length place n)) count is = cc
-close_usage (close.Ended (ending.NoHeader place)) count is = cc
-close_usage (close.Ended ending.Long) count is = cc
-close_usage close.ReadFault count is = cc
-close_usage close.WriteFault count is = cc
-close_usage close.Memory count is = cc
-
 shows_front : (given' taken taken' : Option (List ℕ)) (before : List ℕ) →
     ((stream : List ℕ) × (given' ≡ Some (before ++ stream)) × (lines : List (List ℕ)) × Takes (joined lines) taken taken' × (end : Ending) × IsShownAs stream lines end × IsOpen end) → ShowsFront (Some before) given' taken taken'
 shows_front given' taken taken' before told = (
@@ -190,11 +170,3 @@ ShowsFront-fault close.ReadFault count (Some before) given' left left' taken tak
 ShowsFront-fault (close.Ended end) count given given' left left' taken taken' told is = absurd cc
 ShowsFront-fault close.WriteFault count given given' left left' taken taken' told is = absurd cc
 ShowsFront-fault close.Memory count given given' left left' taken taken' told is = absurd cc
-
--- ---- the words
-
--- a list of words is not two words
-pub one_word : (words : List (Bor (List ℕ))) → IsReplay words → IsShow words → ⊥
-one_word [] replay show = replay
-one_word (word ∷ []) replay show = let both : codes "replay" ≡ codes "show" = sym replay ∙ show in cc
-one_word (word ∷ other ∷ words) replay show = replay
