@@ -13,6 +13,10 @@ pub second_of_both : {A : Type 0} (P : A → Type 0) (xs ys : List A) → AllByR
 second_of_both {A = A} P [] ys all = all
 second_of_both {A = A} P (x ∷ xs) ys all = second_of_both P xs ys all.1
 
+pub both_of : {A : Type 0} (P : A → Type 0) (xs ys : List A) → AllByRecursion P xs → AllByRecursion P ys → AllByRecursion P (xs ++ ys)
+both_of {A = A} P [] ys front back = back
+both_of {A = A} P (x ∷ xs) ys front back = (front.0, both_of P xs ys front.1 back)
+
 pub each_of : {A B : Type 0} (P : B → Type 0) (f : A → List B) (xs : List A) → AllByRecursion P (flat_map f xs) → AllByRecursion (λ x. AllByRecursion P (f x)) xs
 each_of {A = A} {B = B} P f [] all = tt
 each_of {A = A} {B = B} P f (x ∷ xs) all = (first_of_both P (f x) (flat_map f xs) all, each_of P f xs (second_of_both P (f x) (flat_map f xs) all))

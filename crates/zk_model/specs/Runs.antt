@@ -1,7 +1,7 @@
 -- A run of the service with one connection and no session: which lines each happening adds, and when it isn't possible.
 -- NOT BUILT yet are the other happenings and requests; they are refused with a cause of their own.
 use Rattle.std.specs.Prelude.{◌≡◌, ℕ, ℤ, pos, ◌+◌, ◌+ℤ◌, ◌⊎◌, Bool, true, false, not, List, [], ◌∷◌, ◌++◌, length, nat_lt, ◌==◌, if◌then◌else◌, Option, Some, None, is_some, IsTrue, All, Contains, codes, decimal, ⊤}
-use Rattle.std.specs.List.{list_any}
+use Rattle.std.specs.List.{AllByRecursion, list_any}
 use Rattle.std.specs.Ordering.{int_eq}
 use Rattle.zk_model.specs.declared.request.Request.{Request}
 use Rattle.zk_model.specs.declared.request.Request.TheVariants as req
@@ -18,10 +18,10 @@ use Rattle.zk_model.specs.declared.transcript.UpdateKind.TheVariants.{Begin, Ask
 use Rattle.zk_model.specs.Frames.{most_frame}
 use Rattle.zk_model.specs.Requests.{Frame, Asks, read_request}
 use Rattle.zk_model.specs.History.{after, opening}
-use Rattle.zk_model.specs.Legal.{Tick, is_legal, is_ordered, IsPunctual}
+use Rattle.zk_model.specs.Legal.{Tick, is_id, is_legal, is_ordered, IsPunctual}
 use Rattle.zk_model.specs.Conversations.{IsLawfulAlone, IsShownFresh}
 use Rattle.zk_model.specs.Scripts.{script}
-use Rattle.zk_model.specs.Transcripts.{transcript_text}
+use Rattle.zk_model.specs.Transcripts.{IsWellFormed, transcript_text}
 
 -- ---- what of the transcript a happening looks at
 
@@ -69,7 +69,8 @@ abbrev pub refused_if : Bool → Why → Option Why → Option Why
 refused_if b w later = if b then Some w else later
 
 unfoldable pub refusal_of : List TranscriptLine → ℕ → Happening → Option Why
-refusal_of lines clock (line.Open c p id pw) = refused_if (is_open c lines) why.NumberInUse (refused_if (list_any is_opening lines) why.NotBuilt None)
+refusal_of lines clock (line.Open c p id pw) =
+    refused_if (is_open c lines) why.NumberInUse (refused_if (list_any is_opening lines) why.NotBuilt (refused_if (not (is_id id)) why.NotBuilt None))
 refusal_of lines clock (line.Frame c bytes) =
     refused_if (not (is_open c lines)) why.NoSuchConnection (refused_if (nat_lt most_frame (length bytes)) why.TooLong (refused_if (not (is_built bytes)) why.NotBuilt None))
 refusal_of lines clock (line.Tick millis) = refused_if (nat_lt last_moment (clock + millis)) why.ClockLimit None
@@ -158,6 +159,8 @@ pub record IsOneRun (r : Run) : Type 0 where
   -- what each connection was sent is what the machine gives it, never going back and never stale
   pub lawful : (c : ℕ) → is_open c r.lines ≡ true → IsLawfulAlone r.lines c
   pub shown : IsShownFresh r.lines
+  -- the text of its lines has one reading
+  pub formed : AllByRecursion IsWellFormed r.lines
 
 -- ---- what a replay of an input writes
 

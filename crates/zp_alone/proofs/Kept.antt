@@ -1,7 +1,7 @@
 -- What is kept of a world, from effect to effect.
 use Rattle.std.proofs.Common.{◌≡◌, ℕ, ◌+◌, ◌≤◌, List, [], ◌∷◌, ◌++◌, length, refl, sym, ap, ◌∙◌, subst, arith, append_assoc, append-nil, true, ℤ, pos, ◌≤ℤ◌}
 use Rattle.std.specs.Prelude.{Option, Some, None}
-use Rattle.std.specs.List.{All}
+use Rattle.std.specs.List.{All, AllByRecursion}
 use Rattle.std.proofs.lemmas.Int.{ints}
 use Rattle.std.proofs.lemmas.List.Elements.{All-nil, All-cons, All-append}
 use Rattle.ev_types.specs.Store.{Store, present, revision}
@@ -14,7 +14,9 @@ use Rattle.zk_model.specs.Requests.{Asks, read_request}
 use Rattle.zk_model.specs.Packets.{reply_packet}
 use Rattle.zk_model.specs.History.{State, IsSound, after, most_long}
 use Rattle.zk_model.specs.Answers.{plain_request}
+use Rattle.zk_model.specs.Transcripts.{IsWellFormed}
 use Rattle.zk_model.specs.Runs.{IsAnswerLine, AreNumbered, frames_of, is_built_request}
+use Rattle.zk_model.proofs.Lists.{both_of}
 use Rattle.zk_model.proofs.Quiet.{IsQuiet, open_quiet, frame_quiet, send_quiet, after-quiet, is_legal-quiet, is_ordered-quiet}
 use Rattle.zk_model.proofs.Counts.{frames_of-append}
 use Rattle.zn_layout.specs.StandsFor.{StandsFor}
@@ -32,8 +34,8 @@ use Rattle.zp_alone.proofs.Walked.{one_frame}
 use Rattle.zp_alone.proofs.Updated.{asked_commit-of, kept-asked}
 
 -- a line that changes nothing
-kept_in-quiet : (store : Store) (lines : List TranscriptLine) (l : TranscriptLine) → IsQuiet l → IsKeptIn store lines → IsKeptIn store (lines ++ l ∷ [])
-kept_in-quiet store lines l q k =
+kept_in-quiet : (store : Store) (lines : List TranscriptLine) (l : TranscriptLine) → IsQuiet l → IsWellFormed l → IsKeptIn store lines → IsKeptIn store (lines ++ l ∷ [])
+kept_in-quiet store lines l q formed k =
     let same : after (lines ++ l ∷ []) ≡ after lines = after-quiet lines l q in
     record {
       stands = subst (StandsFor (present store)) (sym same) k.stands;
@@ -41,6 +43,7 @@ kept_in-quiet store lines l q k =
       revision = k.revision ∙ ap (λ (s : State). s.zxid) (sym same);
       legal = is_legal-quiet lines l q k.legal;
       ordered = is_ordered-quiet lines l q k.ordered;
+      formed = both_of IsWellFormed lines (l ∷ []) k.formed (formed, tt);
     }
 
 pub talking : (c : ℕ) (w : World) → w.connection ≡ Some c → KeepsTo w.connection w → IsTalking c w
@@ -51,11 +54,11 @@ new w linked keeps = subst (λ (o : Option ℕ). KeepsTo o w) linked keeps
 
 -- ---- the connection opens
 
-pub kept-open : (w : World) (c p : ℕ) (id : ℤ) (pw : List ℕ) → w.connection ≡ None → IsKept w → IsKept (opened w c p id pw)
-kept-open w c p id pw linked k =
+pub kept-open : (w : World) (c p : ℕ) (id : ℤ) (pw : List ℕ) → w.connection ≡ None → IsWellFormed (Open c p id pw) → IsKept w → IsKept (opened w c p id pw)
+kept-open w c p id pw linked formed k =
     let n = new w linked k.keeps in
     record {
-      kept = kept_in-quiet w.store w.lines (Open c p id pw) (open_quiet c p id pw) k.kept;
+      kept = kept_in-quiet w.store w.lines (Open c p id pw) (open_quiet c p id pw) formed k.kept;
       linked = linked-open w.lines c p id pw (subst (λ (o : Option ℕ). IsLinked o w.lines) linked k.linked);
       keeps = record {
         talks = rw (n.lines, n.idle, n.told) (talks-open c p id pw);
@@ -66,8 +69,9 @@ kept-open w c p id pw linked k =
 -- ---- a frame comes
 
 pub kept-frame : (w : World) (c : ℕ) (bytes : List ℕ) (xid : ℤ) (r : Request) → w.connection ≡ Some c
-    → read_request bytes ≡ Asks xid r → length bytes ≤ most_frame → is_built_request r ≡ true → IsKept w → IsKept (framed w c bytes xid r)
-kept-frame w c bytes xid r linked read small built k =
+    → read_request bytes ≡ Asks xid r → length bytes ≤ most_frame → is_built_request r ≡ true
+    → IsWellFormed (FrameLine c (w.frames + 1) (revision w.store) bytes) → IsKept w → IsKept (framed w c bytes xid r)
+kept-frame w c bytes xid r linked read small built formed k =
     let t = talking c w linked k.keeps in
     let l : TranscriptLine = FrameLine c (w.frames + 1) (revision w.store) bytes in
     let same : FrameLine c (frames_of c w.lines + 1) (revision w.store) bytes ≡ l = ap (λ n. FrameLine c (n + 1) (revision w.store) bytes) (sym t.counts) in
@@ -75,7 +79,7 @@ kept-frame w c bytes xid r linked read small built k =
     subst (λ (m : TranscriptLine). Talks c (w.lines ++ m ∷ []) (w.waiting ++ asked_next w xid r ∷ []) w.told) same
     (talks-frame c w.lines w.waiting w.told (revision w.store) bytes (asked_next w xid r) t.talks (ap (λ n. n + 1) t.counts) read small built) in
     record {
-      kept = kept_in-quiet w.store w.lines l (frame_quiet c (w.frames + 1) (revision w.store) bytes) k.kept;
+      kept = kept_in-quiet w.store w.lines l (frame_quiet c (w.frames + 1) (revision w.store) bytes) formed k.kept;
       linked = linked-push w.connection w.lines l (λ d. refl) refl k.linked;
       keeps = subst (λ (o : Option ℕ). KeepsTo o (framed w c bytes xid r)) (sym linked) (record { talks = talks; counts = omega (arith, t.counts, frames_of-append c w.lines (l ∷ []), one_frame c (w.frames + 1) (revision w.store) bytes) });
     }
@@ -91,12 +95,12 @@ kept-tick w millis k = record { kept = k.kept; linked = k.linked; keeps = go w.c
 
 -- without the tree
 kept-repeats : (c : ℕ) (w : World) (q : Waiting) (qs : List Waiting) (store : Store) (reply : Reply) → w.connection ≡ Some c → w.waiting ≡ q ∷ qs
-    → store ≡ w.store → plain_request q.request ≡ Some reply → IsKept w → IsKept (answered w c q qs store (Repeats reply))
-kept-repeats c w q qs store reply linked oldest stays plain k =
+    → store ≡ w.store → plain_request q.request ≡ Some reply → AllByRecursion IsWellFormed (answer_lines c w.clock q w.told (Repeats reply)) → IsKept w → IsKept (answered w c q qs store (Repeats reply))
+kept-repeats c w q qs store reply linked oldest stays plain formed k =
     let t = talking c w linked k.keeps in
     let l : TranscriptLine = Send c (reply_packet q.xid w.told reply) in
     record {
-      kept = subst (λ (s : Store). IsKeptIn s (w.lines ++ l ∷ [])) (sym stays) (kept_in-quiet w.store w.lines l (send_quiet c (reply_packet q.xid w.told reply)) k.kept);
+      kept = subst (λ (s : Store). IsKeptIn s (w.lines ++ l ∷ [])) (sym stays) (kept_in-quiet w.store w.lines l (send_quiet c (reply_packet q.xid w.told reply)) formed.0 k.kept);
       linked = linked-push w.connection w.lines l (λ d. refl) refl k.linked;
       keeps = subst (λ (o : Option ℕ). KeepsTo o (answered w c q qs store (Repeats reply))) (sym linked) (record {
         talks = talks-plain c w.lines q qs w.told reply (subst (λ (ws : List Waiting). Talks c w.lines ws w.told) oldest t.talks) plain;
@@ -106,13 +110,13 @@ kept-repeats c w q qs store reply linked oldest stays plain k =
 
 -- by the tree
 kept-looked : (c : ℕ) (w : World) (q : Waiting) (qs : List Waiting) (store : Store) (reply : Reply) (zxid : ℤ) → w.connection ≡ Some c → w.waiting ≡ q ∷ qs
-    → store ≡ w.store → plain_request q.request ≡ None → IsLooked (after w.lines) q.request reply zxid → IsKept w → IsKept (answered w c q qs store (Looked reply zxid))
-kept-looked c w q qs store reply zxid linked oldest stays plain looks k =
+    → store ≡ w.store → plain_request q.request ≡ None → IsLooked (after w.lines) q.request reply zxid → AllByRecursion IsWellFormed (answer_lines c w.clock q w.told (Looked reply zxid)) → IsKept w → IsKept (answered w c q qs store (Looked reply zxid))
+kept-looked c w q qs store reply zxid linked oldest stays plain looks formed k =
     let t = talking c w linked k.keeps in
     let l : TranscriptLine = Send c (reply_packet q.xid zxid reply) in
     let talks = talks-looked c w.lines q qs w.told reply (subst (λ (ws : List Waiting). Talks c w.lines ws w.told) oldest t.talks) plain looks.told in
     record {
-      kept = subst (λ (s : Store). IsKeptIn s (w.lines ++ l ∷ [])) (sym stays) (kept_in-quiet w.store w.lines l (send_quiet c (reply_packet q.xid zxid reply)) k.kept);
+      kept = subst (λ (s : Store). IsKeptIn s (w.lines ++ l ∷ [])) (sym stays) (kept_in-quiet w.store w.lines l (send_quiet c (reply_packet q.xid zxid reply)) formed.0 k.kept);
       linked = linked-push w.connection w.lines l (λ d. refl) refl k.linked;
       keeps = subst (λ (o : Option ℕ). KeepsTo o (answered w c q qs store (Looked reply zxid))) (sym linked) (record {
         talks = subst (λ (z : ℤ). Talks c (w.lines ++ Send c (reply_packet q.xid z reply) ∷ []) qs z) (sym looks.at) talks;
@@ -122,8 +126,9 @@ kept-looked c w q qs store reply zxid linked oldest stays plain looks k =
 
 -- by an update
 kept-updated : (c : ℕ) (w : World) (q : Waiting) (qs : List Waiting) (store : Store) (answer : Reply) (zxid : ℤ) → w.connection ≡ Some c → w.waiting ≡ q ∷ qs
-    → HasRoom w.store → length store.revisions ≡ length w.store.revisions + 1 → zxid ≡ revision store → IsUpdated store (after w.lines) q.request w.clock answer zxid → IsKept w → IsKept (answered w c q qs store (Updated answer zxid))
-kept-updated c w q qs store answer zxid linked oldest room grown at updates k =
+    → HasRoom w.store → length store.revisions ≡ length w.store.revisions + 1 → zxid ≡ revision store → IsUpdated store (after w.lines) q.request w.clock answer zxid
+    → AllByRecursion IsWellFormed (answer_lines c w.clock q w.told (Updated answer zxid)) → IsKept w → IsKept (answered w c q qs store (Updated answer zxid))
+kept-updated c w q qs store answer zxid linked oldest room grown at updates formed k =
     let t = talking c w linked k.keeps in
     let talks : Talks c w.lines (q ∷ qs) w.told = subst (λ (ws : List Waiting). Talks c w.lines ws w.told) oldest t.talks in
     let h = talks.queued.0 in
@@ -131,15 +136,16 @@ kept-updated c w q qs store answer zxid linked oldest room grown at updates k =
     let u : TranscriptLine = asked_line c next w.clock zxid in
     let l : TranscriptLine = Send c (reply_packet q.xid zxid answer) in
     let commits = asked_commit-of c next w.clock zxid w.lines (after w.lines) h.place h.bytes q.xid q.request h.frame h.read ∙ updates.commits in
+    let asked : IsWellFormed u = subst (λ (i : ℕ). IsWellFormed (asked_line c i w.clock zxid)) h.index formed.0 in
     let long : zxid ≤ℤ most_long = rw at (grind (arith, ints, grown, room)) in
-    let kept = kept-asked c next w.clock zxid w.lines updates.made q w.store store k.kept talks.stands.least h talks.below updates.above long commits (sym at) updates.stands updates.sound in
+    let kept = kept-asked c next w.clock zxid w.lines updates.made q w.store store k.kept talks.stands.least h talks.below updates.above long commits (sym at) updates.stands updates.sound asked in
     let lines : (w.lines ++ u ∷ []) ++ l ∷ [] ≡ w.lines ++ (asked_line c q.index w.clock zxid ∷ l ∷ []) =
     append_assoc w.lines (u ∷ []) (l ∷ []) ∙ ap (λ i. w.lines ++ (asked_line c i w.clock zxid ∷ l ∷ [])) (sym h.index) in
     let after_u = linked-push w.connection w.lines u (λ d. refl) refl k.linked in
     let told = subst (λ (r : Reply). Talks c ((w.lines ++ u ∷ []) ++ Send c (reply_packet q.xid zxid r) ∷ []) qs zxid) (sym updates.told)
     (talks-updated c w.lines q qs w.told w.clock zxid updates.made talks updates.above commits) in
     record {
-      kept = subst (IsKeptIn store) lines (kept_in-quiet store (w.lines ++ u ∷ []) l (send_quiet c (reply_packet q.xid zxid answer)) kept);
+      kept = subst (IsKeptIn store) lines (kept_in-quiet store (w.lines ++ u ∷ []) l (send_quiet c (reply_packet q.xid zxid answer)) formed.1.0 kept);
       linked = subst (IsLinked w.connection) lines (linked-push w.connection (w.lines ++ u ∷ []) l (λ d. refl) refl after_u);
       keeps = subst (λ (o : Option ℕ). KeepsTo o (answered w c q qs store (Updated answer zxid))) (sym linked) (record {
         talks = subst (λ (ls : List TranscriptLine). Talks c ls qs zxid) lines told;
@@ -148,12 +154,12 @@ kept-updated c w q qs store answer zxid linked oldest room grown at updates k =
     }
 
 kept-answered : (c : ℕ) (w : World) (q : Waiting) (qs : List Waiting) (store : Store) (a : Answered) → w.connection ≡ Some c → w.waiting ≡ q ∷ qs
-    → HasRoom w.store → Answers w.store store q.request w.clock a → IsKept w → IsKept (answered w c q qs store a)
-kept-answered c w q qs store (Repeats reply) linked oldest room answers k = kept-repeats c w q qs store reply linked oldest answers.0 answers.1 k
-kept-answered c w q qs store (Looked reply zxid) linked oldest room answers k =
-    kept-looked c w q qs store reply zxid linked oldest answers.0 answers.1 (answers.2 (after w.lines) k.kept.stands k.kept.sound) k
-kept-answered c w q qs store (Updated reply zxid) linked oldest room answers k =
-    kept-updated c w q qs store reply zxid linked oldest room answers.0 answers.1 (answers.3 (after w.lines) k.kept.stands k.kept.sound) k
+    → HasRoom w.store → Answers w.store store q.request w.clock a → AllByRecursion IsWellFormed (answer_lines c w.clock q w.told a) → IsKept w → IsKept (answered w c q qs store a)
+kept-answered c w q qs store (Repeats reply) linked oldest room answers formed k = kept-repeats c w q qs store reply linked oldest answers.0 answers.1 formed k
+kept-answered c w q qs store (Looked reply zxid) linked oldest room answers formed k =
+    kept-looked c w q qs store reply zxid linked oldest answers.0 answers.1 (answers.2 (after w.lines) k.kept.stands k.kept.sound) formed k
+kept-answered c w q qs store (Updated reply zxid) linked oldest room answers formed k =
+    kept-updated c w q qs store reply zxid linked oldest room answers.0 answers.1 (answers.3 (after w.lines) k.kept.stands k.kept.sound) formed k
 
 -- ---- some answers, one after another
 
@@ -178,9 +184,10 @@ pub answers-none : (c : ℕ) (w : World) → AnswersSome c w w
 answers-none c w = record { kept = λ linked k. k; connection = refl; clock = refl; added = []; lines = sym (append-nil w.lines); each = All-nil (IsAnswerLine c w.clock); numbered = λ more h. h }
 
 answers-then : (c : ℕ) (first mid : World) (q : Waiting) (qs : List Waiting) (store : Store) (a : Answered) → AnswersSome c first mid
-    → mid.waiting ≡ q ∷ qs → HasRoom mid.store → Answers mid.store store q.request mid.clock a → AnswersSome c first (answered mid c q qs store a)
-answers-then c first mid q qs store a some oldest room answers = record {
-  kept = λ linked k. kept-answered c mid q qs store a (some.connection ∙ linked) oldest room answers (some.kept linked k);
+    → mid.waiting ≡ q ∷ qs → HasRoom mid.store → Answers mid.store store q.request mid.clock a
+    → AllByRecursion IsWellFormed (answer_lines c mid.clock q mid.told a) → AnswersSome c first (answered mid c q qs store a)
+answers-then c first mid q qs store a some oldest room answers formed = record {
+  kept = λ linked k. kept-answered c mid q qs store a (some.connection ∙ linked) oldest room answers formed (some.kept linked k);
   connection = some.connection;
   clock = some.clock;
   added = some.added ++ answer_lines c mid.clock q mid.told a;
@@ -193,4 +200,4 @@ answers-then c first mid q qs store a some oldest room answers = record {
 
 pub answers-more : (c : ℕ) (first mid last : World) → AnswersSome c first mid → AnswersOne c mid last → AnswersSome c first last
 answers-more c first mid last some one =
-    subst (AnswersSome c first) (sym one.leaves) (answers-then c first mid one.request one.later one.store one.answer some one.oldest one.room one.answers)
+    subst (AnswersSome c first) (sym one.leaves) (answers-then c first mid one.request one.later one.store one.answer some one.oldest one.room one.answers one.formed)

@@ -1,5 +1,6 @@
 pub mod Walked
 pub mod Built
+pub mod WellFormed
 pub mod Updated
 pub mod Talked
 pub mod Linked

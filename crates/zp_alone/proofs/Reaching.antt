@@ -1,7 +1,7 @@
 -- Worlds that happenings lead to, one happening more.
-use Rattle.std.proofs.Common.{◌≡◌, ℕ, zero, suc, ◌+◌, ◌≤◌, List, [], ◌∷◌, ◌++◌, length, refl, sym, ap, ◌∙◌, subst, arith, append-nil, Bool, true, false, ℤ, pos}
+use Rattle.std.proofs.Common.{◌≡◌, ℕ, zero, suc, ◌+◌, ◌≤◌, List, [], ◌∷◌, ◌++◌, length, refl, sym, ap, ◌∙◌, subst, arith, lit<, append-nil, Bool, true, false, ℤ, pos}
 use Rattle.std.specs.Prelude.{Option, Some, None, not, nat_lt, slice_get}
-use Rattle.std.specs.List.{All, list_any}
+use Rattle.std.specs.List.{All, AllByRecursion, list_any}
 use Rattle.std.proofs.lemmas.Bool.{not-false}
 use Rattle.std.proofs.lemmas.Bool.Decides.{nat_tests}
 use Rattle.ev_types.specs.Store.{Store, revision}
@@ -18,6 +18,7 @@ use Rattle.zk_model.specs.Requests.{Asks, read_request}
 use Rattle.zk_model.specs.History.{after, updated}
 use Rattle.zk_model.specs.Legal.{Tick, is_legal, is_ordered, may_update}
 use Rattle.zk_model.specs.Conversations.{IsLawfulAlone}
+use Rattle.zk_model.specs.Transcripts.{IsWellFormed}
 use Rattle.zk_model.specs.Runs.{IsAnswerLine, AreNumbered, Adds, clock_after, refusal_of, is_open, is_opening, is_built, is_built_request, refused_if, frames_of, sends_of, begin_line, Run, new_run, run_after, Happens, Runs, IsOneRun}
 use Rattle.zk_model.proofs.Counts.{frames_of-append, before_close}
 use Rattle.zk_model.proofs.Happened.{within-new, within-runs, RunsFrom-push, punctual-happens, shown-happens}
@@ -68,6 +69,7 @@ happens-more hs h r r' w runs one happens lines clock k = record {
     punctual = punctual-happens r r' h one.legal (within-runs new_run r hs runs (within-new (begin_line ∷ []))) one.punctual happens;
     lawful = subst (λ (ls : List TranscriptLine). (c : ℕ) → is_open c ls ≡ true → IsLawfulAlone ls c) (sym lines) (lawful-kept w k);
     shown = shown-happens r r' h one.shown happens;
+    formed = subst (AllByRecursion IsWellFormed) (sym lines) k.kept.formed;
   };
   kept = k;
 }
@@ -88,7 +90,7 @@ not_refused false why later h = (refl, h)
 
 may_open : (lines : List TranscriptLine) (clock c p : ℕ) (id : ℤ) (pw : List ℕ) → refusal_of lines clock (line.Open c p id pw) ≡ None → list_any is_opening lines ≡ false
 unfolding refusal_of
-may_open lines clock c p id pw h = (not_refused (list_any is_opening lines) _ None (not_refused (is_open c lines) _ _ h).1).0
+may_open lines clock c p id pw h = (not_refused (list_any is_opening lines) _ _ (not_refused (is_open c lines) _ _ h).1).0
 
 may_frame : (lines : List TranscriptLine) (clock c : ℕ) (bytes : List ℕ) → refusal_of lines clock (line.Frame c bytes) ≡ None → (is_open c lines ≡ true) × (nat_lt most_frame (length bytes) ≡ false) × (is_built bytes ≡ true)
 unfolding refusal_of
@@ -108,20 +110,21 @@ built_as bytes xid q h read = rw read at h
 
 -- ---- each happening
 
-pub plays-open : (w : World) (c p : ℕ) (id : ℤ) (pw : List ℕ) → refusal_of w.lines w.clock (line.Open c p id pw) ≡ None → Plays w (line.Open c p id pw) (opened w c p id pw)
-plays-open w c p id pw possible = λ hs r.
+pub plays-open : (w : World) (c p : ℕ) (id : ℤ) (pw : List ℕ) → refusal_of w.lines w.clock (line.Open c p id pw) ≡ None → IsWellFormed (Open c p id pw) → Plays w (line.Open c p id pw) (opened w c p id pw)
+plays-open w c p id pw possible formed = λ hs r.
     let linked = not_there w.connection (sym r.kept.linked.any ∙ may_open w.lines w.clock c p id pw possible) in
-    reached-more hs (line.Open c p id pw) w (opened w c p id pw) (Open c p id pw ∷ []) r possible refl refl refl (kept-open w c p id pw linked r.kept)
+    reached-more hs (line.Open c p id pw) w (opened w c p id pw) (Open c p id pw ∷ []) r possible refl refl refl (kept-open w c p id pw linked formed r.kept)
 
-pub plays-frame : (w : World) (c : ℕ) (bytes : List ℕ) (xid : ℤ) (q : Request) → refusal_of w.lines w.clock (line.Frame c bytes) ≡ None → read_request bytes ≡ Asks xid q → Plays w (line.Frame c bytes) (framed w c bytes xid q)
-plays-frame w c bytes xid q possible read = λ hs r.
+pub plays-frame : (w : World) (c : ℕ) (bytes : List ℕ) (xid : ℤ) (q : Request) → refusal_of w.lines w.clock (line.Frame c bytes) ≡ None → read_request bytes ≡ Asks xid q
+    → IsWellFormed (FrameLine c (w.frames + 1) (revision w.store) bytes) → Plays w (line.Frame c bytes) (framed w c bytes xid q)
+plays-frame w c bytes xid q possible read formed = λ hs r.
     let may = may_frame w.lines w.clock c bytes possible in
     let small : length bytes ≤ most_frame = grind (arith, nat_tests) in
     let linked = linked_to w c r.kept.linked may.0 in
     let t = talking c w linked r.kept.keeps in
     let shows : FrameLine c (w.frames + 1) (revision w.store) bytes ≡ FrameLine c (frames_of c w.lines + 1) (after w.lines).zxid bytes = λ i. FrameLine c (t.counts i + 1) (r.kept.kept.revision i) bytes in
     reached-more hs (line.Frame c bytes) w (framed w c bytes xid q) (FrameLine c (w.frames + 1) (revision w.store) bytes ∷ []) r possible (ap (λ (l : TranscriptLine). l ∷ []) shows) refl refl
-    (kept-frame w c bytes xid q linked read small (built_as bytes xid q may.2 read) r.kept)
+    (kept-frame w c bytes xid q linked read small (built_as bytes xid q may.2 read) formed r.kept)
 
 pub plays-tick : (w : World) (millis : ℕ) → refusal_of w.lines w.clock (line.Tick millis) ≡ None → Plays w (line.Tick millis) (ticked w millis)
 plays-tick w millis possible = λ hs r. reached-more hs (line.Tick millis) w (ticked w millis) [] r possible refl (sym (append-nil w.lines)) refl (kept-tick w millis r.kept)
@@ -162,6 +165,9 @@ begin-ordered : is_ordered (begin_line ∷ []) ≡ true
 unfolding is_ordered
 begin-ordered = refl
 
+begin-formed : AllByRecursion IsWellFormed (begin_line ∷ [])
+begin-formed = ((lit< tt, lit< tt), tt)
+
 begin-only : (l : TranscriptLine) (place : ℕ) → slice_get (begin_line ∷ []) place ≡ Some l → begin_line ≡ l
 begin-only l zero g = cc
 begin-only l (suc k) g = absurd (cc)
@@ -184,6 +190,7 @@ one-begin = record {
   punctual = λ place first c i now zxid g f. absurd (no_asked place c i now zxid g);
   lawful = λ c h. absurd (cc);
   shown = λ k c i z bytes g. absurd (no_shown k c i z bytes g);
+  formed = begin-formed;
 }
 
 begin-zxid : (after (begin_line ∷ [])).zxid ≡ pos 2
@@ -191,7 +198,7 @@ unfolding after updated
 begin-zxid = refl
 
 begin-kept : (store : Store) → IsBegun store → IsKeptIn store (begin_line ∷ [])
-begin-kept store b = record { stands = b.stands; sound = b.sound; revision = b.revision ∙ sym begin-zxid; legal = begin-legal; ordered = begin-ordered }
+begin-kept store b = record { stands = b.stands; sound = b.sound; revision = b.revision ∙ sym begin-zxid; legal = begin-legal; ordered = begin-ordered; formed = begin-formed }
 
 pub reached-begin : (store : Store) → IsBegun store → Reached [] (begun store)
 reached-begin store b = record {

@@ -1,8 +1,9 @@
 -- What isn't possible, test by test.
-use Rattle.std.proofs.Common.{◌≡◌, ℕ, ◌+◌, ◌≤◌, ◌<◌, ℤ, true, false, List, length, refl, sym, subst, arith}
-use Rattle.std.specs.Prelude.{Some, None, Err, nat_lt}
+use Rattle.std.proofs.Common.{◌≡◌, ℕ, ◌+◌, ◌≤◌, ◌<◌, ℤ, pos, ◌≤ℤ◌, true, false, List, length, refl, sym, subst, arith}
+use Rattle.std.specs.Prelude.{Some, None, Err, nat_lt, int_lt, int_le}
 use Rattle.std.specs.List.{list_any}
 use Rattle.std.proofs.lemmas.Bool.Decides.{nat_tests}
+use Rattle.std.proofs.lemmas.Int.{ints}
 use Rattle.zk_model.specs.declared.script.Happening.{Happening}
 use Rattle.zk_model.specs.declared.script.Happening.TheVariants as line
 use Rattle.zk_model.specs.declared.script.Why.{Why}
@@ -10,6 +11,7 @@ use Rattle.zk_model.specs.declared.script.Why.TheVariants as why
 use Rattle.zk_model.specs.declared.transcript.TranscriptLine.{TranscriptLine}
 use Rattle.zk_model.specs.Frames.{most_frame}
 use Rattle.zk_model.specs.Requests.{Asks, read_request}
+use Rattle.zk_model.specs.History.{most_long}
 use Rattle.zk_model.specs.Runs.{refusal_of, is_open, is_opening, is_built, is_built_request, last_moment}
 use Rattle.zk_model.specs.declared.request.Request.{Request}
 use Rattle.zp_alone.specs.declared.fault.ApplyFault.{ApplyFault}
@@ -30,9 +32,16 @@ module _ (lines : List TranscriptLine) (clock : ℕ) where
     unfolding refusal_of
     open-second opens any = rw (opens, any) refl
 
-    pub open-possible : is_open c lines ≡ false → list_any is_opening lines ≡ false → refusal_of lines clock (line.Open c p id pw) ≡ None
+    pub open-unnumbered : is_open c lines ≡ false → list_any is_opening lines ≡ false → int_lt id (pos 1) ≡ true → refusal_of lines clock (line.Open c p id pw) ≡ Some why.NotBuilt
     unfolding refusal_of
-    open-possible opens any = rw (opens, any) refl
+    open-unnumbered opens any small = let test : int_lt (pos 0) id ≡ false = grind (arith, ints) in rw (opens, any, test) refl
+
+    pub open-possible : is_open c lines ≡ false → list_any is_opening lines ≡ false → int_lt id (pos 1) ≡ false → id ≤ℤ most_long → refusal_of lines clock (line.Open c p id pw) ≡ None
+    unfolding refusal_of
+    open-possible opens any least most =
+        let above : int_lt (pos 0) id ≡ true = grind (arith, ints) in
+        let below : int_le id most_long ≡ true = grind (arith, ints) in
+        rw (opens, any, above, below) refl
 
   module _ (c : ℕ) (bytes : List ℕ) where
     pub frame-unknown : is_open c lines ≡ false → refusal_of lines clock (line.Frame c bytes) ≡ Some why.NoSuchConnection

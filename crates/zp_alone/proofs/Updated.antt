@@ -1,17 +1,19 @@
 -- An update that the oldest request asked: what its line does to the history, and the reply behind it.
 use Rattle.std.proofs.Common.{◌≡◌, ℕ, ◌≤◌, List, [], ◌∷◌, ◌++◌, refl, sym, ap, ◌∙◌, subst, arith, true, ℤ, pos, ◌<ℤ◌, ◌≤ℤ◌}
 use Rattle.std.specs.Prelude.{Some, nat_lt, int_lt, int_le, option_and_then}
-use Rattle.std.proofs.lemmas.Bool.{and_parts, eq-eqb}
+use Rattle.std.proofs.lemmas.Bool.{eq-eqb}
 use Rattle.std.proofs.lemmas.Bool.Decides.{nat_tests}
 use Rattle.std.proofs.lemmas.Int.{ints}
 use Rattle.ev_types.specs.Store.{Store, present, revision}
 use Rattle.zk_model.specs.declared.request.Request.{Request}
 use Rattle.zk_model.specs.declared.transcript.TranscriptLine.{TranscriptLine}
 use Rattle.zk_model.specs.Requests.{Asks, read_request}
-use Rattle.zk_model.specs.History.{State, Commit, IsSound, commit, after, nothing_yet, updated, committed, asked_commit, frame, frame_shown, request, asked_in, most_long}
+use Rattle.zk_model.specs.History.{State, Commit, IsSound, commit, after, updated, committed, asked_commit, frame, frame_shown, request, asked_in, most_long}
 use Rattle.zk_model.specs.Single.{most_owned}
-use Rattle.zk_model.specs.Legal.{is_legal, is_legal_from, is_legal_line, may_update, is_small_frame, is_within_parts}
+use Rattle.zk_model.specs.Legal.{is_legal_line, may_update, is_small_frame, is_within_parts}
 use Rattle.zk_model.specs.Conversations.{placed_frame}
+use Rattle.zk_model.specs.Transcripts.{IsWellFormed}
+use Rattle.zk_model.proofs.Lists.{both_of}
 use Rattle.zk_model.proofs.Appending.{after-push, is_legal-push, is_ordered-push}
 use Rattle.zk_model.proofs.Lookups.{first_shown-place}
 use Rattle.zn_layout.specs.StandsFor.{StandsFor}
@@ -55,8 +57,8 @@ legal-asked c i now zxid lines made q least h above small_zxid commits =
 pub kept-asked : (c i now : ℕ) (zxid : ℤ) (lines : List TranscriptLine) (made : Commit) (q : Waiting) (old new : Store)
     → IsKeptIn old lines → 1 ≤ i → IsQueued c lines i q → AreBelow c lines i → (after lines).zxid <ℤ zxid → zxid ≤ℤ most_long → asked_commit lines (after lines) zxid c i now ≡ Some made
     → revision new ≡ zxid → StandsFor (present new) (committed (after lines) zxid (Some made)) → IsSound (committed (after lines) zxid (Some made))
-    → IsKeptIn new (lines ++ asked_line c i now zxid ∷ [])
-kept-asked c i now zxid lines made q old new k least h below above long commits at stands sound =
+    → IsWellFormed (asked_line c i now zxid) → IsKeptIn new (lines ++ asked_line c i now zxid ∷ [])
+kept-asked c i now zxid lines made q old new k least h below above long commits at stands sound formed =
     let leads = after-asked c i now zxid lines made commits in
     record {
       stands = subst (StandsFor (present new)) (sym leads) stands;
@@ -64,4 +66,5 @@ kept-asked c i now zxid lines made q old new k least h below above long commits 
       revision = at ∙ ap (λ (s : State). s.zxid) (sym leads);
       legal = is_legal-push lines (asked_line c i now zxid) k.legal (legal-asked c i now zxid lines made q least h above long commits);
       ordered = is_ordered-push lines (asked_line c i now zxid) k.ordered (rw (eq-eqb c c refl) below);
+      formed = both_of IsWellFormed lines (asked_line c i now zxid ∷ []) k.formed (formed, tt);
     }

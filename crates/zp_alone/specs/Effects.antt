@@ -1,5 +1,6 @@
 -- What each happening writes, and each answer. No public contract names these words.
 use Rattle.std.specs.Prelude.{◌≡◌, ℕ, ◌+◌, ℤ, pos, Bool, true, false, List, [], ◌∷◌, ◌++◌, Some, None, All}
+use Rattle.std.specs.List.{AllByRecursion}
 use Rattle.ev_types.specs.Store.{Store, present, revision}
 use Rattle.zk_model.specs.declared.request.Request.{Request}
 use Rattle.zk_model.specs.declared.transcript.TranscriptLine.{TranscriptLine}
@@ -7,6 +8,7 @@ use Rattle.zk_model.specs.declared.transcript.TranscriptLine.TheVariants.{Update
 use Rattle.zk_model.specs.declared.transcript.UpdateKind.TheVariants.{Asked}
 use Rattle.zk_model.specs.Packets.{reply_packet}
 use Rattle.zk_model.specs.History.{IsSound, after}
+use Rattle.zk_model.specs.Transcripts.{IsWellFormed}
 use Rattle.zk_model.specs.Runs.{IsAnswerLine, AreNumbered, begin_line}
 use Rattle.zn_layout.specs.StandsFor.{StandsFor}
 use Rattle.zn_ops.specs.declared.requests.Answered.{Answered}
@@ -75,6 +77,7 @@ pub record AnswersOne (c : ℕ) (old new : World) : Type 0 where
   pub oldest : old.waiting ≡ request ∷ later
   pub room : HasRoom old.store
   pub answers : Answers old.store store request.request old.clock answer
+  pub formed : AllByRecursion IsWellFormed (answer_lines c old.clock request old.told answer)
   pub leaves : new ≡ answered old c request later store answer
 
 -- and whether there was one

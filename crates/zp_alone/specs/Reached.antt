@@ -1,10 +1,12 @@
 -- The worlds that happenings lead to.
 use Rattle.std.specs.Prelude.{◌≡◌, ℕ, pos, true, List, [], ◌∷◌, Option, Some, None}
+use Rattle.std.specs.List.{AllByRecursion}
 use Rattle.ev_types.specs.Store.{Store, present, revision}
 use Rattle.zk_model.specs.declared.script.Happening.{Happening}
 use Rattle.zk_model.specs.declared.transcript.TranscriptLine.{TranscriptLine}
 use Rattle.zk_model.specs.History.{after, IsSound}
 use Rattle.zk_model.specs.Legal.{is_legal, is_ordered}
+use Rattle.zk_model.specs.Transcripts.{IsWellFormed}
 use Rattle.zk_model.specs.Runs.{Run, Runs, IsOneRun, begin_line, frames_of}
 use Rattle.zn_layout.specs.StandsFor.{StandsFor}
 use Rattle.zp_alone.specs.World.{World, IsLinked}
@@ -17,6 +19,7 @@ pub record IsKeptIn (store : Store) (lines : List TranscriptLine) : Type 0 where
   pub revision : revision store ≡ (after lines).zxid
   pub legal : is_legal lines ≡ true
   pub ordered : is_ordered lines ≡ true
+  pub formed : AllByRecursion IsWellFormed lines
 
 -- nothing happened yet but the store's first update
 pub record IsNew (w : World) : Type 0 where

@@ -1,11 +1,14 @@
 //! The lines of an answer.
 
 ghost use Rattle.std.specs.Prelude.{◌≡◌, ◌++◌, ◌∷◌, [], ℕ, Option, IfOk, OnOk};
+ghost use Rattle.std.specs.List.{AllByRecursion};
 ghost use Rattle.zk_model.specs.Packets.{CanBeSent, reply_packet};
+ghost use Rattle.zk_model.specs.Transcripts.{IsWellFormed};
 ghost use Rattle.zn_ops.specs.Answering.{reply_in};
 ghost use Rattle.zp_alone.specs.Effects.{asked_line, answer_lines, zxid_of};
 ghost use Rattle.zp_alone.specs.World.{IsLinked};
 
+use crate::formed::are_bytes;
 use crate::waiting::Waiting;
 use std::alloc::Global;
 use zk_model::{Reply, TranscriptLine, UpdateKind, UpdateRec};
@@ -23,9 +26,11 @@ fn push_reply(
 ) -> Result<(), Memory>
     requires { CanBeSent reply.now }
     ensures ok { OnOk result (lines.new.items ≡ lines.old.items ++ TranscriptLine.Send connection (reply_packet xid zxid reply.now) ∷ []) }
+    ensures formed { OnOk result (IsWellFormed (TranscriptLine.Send connection (reply_packet xid zxid reply.now))) }
     ensures linked { (o : Option ℕ) → IsLinked o lines.old.items → IsLinked o lines.new.items }
 {
     let packet = write_reply(alloc, xid, zxid, reply)?;
+    are_bytes(packet.as_slice());
     lines.push(TranscriptLine::Send {
         connection,
         bytes: Bytes::from_vec(packet),
@@ -41,6 +46,7 @@ fn push_update(
     zxid: i64,
 ) -> Result<(), Memory>
     ensures ok { OnOk result (lines.new.items ≡ lines.old.items ++ asked_line connection index now zxid ∷ []) }
+    ensures formed { IsWellFormed (asked_line connection index now zxid) }
     ensures linked { (o : Option ℕ) → IsLinked o lines.old.items → IsLinked o lines.new.items }
 {
     lines.push(TranscriptLine::Update(UpdateRec {
@@ -67,6 +73,7 @@ pub fn push_answer(
 ) -> Result<i64, Memory>
     requires { CanBeSent (reply_in answered.now) }
     ensures ok { OnOk result (lines.new.items ≡ lines.old.items ++ answer_lines connection now request.now told answered.now) }
+    ensures formed { OnOk result (AllByRecursion IsWellFormed (answer_lines connection now request.now told answered.now)) }
     ensures zxid { IfOk result (λ z. z ≡ zxid_of told answered.now) }
     ensures linked { (o : Option ℕ) → IsLinked o lines.old.items → IsLinked o lines.new.items }
 {

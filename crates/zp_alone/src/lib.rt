@@ -19,6 +19,7 @@
 mod answers;
 mod begin;
 mod fault;
+mod formed;
 mod request;
 #[cfg(test)]
 mod tests;

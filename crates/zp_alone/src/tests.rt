@@ -242,6 +242,19 @@ fn what_is_not_possible_is_refused_by_its_cause(rt: HostRuntime) -> Result<(), F
         Happening::Exec { connection: 1 },
         Why::NotBuilt,
     );
+    for id in [0, -1, i64::MIN] {
+        refuse(
+            &rt,
+            &mut world,
+            Happening::Open {
+                connection: 1,
+                proxy: 1,
+                id,
+                passwd: [0; 16],
+            },
+            Why::NotBuilt,
+        );
+    }
     world.apply(open(1))?;
     refuse(&rt, &mut world, open(1), Why::NumberInUse);
     refuse(&rt, &mut world, open(2), Why::NotBuilt);

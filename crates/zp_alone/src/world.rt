@@ -1,9 +1,11 @@
 //! The world, and what happens in it.
 
-ghost use Rattle.std.specs.Prelude.{◌≡◌, [], false, IfOk, OnOk, is_some};
+ghost use Rattle.std.specs.Prelude.{◌≡◌, ◌+◌, [], false, IfOk, OnOk, is_some};
 ghost use Rattle.std.specs.List.{list_any};
 ghost use Rattle.zk_model.specs.declared.script.Happening.TheVariants as line;
+ghost use Rattle.ev_types.specs.Store.{revision};
 ghost use Rattle.zk_model.specs.Runs.{is_open, is_opening};
+ghost use Rattle.zk_model.specs.Transcripts.{AreBytes, IsWellFormed};
 ghost use Rattle.zp_alone.specs.Applying.{Applies};
 ghost use Rattle.zp_alone.specs.Effects.{AnswersNext, framed, opened};
 ghost use Rattle.zp_alone.specs.Reached.{Reached};
@@ -12,6 +14,7 @@ ghost use Rattle.zp_alone.specs.World.{IsAnswerable};
 use crate::answers::push_answer;
 use crate::begin::begun_store;
 use crate::fault::ApplyFault;
+use crate::formed::are_bytes;
 use crate::request::read_built;
 use crate::waiting::Waiting;
 use ev_store::Store;
@@ -136,6 +139,10 @@ impl Alone {
         if self.has_connection() {
             return Err(refused(Why::NotBuilt));
         }
+        if id < 1 {
+            return Err(refused(Why::NotBuilt));
+        }
+        are_bytes(&passwd);
         self.add_connection(connection, proxy, id, passwd)?;
         Ok(())
     }
@@ -149,7 +156,9 @@ impl Alone {
         if bytes.len() > MOST_FRAME {
             return Err(refused(Why::TooLong));
         }
-        match read_built(self.alloc, bytes.as_slice())? {
+        let frame = bytes.as_slice();
+        are_bytes(frame);
+        match read_built(self.alloc, frame)? {
             Some((xid, request)) => {
                 self.add_frame(connection, bytes, xid, request)?;
                 Ok(())
@@ -223,8 +232,10 @@ impl Alone {
         xid: i32,
         request: Request,
     ) -> Result<(), Memory>
-        requires { IsAnswerable request }
-        ensures { OnOk result (self.new ≡ framed self.old connection bytes xid request) }
+        requires answerable { IsAnswerable request }
+        requires bytes { AreBytes bytes }
+        ensures added { OnOk result (self.new ≡ framed self.old connection bytes xid request) }
+        ensures formed { OnOk result (IsWellFormed (TranscriptLine.Frame connection (self.old.frames + 1) (revision self.old.store) bytes)) }
     {
         if self.frames >= MOST_FRAMES {
             return Err(Memory);

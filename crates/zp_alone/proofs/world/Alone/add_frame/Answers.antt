@@ -19,4 +19,4 @@ invariant_of-self-2 c =
     let q : Waiting = record { index = c.self.inside.frames + 1; xid = c.args.xid; request = c.args.request } in
     let grown : c.push.new.self.items ≡ c.self.inside.lines.items ++ Frame c.args.connection (c.self.inside.frames + 1) (revision c.self.inside.store) c.args.bytes ∷ [] = search rules in
     let more : c.push_back.new.self.items ≡ c.self.inside.waiting.items ++ record { index = c.self.inside.frames + 1; xid = c.args.xid; request = c.args.request } ∷ [] = search rules in
-    world-waiting _ c.push.new.self.items c.push_back.new.self.items q c.args.connection (c.self.inside.frames + 1) (revision c.self.inside.store) c.args.bytes few grown more c.requires c.self.invariant
+    world-waiting _ c.push.new.self.items c.push_back.new.self.items q c.args.connection (c.self.inside.frames + 1) (revision c.self.inside.store) c.args.bytes few grown more c.requires.answerable c.self.invariant

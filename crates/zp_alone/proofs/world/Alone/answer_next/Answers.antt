@@ -1,7 +1,9 @@
 use Rattle.std.proofs.Common.{◌≡◌, ◌+◌, ◌≤◌, length, ap, refl, arith, rules, w64, to_z, of_z, FitsSigned}
+use Rattle.std.specs.List.{AllByRecursion}
 use Rattle.std.proofs.lemmas.Int.{to_z-of_z}
 use Rattle.ev_types.specs.Store.{Store}
-use Rattle.zp_alone.specs.Effects.{zxid_of}
+use Rattle.zk_model.specs.Transcripts.{IsWellFormed}
+use Rattle.zp_alone.specs.Effects.{answer_lines, zxid_of}
 use Rattle.zp_alone.proofs.Answering.{answers-one}
 use Rattle.zp_alone.proofs.Worlds.{world-answered, answers-length, room-left}
 use Rattle.zp_alone.proofs.world.Alone.answer_next.Goals as goal
@@ -30,5 +32,7 @@ returns c =
     let same = to_z-of_z w64 c.self.inside.told fits in
     let lines = rw same at c.in_ok-self-inside.ensures.ok in
     let told : to_z w64 (of_z w64 c.in_ok-self-inside.field-0) ≡ zxid_of c.self.inside.told c.in_ok-answered.answered = search rules in
+    let formed : AllByRecursion IsWellFormed (answer_lines c.args.connection c.self.inside.clock c.in-Some.next c.self.inside.told c.in_ok-answered.answered) =
+    rw same at c.in_ok-self-inside.ensures.formed in
     answers-one c.args.connection _ c.args.self.now _ c.in-Some.next c.pop_front.new.self.items c.answer.new.store c.in_ok-answered.answered
-    c.self.view_is c.in-Some.ensures.items (room-left _ c.self.invariant) c.in_ok-answered.ensures.ok refl lines refl refl refl refl told
+    c.self.view_is c.in-Some.ensures.items (room-left _ c.self.invariant) c.in_ok-answered.ensures.ok formed refl lines refl refl refl refl told

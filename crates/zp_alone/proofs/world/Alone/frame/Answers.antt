@@ -1,6 +1,9 @@
-use Rattle.std.proofs.Common.{◌≡◌, ◌≤◌, ◌<◌, length, Some, None, sym, ◌∙◌, subst, arith, rules}
+use Rattle.std.proofs.Common.{◌≡◌, ◌+◌, ◌≤◌, ◌<◌, length, Some, None, sym, ◌∙◌, subst, arith, rules}
 use Rattle.zk_model.specs.declared.script.Happening.TheVariants as line
 use Rattle.zk_model.specs.declared.script.Why.TheVariants as why
+use Rattle.zk_model.specs.declared.transcript.TranscriptLine.TheVariants.{Frame}
+use Rattle.zk_model.specs.Transcripts.{AreBytes, IsWellFormed}
+use Rattle.ev_types.specs.Store.{revision}
 use Rattle.zk_model.specs.Frames.{most_frame}
 use Rattle.zp_alone.specs.World.{IsReadBuilt}
 use Rattle.zp_alone.specs.Applying.{Plays}
@@ -20,13 +23,17 @@ returns-then-len-gt-MOST_FRAME c =
     refuses c.args.self.now _ why.TooLong c.refused-then-len-gt-MOST_FRAME.result
     (frame-long c.args.self.now.lines c.args.self.now.clock c.args.connection c.args.bytes (sym c.is_open.ensures ∙ c.if-not-is_open.false) long) c.refused-then-len-gt-MOST_FRAME.ensures
 
+pub add_frame-requires-clause-bytes : goal.add_frame-requires-clause-bytes
+add_frame-requires-clause-bytes c = subst AreBytes c.as_slice-frame.ensures c.are_bytes.ensures
+
 pub returns-in_ok-add_frame-in-Some : goal.returns-in_ok-add_frame-in-Some
 returns-in_ok-add_frame-in-Some c =
     let short : length c.args.bytes ≤ most_frame = omega (arith, c.len.ensures) in
     let read : IsReadBuilt c.args.bytes (Some (c.in-Some.xid, c.in-Some.request)) = search rules in
     let possible = frame-possible c.args.self.now.lines c.args.self.now.clock c.args.connection c.args.bytes c.in-Some.xid c.in-Some.request (sym c.is_open.ensures ∙ c.if-not-is_open.false) short read.0 read.1.built in
     let leaves : c.add_frame.new.self ≡ framed c.args.self.now c.args.connection c.args.bytes c.in-Some.xid c.in-Some.request = search rules in
-    (possible, subst (Plays c.args.self.now (line.Frame c.args.connection c.args.bytes)) (sym leaves) (plays-frame c.args.self.now c.args.connection c.args.bytes c.in-Some.xid c.in-Some.request possible read.0))
+    let formed : IsWellFormed (Frame c.args.connection (c.args.self.now.frames + 1) (revision c.args.self.now.store) c.args.bytes) = search rules in
+    (possible, subst (Plays c.args.self.now (line.Frame c.args.connection c.args.bytes)) (sym leaves) (plays-frame c.args.self.now c.args.connection c.args.bytes c.in-Some.xid c.in-Some.request possible read.0 formed))
 
 pub returns-in-None : goal.returns-in-None
 returns-in-None c =
