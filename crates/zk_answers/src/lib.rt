@@ -19,7 +19,6 @@ mod watches;
 
 pub use answers::{Answered, answer};
 pub use commits::{Update, commit};
-pub use paths::PathSet;
 pub use plain::plain_request;
 pub use rearm::set_watches;
 pub use told::Told;

@@ -38,6 +38,5 @@ pub fn names_fit(names: &[Text]) -> bool
 pub fn names_and_stat_fit(names: &[Text], stat: &Stat) -> bool
     ensures { result ≡ fits_reply (body.NamesStat names.now stat.now) }
 {
-    let _any = stat;
     fit(names, MOST_FRAME - HEADER_AND_COUNT - STAT)
 }

@@ -329,23 +329,16 @@ fn tells_a_connection_of_its_own_updates_first(rt: HostRuntime) -> Result<(), Fa
 
 #[test]
 fn tells_once_of_a_node_with_both_watches(rt: HostRuntime) -> Result<(), Fail> {
-    let table: [(i64, Ask, &[u8], Want); 6] = [
+    let table: [(i64, Ask, &[u8], Want); 7] = [
         (5, Ask::Create(b"/n", b"", 0), b"", Want::Made(b"/n")),
         (5, Ask::GetData(b"/n", true), b"", Want::Data(b"")),
         (5, Ask::GetChildren(b"/n", true), b"", Want::Names(b"")),
         (6, Ask::Delete(b"/n", -1), b"2/n ", Want::Empty),
         (7, Ask::Create(b"/n", b"", 0), b"", Want::Made(b"/n")),
         (8, Ask::Delete(b"/n", -1), b"", Want::Empty),
+        (9, Ask::Exists(b"/n", false), b"", Want::Code(-101)),
     ];
-    let (client, other) = run(rt.alloc(), new_client(rt.alloc())?, &table)?;
-    assert_eq!(rt; other, None);
-    let table: [(i64, Ask, &[u8], Want); 1] = [(
-        8,
-        Ask::Exists(b"/n", false),
-        b"",
-        Want::Code(-101),
-    )];
-    let (_, other) = run(rt.alloc(), client, &table)?;
+    let (_, other) = run(rt.alloc(), new_client(rt.alloc())?, &table)?;
     assert_eq!(rt; other, None);
     Ok(())
 }

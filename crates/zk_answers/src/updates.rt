@@ -22,7 +22,7 @@ use zk_plain::{
 use zx_base::{Memory, Text};
 
 /// The most nodes that a session may own.
-pub const MOST_OWNED: usize = 40;
+const MOST_OWNED: usize = 40;
 
 /// An update is answered by its refusal; one that succeeds is answered by what it commits.
 fn refusal_of(alloc: Global, watches: &Watches, outcome: Outcome) -> Result<Option<Told>, Memory>
