@@ -6,7 +6,7 @@ use Rattle.std.proofs.lemmas.List.Elements.{All-contains}
 use Rattle.zk_model.specs.declared.script.Happening.{Happening}
 use Rattle.zk_model.specs.declared.script.Unread.{Unread}
 use Rattle.zk_model.specs.declared.script.Why.{Why}
-use Rattle.zk_model.specs.Runs.{Run, IsReplayed, IsStopped, IsCutShort, IsFault, done_text, fault_text, unread_text, why_text, refusal_of}
+use Rattle.zk_model.specs.Runs.{Run, IsReplayed, IsStopped, IsCutShort, StandsAgainst, done_text, fault_text, unread_text, why_text, why_not}
 use Rattle.zk_model.specs.Transcripts.{transcript_text}
 use Rattle.zx_outside.specs.Writing.{Takes}
 use Rattle.zp_alone.specs.World.{World}
@@ -53,14 +53,14 @@ Replays-done end.ReadFault n s given given' left left' taken taken' ends takes i
 
 -- ---- stopped
 
-fault_unread : (w : World) (run : Run) (n : ℕ) (later : List Happening) (end : Option (ℕ × Unread)) (why : Unread) → IsAgainst w n later end (stop.Unread why) → IsFault run n later end (unread_text why)
+fault_unread : (w : World) (run : Run) (n : ℕ) (later : List Happening) (end : Option (ℕ × Unread)) (why : Unread) → IsAgainst w n later end (stop.Unread why) → StandsAgainst run n later end (unread_text why)
 fault_unread w run n [] end why against = (why, against, refl)
 fault_unread w run n (h ∷ later) end why against = absurd against
 
 fault_refused : (w : World) (run : Run) (n : ℕ) (later : List Happening) (end : Option (ℕ × Unread)) (why : Why) → run.lines ≡ w.lines → run.clock ≡ w.clock →
-    IsAgainst w n later end (stop.Refused why) → IsFault run n later end (why_text why)
+    IsAgainst w n later end (stop.Refused why) → StandsAgainst run n later end (why_text why)
 fault_refused w run n [] end why lines clock against = absurd against
-fault_refused w run n (h ∷ later) end why lines clock against = (why, ap (λ ls. refusal_of ls run.clock h) lines ∙ ap (λ m. refusal_of w.lines m h) clock ∙ against, refl)
+fault_refused w run n (h ∷ later) end why lines clock against = (why, ap (λ ls. why_not ls run.clock h) lines ∙ ap (λ m. why_not w.lines m h) clock ∙ against, refl)
 
 stopped_unread : (input : List ℕ) (s : Script) (n : ℕ) (why : Unread) → n ≡ s.line → IsHalted input s (stop.Unread why) → IsStopped input (transcript_text s.world.lines ++ fault_text n (unread_text why)) n
 stopped_unread input s n why is halted = record {

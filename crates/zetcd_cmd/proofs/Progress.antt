@@ -7,7 +7,7 @@ use Rattle.zk_model.specs.declared.script.Happening.{Happening}
 use Rattle.zk_model.specs.declared.script.Unread.{Unread}
 use Rattle.zk_model.specs.declared.script.Unread.TheVariants.{Unreadable, TooLong}
 use Rattle.zk_model.specs.Scripts.{Script as Reading, then_script, last_line, line_read, most_line, most_script, script, script_from}
-use Rattle.zk_model.specs.Runs.{refusal_of}
+use Rattle.zk_model.specs.Runs.{why_not}
 use Rattle.zp_alone.specs.World.{World}
 use Rattle.zp_alone.specs.Reached.{Reached}
 use Rattle.zetcd_cmd.specs.declared.script.Script.{Script}
@@ -49,7 +49,7 @@ Ends-at input line happenings later w new (stop.Refused why) reached number read
   reached = subst (λ (v : World). Reached happenings v) (sym halts.3) reached;
   number = number;
   read = read ∙ ap (λ o. behind happenings (then_script (length happenings + 1) o later)) halts.1;
-  against = subst (λ (v : World). refusal_of v.lines v.clock halts.0 ≡ Some why) (sym halts.3) halts.2;
+  against = subst (λ (v : World). why_not v.lines v.clock halts.0 ≡ Some why) (sym halts.3) halts.2;
 }
 Ends-at input line happenings later w new stop.Memory reached number read halts = tt {0}
 

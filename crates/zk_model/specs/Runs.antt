@@ -68,14 +68,14 @@ last_moment = 9000000000000000
 abbrev pub refused_if : Bool → Why → Option Why → Option Why
 refused_if b w later = if b then Some w else later
 
-unfoldable pub refusal_of : List TranscriptLine → ℕ → Happening → Option Why
-refusal_of lines clock (line.Open c p id pw) =
+unfoldable pub why_not : List TranscriptLine → ℕ → Happening → Option Why
+why_not lines clock (line.Open c p id pw) =
     refused_if (is_open c lines) why.NumberInUse (refused_if (list_any is_opening lines) why.NotBuilt (refused_if (not (is_id id)) why.NotBuilt None))
-refusal_of lines clock (line.Frame c bytes) =
+why_not lines clock (line.Frame c bytes) =
     refused_if (not (is_open c lines)) why.NoSuchConnection (refused_if (nat_lt most_frame (length bytes)) why.TooLong (refused_if (not (is_built bytes)) why.NotBuilt None))
-refusal_of lines clock (line.Tick millis) = refused_if (nat_lt last_moment (clock + millis)) why.ClockLimit None
-refusal_of lines clock (line.Settle c) = refused_if (not (is_open c lines)) why.NoSuchConnection None
-refusal_of lines clock _ = Some why.NotBuilt
+why_not lines clock (line.Tick millis) = refused_if (nat_lt last_moment (clock + millis)) why.ClockLimit None
+why_not lines clock (line.Settle c) = refused_if (not (is_open c lines)) why.NoSuchConnection None
+why_not lines clock _ = Some why.NotBuilt
 
 -- ---- what a happening adds
 
@@ -136,7 +136,7 @@ run_after r h added = record {
 
 -- one happening that is possible
 pub record Happens (r : Run) (h : Happening) (r' : Run) : Type 0 where
-  pub possible : refusal_of r.lines r.clock h ≡ None
+  pub possible : why_not r.lines r.clock h ≡ None
   pub added : List TranscriptLine
   pub adds : Adds h r.clock r.lines added
   pub leaves : r' ≡ run_after r h added
@@ -191,9 +191,9 @@ pub record IsReplayed (input output : List ℕ) : Type 0 where
   pub written : output ≡ transcript_text run.lines ++ done_text
 
 -- what stands against the next line: its happening isn't possible, or it can't be read
-abbrev pub IsFault : Run → ℕ → List Happening → Option (ℕ × Unread) → List ℕ → Type 0
-IsFault r n (h ∷ hs) end text = (w : Why) × (refusal_of r.lines r.clock h ≡ Some w) × (text ≡ why_text w)
-IsFault r n [] end text = (u : Unread) × (end ≡ Some (n, u)) × (text ≡ unread_text u)
+abbrev pub StandsAgainst : Run → ℕ → List Happening → Option (ℕ × Unread) → List ℕ → Type 0
+StandsAgainst r n (h ∷ hs) end text = (w : Why) × (why_not r.lines r.clock h ≡ Some w) × (text ≡ why_text w)
+StandsAgainst r n [] end text = (u : Unread) × (end ≡ Some (n, u)) × (text ≡ unread_text u)
 
 -- Line n of the input is the first that can't be read or isn't possible, and the output is the transcript of the lines
 -- before it, with that fault.
@@ -207,7 +207,7 @@ pub record IsStopped (input output : List ℕ) (n : ℕ) : Type 0 where
   pub runs : Runs before run
   pub one_run : IsOneRun run
   pub why : List ℕ
-  pub because : IsFault run n later end why
+  pub because : StandsAgainst run n later end why
   pub written : output ≡ transcript_text run.lines ++ fault_text n why
 
 abbrev pub IsWholeLines : List ℕ → Type 0

@@ -19,7 +19,7 @@ use Rattle.zk_model.specs.History.{after, updated}
 use Rattle.zk_model.specs.Legal.{Tick, is_legal, is_ordered, may_update}
 use Rattle.zk_model.specs.Conversations.{IsLawfulAlone}
 use Rattle.zk_model.specs.Transcripts.{IsWellFormed}
-use Rattle.zk_model.specs.Runs.{IsAnswerLine, AreNumbered, Adds, clock_after, refusal_of, is_open, is_opening, is_built, is_built_request, refused_if, frames_of, sends_of, begin_line, Run, new_run, run_after, Happens, Runs, IsOneRun}
+use Rattle.zk_model.specs.Runs.{IsAnswerLine, AreNumbered, Adds, clock_after, why_not, is_open, is_opening, is_built, is_built_request, refused_if, frames_of, sends_of, begin_line, Run, new_run, run_after, Happens, Runs, IsOneRun}
 use Rattle.zk_model.proofs.Counts.{frames_of-append, before_close}
 use Rattle.zk_model.proofs.Happened.{within-new, within-runs, RunsFrom-push, punctual-happens, shown-happens}
 use Rattle.zp_alone.specs.World.{World, IsLinked, is_number}
@@ -75,7 +75,7 @@ happens-more hs h r r' w runs one happens lines clock k = record {
 }
 
 reached-more : (hs : List Happening) (h : Happening) (old new : World) (added : List TranscriptLine) → Reached hs old
-    → refusal_of old.lines old.clock h ≡ None → Adds h old.clock old.lines added → new.lines ≡ old.lines ++ added → new.clock ≡ clock_after old.clock h → IsKept new → Reached (hs ++ h ∷ []) new
+    → why_not old.lines old.clock h ≡ None → Adds h old.clock old.lines added → new.lines ≡ old.lines ++ added → new.clock ≡ clock_after old.clock h → IsKept new → Reached (hs ++ h ∷ []) new
 reached-more hs h old new added r possible adds lines clock k =
     let at : Run = record { clock = old.clock; lines = old.lines; ticks = r.run.ticks } in
     let same : r.run ≡ at = same_run hs old r in
@@ -88,20 +88,20 @@ not_refused : (b : Bool) (why : Why) (later : Option Why) → refused_if b why l
 not_refused true why later h = absurd (cc)
 not_refused false why later h = (refl, h)
 
-may_open : (lines : List TranscriptLine) (clock c p : ℕ) (id : ℤ) (pw : List ℕ) → refusal_of lines clock (line.Open c p id pw) ≡ None → list_any is_opening lines ≡ false
-unfolding refusal_of
+may_open : (lines : List TranscriptLine) (clock c p : ℕ) (id : ℤ) (pw : List ℕ) → why_not lines clock (line.Open c p id pw) ≡ None → list_any is_opening lines ≡ false
+unfolding why_not
 may_open lines clock c p id pw h = (not_refused (list_any is_opening lines) _ _ (not_refused (is_open c lines) _ _ h).1).0
 
-may_frame : (lines : List TranscriptLine) (clock c : ℕ) (bytes : List ℕ) → refusal_of lines clock (line.Frame c bytes) ≡ None → (is_open c lines ≡ true) × (nat_lt most_frame (length bytes) ≡ false) × (is_built bytes ≡ true)
-unfolding refusal_of
+may_frame : (lines : List TranscriptLine) (clock c : ℕ) (bytes : List ℕ) → why_not lines clock (line.Frame c bytes) ≡ None → (is_open c lines ≡ true) × (nat_lt most_frame (length bytes) ≡ false) × (is_built bytes ≡ true)
+unfolding why_not
 may_frame lines clock c bytes h =
     let first = not_refused (not (is_open c lines)) _ _ h in
     let second = not_refused (nat_lt most_frame (length bytes)) _ _ first.1 in
     let third = not_refused (not (is_built bytes)) _ None second.1 in
     (not-false (is_open c lines) first.0, second.0, not-false (is_built bytes) third.0)
 
-may_settle : (lines : List TranscriptLine) (clock c : ℕ) → refusal_of lines clock (line.Settle c) ≡ None → is_open c lines ≡ true
-unfolding refusal_of
+may_settle : (lines : List TranscriptLine) (clock c : ℕ) → why_not lines clock (line.Settle c) ≡ None → is_open c lines ≡ true
+unfolding why_not
 may_settle lines clock c h = not-false (is_open c lines) (not_refused (not (is_open c lines)) _ None h).0
 
 built_as : (bytes : List ℕ) (xid : ℤ) (q : Request) → is_built bytes ≡ true → read_request bytes ≡ Asks xid q → is_built_request q ≡ true
@@ -110,12 +110,12 @@ built_as bytes xid q h read = rw read at h
 
 -- ---- each happening
 
-pub plays-open : (w : World) (c p : ℕ) (id : ℤ) (pw : List ℕ) → refusal_of w.lines w.clock (line.Open c p id pw) ≡ None → IsWellFormed (Open c p id pw) → Plays w (line.Open c p id pw) (opened w c p id pw)
+pub plays-open : (w : World) (c p : ℕ) (id : ℤ) (pw : List ℕ) → why_not w.lines w.clock (line.Open c p id pw) ≡ None → IsWellFormed (Open c p id pw) → Plays w (line.Open c p id pw) (opened w c p id pw)
 plays-open w c p id pw possible formed = λ hs r.
     let linked = not_there w.connection (sym r.kept.linked.any ∙ may_open w.lines w.clock c p id pw possible) in
     reached-more hs (line.Open c p id pw) w (opened w c p id pw) (Open c p id pw ∷ []) r possible refl refl refl (kept-open w c p id pw linked formed r.kept)
 
-pub plays-frame : (w : World) (c : ℕ) (bytes : List ℕ) (xid : ℤ) (q : Request) → refusal_of w.lines w.clock (line.Frame c bytes) ≡ None → read_request bytes ≡ Asks xid q
+pub plays-frame : (w : World) (c : ℕ) (bytes : List ℕ) (xid : ℤ) (q : Request) → why_not w.lines w.clock (line.Frame c bytes) ≡ None → read_request bytes ≡ Asks xid q
     → IsWellFormed (FrameLine c (w.frames + 1) (revision w.store) bytes) → Plays w (line.Frame c bytes) (framed w c bytes xid q)
 plays-frame w c bytes xid q possible read formed = λ hs r.
     let may = may_frame w.lines w.clock c bytes possible in
@@ -126,7 +126,7 @@ plays-frame w c bytes xid q possible read formed = λ hs r.
     reached-more hs (line.Frame c bytes) w (framed w c bytes xid q) (FrameLine c (w.frames + 1) (revision w.store) bytes ∷ []) r possible (ap (λ (l : TranscriptLine). l ∷ []) shows) refl refl
     (kept-frame w c bytes xid q linked read small (built_as bytes xid q may.2 read) formed r.kept)
 
-pub plays-tick : (w : World) (millis : ℕ) → refusal_of w.lines w.clock (line.Tick millis) ≡ None → Plays w (line.Tick millis) (ticked w millis)
+pub plays-tick : (w : World) (millis : ℕ) → why_not w.lines w.clock (line.Tick millis) ≡ None → Plays w (line.Tick millis) (ticked w millis)
 plays-tick w millis possible = λ hs r. reached-more hs (line.Tick millis) w (ticked w millis) [] r possible refl (sym (append-nil w.lines)) refl (kept-tick w millis r.kept)
 
 -- ---- all requests that waited are answered
@@ -143,7 +143,7 @@ no_frames c clock (l ∷ ls) h =
     let rest = no_frames c clock ls (λ k d small. h (suc k) d (omega arith)) in
     omega (arith, frames_of-append c (l ∷ []) ls, first, rest)
 
-pub plays-settle : (old new : World) (c : ℕ) → refusal_of old.lines old.clock (line.Settle c) ≡ None → AnswersSome c old new → new.waiting ≡ [] → Plays old (line.Settle c) new
+pub plays-settle : (old new : World) (c : ℕ) → why_not old.lines old.clock (line.Settle c) ≡ None → AnswersSome c old new → new.waiting ≡ [] → Plays old (line.Settle c) new
 plays-settle old new c possible some idle = λ hs r.
     let linked = linked_to old c r.kept.linked (may_settle old.lines old.clock c possible) in
     let k = some.kept linked r.kept in

@@ -1,7 +1,7 @@
 -- What applying a happening does to a world.
 use Rattle.std.specs.Prelude.{◌≡◌, List, [], ◌∷◌, ◌++◌, Some, None, Result, Ok, Err}
 use Rattle.zk_model.specs.declared.script.Happening.{Happening}
-use Rattle.zk_model.specs.Runs.{refusal_of}
+use Rattle.zk_model.specs.Runs.{why_not}
 use Rattle.zp_alone.specs.declared.fault.ApplyFault.{ApplyFault}
 use Rattle.zp_alone.specs.declared.fault.ApplyFault.TheVariants as fault
 use Rattle.zp_alone.specs.World.{World}
@@ -13,6 +13,6 @@ Plays old h new = (happenings : List Happening) → Reached happenings old → R
 
 -- a happening that is possible and was applied, or one that isn't, which changes nothing
 abbrev pub Applies : World → Happening → Result (Unit {0}) ApplyFault → World → Type 0
-Applies old h (Ok x) new = (refusal_of old.lines old.clock h ≡ None) × Plays old h new
-Applies old h (Err (fault.NotPossible why)) new = (refusal_of old.lines old.clock h ≡ Some why) × (new ≡ old)
+Applies old h (Ok x) new = (why_not old.lines old.clock h ≡ None) × Plays old h new
+Applies old h (Err (fault.NotPossible why)) new = (why_not old.lines old.clock h ≡ Some why) × (new ≡ old)
 Applies old h (Err fault.Memory) new = Unit {0}
