@@ -1,47 +1,16 @@
 //! Sessions that end: their ephemeral nodes are removed (Programmer's Guide, "Ephemeral Nodes").
 
 ghost use Rattle.std.specs.Prelude.{◌≡◌, ◌++◌, flat_map, IfOk, IfErr, OnOk};
-ghost use Rattle.zk_model.specs.Single.{removed, removal, without_child};
+ghost use Rattle.zk_model.specs.Single.{removal};
 ghost use Rattle.zk_model.specs.History.{removed_all, session_ended};
 ghost use Rattle.zk_plain.specs.Faults.{BeyondUnless};
 ghost use Rattle.zk_history.specs.Fits.{IsCountable};
 
 use crate::state::State;
 use std::alloc::Global;
-use zk_model::{Node, Path, Trigger};
-use zk_plain::{Fault, Tree};
-use zx_base::{Bytes, Memory, Seq};
-
-/// The parent after the delete of a child.
-fn without_child(alloc: Global, parent: &Node, zxid: i64) -> Result<Node, Memory>
-    ensures { IfOk result (λ n. n ≡ without_child parent.now zxid) }
-{
-    Ok(Node {
-        content: Bytes::copy_of(alloc, parent.content.as_slice())?,
-        czxid: parent.czxid,
-        mzxid: parent.mzxid,
-        pzxid: zxid,
-        ctime: parent.ctime,
-        mtime: parent.mtime,
-        version: parent.version,
-        creates: parent.creates,
-        owner: parent.owner,
-    })
-}
-
-/// The tree without a node that has no children.
-fn removed(alloc: Global, tree: &Tree, path: &Path, zxid: i64) -> Result<Tree, Memory>
-    ensures { IfOk result (λ t. t ≡ removed tree.now path.now zxid) }
-{
-    let rest = tree.without(alloc, path.bytes())?;
-    let Some(parent) = path.parent(alloc)? else {
-        return Ok(rest);
-    };
-    match tree.get(parent.bytes()) {
-        None => Ok(rest),
-        Some(node) => rest.with(alloc, parent, without_child(alloc, node, zxid)?),
-    }
-}
+use zk_model::{Path, Trigger};
+use zk_plain::{Fault, Tree, removed};
+use zx_base::{Memory, Seq};
 
 /// The tree without these nodes, removed one by one at one zxid.
 fn removed_all(alloc: Global, tree: &Tree, paths: &[Path], zxid: i64) -> Result<Tree, Memory>

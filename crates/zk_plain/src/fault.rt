@@ -6,7 +6,7 @@ use zx_base::Memory;
 pub enum Fault {
     Memory,
     /// A number is beyond its field, as in no tree of a run: a count of children beyond a node's count of creates, or data
-    /// of more than 2,147,483,647 bytes.
+    /// of more than 2,147,483,647 bytes; of a state, more than 2^64 - 1 updates, or a moment of 2^63 milliseconds.
     Beyond,
 }
 

@@ -20,6 +20,7 @@ mod turn;
 mod update;
 
 pub use create::{begin, is_create_mode, is_open_acl, is_sequential};
+pub use delete::removed;
 pub use fault::Fault;
 pub use laws::sound_trees_fit;
 pub use multi::{Transaction, several};
