@@ -1,5 +1,5 @@
 -- A stream has one text.
-use Rattle.std.proofs.Common.{◌≡◌, ℕ, List, ◌++◌, length, take, refl, sym, ap, ◌∙◌}
+use Rattle.std.proofs.Common.{◌≡◌, ℕ, List, length, take, refl, sym, ap, ◌∙◌}
 use Rattle.std.specs.Prelude.{nat_lt, false}
 use Rattle.zk_model.proofs.Framing.{one_framing}
 use Rattle.zt_show.specs.Shown.{Shown, IsShown, IsShownWhole, most_stream, before_more, shown_from}

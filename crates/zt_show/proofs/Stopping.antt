@@ -1,18 +1,17 @@
 -- What is shown of a stream of which some came: where it goes on, and where it ended.
-use Rattle.std.proofs.Common.{◌≡◌, ℕ, ◌+◌, ◌-◌, ◌^◌, ◌<◌, ◌≤◌, min, Bool, true, false, ltb, ℤ, Option, Some, None, List, [], ◌∷◌, ◌++◌, length, take, drop, refl, sym, ap, subst, ◌∙◌, append_assoc, arith}
+use Rattle.std.proofs.Common.{◌≡◌, ℕ, ◌+◌, ◌-◌, ◌<◌, ◌≤◌, Bool, true, false, ℤ, Option, Some, None, List, [], ◌++◌, length, take, refl, sym, ap, subst, ◌∙◌, append_assoc, arith}
 use Rattle.std.specs.Prelude.{nat_lt, ◌==◌, if◌then◌else◌}
 use Rattle.std.proofs.Math.Seq.{take-append-add}
-use Rattle.std.proofs.lemmas.Bool.{ltb-false, le-ltb, lt-ltb}
-use Rattle.std.proofs.lemmas.List.{append-nil, length-append, length-take, take_all, take_at, take-append-drop, nil_from_length}
-use Rattle.zk_model.specs.Frames.{IsRest, Framed, bad_length}
-use Rattle.zk_model.proofs.Framing.{framed_join, bad_stays, bad_rest, no_frame}
-use Rattle.zk_wire.specs.Cutting.{Stream, Hands, Refuses}
+use Rattle.std.proofs.lemmas.Bool.{le-ltb, lt-ltb}
+use Rattle.std.proofs.lemmas.List.{append-nil, length-append, take_all, take_at}
+use Rattle.zk_model.specs.Frames.{Framed, bad_length}
+use Rattle.zk_model.proofs.Framing.{framed_join, bad_stays, bad_rest}
 use Rattle.zt_show.specs.declared.ending.Ending.{Ending}
 use Rattle.zt_show.specs.declared.ending.Ending.TheVariants as ending
 use Rattle.zt_show.specs.declared.progress.Progress.{Progress}
-use Rattle.zt_show.specs.Shown.{Shown, joined, most_stream, ending_of, ending_at, ending_line, shown_from, IsShownWhole, IsShown, ending_before_more, before_more}
-use Rattle.zt_show.specs.Showing.{Showing, showing, behind, shown_on, size_of, Follows, Passes, Blocks, Stops, IsShownAs, long_unless}
-use Rattle.zt_show.proofs.Framings.{has_frames, framed_size, framed_none, nothing_more}
+use Rattle.zt_show.specs.Shown.{Shown, most_stream, ending_of, ending_at, shown_from, IsShownWhole, ending_before_more, before_more}
+use Rattle.zt_show.specs.Showing.{Showing, showing, behind, shown_on, size_of, Follows, Passes, Blocks, Stops, IsShownAs}
+use Rattle.zt_show.proofs.Framings.{has_frames, framed_size, framed_none}
 use Rattle.zt_show.proofs.Passing.{behind-behind}
 
 -- ---- whole frames came, and a rest of which nothing is said yet

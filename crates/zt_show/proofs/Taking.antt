@@ -1,5 +1,5 @@
 -- What a piece adds to what is shown of a stream.
-use Rattle.std.proofs.Common.{◌≡◌, ◌≢◌, ℕ, ◌+◌, ◌-◌, ◌^◌, ◌<◌, ◌≤◌, min, Bool, true, false, eqb, ne_eqb, ℤ, Option, Some, None, List, [], ◌∷◌, ◌++◌, length, take, drop, refl, sym, ap, subst, ◌∙◌, append_assoc, arith}
+use Rattle.std.proofs.Common.{◌≡◌, ◌≢◌, ℕ, ◌+◌, ◌-◌, ◌<◌, ◌≤◌, Bool, true, false, ne_eqb, ℤ, Option, Some, None, List, [], ◌++◌, length, take, drop, refl, sym, ap, subst, ◌∙◌, append_assoc, arith}
 use Rattle.std.specs.Prelude.{◌==◌, if◌then◌else◌}
 use Rattle.std.proofs.lemmas.List.{append-nil, length-append, length-take, take-append-drop}
 use Rattle.zk_model.specs.Frames.{bad_length}
@@ -9,9 +9,8 @@ use Rattle.zk_wire.specs.Putting.{counted}
 use Rattle.zt_show.specs.declared.ending.Ending.{Ending}
 use Rattle.zt_show.specs.declared.ending.Ending.TheVariants as ending
 use Rattle.zt_show.specs.declared.progress.Progress.{Progress}
-use Rattle.zt_show.specs.FrameLines.{IsAdded}
 use Rattle.zt_show.specs.Shown.{joined, most_stream, ending_of, ending_line}
-use Rattle.zt_show.specs.Showing.{Showing, showing, size_of, Follows, Passes, Blocks, PassesIf, AddsLines, AddsFrames, Stops, IsShownAs, Adds, Finishes, long_unless}
+use Rattle.zt_show.specs.Showing.{Showing, showing, Follows, Passes, Blocks, PassesIf, AddsLines, AddsFrames, IsShownAs, Adds, Finishes, long_unless}
 use Rattle.zt_show.proofs.Framings.{framed_none, nothing_more}
 use Rattle.zt_show.proofs.Passing.{Passes-nil}
 use Rattle.zt_show.proofs.Stopping.{Came, Came-from, Came-more, Follows-from, Stops-length, Stops-blocked, IsShown-stops, IsShown-long, IsShown-whole}

@@ -1,5 +1,5 @@
 -- A stream that comes piece by piece: what of it was shown, and what a piece adds.
-use Rattle.std.specs.Prelude.{◌≡◌, ℕ, ◌+◌, ◌≤◌, Bool, true, false, Option, Some, None, List, [], ◌∷◌, ◌++◌, length, sum_by}
+use Rattle.std.specs.Prelude.{◌≡◌, ℕ, ◌+◌, ◌≤◌, Bool, true, false, Option, Some, None, List, [], ◌++◌, length, sum_by}
 use Rattle.zk_model.specs.Frames.{Framed, bad_length}
 use Rattle.zk_wire.specs.Putting.{counted}
 use Rattle.zt_show.specs.declared.ending.Ending.{Ending}

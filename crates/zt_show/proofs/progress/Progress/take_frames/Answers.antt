@@ -1,4 +1,4 @@
-use Rattle.std.proofs.Common.{arith, rules, w32, SFits}
+use Rattle.std.proofs.Common.{rules, w32, SFits}
 use Rattle.std.proofs.lemmas.Int.{to_z-of_z}
 use Rattle.zt_show.proofs.Taking.{AddsFrames-all, AddsFrames-length, AddsFrames-length_after, AddsFrames-blocked}
 use Rattle.zt_show.proofs.progress.Progress.take_frames.Goals as goal

@@ -1,5 +1,5 @@
-use Rattle.std.proofs.Common.{arith, rules, ◌≡◌, List, ℕ, subst, sym, ap, ◌∙◌}
-use Rattle.zt_show.specs.Showing.{Showing, showing, Finishes}
+use Rattle.std.proofs.Common.{arith, ◌∙◌}
+use Rattle.zt_show.specs.Showing.{showing}
 use Rattle.zt_show.proofs.Taking.{Finishes-from, ends_whole, ends_cut}
 use Rattle.zt_show.proofs.show.Show.finish.Goals.{then-place-self, else-place-self}
 use Rattle.zt_show.proofs.show.Show.finish.Goals as goal

@@ -1,5 +1,5 @@
-use Rattle.std.proofs.Common.{arith, Some, List, ℕ, subst, rules}
-use Rattle.zt_show.specs.Showing.{Showing, showing, Adds}
+use Rattle.std.proofs.Common.{arith}
+use Rattle.zt_show.specs.Showing.{showing}
 use Rattle.zt_show.proofs.Taking.{Adds-end, Adds-long}
 use Rattle.zt_show.proofs.show.Show.take.Goals as goal
 
