@@ -5,5 +5,4 @@ ghost use Rattle.zk_model.specs.Transcripts.{AreBytes};
 /// Bytes are below 256; nothing is done.
 pub fn are_bytes(bytes: &[u8])
     ensures { AreBytes bytes.now }
-{
-}
+{}
