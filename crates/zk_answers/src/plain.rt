@@ -8,8 +8,8 @@ ghost use Rattle.zk_model.specs.Paths.{is_path, is_sequence_prefix, root};
 ghost use Rattle.zk_model.specs.Single.{or_else, path_refusal, is_create_mode, is_open_acl, is_sequential};
 
 use std::alloc::Global;
-use zk_model::{Acl, Body, Reply, Request};
 use zk_model::code::{AUTH_FAILED, BAD_ARGUMENTS, INVALID_ACL};
+use zk_model::{Acl, Body, Reply, Request};
 use zk_plain::{is_create_mode, is_open_acl, is_sequential, read_path};
 use zx_base::Memory;
 

@@ -12,8 +12,8 @@ use crate::listings::{names_and_stat_fit, names_fit};
 use crate::told::{Told, good, refused};
 use crate::watches::Watches;
 use std::alloc::Global;
-use zk_model::{Body, Node, Stat};
 use zk_model::code::{NO_NODE, SYSTEM_ERROR};
+use zk_model::{Body, Node, Stat};
 use zk_plain::{Fault, Tree, stat};
 use zx_base::{Bytes, Memory, Text};
 

@@ -68,6 +68,7 @@ last_moment = 9000000000000000
 abbrev pub refused_if : Bool → Why → Option Why → Option Why
 refused_if b w later = if b then Some w else later
 
+-- a number that no session has stands in no script
 unfoldable pub why_not : List TranscriptLine → ℕ → Happening → Option Why
 why_not lines clock (line.Open c p id pw) =
     refused_if (is_open c lines) why.NumberInUse (refused_if (list_any is_opening lines) why.NotBuilt (refused_if (not (is_id id)) why.NotBuilt None))

@@ -8,10 +8,8 @@ ghost use Rattle.zk_wire.specs.declared.cutter.CutFault.TheVariants as faults;
 use crate::reader::first_int;
 use std::alloc::{AllocError, Global};
 use std::marker::Model;
+use zk_model::limit::MOST_FRAME;
 use zx_base::Bytes;
-
-/// The most bytes of a frame (`jute.maxbuffer`).
-pub const MOST_FRAME: usize = 1_048_575;
 
 /// Why a stream cannot be cut on.
 #[derive(Clone, Copy, Debug, PartialEq, Eq)]
