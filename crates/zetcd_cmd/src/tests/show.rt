@@ -37,6 +37,24 @@ fn an_empty_stream_is_at_its_end(rt: HostRuntime) -> Result<(), Fail> {
 }
 
 #[test]
+fn a_connect_and_a_ping_are_shown(rt: HostRuntime) -> Result<(), Fail> {
+    let alloc = rt.alloc();
+    let stream = joined(alloc, &[CONNECT, PING])?;
+    let cases: [(usize, Status, &[u8]); 2] = [
+        (61, Status::Done, b"49 -2 ping\nend 61\n"),
+        (60, Status::Script { line: 2 }, b"cut 60\n"),
+    ];
+    for (size, ending, last) in cases {
+        let wanted = joined(alloc, &[CONNECTED, last])?;
+        let front = stream.split_at(size.min(stream.len())).0;
+        let (status, written) = shown(alloc, front, Vec::new(alloc))?;
+        assert_eq!(rt; status, ending);
+        assert_eq!(rt; written.as_slice(), wanted.as_slice());
+    }
+    Ok(())
+}
+
+#[test]
 fn a_stream_may_be_cut_after_every_byte(rt: HostRuntime) -> Result<(), Fail> {
     let alloc = rt.alloc();
     let stream = joined(alloc, &[CONNECT, CREATE, GET_DATA, PING])?;
