@@ -1,6 +1,6 @@
 //! Cutting a stream into frames.
 
-ghost use Rattle.std.specs.Prelude.{◌≡◌, ℤ, MatchOption, Some, IfOk, Ok, Err, IsErr};
+ghost use Rattle.std.specs.Prelude.{◌≡◌, [], ℤ, MatchOption, Some, IfOk, Ok, Err, IsErr};
 ghost use Rattle.zk_model.specs.Frames.{Framed, bad_length as bad_length_of, frame_at};
 ghost use Rattle.zk_wire.specs.Cutting.{Stream, unread, Takes};
 ghost use Rattle.zk_wire.specs.declared.cutter.CutFault.TheVariants as faults;
@@ -48,8 +48,40 @@ impl Cutter {
 
     /// The frames that are whole with this piece of the stream, and were not handed out before. A length out of range
     /// stands behind the frames before it: it is answered by a call that has no frame to hand out, and from then on by
-    /// each call. Without memory the piece is not taken. Copies the piece once, each frame once, and what is left over.
+    /// each call. Without memory the piece is not taken. Copies each frame once, and the bytes of a frame that comes in
+    /// several pieces once more.
     pub fn take(&mut self, piece: &[u8]) -> Result<Vec<Bytes>, CutFault>
+        ensures takes { Takes self.old piece.now result self.new }
+        ensures for_good { (n : ℤ) → bad_length_of self.old.rest ≡ Some n → result ≡ Err (faults.BadLength self.old.place n) }
+    {
+        if self.rest.is_empty() {
+            self.take_front(piece)
+        } else {
+            self.take_behind(piece)
+        }
+    }
+
+    /// The same where nothing is held: the frames are copied straight from the piece.
+    fn take_front(&mut self, piece: &[u8]) -> Result<Vec<Bytes>, CutFault>
+        requires { self.old.rest ≡ [] }
+        ensures { Takes self.old piece.now result self.new }
+    {
+        let Ok((frames, rest)) = cut(self.alloc, piece) else {
+            return Err(CutFault::Memory);
+        };
+        if !frames.is_empty() {
+            if self.rest.extend_from_slice(rest).is_err() {
+                return Err(CutFault::Memory);
+            }
+            let cut_off = piece.len() - rest.len();
+            self.place = self.place.saturating_add(cut_off as u64);
+            return Ok(frames);
+        }
+        self.take_behind(piece)
+    }
+
+    /// The same behind what is held.
+    fn take_behind(&mut self, piece: &[u8]) -> Result<Vec<Bytes>, CutFault>
         ensures takes { Takes self.old piece.now result self.new }
         ensures for_good { (n : ℤ) → bad_length_of self.old.rest ≡ Some n → result ≡ Err (faults.BadLength self.old.place n) }
     {
