@@ -20,9 +20,10 @@
 //! # Cost
 //!
 //! Every call takes time in proportion to its bytes. Cutting copies each frame once, straight from the piece where nothing
-//! is held; what is not whole yet is held, which copies it once more. Reading copies each text and each buffer once and allocates once for each of them and for each vector; only the
-//! parts and results of a multi are grown one by one. Writing reserves the packet's length once and copies each text and
-//! each buffer once, and the numbers of a Stat together. `bench/wire.sh` runs it beside the same work in plain Rust.
+//! is held; what is not whole yet is held, which copies it once more. Reading copies each text and each buffer once and
+//! allocates once for each of them and for each vector; only the parts and results of a multi are grown one by one.
+//! Writing reserves the packet's length once and copies each text and each buffer once, and the numbers of a Stat
+//! together. `bench/wire.sh` runs it beside the same work in plain Rust.
 #![tactic(auto)]
 
 mod connects;
