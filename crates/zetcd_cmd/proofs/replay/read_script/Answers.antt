@@ -1,7 +1,8 @@
 use Rattle.std.proofs.Common.{◌≡◌, ◌++◌, [], List, ℕ, length, take, refl, arith, subst}
 use Rattle.zx_outside.proofs.Streams.{Gives-nil, Gives-append}
+use Rattle.zetcd_cmd.specs.declared.script.Stop.TheVariants as stop
 use Rattle.zetcd_cmd.specs.Scripting.{Stands, Ends}
-use Rattle.zetcd_cmd.proofs.Endings.{EndsReading-stopped, EndsReading-all, EndsReading-fault, no_fault_at_end, Failed-call, written_over}
+use Rattle.zetcd_cmd.proofs.Endings.{EndsReading-stopped, EndsReading-all, EndsReading-fault, EndsRead-stopped, EndsRead-all, no_fault_at_end, Failed-call, written_over}
 use Rattle.zetcd_cmd.proofs.replay.read_script.Goals as goal
 
 pub pieces-init : goal.pieces-init
@@ -13,6 +14,11 @@ pieces-init g c = record {
   idles_stay = omega arith;
 }
 
+pub returns-in_default-clause-settled : goal.returns-in_default-clause-settled
+returns-in_default-clause-settled g c =
+    EndsRead-stopped [] (g.I.Source.given c.args.input.now) (g.I.Source.given c.args.input.now) (g.I.Source.left c.args.input.now) (g.I.Source.left c.args.input.now) c.args.script.now stop.Memory
+    (Gives-nil (g.I.Source.given c.args.input.now) (g.I.Source.left c.args.input.now)) (λ rest. tt {0})
+
 pub returns-in-Err-clause-end : goal.returns-in-Err-clause-end
 returns-in-Err-clause-end g c =
     let seen = c.pieces.invariant.seen.0 in
@@ -20,6 +26,16 @@ returns-in-Err-clause-end g c =
     let size : length c.next_piece.new.buffer ≡ c.pieces.buffer.len = omega (arith, c.next_piece.auto.buffer, c.as_mut_slice.ensures.len) in
     let whole : c.deref.result.now ≡ c.next_piece.new.buffer = written_over c.deref.result.now c.next_piece.new.buffer _ c.pieces.buffer.len c.deref.ensures.value size in
     EndsReading-stopped (seen ++ piece) (g.I.Source.given c.args.input.now) (g.I.Source.given c.next_piece.new.input) (g.I.Source.left c.args.input.now) (g.I.Source.left c.next_piece.new.input) c.take.new.self c.in-Err.stop
+    (Gives-append seen piece _ _ _ _ _ _ c.pieces.invariant.seen.1 c.in-Bytes.ensures.bytes)
+    (λ rest. subst (λ (b : List ℕ). Ends ((seen ++ take c.in-Bytes.count b) ++ rest) c.take.new.self c.in-Err.stop) whole (c.in-Err.ensures.err seen rest c.pieces.invariant.seen.2))
+
+pub returns-in-Err-clause-settled : goal.returns-in-Err-clause-settled
+returns-in-Err-clause-settled g c =
+    let seen = c.pieces.invariant.seen.0 in
+    let piece = take c.in-Bytes.count c.next_piece.new.buffer in
+    let size : length c.next_piece.new.buffer ≡ c.pieces.buffer.len = omega (arith, c.next_piece.auto.buffer, c.as_mut_slice.ensures.len) in
+    let whole : c.deref.result.now ≡ c.next_piece.new.buffer = written_over c.deref.result.now c.next_piece.new.buffer _ c.pieces.buffer.len c.deref.ensures.value size in
+    EndsRead-stopped (seen ++ piece) (g.I.Source.given c.args.input.now) (g.I.Source.given c.next_piece.new.input) (g.I.Source.left c.args.input.now) (g.I.Source.left c.next_piece.new.input) c.take.new.self c.in-Err.stop
     (Gives-append seen piece _ _ _ _ _ _ c.pieces.invariant.seen.1 c.in-Bytes.ensures.bytes)
     (λ rest. subst (λ (b : List ℕ). Ends ((seen ++ take c.in-Bytes.count b) ++ rest) c.take.new.self c.in-Err.stop) whole (c.in-Err.ensures.err seen rest c.pieces.invariant.seen.2))
 
@@ -45,6 +61,13 @@ pub returns-in-End-clause-end : goal.returns-in-End-clause-end
 returns-in-End-clause-end g c =
     let seen = c.pieces.invariant.seen.0 in
     EndsReading-all c.finish.result seen (g.I.Source.given c.args.input.now) (g.I.Source.given c.pieces.input) (g.I.Source.given c.next_piece.new.input)
+    (g.I.Source.left c.args.input.now) (g.I.Source.left c.pieces.input) (g.I.Source.left c.next_piece.new.input) c.finish.new.script
+    c.pieces.invariant.seen.1 c.in-End.ensures.bytes.0 c.in-End.ensures.bytes.1 (c.finish.ensures seen c.pieces.invariant.seen.2)
+
+pub returns-in-End-clause-settled : goal.returns-in-End-clause-settled
+returns-in-End-clause-settled g c =
+    let seen = c.pieces.invariant.seen.0 in
+    EndsRead-all c.finish.result seen (g.I.Source.given c.args.input.now) (g.I.Source.given c.pieces.input) (g.I.Source.given c.next_piece.new.input)
     (g.I.Source.left c.args.input.now) (g.I.Source.left c.pieces.input) (g.I.Source.left c.next_piece.new.input) c.finish.new.script
     c.pieces.invariant.seen.1 c.in-End.ensures.bytes.0 c.in-End.ensures.bytes.1 (c.finish.ensures seen c.pieces.invariant.seen.2)
 
