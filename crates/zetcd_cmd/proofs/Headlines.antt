@@ -15,6 +15,7 @@ use Rattle.zetcd_cmd.specs.declared.report.End.{End}
 use Rattle.zetcd_cmd.specs.declared.report.End.TheVariants as end
 use Rattle.zetcd_cmd.specs.declared.script.Script.{Script}
 use Rattle.zetcd_cmd.specs.declared.script.Stop.TheVariants as stop
+use Rattle.zetcd_cmd.specs.declared.status.Status.{Status}
 use Rattle.zetcd_cmd.specs.declared.status.Status.TheVariants as status
 use Rattle.zetcd_cmd.specs.Ending.{EndsReading, EndsRead}
 use Rattle.zetcd_cmd.specs.Outcomes.{Wrote, Replays, Stops, IsSettled, Settles, CutsShort}
@@ -184,6 +185,9 @@ fault_from (end.Stopped (stop.Unread why)) n is = cc
 fault_from (end.Stopped (stop.Refused why)) n is = cc
 fault_from (end.Stopped stop.Memory) n is = cc
 fault_from end.ReadFault n is = refl
+
+pub unfailed : (how : End) (n : ℕ) (s : Status) → s ≡ status_after how n → (s ≡ status.ReadFault → ⊥) → how ≡ end.ReadFault → ⊥
+unfailed how n s is not failed = not (is ∙ ap (λ (h : End). status_after h n) failed)
 
 pub never_write_fault : (how : End) (n : ℕ) → status_after how n ≡ status.WriteFault → ⊥
 never_write_fault end.Whole n is = cc

@@ -16,6 +16,7 @@ use Rattle.zx_outside.specs.Writing.{Takes}
 use Rattle.zx_outside.proofs.Streams.{Gives-append, Gives-none, Takes-append}
 use Rattle.zetcd_cmd.specs.declared.show.Close.{Close}
 use Rattle.zetcd_cmd.specs.declared.show.Close.TheVariants as close
+use Rattle.zetcd_cmd.specs.declared.status.Status.{Status}
 use Rattle.zetcd_cmd.specs.declared.status.Status.TheVariants as status
 use Rattle.zetcd_cmd.specs.Outcomes.{IsReplay, IsShow, Wrote, IsBroken, Shows, Breaks, ShowsFront, IsEnd, IsCut}
 use Rattle.zetcd_cmd.specs.Streaming.{status_at, Passes, Closes, Finishes, IsOpen, Told}
@@ -170,3 +171,11 @@ ShowsFront-fault close.ReadFault count (Some before) given' left left' taken tak
 ShowsFront-fault (close.Ended end) count given given' left left' taken taken' told is = absurd cc
 ShowsFront-fault close.WriteFault count given given' left left' taken taken' told is = absurd cc
 ShowsFront-fault close.Memory count given given' left left' taken taken' told is = absurd cc
+
+-- ---- no fault is passed over
+
+pub no_read_fault : (how : Close) (count : ℕ) (s : Status) → s ≡ status_at how count → (s ≡ status.ReadFault → ⊥) → how ≡ close.ReadFault → ⊥
+no_read_fault how count s is not failed = not (is ∙ ap (λ (h : Close). status_at h count) failed)
+
+pub no_write_fault : (how : Close) (count : ℕ) (s : Status) → s ≡ status_at how count → (s ≡ status.WriteFault → ⊥) → how ≡ close.WriteFault → ⊥
+no_write_fault how count s is not failed = not (is ∙ ap (λ (h : Close). status_at h count) failed)

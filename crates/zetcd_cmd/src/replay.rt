@@ -26,6 +26,9 @@ pub fn replay<I: Source, O: Sink>(alloc: Global, input: &mut I, out: &mut O) -> 
     ensures read { result ≡ Status.ReadFault → Failed (I.faults input.old) (I.faults input.new) (I.idles input.old) (I.idles input.new) }
     ensures cut { result ≡ Status.ReadFault → CutsShort (I.given input.old) (I.given input.new) (O.taken out.old) (O.taken out.new) }
     ensures write { result ≡ Status.WriteFault → Rose (O.faults out.old) (O.faults out.new) }
+    ensures output_unharmed { result ≢ Status.WriteFault → O.faults out.new ≡ O.faults out.old }
+    ensures done_unharmed { result ≡ Status.Done → I.faults input.new ≡ I.faults input.old }
+    ensures script_unharmed { (line : ℕ) → result ≡ Status.Script line → I.faults input.new ≡ I.faults input.old }
     ensures never_usage { result ≢ Status.Usage }
     ensures input_stays { (I.faults input.old ≤ I.faults input.new) × (I.idles input.old ≤ I.idles input.new) }
     ensures output_stays { O.faults out.old ≤ O.faults out.new }
@@ -48,6 +51,7 @@ fn read_script<I: Source>(alloc: Global, input: &mut I, script: &mut Script) -> 
     ensures end { EndsReading result script.new (I.given input.old) (I.given input.new) (I.left input.old) (I.left input.new) }
     ensures settled { EndsRead result script.new (I.given input.old) (I.given input.new) (I.left input.new) }
     ensures fault { result ≡ End.ReadFault → Failed (I.faults input.old) (I.faults input.new) (I.idles input.old) (I.idles input.new) }
+    ensures unharmed { result ≢ End.ReadFault → I.faults input.new ≡ I.faults input.old }
     ensures faults_stay { I.faults input.old ≤ I.faults input.new }
     ensures idles_stay { I.idles input.old ≤ I.idles input.new }
 {

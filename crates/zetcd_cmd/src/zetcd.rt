@@ -41,6 +41,10 @@ pub fn zetcd<I: Source, O: Sink>(
     // Of both.
     ensures read { result ≡ Status.ReadFault → Failed (I.faults input.old) (I.faults input.new) (I.idles input.old) (I.idles input.new) }
     ensures write { result ≡ Status.WriteFault → Rose (O.faults out.old) (O.faults out.new) }
+    // No fault of the output is passed over, and none of the input where the input ended it.
+    ensures output_unharmed { result ≢ Status.WriteFault → O.faults out.new ≡ O.faults out.old }
+    ensures done_unharmed { result ≡ Status.Done → I.faults input.new ≡ I.faults input.old }
+    ensures script_unharmed { (line : ℕ) → result ≡ Status.Script line → I.faults input.new ≡ I.faults input.old }
     // Other words are refused, with the usage and nothing read; these never are.
     ensures refused { ¬ IsReplay words.now → ¬ IsShow words.now → result ≢ Status.WriteFault → result ≡ Status.Usage }
     ensures usage { result ≡ Status.Usage → (¬ IsReplay words.now) × (¬ IsShow words.now) × Takes usage_text (O.taken out.old) (O.taken out.new) }

@@ -1,4 +1,4 @@
-use Rattle.std.proofs.Common.{◌≡◌, ◌++◌, [], List, ℕ, length, take, refl, arith, subst}
+use Rattle.std.proofs.Common.{◌≡◌, ◌∙◌, ◌++◌, [], List, ℕ, length, take, refl, arith, subst}
 use Rattle.zx_outside.proofs.Streams.{Gives-nil, Gives-append}
 use Rattle.zetcd_cmd.specs.declared.script.Stop.TheVariants as stop
 use Rattle.zetcd_cmd.specs.Scripting.{Stands, Ends}
@@ -10,6 +10,7 @@ pieces-init g c = record {
   seen = ([], Gives-nil (g.I.Source.given c.args.input.now) (g.I.Source.left c.args.input.now), c.requires);
   wide = c.in-Ok.ensures.len;
   waited = omega arith;
+  unharmed = refl;
   faults_stay = omega arith;
   idles_stay = omega arith;
 }
@@ -39,6 +40,9 @@ returns-in-Err-clause-settled g c =
     (Gives-append seen piece _ _ _ _ _ _ c.pieces.invariant.seen.1 c.in-Bytes.ensures.bytes)
     (λ rest. subst (λ (b : List ℕ). Ends ((seen ++ take c.in-Bytes.count b) ++ rest) c.take.new.self c.in-Err.stop) whole (c.in-Err.ensures.err seen rest c.pieces.invariant.seen.2))
 
+pub returns-in-Err-clause-unharmed : goal.returns-in-Err-clause-unharmed
+returns-in-Err-clause-unharmed g c = λ not. c.in-Bytes.ensures.unharmed (λ no. cc) ∙ c.pieces.invariant.unharmed
+
 pub pieces-preserved : goal.pieces-preserved
 pieces-preserved g c =
     let seen = c.pieces.invariant.seen.0 in
@@ -53,6 +57,7 @@ pieces-preserved g c =
       );
       wide = c.pieces.invariant.wide;
       waited = c.next_piece.ensures.waited (g.I.Source.idles c.args.input.now) c.pieces.invariant.waited;
+      unharmed = c.in-Bytes.ensures.unharmed (λ no. cc) ∙ c.pieces.invariant.unharmed;
       faults_stay = omega (arith, c.next_piece.ensures.faults_stay, c.pieces.invariant.faults_stay);
       idles_stay = omega (arith, c.next_piece.ensures.idles_stay, c.pieces.invariant.idles_stay);
     }
@@ -74,6 +79,9 @@ returns-in-End-clause-settled g c =
 pub returns-in-End-clause-fault : goal.returns-in-End-clause-fault
 returns-in-End-clause-fault g c = λ is.
     absurd (no_fault_at_end c.finish.result c.pieces.invariant.seen.0 c.finish.new.script (c.finish.ensures c.pieces.invariant.seen.0 c.pieces.invariant.seen.2) is)
+
+pub returns-in-End-clause-unharmed : goal.returns-in-End-clause-unharmed
+returns-in-End-clause-unharmed g c = λ not. c.in-End.ensures.unharmed (λ no. cc) ∙ c.pieces.invariant.unharmed
 
 pub returns-in-Fault-clause-end : goal.returns-in-Fault-clause-end
 returns-in-Fault-clause-end g c =
