@@ -186,8 +186,8 @@ fault_from (end.Stopped (stop.Refused why)) n is = cc
 fault_from (end.Stopped stop.Memory) n is = cc
 fault_from end.ReadFault n is = refl
 
-pub unfailed : (how : End) (n : ℕ) (s : Status) → s ≡ status_after how n → (s ≡ status.ReadFault → ⊥) → how ≡ end.ReadFault → ⊥
-unfailed how n s is not failed = not (is ∙ ap (λ (h : End). status_after h n) failed)
+pub no_read_fault : (how : End) (n : ℕ) (s : Status) → s ≡ status_after how n → (s ≡ status.ReadFault → ⊥) → how ≡ end.ReadFault → ⊥
+no_read_fault how n s is not failed = not (is ∙ ap (λ (h : End). status_after h n) failed)
 
 pub never_write_fault : (how : End) (n : ℕ) → status_after how n ≡ status.WriteFault → ⊥
 never_write_fault end.Whole n is = cc

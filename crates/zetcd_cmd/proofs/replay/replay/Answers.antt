@@ -3,7 +3,7 @@ use Rattle.zk_model.specs.declared.transcript.TranscriptLine.{TranscriptLine}
 use Rattle.zk_model.specs.Transcripts.{transcript_text}
 use Rattle.zx_outside.specs.Writing.{Takes}
 use Rattle.zetcd_cmd.specs.Reporting.{ending_text}
-use Rattle.zetcd_cmd.proofs.Headlines.{Replays-done, Stops-script, Settles-script, CutsShort-fault, fault_from, unfailed, never_write_fault, never_usage}
+use Rattle.zetcd_cmd.proofs.Headlines.{Replays-done, Stops-script, Settles-script, CutsShort-fault, fault_from, no_read_fault, never_write_fault, never_usage}
 use Rattle.zetcd_cmd.proofs.replay.replay.Goals as goal
 
 pub returns-in-Ok-report-clause-done : goal.returns-in-Ok-report-clause-done
@@ -42,11 +42,11 @@ returns-in-Ok-report-clause-write g c = λ is. absurd (never_write_fault c.read_
 
 pub returns-in-Ok-report-clause-done_unharmed : goal.returns-in-Ok-report-clause-done_unharmed
 returns-in-Ok-report-clause-done_unharmed g c = λ is.
-    c.read_script-end.ensures.unharmed (unfailed c.read_script-end.result c.line-line.result c.status_of.result c.status_of.ensures (λ no. cc))
+    c.read_script-end.ensures.unharmed (no_read_fault c.read_script-end.result c.line-line.result c.status_of.result c.status_of.ensures (λ no. cc))
 
 pub returns-in-Ok-report-clause-script_unharmed : goal.returns-in-Ok-report-clause-script_unharmed
 returns-in-Ok-report-clause-script_unharmed g c = λ line is.
-    c.read_script-end.ensures.unharmed (unfailed c.read_script-end.result c.line-line.result c.status_of.result c.status_of.ensures (λ no. cc))
+    c.read_script-end.ensures.unharmed (no_read_fault c.read_script-end.result c.line-line.result c.status_of.result c.status_of.ensures (λ no. cc))
 
 pub returns-in-Ok-report-clause-never_usage : goal.returns-in-Ok-report-clause-never_usage
 returns-in-Ok-report-clause-never_usage g c = λ is. never_usage c.read_script-end.result c.line-line.result (sym c.status_of.ensures ∙ is)

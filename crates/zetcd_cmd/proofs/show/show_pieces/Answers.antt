@@ -1,8 +1,7 @@
 use Rattle.std.proofs.Common.{◌≡◌, ◌∙◌, ◌++◌, [], List, ℕ, length, take, refl, sym, arith, subst}
 use Rattle.zt_show.specs.Showing.{Follows}
-use Rattle.zt_show.specs.Shown.{joined}
 use Rattle.zx_outside.proofs.Streams.{Gives-nil, Gives-append, append_known-nil}
-use Rattle.zetcd_cmd.specs.Streaming.{Closes, Passes}
+use Rattle.zetcd_cmd.specs.Streaming.{Closes}
 use Rattle.zetcd_cmd.proofs.Endings.{Failed-call, written_over}
 use Rattle.zetcd_cmd.proofs.Showings.{Follows-unshown, Takes-lines, Told-closed, Told-finished, Told-fault}
 use Rattle.zetcd_cmd.proofs.show.show_pieces.Goals as goal
