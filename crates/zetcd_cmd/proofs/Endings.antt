@@ -11,7 +11,7 @@ use Rattle.zetcd_cmd.specs.declared.report.End.TheVariants as end
 use Rattle.zetcd_cmd.specs.declared.script.Script.{Script}
 use Rattle.zetcd_cmd.specs.declared.script.Stop.{Stop}
 use Rattle.zetcd_cmd.specs.Outcomes.{Failed, patience}
-use Rattle.zetcd_cmd.specs.Ending.{EndsAll, EndsReading}
+use Rattle.zetcd_cmd.specs.Ending.{EndsAll, EndsReading, EndsRead}
 use Rattle.zetcd_cmd.specs.Scripting.{Stands, IsApplied, Ends}
 use Rattle.zetcd_cmd.specs.Streams.{Waited}
 
@@ -45,6 +45,20 @@ EndsReading-all (end.Stopped why) seen given given' given'' (Some input) None le
 EndsReading-all (end.Stopped why) seen given given' given'' (Some input) (Some rest) left'' s gives none stays ends =
     subst (λ (t : List ℕ). Ends t s why) (whole_end seen input rest given given' gives none) ends
 EndsReading-all end.ReadFault seen given given' given'' left left' left'' s gives none stays ends = absurd ends
+
+-- the bytes that were read settle it
+pub EndsRead-stopped : (seen : List ℕ) (given given' left left' : Option (List ℕ)) (s : Script) (why : Stop) → Gives seen given given' left left' →
+    ((rest : List ℕ) → Ends (seen ++ rest) s why) → EndsRead (end.Stopped why) s given given' left'
+EndsRead-stopped seen None given' left left' s why gives ends = tt {0}
+EndsRead-stopped seen (Some before) given' left left' s why gives ends = (seen, gives.grown, subst (λ (t : List ℕ). Ends t s why) (append-nil seen) (ends []), inr ends)
+
+pub EndsRead-all : (how : End) (seen : List ℕ) (given given' given'' left left' left'' : Option (List ℕ)) (s : Script) → Gives seen given given' left left' → IsAtEnd left' →
+    GivesNone given' given'' left' left'' → EndsAll how seen s → EndsRead how s given given'' left''
+EndsRead-all end.Whole seen given given' given'' left left' left'' s gives none stays ends = tt {0}
+EndsRead-all (end.Stopped why) seen None given' given'' left left' left'' s gives none stays ends = tt {0}
+EndsRead-all (end.Stopped why) seen (Some before) given' given'' left left' left'' s gives none stays ends =
+    (seen, stays.given_stays ∙ gives.grown, ends, inl (subst IsAtEnd (sym stays.left_stays) none))
+EndsRead-all end.ReadFault seen given given' given'' left left' left'' s gives none stays ends = absurd ends
 
 pub no_fault_at_end : (how : End) (seen : List ℕ) (s : Script) → EndsAll how seen s → how ≡ end.ReadFault → ⊥
 no_fault_at_end end.Whole seen s ends is = cc

@@ -1,6 +1,7 @@
 -- What a replay did, from how its script ended and what was written.
-use Rattle.std.proofs.Common.{◌≡◌, ℕ, ◌==◌, false, true≢false, List, [], ◌∷◌, ◌++◌, refl, sym, ap, ◌∙◌, subst, append-nil}
+use Rattle.std.proofs.Common.{◌≡◌, ℕ, ◌==◌, ◌⊎◌, ⊎_elim, false, true≢false, List, [], ◌∷◌, ◌++◌, refl, sym, ap, ◌∙◌, subst, append-nil, inl, inr}
 use Rattle.std.specs.Prelude.{Option, Some, None}
+use Rattle.std.specs.Io.KnownBytes.{IsAtEnd}
 use Rattle.std.specs.List.{Contains}
 use Rattle.std.proofs.lemmas.List.Elements.{All-contains}
 use Rattle.zk_model.specs.declared.script.Happening.{Happening}
@@ -14,9 +15,10 @@ use Rattle.zetcd_cmd.specs.declared.report.End.{End}
 use Rattle.zetcd_cmd.specs.declared.report.End.TheVariants as end
 use Rattle.zetcd_cmd.specs.declared.script.Script.{Script}
 use Rattle.zetcd_cmd.specs.declared.script.Stop.TheVariants as stop
+use Rattle.zetcd_cmd.specs.declared.status.Status.{Status}
 use Rattle.zetcd_cmd.specs.declared.status.Status.TheVariants as status
-use Rattle.zetcd_cmd.specs.Ending.{EndsReading}
-use Rattle.zetcd_cmd.specs.Outcomes.{Wrote, Replays, Stops, CutsShort}
+use Rattle.zetcd_cmd.specs.Ending.{EndsReading, EndsRead}
+use Rattle.zetcd_cmd.specs.Outcomes.{Wrote, Replays, Stops, IsSettled, Settles, CutsShort}
 use Rattle.zetcd_cmd.specs.Reporting.{ending_text, status_after}
 use Rattle.zetcd_cmd.specs.Scripting.{HasNoLineFeed, Stands, IsApplied, IsHalted, IsAgainst}
 use Rattle.zetcd_cmd.proofs.Progress.{script-lines}
@@ -111,6 +113,40 @@ Stops-script (end.Stopped (stop.Refused why)) n line s given given' (Some input)
 Stops-script (end.Stopped stop.Memory) n line s given given' left left' taken taken' at ends takes is = absurd (cc)
 Stops-script end.ReadFault n line s given given' left left' taken taken' at ends takes is = absurd (cc)
 
+-- ---- settled by the bytes that were read
+
+settled_unread : (read : List ℕ) (s : Script) (n : ℕ) (why : Unread) (left' : Option (List ℕ)) → n ≡ s.line → IsHalted read s (stop.Unread why) →
+    IsAtEnd left' ⊎ ((rest : List ℕ) → IsHalted (read ++ rest) s (stop.Unread why)) → IsSettled read (transcript_text s.world.lines ++ fault_text n (unread_text why)) n left'
+settled_unread read s n why left' at halted good = record {
+  stopped = stopped_unread read s n why at halted;
+  for_good = ⊎_elim (λ (end : IsAtEnd left'). inl end) (λ (any : (rest : List ℕ) → IsHalted (read ++ rest) s (stop.Unread why)). inr (λ rest. stopped_unread (read ++ rest) s n why at (any rest))) good;
+}
+
+settled_refused : (read : List ℕ) (s : Script) (n : ℕ) (why : Why) (left' : Option (List ℕ)) → n ≡ s.line → IsHalted read s (stop.Refused why) →
+    IsAtEnd left' ⊎ ((rest : List ℕ) → IsHalted (read ++ rest) s (stop.Refused why)) → IsSettled read (transcript_text s.world.lines ++ fault_text n (why_text why)) n left'
+settled_refused read s n why left' at halted good = record {
+  stopped = stopped_refused read s n why at halted;
+  for_good = ⊎_elim (λ (end : IsAtEnd left'). inl end) (λ (any : (rest : List ℕ) → IsHalted (read ++ rest) s (stop.Refused why)). inr (λ rest. stopped_refused (read ++ rest) s n why at (any rest))) good;
+}
+
+settles_at : (n line : ℕ) (last : List ℕ) (s : Script) (read : List ℕ) (left' taken taken' : Option (List ℕ)) → n ≡ line → IsSettled read (transcript_text s.world.lines ++ last) n left' →
+    Takes (transcript_text s.world.lines ++ last) taken taken' → Wrote (λ output. IsSettled read output line left') taken taken'
+settles_at n line last s read left' taken taken' same settled takes =
+    Wrote-output (λ output. IsSettled read output line left') (transcript_text s.world.lines ++ last) taken taken' takes
+    (subst (λ (m : ℕ). IsSettled read (transcript_text s.world.lines ++ last) m left') same settled)
+
+pub Settles-script : (how : End) (n line : ℕ) (s : Script) (given given' left' taken taken' : Option (List ℕ)) → n ≡ s.line → EndsRead how s given given' left' →
+    Takes (transcript_text s.world.lines ++ ending_text how n) taken taken' → status_after how n ≡ status.Script line → Settles line given given' left' taken taken'
+Settles-script end.Whole n line s given given' left' taken taken' at ends takes is = absurd (cc)
+Settles-script (end.Stopped (stop.Unread why)) n line s None given' left' taken taken' at ends takes is = tt {0}
+Settles-script (end.Stopped (stop.Unread why)) n line s (Some before) given' left' taken taken' at ends takes is =
+    (ends.0, ends.1, settles_at n line (fault_text n (unread_text why)) s ends.0 left' taken taken' (cc) (settled_unread ends.0 s n why left' at ends.2 ends.3) takes)
+Settles-script (end.Stopped (stop.Refused why)) n line s None given' left' taken taken' at ends takes is = tt {0}
+Settles-script (end.Stopped (stop.Refused why)) n line s (Some before) given' left' taken taken' at ends takes is =
+    (ends.0, ends.1, settles_at n line (fault_text n (why_text why)) s ends.0 left' taken taken' (cc) (settled_refused ends.0 s n why left' at ends.2 ends.3) takes)
+Settles-script (end.Stopped stop.Memory) n line s given given' left' taken taken' at ends takes is = absurd (cc)
+Settles-script end.ReadFault n line s given given' left' taken taken' at ends takes is = absurd (cc)
+
 -- ---- cut short
 
 lacks : (bytes : List ℕ) → HasNoLineFeed bytes → Contains bytes 10 → ⊥
@@ -149,6 +185,9 @@ fault_from (end.Stopped (stop.Unread why)) n is = cc
 fault_from (end.Stopped (stop.Refused why)) n is = cc
 fault_from (end.Stopped stop.Memory) n is = cc
 fault_from end.ReadFault n is = refl
+
+pub no_read_fault : (how : End) (n : ℕ) (s : Status) → s ≡ status_after how n → (s ≡ status.ReadFault → ⊥) → how ≡ end.ReadFault → ⊥
+no_read_fault how n s is not failed = not (is ∙ ap (λ (h : End). status_after h n) failed)
 
 pub never_write_fault : (how : End) (n : ℕ) → status_after how n ≡ status.WriteFault → ⊥
 never_write_fault end.Whole n is = cc

@@ -1,25 +1,25 @@
 -- What was shown of a stream, from the reads of its source and the writes to its sink.
-use Rattle.std.proofs.Common.{◌≡◌, ℕ, ◌+◌, ◌≤◌, ◌⊎◌, ⊎_elim, List, [], ◌∷◌, ◌++◌, length, refl, sym, ap, ◌∙◌, subst, arith, append_assoc, append-nil, inl, inr}
-use denote.Ref.{Bor}
-use Rattle.std.specs.Prelude.{Option, Some, None, IfSome, Bool, true, false, ◌==◌, if◌then◌else◌, codes}
-use Rattle.std.specs.Io.KnownBytes.{IsAtEnd, append_known}
+use Rattle.std.proofs.Common.{◌≡◌, ℕ, ◌+◌, ◌⊎◌, ⊎_elim, List, [], ◌++◌, length, refl, sym, ap, ◌∙◌, subst, arith, append_assoc, inl, inr}
+use Rattle.std.specs.Prelude.{Option, Some, None, Bool, true, false, ◌==◌, if◌then◌else◌}
+use Rattle.std.specs.Io.KnownBytes.{IsAtEnd}
 use Rattle.zk_model.proofs.Framing.{no_frame}
 use Rattle.zt_show.specs.declared.ending.Ending.{Ending}
 use Rattle.zt_show.specs.declared.ending.Ending.TheVariants as ending
-use Rattle.zt_show.specs.Shown.{Shown, joined, most_stream, ending_line, ending_of, ending_before_more, shown_text, shown_from, IsShown}
+use Rattle.zt_show.specs.Shown.{Shown, joined, ending_line, ending_of, ending_before_more, shown_text, IsShown}
 use Rattle.zt_show.specs.Showing.{Showing, unshown, Follows, Ends, IsShownAs}
 use Rattle.zt_show.proofs.Framings.{framed_none}
 use Rattle.zt_show.proofs.Passing.{joined-append}
 use Rattle.zt_show.proofs.Stopping.{IsShown-whole}
 use Rattle.zx_outside.specs.Reading.{Gives, GivesNone}
 use Rattle.zx_outside.specs.Writing.{Takes}
-use Rattle.zx_outside.proofs.Streams.{Gives-append, Gives-none, Takes-append}
+use Rattle.zx_outside.proofs.Streams.{Gives-none, Takes-append}
 use Rattle.zetcd_cmd.specs.declared.show.Close.{Close}
 use Rattle.zetcd_cmd.specs.declared.show.Close.TheVariants as close
+use Rattle.zetcd_cmd.specs.declared.status.Status.{Status}
 use Rattle.zetcd_cmd.specs.declared.status.Status.TheVariants as status
-use Rattle.zetcd_cmd.specs.Outcomes.{IsReplay, IsShow, Wrote, IsBroken, Shows, Breaks, ShowsFront, IsEnd, IsCut}
-use Rattle.zetcd_cmd.specs.Streaming.{status_at, Passes, Closes, Finishes, IsOpen, Told}
-use Rattle.zetcd_cmd.proofs.Endings.{whole_input, untold, whole_end, given_more}
+use Rattle.zetcd_cmd.specs.Outcomes.{IsBroken, Shows, Breaks, ShowsFront, IsEnd, IsCut}
+use Rattle.zetcd_cmd.specs.Streaming.{status_at, Closes, Finishes, IsOpen, Told}
+use Rattle.zetcd_cmd.proofs.Endings.{whole_input, untold, whole_end}
 use Rattle.zetcd_cmd.proofs.Headlines.{Wrote-output}
 
 -- ---- piece by piece
@@ -170,3 +170,11 @@ ShowsFront-fault close.ReadFault count (Some before) given' left left' taken tak
 ShowsFront-fault (close.Ended end) count given given' left left' taken taken' told is = absurd cc
 ShowsFront-fault close.WriteFault count given given' left left' taken taken' told is = absurd cc
 ShowsFront-fault close.Memory count given given' left left' taken taken' told is = absurd cc
+
+-- ---- no fault is passed over
+
+pub no_read_fault : (how : Close) (count : ℕ) (s : Status) → s ≡ status_at how count → (s ≡ status.ReadFault → ⊥) → how ≡ close.ReadFault → ⊥
+no_read_fault how count s is not failed = not (is ∙ ap (λ (h : Close). status_at h count) failed)
+
+pub no_write_fault : (how : Close) (count : ℕ) (s : Status) → s ≡ status_at how count → (s ≡ status.WriteFault → ⊥) → how ≡ close.WriteFault → ⊥
+no_write_fault how count s is not failed = not (is ∙ ap (λ (h : Close). status_at h count) failed)

@@ -1,6 +1,7 @@
 -- What the program did, by the status that it ends with. What is said of bytes holds where the input and the output tell them.
 use Rattle.std.specs.Prelude.{◌≡◌, ◌⊎◌, ⊤, ℕ, ◌+◌, ◌-◌, ◌^◌, ◌≤◌, min, List, [], ◌∷◌, ◌++◌, codes, Option, Some, None}
 use denote.Ref.{Bor}
+use Rattle.std.specs.Io.KnownBytes.{IsAtEnd}
 use Rattle.zk_model.specs.Runs.{IsReplayed, IsStopped, IsCutShort}
 use Rattle.zt_show.specs.declared.ending.Ending.{Ending}
 use Rattle.zt_show.specs.declared.ending.Ending.TheVariants as ending
@@ -41,6 +42,16 @@ Replays (Some input) left' taken taken' = (left' ≡ Some []) × Wrote (IsReplay
 abbrev pub Stops : ℕ → Option (List ℕ) → Option (List ℕ) → Option (List ℕ) → Type 0
 Stops line None taken taken' = ⊤
 Stops line (Some input) taken taken' = Wrote (λ output. IsStopped input output line) taken taken'
+
+-- the bytes that were read settle it: no later byte is needed, and where there could be one, none changes it
+pub record IsSettled (read output : List ℕ) (line : ℕ) (left' : Option (List ℕ)) : Type 0 where
+  pub stopped : IsStopped read output line
+  pub for_good : IsAtEnd left' ⊎ ((rest : List ℕ) → IsStopped (read ++ rest) output line)
+
+-- the same of the bytes that this call read; `given` is what the input had given before it
+abbrev pub Settles : ℕ → Option (List ℕ) → Option (List ℕ) → Option (List ℕ) → Option (List ℕ) → Option (List ℕ) → Type 0
+Settles line None given' left' taken taken' = ⊤
+Settles line (Some given) given' left' taken taken' = (read : List ℕ) × (given' ≡ Some (given ++ read)) × Wrote (λ output. IsSettled read output line left') taken taken'
 
 -- the replay of the whole lines that came was written; `given` is what the input had given before this call
 abbrev pub CutsShort : Option (List ℕ) → Option (List ℕ) → Option (List ℕ) → Option (List ℕ) → Type 0

@@ -2,9 +2,9 @@
 
 ghost use Rattle.std.specs.Prelude.{◌≡◌, ◌≢◌, ◌≤◌, ℕ, List, []};
 ghost use Rattle.zx_outside.specs.Counts.{Rose};
-ghost use Rattle.zetcd_cmd.specs.Outcomes.{Replays, Stops, CutsShort, Failed};
+ghost use Rattle.zetcd_cmd.specs.Outcomes.{Replays, Stops, Settles, CutsShort, Failed};
 ghost use Rattle.zetcd_cmd.specs.Scripting.{Stands};
-ghost use Rattle.zetcd_cmd.specs.Ending.{EndsReading, EndsAll};
+ghost use Rattle.zetcd_cmd.specs.Ending.{EndsReading, EndsRead, EndsAll};
 
 use crate::report::{End, Unwritten, report, status_of};
 use crate::script::{Script, Stop};
@@ -22,9 +22,13 @@ pub const ROOM: usize = 65_536;
 pub fn replay<I: Source, O: Sink>(alloc: Global, input: &mut I, out: &mut O) -> Status
     ensures done { result ≡ Status.Done → Replays (I.left input.old) (I.left input.new) (O.taken out.old) (O.taken out.new) }
     ensures script { (line : ℕ) → result ≡ Status.Script line → Stops line (I.left input.old) (O.taken out.old) (O.taken out.new) }
+    ensures settled { (line : ℕ) → result ≡ Status.Script line → Settles line (I.given input.old) (I.given input.new) (I.left input.new) (O.taken out.old) (O.taken out.new) }
     ensures read { result ≡ Status.ReadFault → Failed (I.faults input.old) (I.faults input.new) (I.idles input.old) (I.idles input.new) }
     ensures cut { result ≡ Status.ReadFault → CutsShort (I.given input.old) (I.given input.new) (O.taken out.old) (O.taken out.new) }
     ensures write { result ≡ Status.WriteFault → Rose (O.faults out.old) (O.faults out.new) }
+    ensures output_unharmed { result ≢ Status.WriteFault → O.faults out.new ≡ O.faults out.old }
+    ensures done_unharmed { result ≡ Status.Done → I.faults input.new ≡ I.faults input.old }
+    ensures script_unharmed { (line : ℕ) → result ≡ Status.Script line → I.faults input.new ≡ I.faults input.old }
     ensures never_usage { result ≢ Status.Usage }
     ensures input_stays { (I.faults input.old ≤ I.faults input.new) × (I.idles input.old ≤ I.idles input.new) }
     ensures output_stays { O.faults out.old ≤ O.faults out.new }
@@ -45,7 +49,9 @@ pub fn replay<I: Source, O: Sink>(alloc: Global, input: &mut I, out: &mut O) -> 
 fn read_script<I: Source>(alloc: Global, input: &mut I, script: &mut Script) -> End
     requires { Stands [] script.old }
     ensures end { EndsReading result script.new (I.given input.old) (I.given input.new) (I.left input.old) (I.left input.new) }
+    ensures settled { EndsRead result script.new (I.given input.old) (I.given input.new) (I.left input.new) }
     ensures fault { result ≡ End.ReadFault → Failed (I.faults input.old) (I.faults input.new) (I.idles input.old) (I.idles input.new) }
+    ensures unharmed { result ≢ End.ReadFault → I.faults input.new ≡ I.faults input.old }
     ensures faults_stay { I.faults input.old ≤ I.faults input.new }
     ensures idles_stay { I.idles input.old ≤ I.idles input.new }
 {

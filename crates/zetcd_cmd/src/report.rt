@@ -70,6 +70,8 @@ pub fn report<O: Sink>(
 ) -> Result<(), Unwritten>
     ensures ok { OnOk result (Takes (transcript_text lines.now ++ ending_text end line) (O.taken out.old) (O.taken out.new)) }
     ensures err { IfErr result (λ e. e ≡ Unwritten.Sink → Rose (O.faults out.old) (O.faults out.new)) }
+    ensures unharmed { OnOk result (O.faults out.new ≡ O.faults out.old) }
+    ensures err_unharmed { IfErr result (λ e. e ≡ Unwritten.Memory → O.faults out.new ≡ O.faults out.old) }
     ensures faults_stay { O.faults out.old ≤ O.faults out.new }
 {
     let mut text = Vec::new(alloc);
@@ -86,6 +88,8 @@ fn write_lines<O: Sink>(
 ) -> Result<(), Unwritten>
     ensures ok { OnOk result (Passes (transcript_text lines.now) text.old.items text.new.items (O.taken out.old) (O.taken out.new)) }
     ensures err { IfErr result (λ e. e ≡ Unwritten.Sink → Rose (O.faults out.old) (O.faults out.new)) }
+    ensures unharmed { OnOk result (O.faults out.new ≡ O.faults out.old) }
+    ensures err_unharmed { IfErr result (λ e. e ≡ Unwritten.Memory → O.faults out.new ≡ O.faults out.old) }
     ensures faults_stay { O.faults out.old ≤ O.faults out.new }
 {
     for line in lines {
@@ -102,6 +106,8 @@ fn write_line<O: Sink>(
 ) -> Result<(), Unwritten>
     ensures ok { OnOk result (Passes (line_text line.now) text.old.items text.new.items (O.taken out.old) (O.taken out.new)) }
     ensures err { IfErr result (λ e. e ≡ Unwritten.Sink → Rose (O.faults out.old) (O.faults out.new)) }
+    ensures unharmed { OnOk result (O.faults out.new ≡ O.faults out.old) }
+    ensures err_unharmed { IfErr result (λ e. e ≡ Unwritten.Memory → O.faults out.new ≡ O.faults out.old) }
     ensures faults_stay { O.faults out.old ≤ O.faults out.new }
 {
     push_line(text, line)?;
@@ -116,6 +122,7 @@ fn write_out<O: Sink>(text: &mut Vec<u8>, out: &mut O) -> Result<(), Unwritten>
     ensures ok { OnOk result (Takes text.old.items (O.taken out.old) (O.taken out.new)) }
     ensures empty { OnOk result (text.new.items ≡ []) }
     ensures err { IfErr result (λ e. (e ≡ Unwritten.Sink) × Rose (O.faults out.old) (O.faults out.new)) }
+    ensures unharmed { OnOk result (O.faults out.new ≡ O.faults out.old) }
     ensures faults_stay { O.faults out.old ≤ O.faults out.new }
 {
     if !write_all(out, text.as_slice()) {

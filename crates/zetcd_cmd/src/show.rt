@@ -35,6 +35,8 @@ pub fn show<I: Source, O: Sink>(alloc: Global, input: &mut I, out: &mut O) -> St
     ensures read { result ≡ Status.ReadFault → Failed (I.faults input.old) (I.faults input.new) (I.idles input.old) (I.idles input.new) }
     ensures cut { result ≡ Status.ReadFault → ShowsFront (I.given input.old) (I.given input.new) (O.taken out.old) (O.taken out.new) }
     ensures write { result ≡ Status.WriteFault → Rose (O.faults out.old) (O.faults out.new) }
+    ensures input_unharmed { result ≢ Status.ReadFault → I.faults input.new ≡ I.faults input.old }
+    ensures output_unharmed { result ≢ Status.WriteFault → O.faults out.new ≡ O.faults out.old }
     ensures never_usage { result ≢ Status.Usage }
     ensures input_stays { (I.faults input.old ≤ I.faults input.new) × (I.idles input.old ≤ I.idles input.new) }
     ensures output_stays { O.faults out.old ≤ O.faults out.new }
@@ -68,6 +70,8 @@ fn show_pieces<I: Source, O: Sink>(
     ensures told { Told result (I.given input.old) (I.given input.new) (I.left input.old) (I.left input.new) (O.taken out.old) (O.taken out.new) show.new.progress.lines }
     ensures read { result ≡ Close.ReadFault → Failed (I.faults input.old) (I.faults input.new) (I.idles input.old) (I.idles input.new) }
     ensures write { result ≡ Close.WriteFault → Rose (O.faults out.old) (O.faults out.new) }
+    ensures input_unharmed { result ≢ Close.ReadFault → I.faults input.new ≡ I.faults input.old }
+    ensures output_unharmed { result ≢ Close.WriteFault → O.faults out.new ≡ O.faults out.old }
     ensures faults_stay { I.faults input.old ≤ I.faults input.new }
     ensures idles_stay { I.idles input.old ≤ I.idles input.new }
     ensures output_stays { O.faults out.old ≤ O.faults out.new }
@@ -103,6 +107,8 @@ fn show_piece<O: Sink>(
     ensures room { OnOk result (show.new.progress.room + length piece.now ≡ show.old.progress.room) }
     ensures err { IfErr result (λ close. Closes close show.old piece.now (O.taken out.old) (O.taken out.new) show.new.progress.lines) }
     ensures write { IfErr result (λ close. close ≡ Close.WriteFault → Rose (O.faults out.old) (O.faults out.new)) }
+    ensures unharmed { OnOk result (O.faults out.new ≡ O.faults out.old) }
+    ensures err_unharmed { IfErr result (λ close. close ≢ Close.WriteFault → O.faults out.new ≡ O.faults out.old) }
     ensures faults_stay { O.faults out.old ≤ O.faults out.new }
 {
     let Ok(ending) = show.take(piece, text) else {
@@ -123,6 +129,7 @@ fn show_end<O: Sink>(show: &mut Show, text: &mut Lines, out: &mut O) -> Close
     requires { text.old ≡ [] }
     ensures told { Finishes result show.old (O.taken out.old) (O.taken out.new) show.new.progress.lines }
     ensures write { result ≡ Close.WriteFault → Rose (O.faults out.old) (O.faults out.new) }
+    ensures unharmed { result ≢ Close.WriteFault → O.faults out.new ≡ O.faults out.old }
     ensures faults_stay { O.faults out.old ≤ O.faults out.new }
 {
     let Ok(ending) = show.finish(text) else {

@@ -1,6 +1,6 @@
 //! Reading of the next piece, and writing of a whole one.
 
-ghost use Rattle.std.specs.Prelude.{◌≡◌, ◌<◌, ◌≤◌, ◌⊎◌, ℕ, length, IsTrue, false};
+ghost use Rattle.std.specs.Prelude.{◌≡◌, ◌≢◌, ◌<◌, ◌≤◌, ◌⊎◌, ℕ, length, IsTrue, false};
 ghost use Rattle.zx_outside.specs.Counts.{Rose};
 ghost use Rattle.zx_outside.specs.Writing.{Takes};
 ghost use Rattle.zetcd_cmd.specs.Outcomes.{patience};
@@ -28,6 +28,7 @@ pub fn next_piece<I: Source>(input: &mut I, buffer: &mut [u8], idle: &mut u32) -
     ensures size { Fits result (length buffer.new) }
     ensures bytes { Comes result buffer.new (I.given input.old) (I.given input.new) (I.left input.old) (I.left input.new) }
     ensures fault { result ≡ Piece.Fault → Rose (I.faults input.old) (I.faults input.new) ⊎ (patience ≤ idle.new) }
+    ensures unharmed { result ≢ Piece.Fault → I.faults input.new ≡ I.faults input.old }
     ensures waited { (start : ℕ) → Waited start idle.old (I.idles input.old) → Waited start idle.new (I.idles input.new) }
     ensures faults_stay { I.faults input.old ≤ I.faults input.new }
     ensures idles_stay { I.idles input.old ≤ I.idles input.new }
@@ -47,6 +48,7 @@ pub fn next_piece<I: Source>(input: &mut I, buffer: &mut [u8], idle: &mut u32) -
 pub fn write_all<O: Sink>(out: &mut O, bytes: &[u8]) -> bool
     ensures taken { IsTrue result → Takes bytes.now (O.taken out.old) (O.taken out.new) }
     ensures fault { result ≡ false → Rose (O.faults out.old) (O.faults out.new) }
+    ensures unharmed { IsTrue result → O.faults out.new ≡ O.faults out.old }
     ensures faults_stay { O.faults out.old ≤ O.faults out.new }
 {
     let mut at = 0;

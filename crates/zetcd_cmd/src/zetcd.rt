@@ -3,7 +3,7 @@
 ghost use Rattle.std.specs.Prelude.{◌≡◌, ◌≢◌, ◌≤◌, ◌⊎◌, ℕ};
 ghost use Rattle.zx_outside.specs.Counts.{Rose};
 ghost use Rattle.zx_outside.specs.Writing.{Takes};
-ghost use Rattle.zetcd_cmd.specs.Outcomes.{IsReplay, IsShow, usage_text, Replays, Stops, CutsShort, Shows, Breaks, ShowsFront, Failed, IsFaultless};
+ghost use Rattle.zetcd_cmd.specs.Outcomes.{IsReplay, IsShow, usage_text, Replays, Stops, Settles, CutsShort, Shows, Breaks, ShowsFront, Failed, IsFaultless};
 ghost use Rattle.zetcd_cmd.specs.Commands.{IsCommand};
 
 use crate::replay::replay;
@@ -28,6 +28,8 @@ pub fn zetcd<I: Source, O: Sink>(
     ensures done { IsReplay words.now → result ≡ Status.Done → Replays (I.left input.old) (I.left input.new) (O.taken out.old) (O.taken out.new) }
     // The same of the lines before this one, which is the first that cannot be read or is not possible.
     ensures script { IsReplay words.now → (line : ℕ) → result ≡ Status.Script line → Stops line (I.left input.old) (O.taken out.old) (O.taken out.new) }
+    // The bytes that were read settle it: no later byte is needed.
+    ensures settled { IsReplay words.now → (line : ℕ) → result ≡ Status.Script line → Settles line (I.given input.old) (I.given input.new) (I.left input.new) (O.taken out.old) (O.taken out.new) }
     // The same of the whole lines that came before the input failed.
     ensures cut { IsReplay words.now → result ≡ Status.ReadFault → CutsShort (I.given input.old) (I.given input.new) (O.taken out.old) (O.taken out.new) }
     // Of `show`: the whole stream was read, what was written is what is shown of it, and it ends at a frame's end.
@@ -39,6 +41,10 @@ pub fn zetcd<I: Source, O: Sink>(
     // Of both.
     ensures read { result ≡ Status.ReadFault → Failed (I.faults input.old) (I.faults input.new) (I.idles input.old) (I.idles input.new) }
     ensures write { result ≡ Status.WriteFault → Rose (O.faults out.old) (O.faults out.new) }
+    // No fault of the output is passed over, and none of the input where the input ended it.
+    ensures output_unharmed { result ≢ Status.WriteFault → O.faults out.new ≡ O.faults out.old }
+    ensures done_unharmed { result ≡ Status.Done → I.faults input.new ≡ I.faults input.old }
+    ensures script_unharmed { (line : ℕ) → result ≡ Status.Script line → I.faults input.new ≡ I.faults input.old }
     // Other words are refused, with the usage and nothing read; these never are.
     ensures refused { ¬ IsReplay words.now → ¬ IsShow words.now → result ≢ Status.WriteFault → result ≡ Status.Usage }
     ensures usage { result ≡ Status.Usage → (¬ IsReplay words.now) × (¬ IsShow words.now) × Takes usage_text (O.taken out.old) (O.taken out.new) }

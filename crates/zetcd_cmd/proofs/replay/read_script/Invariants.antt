@@ -9,6 +9,7 @@ invariant-pieces g l = record {
   seen : (seen : List ℕ) × Gives seen (g.I.Source.given l.fn.input) (g.I.Source.given l.input) (g.I.Source.left l.fn.input) (g.I.Source.left l.input) × Stands seen l.script;
   wide : vec_len l.buffer ≡ 65536;
   waited : Waited (g.I.Source.idles l.fn.input) l.idle (g.I.Source.idles l.input);
+  unharmed : g.I.Source.faults l.input ≡ g.I.Source.faults l.fn.input;
   faults_stay : g.I.Source.faults l.fn.input ≤ g.I.Source.faults l.input;
   idles_stay : g.I.Source.idles l.fn.input ≤ g.I.Source.idles l.input;
 }

@@ -1,4 +1,4 @@
-use Rattle.std.proofs.Common.{◌≡◌, ◌<◌, ◌+◌, ◌++◌, ◌∙◌, ap, length, take, List, ℕ, arith, subst, sym}
+use Rattle.std.proofs.Common.{◌≡◌, ◌<◌, ◌+◌, ◌++◌, ◌∙◌, ap, length, take, List, ℕ, arith, refl, subst, sym}
 use Rattle.zk_model.specs.declared.transcript.TranscriptLine.{TranscriptLine}
 use Rattle.zk_model.specs.Transcripts.{line_text, transcript_text}
 use Rattle.zetcd_cmd.specs.Reporting.{Passes}
@@ -9,6 +9,7 @@ pub loop-line-init : goal.loop-line-init
 loop-line-init g c = record {
   passes = subst (λ (t : List ℕ). Passes t c.args.text.now.items c.args.text.now.items (g.O.Sink.taken c.args.out.now) (g.O.Sink.taken c.args.out.now)) (sym transcript_text-nil)
       (Passes-nil c.args.text.now.items (g.O.Sink.taken c.args.out.now));
+  unharmed = refl;
   faults_stay = omega arith;
 }
 
@@ -22,5 +23,6 @@ loop-line-preserved g c = record {
       transcript_text-more lines at c.line-item.result within ∙ ap (λ (l : TranscriptLine). transcript_text (take at lines) ++ line_text l) (sym c.line-item.is) in
       subst (λ (t : List ℕ). Passes t c.args.text.now.items c.write_line.new.text.items (g.O.Sink.taken c.args.out.now) (g.O.Sink.taken c.write_line.new.out)) (sym more)
       (Passes-append (transcript_text (take at lines)) (line_text c.line-item.result) _ _ _ _ _ _ c.loop-line.invariant.passes c.in_ok-write_line.ensures.ok);
+  unharmed = c.in_ok-write_line.ensures.unharmed ∙ c.loop-line.invariant.unharmed;
   faults_stay = omega (arith, c.loop-line.invariant.faults_stay, c.write_line.ensures.faults_stay);
 }

@@ -1,8 +1,7 @@
-use Rattle.std.proofs.Common.{◌≡◌, ◌++◌, [], List, ℕ, length, take, refl, sym, arith, subst}
+use Rattle.std.proofs.Common.{◌≡◌, ◌∙◌, ◌++◌, [], List, ℕ, length, take, refl, sym, arith, subst}
 use Rattle.zt_show.specs.Showing.{Follows}
-use Rattle.zt_show.specs.Shown.{joined}
 use Rattle.zx_outside.proofs.Streams.{Gives-nil, Gives-append, append_known-nil}
-use Rattle.zetcd_cmd.specs.Streaming.{Closes, Passes}
+use Rattle.zetcd_cmd.specs.Streaming.{Closes}
 use Rattle.zetcd_cmd.proofs.Endings.{Failed-call, written_over}
 use Rattle.zetcd_cmd.proofs.Showings.{Follows-unshown, Takes-lines, Told-closed, Told-finished, Told-fault}
 use Rattle.zetcd_cmd.proofs.show.show_pieces.Goals as goal
@@ -19,6 +18,8 @@ pieces-init g c = record {
   empty = c.new-text.ensures;
   wide = c.in-Ok.ensures.len;
   waited = omega arith;
+  input_unharmed = refl;
+  output_unharmed = refl;
   faults_stay = omega arith;
   idles_stay = omega arith;
   output_stays = omega arith;
@@ -39,6 +40,12 @@ returns-in-Err-clause-told g c =
 pub returns-in-Err-clause-write : goal.returns-in-Err-clause-write
 returns-in-Err-clause-write g c = λ is. let rose = c.in-Err.ensures.write is in let stays = c.pieces.invariant.output_stays in omega (arith, rose, stays)
 
+pub returns-in-Err-clause-input_unharmed : goal.returns-in-Err-clause-input_unharmed
+returns-in-Err-clause-input_unharmed g c = λ not. c.in-Bytes.ensures.unharmed (λ no. cc) ∙ c.pieces.invariant.input_unharmed
+
+pub returns-in-Err-clause-output_unharmed : goal.returns-in-Err-clause-output_unharmed
+returns-in-Err-clause-output_unharmed g c = λ not. c.in-Err.ensures.err_unharmed not ∙ c.pieces.invariant.output_unharmed
+
 pub pieces-preserved : goal.pieces-preserved
 pieces-preserved g c =
     let seen = c.pieces.invariant.seen.0 in
@@ -58,6 +65,8 @@ pieces-preserved g c =
       empty = c.in_default-show_piece.ensures.empty;
       wide = c.pieces.invariant.wide;
       waited = c.next_piece.ensures.waited (g.I.Source.idles c.args.input.now) c.pieces.invariant.waited;
+      input_unharmed = c.in-Bytes.ensures.unharmed (λ no. cc) ∙ c.pieces.invariant.input_unharmed;
+      output_unharmed = c.in_default-show_piece.ensures.unharmed ∙ c.pieces.invariant.output_unharmed;
       faults_stay = omega (arith, c.next_piece.ensures.faults_stay, c.pieces.invariant.faults_stay);
       idles_stay = omega (arith, c.next_piece.ensures.idles_stay, c.pieces.invariant.idles_stay);
       output_stays = omega (arith, c.show_piece.ensures.faults_stay, c.pieces.invariant.output_stays);
@@ -71,6 +80,12 @@ returns-in-End-clause-told g c =
 
 pub returns-in-End-clause-write : goal.returns-in-End-clause-write
 returns-in-End-clause-write g c = λ is. let rose = c.show_end.ensures.write is in let stays = c.pieces.invariant.output_stays in omega (arith, rose, stays)
+
+pub returns-in-End-clause-input_unharmed : goal.returns-in-End-clause-input_unharmed
+returns-in-End-clause-input_unharmed g c = λ not. c.in-End.ensures.unharmed (λ no. cc) ∙ c.pieces.invariant.input_unharmed
+
+pub returns-in-End-clause-output_unharmed : goal.returns-in-End-clause-output_unharmed
+returns-in-End-clause-output_unharmed g c = λ not. c.show_end.ensures.unharmed not ∙ c.pieces.invariant.output_unharmed
 
 pub returns-in-Fault-clause-told : goal.returns-in-Fault-clause-told
 returns-in-Fault-clause-told g c =

@@ -14,6 +14,8 @@ invariant-pieces g l = record {
   empty : l.text ≡ [];
   wide : vec_len l.buffer ≡ 65536;
   waited : Waited (g.I.Source.idles l.fn.input) l.idle (g.I.Source.idles l.input);
+  input_unharmed : g.I.Source.faults l.input ≡ g.I.Source.faults l.fn.input;
+  output_unharmed : g.O.Sink.faults l.out ≡ g.O.Sink.faults l.fn.out;
   faults_stay : g.I.Source.faults l.fn.input ≤ g.I.Source.faults l.input;
   idles_stay : g.I.Source.idles l.fn.input ≤ g.I.Source.idles l.input;
   output_stays : g.O.Sink.faults l.fn.out ≤ g.O.Sink.faults l.out;

@@ -1,4 +1,4 @@
-use Rattle.std.proofs.Common.{◌≡◌, ◌-◌, length, drop, take, arith}
+use Rattle.std.proofs.Common.{◌≡◌, ◌∙◌, ◌-◌, length, drop, take, arith}
 use Rattle.std.proofs.lemmas.List.{length-drop, take_all}
 use Rattle.zx_outside.proofs.Streams.{Takes-next}
 use Rattle.zetcd_cmd.proofs.streams.write_all.Goals as goal
@@ -12,5 +12,6 @@ pieces-preserved g c =
     record {
       within = omega (arith, written.size, size);
       taken = Takes-next bytes c.pieces.at c.in-Bytes.count _ _ _ c.pieces.invariant.taken written.bytes;
+      unharmed = written.cause ∙ c.pieces.invariant.unharmed;
       faults_stay = omega (arith, written.faults_stay);
     }

@@ -1,4 +1,4 @@
-use Rattle.std.proofs.Common.{◌≤◌, ◌-◌, length, take}
+use Rattle.std.proofs.Common.{◌≡◌, ◌≤◌, ◌-◌, length, take}
 use Rattle.zx_outside.specs.Writing.{Takes}
 use Rattle.zetcd_cmd.proofs.streams.write_all.Given as goal
 
@@ -6,6 +6,7 @@ abbrev pub invariant-pieces : goal.invariant-pieces
 invariant-pieces g l = record {
   within : l.at ≤ length l.bytes;
   taken : Takes (take l.at l.bytes) (g.O.Sink.taken l.fn.out) (g.O.Sink.taken l.out);
+  unharmed : g.O.Sink.faults l.out ≡ g.O.Sink.faults l.fn.out;
   faults_stay : g.O.Sink.faults l.fn.out ≤ g.O.Sink.faults l.out;
 }
 
