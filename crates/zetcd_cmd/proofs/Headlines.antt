@@ -4,11 +4,13 @@ use Rattle.std.specs.Prelude.{Option, Some, None}
 use Rattle.std.specs.Io.KnownBytes.{IsAtEnd}
 use Rattle.std.specs.List.{Contains}
 use Rattle.std.proofs.lemmas.List.Elements.{All-contains}
-use Rattle.zk_model.specs.declared.script.Happening.{Happening}
-use Rattle.zk_model.specs.declared.script.Unread.{Unread}
-use Rattle.zk_model.specs.declared.script.Why.{Why}
-use Rattle.zk_model.specs.Runs.{Run, IsReplayed, IsStopped, IsCutShort, StandsAgainst, done_text, fault_text, unread_text, why_text, why_not}
-use Rattle.zk_model.specs.Transcripts.{transcript_text}
+use Rattle.zt_text.specs.declared.script.Happening.{Happening}
+use Rattle.zt_text.specs.declared.script.Unread.{Unread}
+use Rattle.zt_text.specs.declared.script.Why.{Why}
+use Rattle.zp_alone.specs.Runs.{Run, why_not}
+use Rattle.zetcd_cmd.specs.Replayed.{IsReplayed, IsStopped, IsCutShort, StandsAgainst}
+use Rattle.zt_text.specs.Faults.{done_text, fault_text, unread_text, why_text}
+use Rattle.zt_text.specs.Transcripts.{transcript_text}
 use Rattle.zx_outside.specs.Writing.{Takes}
 use Rattle.zp_alone.specs.World.{World}
 use Rattle.zetcd_cmd.specs.declared.report.End.{End}

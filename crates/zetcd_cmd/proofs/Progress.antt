@@ -3,11 +3,11 @@ use Rattle.std.proofs.Common.{◌≡◌, ℕ, ◌+◌, ◌-◌, ◌^◌, ◌<◌
 use Rattle.std.specs.Prelude.{Some, None}
 use Rattle.std.proofs.lemmas.List.{take-append-drop}
 use Rattle.std.proofs.lemmas.List.Elements.{All-append, All-nil}
-use Rattle.zk_model.specs.declared.script.Happening.{Happening}
-use Rattle.zk_model.specs.declared.script.Unread.{Unread}
-use Rattle.zk_model.specs.declared.script.Unread.TheVariants.{Unreadable, TooLong}
-use Rattle.zk_model.specs.Scripts.{Script as Reading, then_script, last_line, line_read, most_line, most_script, script, script_from}
-use Rattle.zk_model.specs.Runs.{why_not}
+use Rattle.zt_text.specs.declared.script.Happening.{Happening}
+use Rattle.zt_text.specs.declared.script.Unread.{Unread}
+use Rattle.zt_text.specs.declared.script.Unread.TheVariants.{Unreadable, TooLong}
+use Rattle.zt_text.specs.Scripts.{Script as Reading, then_script, last_line, line_read, max_line, max_script, script, script_from}
+use Rattle.zp_alone.specs.Runs.{why_not}
 use Rattle.zp_alone.specs.World.{World}
 use Rattle.zp_alone.specs.Reached.{Reached}
 use Rattle.zetcd_cmd.specs.declared.script.Script.{Script}
@@ -19,7 +19,7 @@ use Rattle.zetcd_cmd.proofs.ScriptLaws.{Says-nil, Says-line, script_from-line, l
 abbrev no_line_feed : ℕ → Type 0
 no_line_feed b = (b == 10) ≡ false
 
-script-from : (bytes : List ℕ) → script bytes ≡ script_from 1 most_script bytes
+script-from : (bytes : List ℕ) → script bytes ≡ script_from 1 max_script bytes
 unfolding script
 script-from bytes = refl
 
@@ -68,7 +68,7 @@ length-behind : (seen lines pending bytes : List ℕ) → seen ≡ lines ++ pend
 length-behind seen lines pending bytes parts = ap length (behind_pending seen lines pending bytes parts) ∙ length-append lines (pending ++ bytes)
 
 pub HasRead-line : (seen bytes : List ℕ) (old new : Script) → HasNoLineFeed bytes → Plays (old.pending.items ++ bytes) old.world new.world → new.pending.items ≡ [] →
-    new.line ≡ min (old.line + 1) (2 ^ 64 - 1) → HasRead seen old → length (seen ++ bytes) < most_script → HasRead (seen ++ (bytes ++ 10 ∷ [])) new
+    new.line ≡ min (old.line + 1) (2 ^ 64 - 1) → HasRead seen old → length (seen ++ bytes) < max_script → HasRead (seen ++ (bytes ++ 10 ∷ [])) new
 HasRead-line seen bytes old new lacks plays empty next r fits =
     let line = old.pending.items ++ bytes in
     let text = seen ++ (bytes ++ 10 ∷ []) in
@@ -89,18 +89,18 @@ HasRead-line seen bytes old new lacks plays empty next r fits =
     }
 
 pub Ends-line : (seen bytes rest : List ℕ) (old new : Script) (why : Stop) → HasNoLineFeed bytes → Halts (old.pending.items ++ bytes) old.world why new.world → new.line ≡ old.line →
-    HasRead seen old → length (seen ++ bytes) < most_script → Ends (seen ++ (bytes ++ 10 ∷ rest)) new why
+    HasRead seen old → length (seen ++ bytes) < max_script → Ends (seen ++ (bytes ++ 10 ∷ rest)) new why
 Ends-line seen bytes rest old new why lacks halts same r fits =
     let line = old.pending.items ++ bytes in
     let size = length-behind seen r.lines old.pending.items bytes r.parts in
-    let at = script_from-line most_script r.lines line rest r.happenings r.says (All-append no_line_feed old.pending.items bytes r.begun lacks) (omega arith) in
+    let at = script_from-line max_script r.lines line rest r.happenings r.says (All-append no_line_feed old.pending.items bytes r.begun lacks) (omega arith) in
     let input = seen ++ (bytes ++ 10 ∷ rest) in
     Ends-at input line r.happenings at.0 old.world new why r.reached (same ∙ r.number)
-    (script-from input ∙ ap (script_from 1 most_script) (line_behind seen r.lines old.pending.items bytes rest r.parts) ∙ at.1) halts
+    (script-from input ∙ ap (script_from 1 max_script) (line_behind seen r.lines old.pending.items bytes rest r.parts) ∙ at.1) halts
 
 -- ---- a line that goes on
 
-pub HasRead-begun : (seen bytes : List ℕ) (old new : Script) → HasNoLineFeed bytes → new.pending.items ≡ old.pending.items ++ bytes → length new.pending.items ≤ most_line →
+pub HasRead-begun : (seen bytes : List ℕ) (old new : Script) → HasNoLineFeed bytes → new.pending.items ≡ old.pending.items ++ bytes → length new.pending.items ≤ max_line →
     new.world ≡ old.world → new.line ≡ old.line → HasRead seen old → HasRead (seen ++ bytes) new
 HasRead-begun seen bytes old new lacks grown short world line r = record {
   lines = r.lines;
@@ -114,7 +114,7 @@ HasRead-begun seen bytes old new lacks grown short world line r = record {
 }
 
 pub Ends-begun : (seen bytes rest : List ℕ) (old new : Script) (why : Stop) → HasNoLineFeed bytes → IsKeptOut (old.pending.items ++ bytes) why → new.world ≡ old.world → new.line ≡ old.line →
-    HasRead seen old → length (seen ++ bytes) ≤ most_script → Ends ((seen ++ bytes) ++ rest) new why
+    HasRead seen old → length (seen ++ bytes) ≤ max_script → Ends ((seen ++ bytes) ++ rest) new why
 Ends-begun seen bytes rest old new (stop.Unread why) lacks out world line r fits =
     let begun = old.pending.items ++ bytes in
     let size = length-behind seen r.lines old.pending.items bytes r.parts in
@@ -127,8 +127,8 @@ Ends-begun seen bytes rest old new (stop.Unread why) lacks out world line r fits
       end = Some (length r.happenings + 1, Unreadable);
       reached = subst (λ (v : World). Reached r.happenings v) (sym world) r.reached;
       number = line ∙ r.number;
-      read = script-from input ∙ ap (script_from 1 most_script) place
-          ∙ script_from-long most_script r.lines begun rest r.happenings r.says (All-append no_line_feed old.pending.items bytes r.begun lacks) out.1 (omega arith)
+      read = script-from input ∙ ap (script_from 1 max_script) place
+          ∙ script_from-long max_script r.lines begun rest r.happenings r.says (All-append no_line_feed old.pending.items bytes r.begun lacks) out.1 (omega arith)
           ∙ ap (λ (hs : List Happening). (hs, Some (length r.happenings + 1, Unreadable))) (sym (append-nil r.happenings));
       against = ap (λ (n : ℕ). Some (n, Unreadable)) (sym (line ∙ r.number)) ∙ ap (λ (u : Unread). Some (new.line, u)) (sym out.0);
     }
@@ -139,20 +139,20 @@ Ends-begun seen bytes rest old new stop.Memory lacks out world line r fits = tt 
 
 -- some lines of these bytes were applied, and this is the rest of them
 abbrev pub Goes : Script → List ℕ → Script → List ℕ → Type 0
-Goes old bytes now rest = (seen : List ℕ) → HasRead seen old → length (seen ++ bytes) ≤ most_script → (done : List ℕ) × HasRead done now × (seen ++ bytes ≡ done ++ rest)
+Goes old bytes now rest = (seen : List ℕ) → HasRead seen old → length (seen ++ bytes) ≤ max_script → (done : List ℕ) × HasRead done now × (seen ++ bytes ≡ done ++ rest)
 
 pub Goes-none : (old : Script) (bytes : List ℕ) → Goes old bytes old bytes
 Goes-none old bytes seen r fits = (seen, r, refl)
 
 -- what is left of the room, when a line ends within it
-line_fits : (whole done line later : List ℕ) → whole ≡ done ++ (line ++ 10 ∷ later) → length whole ≤ most_script → length (done ++ line) < most_script
+line_fits : (whole done line later : List ℕ) → whole ≡ done ++ (line ++ 10 ∷ later) → length whole ≤ max_script → length (done ++ line) < max_script
 line_fits whole done line later parts fits =
     let size : length whole ≡ length done + (length line + suc (length later)) =
     ap length parts ∙ length-append done (line ++ 10 ∷ later) ∙ ap (λ n. length done + n) (length-append line (10 ∷ later)) in
     rw (length-append done line) (omega arith)
 
 pub Goes-line : (old now new : Script) (bytes rest line later : List ℕ) → rest ≡ line ++ 10 ∷ later →
-    ((seen : List ℕ) → HasRead seen now → length (seen ++ line) < most_script → HasRead (seen ++ (line ++ 10 ∷ [])) new) → Goes old bytes now rest → Goes old bytes new later
+    ((seen : List ℕ) → HasRead seen now → length (seen ++ line) < max_script → HasRead (seen ++ (line ++ 10 ∷ [])) new) → Goes old bytes now rest → Goes old bytes new later
 Goes-line old now new bytes rest line later parts one goes seen r fits =
     let far = goes seen r fits in
     let whole : seen ++ bytes ≡ far.0 ++ (line ++ 10 ∷ later) = far.2 ∙ ap (λ t. far.0 ++ t) parts in (
@@ -162,8 +162,8 @@ Goes-line old now new bytes rest line later parts one goes seen r fits =
     )
 
 pub Goes-halts : (old now new : Script) (bytes rest line later : List ℕ) (why : Stop) → rest ≡ line ++ 10 ∷ later →
-    ((seen behind : List ℕ) → HasRead seen now → length (seen ++ line) < most_script → Ends (seen ++ (line ++ 10 ∷ behind)) new why) → Goes old bytes now rest →
-    (seen behind : List ℕ) → HasRead seen old → length (seen ++ bytes) ≤ most_script → Ends ((seen ++ bytes) ++ behind) new why
+    ((seen behind : List ℕ) → HasRead seen now → length (seen ++ line) < max_script → Ends (seen ++ (line ++ 10 ∷ behind)) new why) → Goes old bytes now rest →
+    (seen behind : List ℕ) → HasRead seen old → length (seen ++ bytes) ≤ max_script → Ends ((seen ++ bytes) ++ behind) new why
 Goes-halts old now new bytes rest line later why parts one goes seen behind r fits =
     let far = goes seen r fits in
     let whole : seen ++ bytes ≡ far.0 ++ (line ++ 10 ∷ later) = far.2 ∙ ap (λ t. far.0 ++ t) parts in
@@ -171,22 +171,22 @@ Goes-halts old now new bytes rest line later why parts one goes seen behind r fi
     ap (λ t. t ++ behind) whole ∙ append_assoc far.0 (line ++ 10 ∷ later) behind ∙ ap (λ t. far.0 ++ t) (append_assoc line (10 ∷ later) behind) in
     subst (λ (t : List ℕ). Ends t new why) (sym place) (one far.0 (later ++ behind) far.1 (line_fits (seen ++ bytes) far.0 line later whole fits))
 
-pub Goes-begun : (old now new : Script) (bytes rest : List ℕ) → HasNoLineFeed rest → new.pending.items ≡ now.pending.items ++ rest → length new.pending.items ≤ most_line →
-    new.world ≡ now.world → new.line ≡ now.line → Goes old bytes now rest → (seen : List ℕ) → HasRead seen old → length (seen ++ bytes) ≤ most_script → HasRead (seen ++ bytes) new
+pub Goes-begun : (old now new : Script) (bytes rest : List ℕ) → HasNoLineFeed rest → new.pending.items ≡ now.pending.items ++ rest → length new.pending.items ≤ max_line →
+    new.world ≡ now.world → new.line ≡ now.line → Goes old bytes now rest → (seen : List ℕ) → HasRead seen old → length (seen ++ bytes) ≤ max_script → HasRead (seen ++ bytes) new
 Goes-begun old now new bytes rest lacks grown short world line goes seen r fits =
     let far = goes seen r fits in
     subst (λ (t : List ℕ). HasRead t new) (sym far.2) (HasRead-begun far.0 rest now new lacks grown short world line far.1)
 
 pub Goes-kept_out : (old now new : Script) (bytes rest : List ℕ) (why : Stop) → HasNoLineFeed rest → IsKeptOut (now.pending.items ++ rest) why → new.world ≡ now.world → new.line ≡ now.line →
-    Goes old bytes now rest → (seen behind : List ℕ) → HasRead seen old → length (seen ++ bytes) ≤ most_script → Ends ((seen ++ bytes) ++ behind) new why
+    Goes old bytes now rest → (seen behind : List ℕ) → HasRead seen old → length (seen ++ bytes) ≤ max_script → Ends ((seen ++ bytes) ++ behind) new why
 Goes-kept_out old now new bytes rest why lacks out world line goes seen behind r fits =
     let far = goes seen r fits in
     subst (λ (t : List ℕ). Ends (t ++ behind) new why) (sym far.2)
-    (Ends-begun far.0 rest behind now new why lacks out world line far.1 (subst (λ (t : List ℕ). length t ≤ most_script) far.2 fits))
+    (Ends-begun far.0 rest behind now new why lacks out world line far.1 (subst (λ (t : List ℕ). length t ≤ max_script) far.2 fits))
 
 -- ---- whole pieces
 
-pub Stands-nil : (s : Script) → s.pending.items ≡ [] → s.line ≡ 1 → s.room ≡ most_script → Reached [] s.world → Stands [] s
+pub Stands-nil : (s : Script) → s.pending.items ≡ [] → s.line ≡ 1 → s.room ≡ max_script → Reached [] s.world → Stands [] s
 Stands-nil s empty line room reached = record {
   read = record {
     lines = [];
@@ -201,17 +201,17 @@ Stands-nil s empty line room reached = record {
   room = omega arith;
 }
 
-piece_fits : (seen piece : List ℕ) (room : ℕ) → length seen + room ≡ most_script → length piece ≤ room → length (seen ++ piece) ≤ most_script
+piece_fits : (seen piece : List ℕ) (room : ℕ) → length seen + room ≡ max_script → length piece ≤ room → length (seen ++ piece) ≤ max_script
 piece_fits seen piece room left fits = rw (length-append seen piece) (omega arith)
 
 pub Stands-piece : (seen piece : List ℕ) (old new : Script) → length piece ≤ old.room → new.room + length piece ≡ old.room →
-    ((seen : List ℕ) → HasRead seen old → length (seen ++ piece) ≤ most_script → HasRead (seen ++ piece) new) → Stands seen old → Stands (seen ++ piece) new
+    ((seen : List ℕ) → HasRead seen old → length (seen ++ piece) ≤ max_script → HasRead (seen ++ piece) new) → Stands seen old → Stands (seen ++ piece) new
 Stands-piece seen piece old new fits room one s =
     let left = s.room in
     record { read = one seen s.read (piece_fits seen piece old.room left fits); room = rw (length-append seen piece) (omega arith) }
 
 pub Ends-piece : (seen piece rest : List ℕ) (old new : Script) (why : Stop) → length piece ≤ old.room →
-    ((seen behind : List ℕ) → HasRead seen old → length (seen ++ piece) ≤ most_script → Ends ((seen ++ piece) ++ behind) new why) → Stands seen old → Ends ((seen ++ piece) ++ rest) new why
+    ((seen behind : List ℕ) → HasRead seen old → length (seen ++ piece) ≤ max_script → Ends ((seen ++ piece) ++ behind) new why) → Stands seen old → Ends ((seen ++ piece) ++ rest) new why
 Ends-piece seen piece rest old new why fits one s = one seen rest s.read (piece_fits seen piece old.room s.room fits)
 
 -- a piece that has more bytes than may come
@@ -222,13 +222,13 @@ front_place seen piece rest room =
     ∙ append_assoc (seen ++ take room piece) (drop room piece) rest
 
 pub Ends-front : (seen piece front rest : List ℕ) (old new : Script) (why : Stop) → front ≡ take old.room piece → length front ≤ old.room →
-    ((seen behind : List ℕ) → HasRead seen old → length (seen ++ front) ≤ most_script → Ends ((seen ++ front) ++ behind) new why) → Stands seen old → Ends ((seen ++ piece) ++ rest) new why
+    ((seen behind : List ℕ) → HasRead seen old → length (seen ++ front) ≤ max_script → Ends ((seen ++ front) ++ behind) new why) → Stands seen old → Ends ((seen ++ piece) ++ rest) new why
 Ends-front seen piece front rest old new why front_is fits one s =
     subst (λ (t : List ℕ). Ends t new why) (sym (front_place seen piece rest old.room ∙ ap (λ t. (seen ++ t) ++ (drop old.room piece ++ rest)) (sym front_is)))
     (Ends-piece seen front (drop old.room piece ++ rest) old new why fits one s)
 
 -- all bytes that a script may have came, and one more
-Ends-cut : (seen rest : List ℕ) (s : Script) → HasRead seen s → length seen ≡ most_script → 0 < length rest → Ends (seen ++ rest) s (stop.Unread TooLong)
+Ends-cut : (seen rest : List ℕ) (s : Script) → HasRead seen s → length seen ≡ max_script → 0 < length rest → Ends (seen ++ rest) s (stop.Unread TooLong)
 Ends-cut seen rest s r full more =
     let size : length seen ≡ length r.lines + length s.pending.items = ap length r.parts ∙ length-append r.lines s.pending.items in
     record {
@@ -237,17 +237,17 @@ Ends-cut seen rest s r full more =
       end = Some (length r.happenings + 1, TooLong);
       reached = r.reached;
       number = r.number;
-      read = script-from (seen ++ rest) ∙ ap (script_from 1 most_script) (behind_pending seen r.lines s.pending.items rest r.parts)
-          ∙ script_from-cut most_script r.lines s.pending.items rest r.happenings r.says r.begun r.short (sym size ∙ full) more
+      read = script-from (seen ++ rest) ∙ ap (script_from 1 max_script) (behind_pending seen r.lines s.pending.items rest r.parts)
+          ∙ script_from-cut max_script r.lines s.pending.items rest r.happenings r.says r.begun r.short (sym size ∙ full) more
           ∙ ap (λ (hs : List Happening). (hs, Some (length r.happenings + 1, TooLong))) (sym (append-nil r.happenings));
       against = ap (λ (n : ℕ). Some (n, TooLong)) (sym r.number);
     }
 
 pub Ends-over : (seen piece front rest : List ℕ) (old new : Script) → front ≡ take old.room piece → length front ≡ old.room → old.room < length piece →
-    ((seen : List ℕ) → HasRead seen old → length (seen ++ front) ≤ most_script → HasRead (seen ++ front) new) → Stands seen old → Ends ((seen ++ piece) ++ rest) new (stop.Unread TooLong)
+    ((seen : List ℕ) → HasRead seen old → length (seen ++ front) ≤ max_script → HasRead (seen ++ front) new) → Stands seen old → Ends ((seen ++ piece) ++ rest) new (stop.Unread TooLong)
 Ends-over seen piece front rest old new front_is full more one s =
     let left = s.room in
-    let size : length (seen ++ front) ≡ most_script = rw (length-append seen front) (omega arith) in
+    let size : length (seen ++ front) ≡ max_script = rw (length-append seen front) (omega arith) in
     let parts : length piece ≡ length front + length (drop old.room piece) =
     ap length (sym (take-append-drop old.room piece) ∙ ap (λ t. t ++ drop old.room piece) (sym front_is)) ∙ length-append front (drop old.room piece) in
     subst (λ (t : List ℕ). Ends t new (stop.Unread TooLong)) (sym (front_place seen piece rest old.room ∙ ap (λ t. (seen ++ t) ++ (drop old.room piece ++ rest)) (sym front_is)))
@@ -260,10 +260,10 @@ last_line-some n [] some = absurd (omega arith)
 last_line-some n (b ∷ bs) some = refl
 
 -- what is read of it all
-script-seen : (seen : List ℕ) (s : Script) (r : HasRead seen s) → length seen ≤ most_script → script seen ≡ behind r.happenings (last_line false (length r.happenings + 1) s.pending.items)
+script-seen : (seen : List ℕ) (s : Script) (r : HasRead seen s) → length seen ≤ max_script → script seen ≡ behind r.happenings (last_line false (length r.happenings + 1) s.pending.items)
 script-seen seen s r fits =
     let size : length seen ≡ length r.lines + length s.pending.items = ap length r.parts ∙ length-append r.lines s.pending.items in
-    script-from seen ∙ ap (script_from 1 most_script) r.parts ∙ script_from-last most_script r.lines s.pending.items r.happenings r.says r.begun (omega arith)
+    script-from seen ∙ ap (script_from 1 max_script) r.parts ∙ script_from-last max_script r.lines s.pending.items r.happenings r.says r.begun (omega arith)
 
 pub IsApplied-whole : (seen : List ℕ) (s : Script) → s.pending.items ≡ [] → Stands seen s → IsApplied seen s
 IsApplied-whole seen s empty st =
@@ -301,6 +301,6 @@ script-lines seen s st =
     let r = st.read in
     let left = st.room in
     let size : length seen ≡ length r.lines + length s.pending.items = ap length r.parts ∙ length-append r.lines s.pending.items in
-    script-from r.lines ∙ ap (script_from 1 most_script) (sym (append-nil r.lines))
-    ∙ script_from-last most_script r.lines [] r.happenings r.says (All-nil no_line_feed) (omega arith)
+    script-from r.lines ∙ ap (script_from 1 max_script) (sym (append-nil r.lines))
+    ∙ script_from-last max_script r.lines [] r.happenings r.says (All-nil no_line_feed) (omega arith)
     ∙ ap (λ (all : List Happening). (all, None)) (append-nil r.happenings)

@@ -4,8 +4,8 @@ use Rattle.std.specs.Prelude.{Option}
 use Rattle.std.proofs.lemmas.Grind.{flat_map-append}
 use Rattle.std.proofs.lemmas.List.{take_more}
 use Rattle.std.specs.Io.KnownBytes.{append_known}
-use Rattle.zk_model.specs.declared.transcript.TranscriptLine.{TranscriptLine}
-use Rattle.zk_model.specs.Transcripts.{line_text, transcript_text}
+use Rattle.zk_transcript.specs.declared.transcript.TranscriptLine.{TranscriptLine}
+use Rattle.zt_text.specs.Transcripts.{line_text, transcript_text}
 use Rattle.zx_outside.specs.Writing.{Takes}
 use Rattle.zx_outside.proofs.Streams.{append_known-nil, Takes-append}
 use Rattle.zetcd_cmd.specs.Reporting.{Passes}

@@ -7,10 +7,10 @@ use Rattle.std.proofs.lemmas.Bool.{lt-ltb, le-ltb}
 use Rattle.std.proofs.lemmas.List.{take_all}
 use Rattle.std.proofs.lemmas.List.Elements.{All-head, All-tail}
 use Rattle.std.proofs.lemmas.List.Splits.{slice_split-cons_no}
-use Rattle.zk_model.specs.declared.script.Happening.{Happening}
-use Rattle.zk_model.specs.declared.script.Unread.TheVariants.{Unreadable, TooLong}
-use Rattle.zk_model.specs.Scripts.{Script, pieces, lines_from, last_line, then_script, line_read, most_line, script_from}
-use Rattle.zk_model.proofs.PieceLaws.{pieces-none, pieces-first, pieces-some}
+use Rattle.zt_text.specs.declared.script.Happening.{Happening}
+use Rattle.zt_text.specs.declared.script.Unread.TheVariants.{Unreadable, TooLong}
+use Rattle.zt_text.specs.Scripts.{Script, pieces, lines_from, last_line, then_script, line_read, max_line, script_from}
+use Rattle.zt_text.proofs.PieceLaws.{pieces-none, pieces-first, pieces-some}
 use Rattle.zetcd_cmd.specs.Scripting.{HasNoLineFeed, Says, behind}
 
 -- ---- one line more
@@ -87,11 +87,11 @@ pieces-begun (b ∷ bs) rest lacks =
     let later = pieces-begun bs rest (All-tail (λ c. (c == 10) ≡ false) b bs lacks) in
     (later.0, later.1, slice_split-cons_no (λ c. c == 10) b (bs ++ rest) (All-head (λ c. (c == 10) ≡ false) b bs lacks) ∙ ap (onto_first b) later.2)
 
-pub line_read-long : (line : List ℕ) → most_line < length line → line_read line ≡ None
+pub line_read-long : (line : List ℕ) → max_line < length line → line_read line ≡ None
 unfolding line_read
-line_read-long line long = rw (lt-ltb most_line (length line) long) refl
+line_read-long line long = rw (lt-ltb max_line (length line) long) refl
 
-lines_from-long : (is_cut : Bool) (n : ℕ) (first : List ℕ) (others : List (List ℕ)) → nat_lt most_line (length first) ≡ true → line_read first ≡ None →
+lines_from-long : (is_cut : Bool) (n : ℕ) (first : List ℕ) (others : List (List ℕ)) → nat_lt max_line (length first) ≡ true → line_read first ≡ None →
     lines_from is_cut n (first ∷ others) ≡ ([], Some (n, Unreadable))
 lines_from-long true n first [] long unread = ap (λ b. ([], Some (n, if b then Unreadable else TooLong))) long
 lines_from-long false n [] [] long unread = absurd (true≢false (sym long))
@@ -100,7 +100,7 @@ lines_from-long true n first (o ∷ os) long unread = ap (λ r. then_script n r 
 lines_from-long false n first (o ∷ os) long unread = ap (λ r. then_script n r (lines_from false (n + 1) (o ∷ os))) unread
 
 -- with the beginning of a line behind them that is too long already
-pub script_from-long : (room : ℕ) (lines begun rest : List ℕ) (happenings : List Happening) → Says lines happenings → HasNoLineFeed begun → most_line < length begun →
+pub script_from-long : (room : ℕ) (lines begun rest : List ℕ) (happenings : List Happening) → Says lines happenings → HasNoLineFeed begun → max_line < length begun →
     length lines + length begun ≤ room → script_from 1 room (lines ++ (begun ++ rest)) ≡ (happenings, Some (length happenings + 1, Unreadable))
 script_from-long room lines begun rest happenings s lacks long fits =
     let tail = begun ++ rest in
@@ -110,11 +110,11 @@ script_from-long room lines begun rest happenings s lacks long fits =
     let front : take (room - length lines) tail ≡ begun ++ take more rest = ap (λ n. take n tail) size ∙ take-append-add begun rest more in
     let split = pieces-begun begun (take more rest) lacks in
     let first = begun ++ split.0 in
-    let long_first : most_line < length first = rw (length-append begun split.0) (omega arith) in
+    let long_first : max_line < length first = rw (length-append begun split.0) (omega arith) in
     script_from-lines room lines tail happenings s (omega arith)
     ∙ ap (λ t. behind happenings (lines_from is_cut (length happenings + 1) (pieces 10 t))) front
     ∙ ap (λ ps. behind happenings (lines_from is_cut (length happenings + 1) ps)) split.2
-    ∙ ap (behind happenings) (lines_from-long is_cut (length happenings + 1) first split.1 (lt-ltb most_line (length first) long_first) (line_read-long first long_first))
+    ∙ ap (behind happenings) (lines_from-long is_cut (length happenings + 1) first split.1 (lt-ltb max_line (length first) long_first) (line_read-long first long_first))
     ∙ ap (λ (hs : List Happening). (hs, Some (length happenings + 1, Unreadable))) (append-nil happenings)
 
 -- ---- a script that ends
@@ -131,7 +131,7 @@ script_from-last room lines line happenings s lacks fits =
     ∙ ap (λ ps. behind happenings (lines_from false (length happenings + 1) ps)) (pieces-none 10 line lacks)
 
 -- with a line behind them in which the room ends
-pub script_from-cut : (room : ℕ) (lines line rest : List ℕ) (happenings : List Happening) → Says lines happenings → HasNoLineFeed line → length line ≤ most_line →
+pub script_from-cut : (room : ℕ) (lines line rest : List ℕ) (happenings : List Happening) → Says lines happenings → HasNoLineFeed line → length line ≤ max_line →
     length lines + length line ≡ room → 0 < length rest → script_from 1 room (lines ++ (line ++ rest)) ≡ (happenings, Some (length happenings + 1, TooLong))
 script_from-cut room lines line rest happenings s lacks short full more =
     let tail = line ++ rest in
@@ -143,5 +143,5 @@ script_from-cut room lines line rest happenings s lacks short full more =
     ∙ ap (λ t. behind happenings (lines_from (nat_lt room (length (lines ++ tail))) (length happenings + 1) (pieces 10 t))) front
     ∙ ap (λ b. behind happenings (lines_from b (length happenings + 1) (pieces 10 line))) cut
     ∙ ap (λ ps. behind happenings (lines_from true (length happenings + 1) ps)) (pieces-none 10 line lacks)
-    ∙ ap (λ b. behind happenings ([], Some (length happenings + 1, if b then Unreadable else TooLong))) (le-ltb most_line (length line) short)
+    ∙ ap (λ b. behind happenings ([], Some (length happenings + 1, if b then Unreadable else TooLong))) (le-ltb max_line (length line) short)
     ∙ ap (λ (hs : List Happening). (hs, Some (length happenings + 1, TooLong))) (append-nil happenings)

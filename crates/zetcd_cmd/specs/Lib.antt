@@ -5,3 +5,4 @@ pub mod Scripting
 pub mod Reporting
 pub mod Ending
 pub mod Streaming
+pub mod Replayed

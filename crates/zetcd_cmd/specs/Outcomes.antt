@@ -2,7 +2,7 @@
 use Rattle.std.specs.Prelude.{◌≡◌, ◌⊎◌, ⊤, ℕ, ◌+◌, ◌-◌, ◌^◌, ◌≤◌, min, List, [], ◌∷◌, ◌++◌, codes, Option, Some, None}
 use denote.Ref.{Bor}
 use Rattle.std.specs.Io.KnownBytes.{IsAtEnd}
-use Rattle.zk_model.specs.Runs.{IsReplayed, IsStopped, IsCutShort}
+use Rattle.zetcd_cmd.specs.Replayed.{IsReplayed, IsStopped, IsCutShort}
 use Rattle.zt_show.specs.declared.ending.Ending.{Ending}
 use Rattle.zt_show.specs.declared.ending.Ending.TheVariants as ending
 use Rattle.zt_show.specs.Shown.{Shown, IsShown, joined, shown_text, count_of_lines}

@@ -1,6 +1,6 @@
 -- What is written of a replay, and the status that goes with it.
 use Rattle.std.specs.Prelude.{◌≡◌, ℕ, List, [], ◌++◌, Option}
-use Rattle.zk_model.specs.Runs.{done_text, fault_text, unread_text, why_text}
+use Rattle.zt_text.specs.Faults.{done_text, fault_text, unread_text, why_text}
 use Rattle.zx_outside.specs.Writing.{Takes}
 use Rattle.zetcd_cmd.specs.declared.script.Stop.TheVariants as stop
 use Rattle.zetcd_cmd.specs.declared.report.End.{End}

@@ -1,10 +1,11 @@
 -- A script that comes piece by piece: what of it was read and applied, and what ended it.
 use Rattle.std.specs.Prelude.{◌≡◌, ℕ, ◌+◌, ◌<◌, ◌≤◌, Bool, false, ◌==◌, List, [], ◌∷◌, ◌++◌, length, Option, Some, None, All}
-use Rattle.zk_model.specs.declared.script.Happening.{Happening}
-use Rattle.zk_model.specs.declared.script.Unread.{Unread}
-use Rattle.zk_model.specs.declared.script.Unread.TheVariants.{Unreadable}
-use Rattle.zk_model.specs.Scripts.{Script as Reading, lines_from, pieces, script, line_read, most_line, most_script}
-use Rattle.zk_model.specs.Runs.{IsWholeLines, why_not}
+use Rattle.zt_text.specs.declared.script.Happening.{Happening}
+use Rattle.zt_text.specs.declared.script.Unread.{Unread}
+use Rattle.zt_text.specs.declared.script.Unread.TheVariants.{Unreadable}
+use Rattle.zt_text.specs.Scripts.{Script as Reading, lines_from, pieces, script, line_read, max_line, max_script}
+use Rattle.zt_text.specs.Scripts.{IsWholeLines}
+use Rattle.zp_alone.specs.Runs.{why_not}
 use Rattle.zp_alone.specs.World.{World}
 use Rattle.zp_alone.specs.Reached.{Reached}
 use Rattle.zetcd_cmd.specs.declared.script.Script.{Script}
@@ -32,7 +33,7 @@ Halts line w stop.Memory w' = Unit {0}
 
 -- it is too long to be kept, or memory was refused
 abbrev pub IsKeptOut : List ℕ → Stop → Type 0
-IsKeptOut line (stop.Unread why) = (why ≡ Unreadable) × (most_line < length line)
+IsKeptOut line (stop.Unread why) = (why ≡ Unreadable) × (max_line < length line)
 IsKeptOut line (stop.Refused why) = ⊥
 IsKeptOut line stop.Memory = Unit {0}
 
@@ -55,14 +56,14 @@ pub record HasRead (seen : List ℕ) (s : Script) : Type 0 where
   pub says : Says lines happenings
   pub parts : seen ≡ lines ++ s.pending.items
   pub begun : HasNoLineFeed s.pending.items
-  pub short : length s.pending.items ≤ most_line
+  pub short : length s.pending.items ≤ max_line
   pub number : s.line ≡ length happenings + 1
   pub reached : Reached happenings s.world
 
 -- the same, and how many bytes may still come
 pub record Stands (seen : List ℕ) (s : Script) : Type 0 where
   pub read : HasRead seen s
-  pub room : length seen + s.room ≡ most_script
+  pub room : length seen + s.room ≡ max_script
 
 -- ---- how a script ends
 

@@ -1,7 +1,7 @@
 //! What a replay writes: its transcript, and how the script ended.
 
 ghost use Rattle.std.specs.Prelude.{◌≡◌, ◌++◌, ◌≤◌, [], OnOk, OnErr, IfErr};
-ghost use Rattle.zk_model.specs.Transcripts.{line_text, transcript_text};
+ghost use Rattle.zt_text.specs.Transcripts.{line_text, transcript_text};
 ghost use Rattle.zx_outside.specs.Counts.{Rose};
 ghost use Rattle.zx_outside.specs.Writing.{Takes};
 ghost use Rattle.zetcd_cmd.specs.Reporting.{Passes, ending_text, status_after};
@@ -10,13 +10,13 @@ use crate::script::Stop;
 use crate::status::Status;
 use crate::streams::write_all;
 use std::alloc::Global;
-use zk_model::TranscriptLine;
+use zk_transcript::TranscriptLine;
 use zt_text::{push_done, push_fault, push_line, push_unread};
 use zx_base::Memory;
 use zx_outside::Sink;
 
 /// About how many bytes are written at once.
-const MOST_KEPT: usize = 65_536;
+const MAX_KEPT: usize = 65_536;
 
 /// How the reading of a script ended.
 #[derive(Clone, Copy, Debug, PartialEq, Eq)]
@@ -111,7 +111,7 @@ fn write_line<O: Sink>(
     ensures faults_stay { O.faults out.old ≤ O.faults out.new }
 {
     push_line(text, line)?;
-    if text.len() < MOST_KEPT {
+    if text.len() < MAX_KEPT {
         return Ok(());
     }
     write_out(text, out)

@@ -1,13 +1,14 @@
 //! A script that comes piece by piece, and the world that its lines are applied to.
 
 ghost use Rattle.std.specs.Prelude.{◌≡◌, ◌+◌, ◌<◌, ◌≤◌, ◌++◌, ◌∷◌, [], ℕ, List, length, IfOk, OnOk, IfErr, MatchOption};
-ghost use Rattle.zk_model.specs.Scripts.{most_line, most_script};
+ghost use Rattle.zt_text.specs.Scripts.{max_line, max_script};
 ghost use Rattle.zetcd_cmd.specs.Scripting.{HasNoLineFeed, IsFirstLine, Plays, Halts, HasRead, Stands, IsApplied, Ends, IsKeptOut};
 
 use std::alloc::Global;
-use zk_model::{TranscriptLine, Unread, Why};
+use zk_transcript::TranscriptLine;
+use zt_text::{Unread, Why};
 use zp_alone::{Alone, ApplyFault};
-use zt_text::{MOST_LINE, MOST_SCRIPT, read_line};
+use zt_text::{MAX_LINE, MAX_SCRIPT, read_line};
 use zx_base::Memory;
 
 const LINE_FEED: u8 = b'\n';
@@ -47,7 +48,7 @@ impl Script {
             world,
             pending: Vec::new(alloc),
             line: 1,
-            room: MOST_SCRIPT,
+            room: MAX_SCRIPT,
         })
     }
 
@@ -83,8 +84,8 @@ impl Script {
 
     /// Applies each line that ends in these bytes, and keeps what stands behind the last.
     fn take_lines(&mut self, bytes: &[u8]) -> Result<(), Stop>
-        ensures ok { OnOk result ((seen : List ℕ) → HasRead seen self.old → length (seen ++ bytes.now) ≤ most_script → HasRead (seen ++ bytes.now) self.new) }
-        ensures err { IfErr result (λ stop. (seen rest : List ℕ) → HasRead seen self.old → length (seen ++ bytes.now) ≤ most_script → Ends ((seen ++ bytes.now) ++ rest) self.new stop) }
+        ensures ok { OnOk result ((seen : List ℕ) → HasRead seen self.old → length (seen ++ bytes.now) ≤ max_script → HasRead (seen ++ bytes.now) self.new) }
+        ensures err { IfErr result (λ stop. (seen rest : List ℕ) → HasRead seen self.old → length (seen ++ bytes.now) ≤ max_script → Ends ((seen ++ bytes.now) ++ rest) self.new stop) }
         ensures room { self.new.room ≡ self.old.room }
     {
         let mut rest = bytes;
@@ -98,8 +99,8 @@ impl Script {
     /// Applies the line that ends with these bytes.
     fn end_line(&mut self, bytes: &[u8]) -> Result<(), Stop>
         requires { HasNoLineFeed bytes.now }
-        ensures ok { OnOk result ((seen : List ℕ) → HasRead seen self.old → length (seen ++ bytes.now) < most_script → HasRead (seen ++ (bytes.now ++ 10 ∷ [])) self.new) }
-        ensures err { IfErr result (λ stop. (seen rest : List ℕ) → HasRead seen self.old → length (seen ++ bytes.now) < most_script → Ends (seen ++ (bytes.now ++ 10 ∷ rest)) self.new stop) }
+        ensures ok { OnOk result ((seen : List ℕ) → HasRead seen self.old → length (seen ++ bytes.now) < max_script → HasRead (seen ++ (bytes.now ++ 10 ∷ [])) self.new) }
+        ensures err { IfErr result (λ stop. (seen rest : List ℕ) → HasRead seen self.old → length (seen ++ bytes.now) < max_script → Ends (seen ++ (bytes.now ++ 10 ∷ rest)) self.new stop) }
         ensures room { self.new.room ≡ self.old.room }
     {
         self.apply_with(bytes)?;
@@ -161,10 +162,10 @@ fn first_line(bytes: &[u8]) -> Option<(&[u8], &[u8])>
 
 /// Adds these bytes to the line that is pending, unless it is too long then.
 fn keep(pending: &mut Vec<u8>, bytes: &[u8]) -> Result<(), Stop>
-    ensures ok { OnOk result ((pending.new.items ≡ pending.old.items ++ bytes.now) × (length pending.new.items ≤ most_line)) }
+    ensures ok { OnOk result ((pending.new.items ≡ pending.old.items ++ bytes.now) × (length pending.new.items ≤ max_line)) }
     ensures err { IfErr result (λ stop. IsKeptOut (pending.old.items ++ bytes.now) stop) }
 {
-    if bytes.len() > MOST_LINE || pending.len() > MOST_LINE - bytes.len() {
+    if bytes.len() > MAX_LINE || pending.len() > MAX_LINE - bytes.len() {
         return Err(Stop::Unread(Unread::Unreadable));
     }
     match pending.extend_from_slice(bytes) {

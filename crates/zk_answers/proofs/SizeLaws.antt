@@ -9,11 +9,11 @@ use Rattle.zx_base.specs.Maps.{Bytes}
 use Rattle.zk_model.specs.declared.node.Stat.{Stat}
 use Rattle.zk_model.specs.declared.reply.Body.TheVariants as body
 use Rattle.zk_model.specs.declared.reply.Reply.TheVariants as reply
-use Rattle.zk_model.specs.JuteWriting.{int_bytes, long_bytes, string_bytes, vector_bytes, written}
-use Rattle.zk_model.specs.Records.{stat_values}
-use Rattle.zk_model.specs.Answers.{fits_reply}
-use Rattle.zk_model.specs.Packets.{reply_bytes}
-use Rattle.zk_model.proofs.Lengths.{length-int_bytes, length-long_bytes, length-string_bytes, length-vector_bytes}
+use Rattle.zk_jute.specs.JuteWriting.{int_bytes, long_bytes, string_bytes, vector_bytes, written}
+use Rattle.zk_jute.specs.Records.{stat_values}
+use Rattle.zk_transcript.specs.Answers.{fits_reply}
+use Rattle.zk_jute.specs.Packets.{reply_bytes}
+use Rattle.zk_jute.proofs.Lengths.{length-int_bytes, length-long_bytes, length-string_bytes, length-vector_bytes}
 
 -- the bytes of texts, each behind its length
 abbrev pub size : List Bytes → ℕ

@@ -2,10 +2,10 @@
 use Rattle.std.specs.Prelude.{ℕ, ℤ, pos, Option, Some, None, option_map}
 use Rattle.zk_model.specs.declared.reply.Reply.TheVariants as reply
 use Rattle.zk_model.specs.declared.request.Request.{Request}
-use Rattle.zk_model.specs.Answers.{Told, plain_request}
-use Rattle.zk_model.specs.Conversations.{looked, no_more}
-use Rattle.zk_model.specs.History.{Commit, commit, nothing_yet}
-use Rattle.zk_model.specs.Requests.{Asks}
+use Rattle.zk_transcript.specs.Answers.{Told, plain_request}
+use Rattle.zk_transcript.specs.Conversations.{looked, no_more}
+use Rattle.zk_transcript.specs.History.{Commit, commit, nothing_yet}
+use Rattle.zk_jute.specs.Requests.{Asks}
 use Rattle.zk_model.specs.Watches.{Watches, fire_all}
 use Rattle.zk_model.specs.Znodes.{Tree}
 

@@ -2,12 +2,12 @@
 use Rattle.std.specs.Prelude.{◌≤◌, ℕ, ℤ, length}
 use Rattle.zk_model.specs.declared.request.Request.{Request}
 use Rattle.zk_model.specs.declared.request.Request.TheVariants as req
-use Rattle.zk_model.specs.Frames.{most_frame}
 use Rattle.zk_model.specs.Znodes.{Tree}
 use Rattle.zk_plain.specs.Faults.{IsWithin, StaysWithin}
+use Rattle.zk_model.specs.Limits.{max_frame}
 
 -- the tree's numbers are those of a run, and so are those of the trees to which the parts of a multi come
 abbrev pub FitsRequest : Tree → ℕ → ℤ → Request → ℤ → ℕ → Type 0
-FitsRequest t limit session (req.SetData path content version) zxid now = IsWithin t × (length content ≤ most_frame)
+FitsRequest t limit session (req.SetData path content version) zxid now = IsWithin t × (length content ≤ max_frame)
 FitsRequest t limit session (req.Multi parts) zxid now = IsWithin t × StaysWithin t limit session parts zxid now
 FitsRequest t limit session _ zxid now = IsWithin t

@@ -1,7 +1,7 @@
 //! What a service with one connection answers.
 
 ghost use Rattle.std.specs.Prelude.{◌≡◌, option_map, pos, IfOk, IfErr};
-ghost use Rattle.zk_model.specs.Conversations.{no_more};
+ghost use Rattle.zk_transcript.specs.Conversations.{no_more};
 ghost use Rattle.zk_plain.specs.Faults.{BeyondUnless};
 ghost use Rattle.zk_answers.specs.Answering.{answer, told_update};
 ghost use Rattle.zk_answers.specs.Fits.{FitsRequest};

@@ -1,7 +1,7 @@
 //! What an update that is not refused does.
 
 ghost use Rattle.std.specs.Prelude.{◌≡◌, option_map, IfOk, IfErr};
-ghost use Rattle.zk_model.specs.History.{commit, commit_single, commit_several, response_of};
+ghost use Rattle.zk_transcript.specs.History.{commit, commit_single, commit_several, response_of};
 ghost use Rattle.zk_plain.specs.Faults.{BeyondUnless};
 ghost use Rattle.zk_plain.specs.Outcomes.{outcome_of, several_as};
 ghost use Rattle.zk_answers.specs.Fits.{FitsRequest};
@@ -67,7 +67,7 @@ fn commit_several(transaction: Transaction) -> Option<Update>
 }
 
 /// What a create, a delete, a setData or a multi does, where it is not refused. Any other request commits nothing.
-#[tactic(auto, unfolding(zk_model::specs::History::commit))]
+#[tactic(auto, unfolding(zk_transcript::specs::History::commit))]
 pub fn commit(
     alloc: Global,
     tree: &Tree,

@@ -2,13 +2,13 @@
 
 ghost use Rattle.std.specs.Prelude.{◌≡◌, ◌+◌, length, nat_le, sum_by};
 ghost use Rattle.zk_model.specs.declared.reply.Body.TheVariants as body;
-ghost use Rattle.zk_model.specs.Answers.{fits_reply};
+ghost use Rattle.zk_transcript.specs.Answers.{fits_reply};
 
 use zk_model::Stat;
 use zx_base::Text;
 
 /// The most bytes of a frame, by the range of its length.
-const MOST_FRAME: usize = 2147483647;
+const MAX_INT: usize = 2147483647;
 
 /// The bytes of a reply's header and of a count.
 const HEADER_AND_COUNT: usize = 20;
@@ -32,11 +32,11 @@ fn fit(texts: &[Text], room: usize) -> bool
 pub fn names_fit(names: &[Text]) -> bool
     ensures { result ≡ fits_reply (body.Names names.now) }
 {
-    fit(names, MOST_FRAME - HEADER_AND_COUNT)
+    fit(names, MAX_INT - HEADER_AND_COUNT)
 }
 
 pub fn names_and_stat_fit(names: &[Text], stat: &Stat) -> bool
     ensures { result ≡ fits_reply (body.NamesStat names.now stat.now) }
 {
-    fit(names, MOST_FRAME - HEADER_AND_COUNT - STAT)
+    fit(names, MAX_INT - HEADER_AND_COUNT - STAT)
 }

@@ -2,11 +2,11 @@
 
 ghost use Rattle.std.specs.Prelude.{◌≡◌, ◌&&◌, not, Some, None, if◌then◌else◌, IfOk};
 ghost use Rattle.zx_base.specs.Maps.{same};
-ghost use Rattle.zk_model.specs.Answers.{plain_request, path_reply, refused_reply};
+ghost use Rattle.zk_transcript.specs.Answers.{plain_request, path_reply, refused_reply};
 ghost use Rattle.zk_model.specs.Codes.{bad_arguments, invalid_acl};
 ghost use Rattle.zk_model.specs.Paths.{is_path, is_sequence_prefix, root};
-ghost use Rattle.zk_model.specs.Single.{or_else, path_refusal, is_create_mode, is_open_acl, is_sequential};
-
+ghost use Rattle.zk_model.specs.Single.{or_else, path_refusal, is_create_mode, is_sequential};
+ghost use Rattle.zk_model.specs.Access.{is_open_acl};
 use std::alloc::Global;
 use zk_model::code::{AUTH_FAILED, BAD_ARGUMENTS, INVALID_ACL};
 use zk_model::{Acl, Body, Reply, Request};
@@ -14,7 +14,7 @@ use zk_plain::{is_create_mode, is_open_acl, is_sequential, read_path};
 use zx_base::Memory;
 
 /// The most parts of one multi.
-const MOST_PARTS: usize = 24;
+const MAX_PARTS: usize = 24;
 
 fn path_refusal(alloc: Global, text: &[u8]) -> Result<Option<i32>, Memory>
     ensures { IfOk result (λ o. o ≡ path_refusal (is_path text.now)) }
@@ -71,7 +71,7 @@ fn path_reply(alloc: Global, text: &[u8]) -> Result<Option<Reply>, Memory>
 }
 
 /// The answer to a request that the tree does not decide: a ping, an authentication, or a request of no valid form.
-#[tactic(auto, unfolding(zk_model::specs::Answers::plain_request, zk_model::specs::Single::form_refusal))]
+#[tactic(auto, unfolding(zk_transcript::specs::Answers::plain_request, zk_model::specs::Single::form_refusal))]
 pub fn plain_request(alloc: Global, request: &Request) -> Result<Option<Reply>, Memory>
     ensures { IfOk result (λ o. o ≡ plain_request request.now) }
 {
@@ -79,7 +79,7 @@ pub fn plain_request(alloc: Global, request: &Request) -> Result<Option<Reply>, 
         Request::Ping => Ok(Some(Reply::Good(Body::Empty))),
         Request::Auth { scheme, .. } if scheme.is(b"digest") => Ok(Some(Reply::Good(Body::Empty))),
         Request::Auth { .. } => Ok(Some(Reply::Refused(AUTH_FAILED))),
-        Request::Multi { parts } if MOST_PARTS < parts.len() => Ok(Some(Reply::Refused(
+        Request::Multi { parts } if MAX_PARTS < parts.len() => Ok(Some(Reply::Refused(
             BAD_ARGUMENTS,
         ))),
         Request::Create {

@@ -3,7 +3,7 @@
 ghost use Rattle.std.specs.Prelude.{◌≡◌, Some, option_map, pos, IfOk, IfErr};
 ghost use Rattle.zk_model.specs.declared.reply.Body.TheVariants as body;
 ghost use Rattle.zk_model.specs.declared.reply.Reply.TheVariants as reply;
-ghost use Rattle.zk_model.specs.Answers.{told, checked, refusal_of, refusal_of_several, rearmed, tree_reply};
+ghost use Rattle.zk_transcript.specs.Answers.{told, checked, refusal_of, refusal_of_several, rearmed, tree_reply};
 ghost use Rattle.zk_plain.specs.Faults.{BeyondUnless};
 ghost use Rattle.zk_plain.specs.Outcomes.{outcome_of, several_as};
 ghost use Rattle.zk_answers.specs.Fits.{FitsRequest};
@@ -22,7 +22,7 @@ use zk_plain::{
 use zx_base::{Memory, Text};
 
 /// The most nodes that a session may own.
-const MOST_OWNED: usize = 40;
+const MAX_OWNED: usize = 40;
 
 /// An update is answered by its refusal; one that succeeds is answered by what it commits.
 fn refusal_of(alloc: Global, watches: &Watches, outcome: Outcome) -> Result<Option<Told>, Memory>
@@ -81,7 +81,7 @@ fn looking(session: i64) -> Turn
     ensures { (result.limit ≡ 40) × (result.session ≡ session) × (result.zxid ≡ pos 0) × (result.moment ≡ 0) }
 {
     Turn {
-        limit: MOST_OWNED,
+        limit: MAX_OWNED,
         session,
         zxid: 0,
         moment: 0,
@@ -90,7 +90,7 @@ fn looking(session: i64) -> Turn
 
 /// The answer as the tree shows it: to a read, to a setWatches, and to an update that is refused. An update that
 /// succeeds has none here.
-#[tactic(auto, unfolding(zk_model::specs::Answers::tree_reply))]
+#[tactic(auto, unfolding(zk_transcript::specs::Answers::tree_reply))]
 pub fn tree_reply(
     alloc: Global,
     tree: &Tree,

@@ -4,20 +4,19 @@ use Rattle.zk_model.specs.declared.request.Part.{Part}
 use Rattle.zk_model.specs.declared.request.Part.TheVariants as part
 use Rattle.zk_model.specs.declared.request.Request.{Request}
 use Rattle.zk_model.specs.declared.request.Request.TheVariants as req
-use Rattle.zk_model.specs.declared.transcript.UpdateKind.{UpdateKind}
-use Rattle.zk_model.specs.declared.transcript.UpdateKind.TheVariants.{Begin, Asked}
-use Rattle.zk_model.specs.declared.transcript.TranscriptLine.{TranscriptLine}
-use Rattle.zk_model.specs.declared.transcript.TranscriptLine.TheVariants.{Update}
-use Rattle.zk_model.specs.Frames.{most_frame}
-use Rattle.zk_model.specs.History.{State, after, request, session_of}
+use Rattle.zk_transcript.specs.declared.transcript.UpdateKind.{UpdateKind}
+use Rattle.zk_transcript.specs.declared.transcript.UpdateKind.TheVariants.{Begin, Asked}
+use Rattle.zk_transcript.specs.declared.transcript.TranscriptLine.{TranscriptLine}
+use Rattle.zk_transcript.specs.declared.transcript.TranscriptLine.TheVariants.{Update}
+use Rattle.zk_transcript.specs.History.{State, after, request, session_of}
 use Rattle.zk_model.specs.Multi.{data_len}
-use Rattle.zk_model.specs.Single.{most_owned}
 use Rattle.zk_model.specs.Znodes.{Tree}
 use Rattle.zk_plain.specs.Faults.{IsWithin, StaysWithin}
+use Rattle.zk_model.specs.Limits.{max_frame, max_owned}
 
 -- the tree's counts are those of a run, and the data are no more than a frame has
 abbrev pub PartFits : Tree → Part → Type 0
-PartFits t p = IsWithin t × (data_len p ≤ most_frame)
+PartFits t p = IsWithin t × (data_len p ≤ max_frame)
 
 abbrev pub RequestFits : Tree → ℕ → ℤ → Request → ℤ → ℕ → Type 0
 RequestFits t limit session (req.Create p d a f) zxid now = PartFits t (part.Create p d a f)
@@ -35,7 +34,7 @@ abbrev pub IsCountable : State → Type 0
 IsCountable s = s.updates < 18446744073709551615
 
 abbrev pub AskedFits : Tree → Option ℤ → Option Request → ℤ → ℕ → Type 0
-AskedFits t (Some session) (Some r) zxid now = RequestFits t most_owned session r zxid now
+AskedFits t (Some session) (Some r) zxid now = RequestFits t max_owned session r zxid now
 AskedFits t _ _ zxid now = ⊤
 
 abbrev pub UpdateFits : List TranscriptLine → State → ℤ → UpdateKind → Type 0

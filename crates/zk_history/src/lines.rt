@@ -1,8 +1,8 @@
 //! What one line of a transcript does to the state.
 
 ghost use Rattle.std.specs.Prelude.{◌≡◌, ℕ, List, option_map, IfOk, IfErr};
-ghost use Rattle.zk_model.specs.declared.transcript.UpdateKind.TheVariants as kind;
-ghost use Rattle.zk_model.specs.History.{State, attached_anew, asked_commit, change, committed, lapsed_in, request, session_at, session_of, updated};
+ghost use Rattle.zk_transcript.specs.declared.transcript.UpdateKind.TheVariants as kind;
+ghost use Rattle.zk_transcript.specs.History.{State, attached_anew, asked_commit, change, committed, lapsed_in, request, session_at, session_of, updated};
 ghost use Rattle.zk_plain.specs.Faults.{BeyondUnless};
 ghost use Rattle.zk_history.specs.Commits.{commit_of};
 ghost use Rattle.zk_history.specs.Fits.{AskedFits, Fits, IsCountable, IsMoment, UpdateFits};
@@ -14,15 +14,15 @@ use crate::session::Session;
 use crate::shown::{connect, opening, request};
 use crate::state::State;
 use std::alloc::Global;
-use zk_model::{TranscriptLine, UpdateKind, UpdateRec};
+use zk_transcript::{TranscriptLine, UpdateKind, UpdateRec};
 use zk_plain::{Fault, Turn, begin};
 use zx_base::{Memory, Seq};
 
 /// The most ephemeral nodes that a session may own.
-const MOST_OWNED: usize = 40;
+const MAX_OWNED: usize = 40;
 
 /// The last moment that the times of a node hold, in milliseconds.
-const LAST_MOMENT: u64 = 9223372036854775807;
+const MAX_LONG: u64 = 9223372036854775807;
 
 /// Who asks for an update, and when.
 fn turn(session: i64, zxid: i64, moment: u64) -> Result<Turn, Fault>
@@ -32,11 +32,11 @@ fn turn(session: i64, zxid: i64, moment: u64) -> Result<Turn, Fault>
     ensures moment { IfOk result (λ t. t.moment ≡ moment) }
     ensures beyond { IfErr result (BeyondUnless (IsMoment moment)) }
 {
-    if LAST_MOMENT < moment {
+    if MAX_LONG < moment {
         return Err(Fault::Beyond);
     }
     Ok(Turn {
-        limit: MOST_OWNED,
+        limit: MAX_OWNED,
         session,
         zxid,
         moment,
@@ -51,7 +51,7 @@ fn session_of(_connection: u32, _state: &State) -> Option<i64>
 }
 
 /// The state after the first update.
-#[tactic(auto, unfolding(zk_model::specs::History::updated))]
+#[tactic(auto, unfolding(zk_transcript::specs::History::updated))]
 fn begun(alloc: Global, zxid: i64, moment: u64) -> Result<State, Fault>
     ensures ok { IfOk result (λ s. (before : List TranscriptLine) (state : State) → s ≡ updated before state zxid (kind.Begin moment)) }
     ensures beyond { IfErr result (BeyondUnless (IsMoment moment)) }
@@ -61,7 +61,7 @@ fn begun(alloc: Global, zxid: i64, moment: u64) -> Result<State, Fault>
 }
 
 /// The state after a session began on a connection.
-#[tactic(auto, unfolding(zk_model::specs::History::updated))]
+#[tactic(auto, unfolding(zk_transcript::specs::History::updated))]
 fn session_begun(
     alloc: Global,
     before: &[TranscriptLine],
@@ -100,7 +100,7 @@ fn with_attached(
 }
 
 /// The state after a session was attached to another connection.
-#[tactic(auto, unfolding(zk_model::specs::History::updated))]
+#[tactic(auto, unfolding(zk_transcript::specs::History::updated))]
 fn attached(
     alloc: Global,
     state: State,
@@ -149,7 +149,7 @@ fn committed(state: State, zxid: i64, done: Option<Commit>) -> Result<State, Fau
 }
 
 /// The state after a request was carried out.
-#[tactic(auto, unfolding(zk_model::specs::History::updated))]
+#[tactic(auto, unfolding(zk_transcript::specs::History::updated))]
 fn asked(
     alloc: Global,
     before: &[TranscriptLine],
@@ -167,7 +167,7 @@ fn asked(
 }
 
 /// The state after a session ended, closed or reaped.
-#[tactic(auto, unfolding(zk_model::specs::History::updated))]
+#[tactic(auto, unfolding(zk_transcript::specs::History::updated))]
 fn ended(alloc: Global, state: State, zxid: i64, id: i64) -> Result<State, Fault>
     ensures closed { IfOk result (λ s. (before : List TranscriptLine) (connection index : ℕ) → s ≡ updated before state zxid (kind.Closed id connection index)) }
     ensures reaped { IfOk result (λ s. (before : List TranscriptLine) → s ≡ updated before state zxid (kind.Reaped id)) }

@@ -1,19 +1,19 @@
 //! The state after a transcript, and at each of its moments.
 
 ghost use Rattle.std.specs.Prelude.{◌≡◌, take, IfOk, IfErr};
-ghost use Rattle.zk_model.specs.History.{after, state_at};
+ghost use Rattle.zk_transcript.specs.History.{after, state_at};
 ghost use Rattle.zk_plain.specs.Faults.{BeyondUnless};
 ghost use Rattle.zk_history.specs.Fits.{AllFit};
 
 use crate::lines::change;
 use crate::state::State;
 use std::alloc::Global;
-use zk_model::TranscriptLine;
+use zk_transcript::TranscriptLine;
 use zk_plain::Fault;
 
 /// The state after the updates and lapses among these lines; faults as in [`change`]. Goes through the lines before each
 /// line again.
-#[tactic(auto, unfolding(zk_model::specs::History::after))]
+#[tactic(auto, unfolding(zk_transcript::specs::History::after))]
 pub fn after(alloc: Global, lines: &[TranscriptLine]) -> Result<State, Fault>
     ensures ok { IfOk result (λ s. s ≡ after lines.now) }
     ensures beyond { IfErr result (BeyondUnless (AllFit lines.now)) }

@@ -1,7 +1,7 @@
 //! Updates that a client asked for.
 
 ghost use Rattle.std.specs.Prelude.{◌≡◌, option_map, IfOk, IfErr};
-ghost use Rattle.zk_model.specs.History.{response_of, commit_single, commit_several, commit};
+ghost use Rattle.zk_transcript.specs.History.{response_of, commit_single, commit_several, commit};
 ghost use Rattle.zk_model.specs.Single.{single};
 ghost use Rattle.zk_model.specs.Multi.{several};
 ghost use Rattle.zk_plain.specs.Faults.{BeyondUnless, StaysWithin};
@@ -88,7 +88,7 @@ fn commit_several(
 }
 
 /// What a create, delete, setData or multi does, where it is not refused.
-#[tactic(auto, unfolding(zk_model::specs::History::commit))]
+#[tactic(auto, unfolding(zk_transcript::specs::History::commit))]
 pub fn commit(
     alloc: Global,
     tree: &Tree,

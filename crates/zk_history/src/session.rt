@@ -1,7 +1,7 @@
 //! Open sessions (Programmer's Guide, "ZooKeeper Sessions").
 
 ghost use Rattle.std.specs.Prelude.{◌≡◌, [], pos, option_map, IfOk, true};
-ghost use Rattle.zk_model.specs.History.{granted_timeout, new_session, or_nothing};
+ghost use Rattle.zk_transcript.specs.History.{granted_timeout, new_session, or_nothing};
 
 use std::alloc::Global;
 use std::marker::Model;
@@ -20,7 +20,7 @@ pub struct Session {
 }
 
 impl Model for Session {
-    ghost use Rattle.zk_model.specs.History.{Session as Opened};
+    ghost use Rattle.zk_transcript.specs.History.{Session as Opened};
     ghost use Rattle.zk_history.specs.Codes.{coded_session};
 
     ghost Value = { Opened };
@@ -31,18 +31,18 @@ impl Model for Session {
 }
 
 /// The range of the timeouts that are granted, in milliseconds.
-const LEAST_TIMEOUT: i32 = 4000;
+const MIN_TIMEOUT: i32 = 4000;
 
-const MOST_TIMEOUT: i32 = 40000;
+const MAX_TIMEOUT: i32 = 40000;
 
 /// A requested timeout, brought into the service's range. Both are in milliseconds.
 fn granted_timeout(asked: i32) -> i32
     ensures { result ≡ granted_timeout asked }
 {
-    if asked < LEAST_TIMEOUT {
-        LEAST_TIMEOUT
-    } else if MOST_TIMEOUT < asked {
-        MOST_TIMEOUT
+    if asked < MIN_TIMEOUT {
+        MIN_TIMEOUT
+    } else if MAX_TIMEOUT < asked {
+        MAX_TIMEOUT
     } else {
         asked
     }

@@ -17,7 +17,7 @@ pub struct Sessions {
 
 impl Model for Sessions {
     ghost use Rattle.std.specs.FinMap as map;
-    ghost use Rattle.zk_model.specs.History.{Sessions as Numbered};
+    ghost use Rattle.zk_transcript.specs.History.{Sessions as Numbered};
     ghost use Rattle.zk_history.specs.Codes.{coded_sessions};
 
     ghost Value = { Numbered };

@@ -1,12 +1,13 @@
 //! What the lines of a transcript show of a connection: the first line that shows it.
 
 ghost use Rattle.std.specs.Prelude.{◌≡◌, option_map, IfOk};
-ghost use Rattle.zk_model.specs.History.{open_shown, opening, frame_shown, frame, connect, request, asked_in};
-ghost use Rattle.zk_model.specs.Connects.{read_connect};
-ghost use Rattle.zk_model.specs.Requests.{read_request};
+ghost use Rattle.zk_transcript.specs.History.{open_shown, opening, frame_shown, frame, connect, request, asked_in};
+ghost use Rattle.zk_jute.specs.Connects.{read_connect};
+ghost use Rattle.zk_jute.specs.Requests.{read_request};
 
 use std::alloc::Global;
-use zk_model::{ConnectRequest, Request, TranscriptLine};
+use zk_model::{ConnectRequest, Request};
+use zk_transcript::TranscriptLine;
 use zk_wire::{WireFault, read_connect, read_request};
 use zx_base::Memory;
 

@@ -2,7 +2,7 @@
 
 ghost use Rattle.std.specs.Prelude.{◌≡◌, [], ◌+◌, ◌<◌, option_map, IfOk, IfErr};
 ghost use Rattle.std.specs.FinMap.{empty, insert, remove};
-ghost use Rattle.zk_model.specs.History.{advanced, nothing_yet, session_at};
+ghost use Rattle.zk_transcript.specs.History.{advanced, nothing_yet, session_at};
 ghost use Rattle.zk_plain.specs.Faults.{BeyondUnless};
 
 use crate::session::Session;
@@ -24,7 +24,7 @@ pub struct State {
 }
 
 impl Model for State {
-    ghost use Rattle.zk_model.specs.History.{State as Reached};
+    ghost use Rattle.zk_transcript.specs.History.{State as Reached};
     ghost use Rattle.zk_history.specs.Codes.{coded_state};
 
     ghost Value = { Reached };

@@ -13,10 +13,11 @@ use Rattle.zx_base.specs.Maps.{Bytes, same}
 use Rattle.zk_model.specs.declared.path.Defect.{Defect}
 use Rattle.zk_model.specs.declared.path.PathFault.{PathFault}
 use Rattle.zk_model.specs.declared.path.PathFault.TheVariants.{NoSlash, EndSlash, EmptyName, DotName, BadText, TooLong, Memory}
-use Rattle.zk_model.specs.Paths.{slash, dot, is_path, is_path_char, is_name, names, pieces, onto_first, begins_with_slash, with_one, most_path, most_sequence_prefix}
-use Rattle.zk_model.specs.PathFaults.{first_name, tested, is_valid, most_bytes, ends_with_slash, is_filled, is_dots, is_text, IsFault, IsRefused, first_of, at, name_fault, placed, bad_name, bad_char, bad_text, form_defect, defect_of, IsFirst}
+use Rattle.zk_model.specs.Paths.{slash, dot, is_path, is_path_char, is_name, names, pieces, onto_first, begins_with_slash, with_one}
+use Rattle.zk_model.specs.PathFaults.{first_name, tested, is_valid, max_bytes, ends_with_slash, is_filled, is_dots, is_text, IsFault, IsRefused, first_of, at, name_fault, placed, bad_name, bad_char, bad_text, form_defect, defect_of, IsFirst}
 use Rattle.zk_model.proofs.PathScans.{later_names, pieces-cons, later_onto}
 use Rattle.zk_model.proofs.ValidPaths.{Valid, valid-from, valid-is_path, named-later}
+use Rattle.zk_model.specs.Limits.{max_path, max_sequence_prefix}
 
 -- ---- the first of two
 
@@ -214,21 +215,21 @@ form_defect-none p e =
       named = bad_name-none 1 (names p) name.0;
     }
 
-formed-valid : (p : Bytes) → Formed p → length p ≤ most_path → is_path p ≡ true
+formed-valid : (p : Bytes) → Formed p → length p ≤ max_path → is_path p ≡ true
 formed-valid p f short = valid-is_path p (record { short = short; begins = f.begins; is_text = f.is_text; allowed = f.allowed; named = f.named })
 
 pub defect_of-none : (sequential : Bool) (text : Bytes) → defect_of sequential text ≡ None → is_valid sequential text ≡ true
 unfolding defect_of
 defect_of-none true text e =
     let both = first_of-none (form_defect (with_one text)) _ e in
-    let short : length text ≤ most_sequence_prefix = ltb-false _ _ (at-none _ _ _ both.1) in
+    let short : length text ≤ max_sequence_prefix = ltb-false _ _ (at-none _ _ _ both.1) in
     and_from _ _ (le-leb _ _ short) (formed-valid (with_one text) (form_defect-none _ both.0) (omega (arith, length-append text (49 ∷ []))))
 defect_of-none false text e =
     let both = first_of-none (form_defect text) _ e in
     formed-valid text (form_defect-none _ both.0) (ltb-false _ _ (at-none _ _ _ both.1))
 
 pub valid-tested : (sequential : Bool) (text : Bytes) → is_valid sequential text ≡ true → is_path (tested sequential text) ≡ true
-valid-tested true text h = (and_parts (nat_le (length text) most_sequence_prefix) _ h).1
+valid-tested true text h = (and_parts (nat_le (length text) max_sequence_prefix) _ h).1
 valid-tested false text h = h
 
 fault_as : {f : PathFault} (d : Defect) (sequential : Bool) (text : Bytes) → f ≡ d.fault → IsFault f sequential text → IsFault d.fault sequential text
@@ -269,7 +270,7 @@ defect_of-first sequential text d e = subst (λ o. IsFirst d.fault o) (sym e) (f
 -- ---- a text with a fault is not valid
 
 tested-invalid : (sequential : Bool) (text : Bytes) → (Valid (tested sequential text) → ⊥) → is_valid sequential text ≡ false
-tested-invalid true text h = and_right (nat_le (length text) most_sequence_prefix) _ (false_from_ne_true _ (λ t. h (valid-from _ t)))
+tested-invalid true text h = and_right (nat_le (length text) max_sequence_prefix) _ (false_from_ne_true _ (λ t. h (valid-from _ t)))
 tested-invalid false text h = false_from_ne_true _ (λ t. h (valid-from _ t))
 
 ends-invalid : (p : Bytes) → ends_with_slash p ≡ true → Valid p → ⊥
@@ -279,7 +280,7 @@ ends-invalid p e v =
     let last : get_or p (length p - 1) 0 ≡ slash = eqb-true _ _ both.1 in
     both_ways _ (behind_slash p (length p - 1) (omega arith) last) (all_filled (later_names p) (named-later p long v.named))
 
-long-invalid : (sequential : Bool) (text : Bytes) → most_bytes sequential < length text → is_valid sequential text ≡ false
+long-invalid : (sequential : Bool) (text : Bytes) → max_bytes sequential < length text → is_valid sequential text ≡ false
 long-invalid true text h = and_left _ (is_path (with_one text)) (lt-leb _ _ h)
 long-invalid false text h = tested-invalid false text (λ v. absurd (omega (arith, v.short)))
 

@@ -9,10 +9,11 @@ use Rattle.std.proofs.lemmas.List.Folds.{list_all-append}
 use Rattle.std.proofs.lemmas.Str.{IsUtf8-append, IsUtf8-from_ascii, chars-append, chars-IsAscii}
 use Rattle.std.proofs.lemmas.Str.Ascii.{IsAscii-cons, IsAscii-nil}
 use Rattle.zx_base.specs.Maps.{Bytes, same}
-use Rattle.zk_model.specs.Paths.{slash, dot, root, pieces, onto_first, is_path, is_path_char, is_name, begins_with_slash, most_path, most_sequence_prefix, with_one, is_sequence_prefix, sequence_path, fixed_digits}
+use Rattle.zk_model.specs.Paths.{slash, dot, root, pieces, onto_first, is_path, is_path_char, is_name, begins_with_slash, with_one, is_sequence_prefix, sequence_path, fixed_digits}
 use Rattle.zk_model.specs.PathFaults.{first_name}
 use Rattle.zk_model.proofs.PathScans.{later_names, later_onto, pieces-cons}
 use Rattle.zk_model.proofs.ValidPaths.{Valid, valid-from, valid-is_path, front-is_text, named-later, later-named}
+use Rattle.zk_model.specs.Limits.{max_path, max_sequence_prefix}
 
 -- ---- digits
 
@@ -115,7 +116,7 @@ prefix-length : (bs : Bytes) → begins_with_slash (with_one bs) ≡ true → 0 
 prefix-length [] h = cc
 prefix-length (b ∷ bs) h = omega arith
 
-digits-valid : (bs ds : Bytes) → Valid (with_one bs) → Digits ds → 2 < length ds → length (bs ++ ds) ≤ most_path → Valid (bs ++ ds)
+digits-valid : (bs ds : Bytes) → Valid (with_one bs) → Digits ds → 2 < length ds → length (bs ++ ds) ≤ max_path → Valid (bs ++ ds)
 digits-valid bs ds v h long short =
     let is_text = front-is_text bs 49 [] (omega arith) v.is_text in
     let ascii = digits-ascii ds h in
@@ -133,7 +134,7 @@ digits-valid bs ds v h long short =
 
 pub sequence-valid : (prefix : Bytes) (n : ℕ) → is_sequence_prefix prefix ≡ true → is_path (sequence_path prefix n) ≡ true
 sequence-valid prefix n h =
-    let both = and_parts (nat_le (length prefix) most_sequence_prefix) _ h in
-    let few : length prefix ≤ most_sequence_prefix = leb-true _ _ both.0 in
+    let both = and_parts (nat_le (length prefix) max_sequence_prefix) _ h in
+    let few : length prefix ≤ max_sequence_prefix = leb-true _ _ both.0 in
     let ten = length-fixed 10 n in
     valid-is_path _ (digits-valid prefix (fixed_digits 10 n) (valid-from _ both.1) (fixed-digits 10 n) (omega (arith, ten)) (omega (arith, ten, length-append prefix (fixed_digits 10 n))))

@@ -8,12 +8,13 @@ use Rattle.std.proofs.lemmas.List.Folds.{list_all-append}
 use Rattle.std.proofs.lemmas.Str.{IsUtf8-from_is_utf8, is_utf8-from_IsUtf8, IsUtf8-take, IsCharBoundary-before_ascii, chars-append, IsUtf8-from_ascii, chars-IsAscii}
 use Rattle.std.proofs.Math.Seq.{take-append_seam, get_or-append_seam}
 use Rattle.zx_base.specs.Maps.{Bytes, same}
-use Rattle.zk_model.specs.Paths.{slash, root, is_path, is_path_char, is_name, names, pieces, onto_first, begins_with_slash, most_path, at_last_slash, with_head, parent, parent_at, parent_of_parts}
+use Rattle.zk_model.specs.Paths.{slash, root, is_path, is_path_char, is_name, names, pieces, onto_first, begins_with_slash, at_last_slash, with_head, parent, parent_at, parent_of_parts}
 use Rattle.zk_model.proofs.PathScans.{later_names, pieces-cons}
+use Rattle.zk_model.specs.Limits.{max_path}
 
 -- what makes a path valid
 pub record Valid (p : Bytes) : Type 0 where
-  pub short : length p ≤ most_path
+  pub short : length p ≤ max_path
   pub begins : begins_with_slash p ≡ true
   pub is_text : IsUtf8 p
   pub allowed : list_all is_path_char (chars p) ≡ true
@@ -25,7 +26,7 @@ valid-from p h =
     let d = and_parts _ (list_all is_name (names p)) h in
     let c = and_parts _ (list_all is_path_char (chars p)) d.0 in
     let b = and_parts _ (is_utf8 p) c.0 in
-    let a = and_parts (nat_le (length p) most_path) (begins_with_slash p) b.0 in
+    let a = and_parts (nat_le (length p) max_path) (begins_with_slash p) b.0 in
     record { short = leb-true _ _ a.0; begins = a.1; is_text = IsUtf8-from_is_utf8 p b.1; allowed = c.1; named = d.1 }
 
 pub valid-is_path : (p : Bytes) → Valid p → is_path p ≡ true

@@ -13,6 +13,7 @@ use Rattle.zk_model.specs.Codes.{ok, runtime_inconsistency, bad_arguments}
 use Rattle.std.specs.FinMap.{get}
 use Rattle.zk_model.specs.Znodes.{Tree, owned}
 use Rattle.zk_model.specs.Single.{single, Refused, Done, is_ephemeral}
+use Rattle.zk_model.specs.Limits.{max_load}
 
 -- the first refused part and its code, or the results, the tree, what watches see, and the sessions whose nodes were made or removed
 pub data Parts : Type 0 where
@@ -53,9 +54,6 @@ data_len (Check path version) = 0
 abbrev pub distinct : List ℤ → List ℤ
 distinct ss = fold (insert_key int_cmp) [] ss
 
-abbrev pub most_load : ℕ
-most_load = 1000000
-
 abbrev pub load : Tree → List Part → List ℤ → ℕ
 load t parts touched = sum_by data_len parts + sum_by (λ s. sum_by length (owned t s)) (distinct touched)
 
@@ -72,11 +70,8 @@ row_of n place code = replicate place (Code ok) ++ (Code code ∷ replicate (n -
 
 abbrev pub settled : Tree → List Part → Parts → Several
 settled t parts (Stopped place code) = Codes (row_of (length parts) place code)
-settled t parts (Passed rs u gs ss) = if nat_lt most_load (load t parts ss) then Denied bad_arguments else All rs u gs
+settled t parts (Passed rs u gs ss) = if nat_lt max_load (load t parts ss) then Denied bad_arguments else All rs u gs
 
 unfoldable pub several : Tree → ℕ → ℤ → List Part → ℤ → ℕ → Several
 several t limit session parts zxid now = settled t parts (parts_of t limit session parts zxid now)
 
--- the most parts of one multi
-abbrev pub most_parts : ℕ
-most_parts = 24

@@ -9,8 +9,8 @@ use Rattle.zk_model.specs.declared.path.Defect.{Defect}
 use Rattle.zk_model.specs.declared.path.PathFault.{PathFault}
 use Rattle.zk_model.specs.declared.path.PathFault.TheVariants.{NoSlash, EndSlash, EmptyName, DotName, BadText, TooLong, Memory}
 use Rattle.zx_base.specs.Maps.{Bytes, same}
-use Rattle.zk_model.specs.Paths.{slash, dot, names, begins_with_slash, is_path_char, is_path, with_one, is_sequence_prefix, most_path, most_sequence_prefix}
-
+use Rattle.zk_model.specs.Paths.{slash, dot, names, begins_with_slash, is_path_char, is_path, with_one, is_sequence_prefix}
+use Rattle.zk_model.specs.Limits.{max_path, max_sequence_prefix}
 -- the text whose form is tested: a sequence node's has `1` behind it
 abbrev pub tested : Bool → Bytes → Bytes
 tested sequential text = if sequential then with_one text else text
@@ -18,8 +18,8 @@ tested sequential text = if sequential then with_one text else text
 abbrev pub is_valid : Bool → Bytes → Bool
 is_valid sequential text = if sequential then is_sequence_prefix text else is_path text
 
-abbrev pub most_bytes : Bool → ℕ
-most_bytes sequential = if sequential then most_sequence_prefix else most_path
+abbrev pub max_bytes : Bool → ℕ
+max_bytes sequential = if sequential then max_sequence_prefix else max_path
 
 -- ---- a word for each fault
 
@@ -48,7 +48,7 @@ IsFault EndSlash sequential text = IsTrue (ends_with_slash (tested sequential te
 IsFault EmptyName sequential text = IsFalse (list_all is_filled (names (tested sequential text)))
 IsFault DotName sequential text = IsTrue (list_any is_dots (names (tested sequential text)))
 IsFault BadText sequential text = IsFalse (is_text (tested sequential text))
-IsFault TooLong sequential text = most_bytes sequential < length text
+IsFault TooLong sequential text = max_bytes sequential < length text
 IsFault Memory sequential text = ⊤
 
 -- a fault but want of memory comes only where the text is not valid
@@ -100,7 +100,7 @@ form_defect p =
 
 unfoldable pub defect_of : Bool → Bytes → Option Defect
 defect_of sequential text =
-    first_of (form_defect (tested sequential text)) (at (nat_lt (most_bytes sequential) (length text)) (most_bytes sequential) TooLong)
+    first_of (form_defect (tested sequential text)) (at (nat_lt (max_bytes sequential) (length text)) (max_bytes sequential) TooLong)
 
 -- the fault that is told is the first
 abbrev pub IsFirst : PathFault → Option Defect → Type 0

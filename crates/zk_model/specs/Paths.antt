@@ -4,6 +4,7 @@ use Rattle.std.specs.Prelude.{ℕ, ◌+◌, ◌/◌, ◌%◌, ◌==◌, zero, su
 use Rattle.std.specs.Str.{is_utf8, chars}
 use Rattle.std.specs.List.{list_all}
 use Rattle.zx_base.specs.Maps.{Bytes, same}
+use Rattle.zk_model.specs.Limits.{max_path, max_sequence_prefix}
 
 -- '/'
 abbrev pub slash : ℕ
@@ -96,12 +97,9 @@ begins_with_slash (b ∷ bs) = b == slash
 abbrev pub is_path_char : ℕ → Bool
 is_path_char c = (nat_le 32 c && nat_lt c 127) || (nat_le 160 c && nat_lt c 55296) || (nat_le 63744 c && nat_lt c 65520)
 
-abbrev pub most_path : ℕ
-most_path = 1024
-
 -- a valid path, of at most 1,024 bytes
 unfoldable pub is_path : Bytes → Bool
-is_path p = nat_le (length p) most_path && begins_with_slash p && is_utf8 p && list_all is_path_char (chars p) && list_all is_name (names p)
+is_path p = nat_le (length p) max_path && begins_with_slash p && is_utf8 p && list_all is_path_char (chars p) && list_all is_name (names p)
 
 -- ---- sequence nodes ("Sequence Nodes -- Unique Naming")
 
@@ -118,8 +116,5 @@ sequence_path p n = p ++ fixed_digits 10 n
 abbrev pub with_one : Bytes → Bytes
 with_one p = p ++ 49 ∷ []
 
-abbrev pub most_sequence_prefix : ℕ
-most_sequence_prefix = 1014
-
 abbrev pub is_sequence_prefix : Bytes → Bool
-is_sequence_prefix p = nat_le (length p) most_sequence_prefix && is_path (with_one p)
+is_sequence_prefix p = nat_le (length p) max_sequence_prefix && is_path (with_one p)

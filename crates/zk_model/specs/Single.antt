@@ -13,9 +13,10 @@ use Rattle.zk_model.specs.declared.node.Trigger.TheVariants as trigger
 use Rattle.zk_model.specs.Codes.{system_error, bad_arguments, no_node, bad_version, no_children_for_ephemerals, node_exists, not_empty, invalid_acl}
 use Rattle.std.specs.FinMap.{get, insert, remove}
 use Rattle.zx_base.specs.Maps.{Bytes, same}
-use Rattle.zk_model.specs.JuteReading.{is_open}
 use Rattle.zk_model.specs.Paths.{is_path, is_sequence_prefix, sequence_path, with_one, parent, root}
 use Rattle.zk_model.specs.Znodes.{Tree, owned, num_children, new_node, stat_of}
+use Rattle.zk_model.specs.Limits.{max_creates, max_version}
+use Rattle.zk_model.specs.Access.{is_open_acl}
 
 -- a code, or the result, the new tree and what watches see
 pub data Outcome : Type 0 where
@@ -34,16 +35,6 @@ abbrev pub is_sequential : ℤ → Bool
 is_sequential f = int_eq f (pos 2) || int_eq f (pos 3)
 
 -- `OPEN_ACL_UNSAFE`, the one access list that there is
-abbrev pub is_open_acl : List Acl → Bool
-is_open_acl acl = is_open acl
-
--- the most creates of children that a node counts, and the most nodes that a session may own
-abbrev pub most_creates : ℤ
-most_creates = pos 1073741823
-
-abbrev pub most_owned : ℕ
-most_owned = 40
-
 -- a version of -1 matches any
 abbrev pub matches : ℤ → ℤ → Bool
 matches asked version = int_eq asked (negsuc 0) || int_eq asked version
@@ -84,7 +75,7 @@ made_path flags path up = if is_sequential flags then sequence_path path (nat_ab
 
 -- whether the parent or the session can have no more
 abbrev pub is_full : Tree → ℕ → ℤ → ℤ → Node → Bool
-is_full t limit session flags up = int_eq up.creates most_creates || (is_ephemeral flags && nat_le limit (length (owned t session)))
+is_full t limit session flags up = int_eq up.creates max_creates || (is_ephemeral flags && nat_le limit (length (owned t session)))
 
 abbrev pub create_node : Tree → ℕ → ℤ → ℤ → Bytes → ℤ → ℕ → Bytes → Node → Bytes → Option Node → Outcome
 create_node t limit session flags content zxid now q up p (Some old) = Refused node_exists
@@ -138,14 +129,11 @@ delete t p version zxid (Some n) =
 abbrev pub with_content : Node → Bytes → ℤ → ℕ → Node
 with_content n content zxid now = record n { content = content; mzxid = zxid; mtime = pos now; version = n.version +ℤ pos 1 }
 
-abbrev pub most_version : ℤ
-most_version = pos 2147483647
-
 abbrev pub set_data : Tree → Bytes → Bytes → ℤ → ℤ → ℕ → Option Node → Outcome
 set_data t p content version zxid now None = Refused no_node
 set_data t p content version zxid now (Some n) =
     if not (matches version n.version) then Refused bad_version
-    else (if int_eq n.version most_version then Refused system_error
+    else (if int_eq n.version max_version then Refused system_error
     else Done (result.Set (stat_of t p (with_content n content zxid now))) (insert t p (with_content n content zxid now)) (trigger.Changed p ∷ []))
 
 abbrev pub check : Tree → ℤ → Option Node → Outcome

@@ -1,10 +1,25 @@
-//! Limits of the service.
+//! Limits of the service (`specs/Limits.antt`).
 
 /// The most bytes of a frame, and so of a node's data (`jute.maxbuffer`).
-pub const MOST_FRAME: usize = 1_048_575;
+pub const MAX_FRAME: usize = 1_048_575;
 
 /// The most creates of children that a node counts: the Stat's `cversion` is an int and counts each of them twice.
-pub const MOST_CREATES: i32 = 1_073_741_823;
+pub const MAX_CREATES: i32 = 1_073_741_823;
+
+/// The most ephemeral nodes that a session owns.
+pub const MAX_OWNED: usize = 40;
+
+/// The most parts of a multi.
+pub const MAX_PARTS: usize = 24;
+
+/// The greatest load of a multi, in bytes.
+pub const MAX_LOAD: usize = 1_000_000;
+
+/// The least session timeout, in milliseconds.
+pub const MIN_TIMEOUT: i32 = 4_000;
+
+/// The greatest session timeout, in milliseconds.
+pub const MAX_TIMEOUT: i32 = 40_000;
 
 /// The greatest reading of the clock, in milliseconds.
-pub const LAST_MOMENT: u64 = 9_000_000_000_000_000;
+pub const MAX_MOMENT: u64 = 9_000_000_000_000_000;

@@ -3,7 +3,7 @@
 ghost use Rattle.std.specs.Prelude.{◌≡◌, length, ◌-◌, ◌+◌, ◌++◌, drop, take, Some, ◌<◌, IfOk, OnOk, IfErr, IfSome, IsTrue, option_map, not, nat_lt};
 ghost use Rattle.std.specs.Str.{chars, IsValidUpTo};
 ghost use Rattle.zk_model.specs.Paths.{root, is_path, is_path_char, is_sequence_prefix, sequence_path, fixed_digits, parent, depth, last_name, is_child, names, begins_with_slash, at_last_slash};
-ghost use Rattle.zk_model.specs.PathFaults.{tested, is_valid, most_bytes, ends_with_slash, IsFault, IsFirst, IsRefused, first_of, at, bad_name, bad_char, bad_text, bad_text_from, form_defect, defect_of, name_fault};
+ghost use Rattle.zk_model.specs.PathFaults.{tested, is_valid, max_bytes, ends_with_slash, IsFault, IsFirst, IsRefused, first_of, at, bad_name, bad_char, bad_text, bad_text_from, form_defect, defect_of, name_fault};
 ghost use Rattle.zk_model.specs.PathFaults.{first_name};
 ghost use Rattle.zk_model.specs.declared.path.PathFault.TheVariants.{NoSlash, EndSlash, BadText, TooLong};
 
@@ -51,7 +51,7 @@ pub enum PathFault {
 /// The most bytes of a path, and of a sequential one before its suffix.
 const MOST: usize = 1024;
 
-const MOST_SEQUENTIAL: usize = 1014;
+const MAX_SEQUENTIAL: usize = 1014;
 
 const SEQUENCE_DIGITS: u32 = 10;
 
@@ -216,10 +216,10 @@ fn tested(alloc: Global, text: &[u8], sequential: bool) -> Result<Vec<u8>, Alloc
     Ok(path)
 }
 
-fn most_bytes(sequential: bool) -> usize
-    ensures { result ≡ most_bytes sequential }
+fn max_bytes(sequential: bool) -> usize
+    ensures { result ≡ max_bytes sequential }
 {
-    if sequential { MOST_SEQUENTIAL } else { MOST }
+    if sequential { MAX_SEQUENTIAL } else { MOST }
 }
 
 /// The first defect of a text, whose tested form is `path`.
@@ -230,7 +230,7 @@ fn defect_of(path: &[u8], text: &[u8], sequential: bool) -> Option<Defect>
 {
     first_of(
         form_defect(path),
-        too_long(text.len(), most_bytes(sequential)),
+        too_long(text.len(), max_bytes(sequential)),
     )
 }
 

@@ -6,9 +6,9 @@ use Rattle.zk_model.specs.declared.reply.PartResult.{PartResult}
 use Rattle.zk_model.specs.declared.request.Part.{Part}
 use Rattle.zk_model.specs.Multi.{data_len, Parts, Stopped, parts_of, then_parts, touched_by}
 use Rattle.zk_model.specs.Single.{Outcome, Refused, Done, single}
-use Rattle.zk_model.specs.Frames.{most_frame}
 use Rattle.zk_model.specs.Znodes.{Tree}
 use Rattle.zk_plain.specs.Faults.{IsWithin, After, StaysWithin}
+use Rattle.zk_model.specs.Limits.{max_frame}
 
 pub first_and_rest : {A : Type 0} (xs : List A) (x : A) → 1 ≤ length xs → x ≡ get_or xs 0 x → xs ≡ x ∷ drop 1 xs
 first_and_rest [] x h e = absurd (omega arith)
@@ -28,7 +28,7 @@ rest_all (x ∷ xs) = take_all _ xs (omega arith)
 -- ---- numbers within their fields
 
 pub stays-first : (t : Tree) (limit : ℕ) (session : ℤ) (p : Part) (ps qs : List Part) (zxid : ℤ) (now : ℕ) → qs ≡ p ∷ ps
-    → StaysWithin t limit session qs zxid now → IsWithin t × (data_len p ≤ most_frame)
+    → StaysWithin t limit session qs zxid now → IsWithin t × (data_len p ≤ max_frame)
 unfolding StaysWithin
 stays-first t limit session p ps qs zxid now e h =
     let both = subst (λ (x : List Part). StaysWithin t limit session x zxid now) e h in

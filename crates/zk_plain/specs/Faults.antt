@@ -4,18 +4,18 @@ use Rattle.std.specs.FinMap.{get}
 use Rattle.zx_base.specs.Maps.{Bytes}
 use Rattle.zk_model.specs.declared.node.Node.{Node}
 use Rattle.zk_model.specs.declared.request.Part.{Part}
-use Rattle.zk_model.specs.Frames.{most_frame}
 use Rattle.zk_model.specs.Multi.{data_len}
-use Rattle.zk_model.specs.Single.{Outcome, Refused, Done, single, most_creates}
+use Rattle.zk_model.specs.Single.{Outcome, Refused, Done, single}
 use Rattle.zk_model.specs.Znodes.{Tree, num_children}
 use Rattle.zk_plain.specs.declared.fault.Fault.{Fault}
 use Rattle.zk_plain.specs.declared.fault.Fault.TheVariants.{Memory, Beyond}
+use Rattle.zk_model.specs.Limits.{max_creates, max_frame}
 
 -- a node's counts and data are those of a run
 pub record IsCounted (n : Node) (children : ℕ) : Type 0 where
   pub counted : pos children ≤ℤ n.creates
-  pub creates : n.creates ≤ℤ most_creates
-  pub small : length n.content ≤ most_frame
+  pub creates : n.creates ≤ℤ max_creates
+  pub small : length n.content ≤ max_frame
 
 abbrev pub IsWithin : Tree → Type 0
 IsWithin t = (p : Bytes) (n : Node) → get t p ≡ Some n → IsCounted n (num_children t p)
@@ -33,4 +33,4 @@ After (Done result tree triggers) P = P tree
 unfoldable pub StaysWithin : Tree → ℕ → ℤ → List Part → ℤ → ℕ → Type 0
 StaysWithin t limit session [] zxid now = ⊤
 StaysWithin t limit session (p ∷ ps) zxid now =
-    IsWithin t × (data_len p ≤ most_frame) × After (single t limit session p zxid now) (λ u. StaysWithin u limit session ps zxid now)
+    IsWithin t × (data_len p ≤ max_frame) × After (single t limit session p zxid now) (λ u. StaysWithin u limit session ps zxid now)

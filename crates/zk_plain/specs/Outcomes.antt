@@ -5,11 +5,12 @@ use Rattle.zk_model.specs.PathFaults.{is_valid, tested}
 use Rattle.zk_plain.specs.declared.outcome.Outcome.{Outcome as Answer}
 use Rattle.zk_plain.specs.declared.outcome.Outcome.TheVariants as answer
 use Rattle.zk_model.specs.Single.{Outcome, Refused, Done}
-use Rattle.zk_model.specs.Multi.{Parts, Stopped, Passed, Several, Denied, Codes, All as AllDone, most_load}
+use Rattle.zk_model.specs.Multi.{Parts, Stopped, Passed, Several, Denied, Codes, All as AllDone}
 use Rattle.zk_plain.specs.declared.multi.Parts.{Parts as Chain}
 use Rattle.zk_plain.specs.declared.multi.Parts.TheVariants as chain
 use Rattle.zk_plain.specs.declared.multi.Transaction.{Transaction}
 use Rattle.zk_plain.specs.declared.multi.Transaction.TheVariants as answers
+use Rattle.zk_model.specs.Limits.{max_load}
 
 abbrev pub outcome_of : Answer → Outcome
 outcome_of (answer.Refused code) = Refused code
@@ -30,7 +31,7 @@ IsPlacedBelow (chain.Passed results tree triggers touched) n = ⊤
 
 -- a load that is not above the most
 abbrev pub within : ℕ → Option ℕ
-within n = if nat_le n most_load then Some n else None
+within n = if nat_le n max_load then Some n else None
 
 abbrev pub several_as : Transaction → Several
 several_as (answers.Denied code) = Denied code

@@ -6,10 +6,12 @@ ghost use Rattle.std.specs.FinMap.{get, insert};
 ghost use Rattle.zk_model.specs.declared.reply.PartResult.TheVariants as results;
 ghost use Rattle.zk_model.specs.declared.node.Trigger.TheVariants as trigger;
 ghost use Rattle.zk_model.specs.PathFaults.{is_valid, tested};
-ghost use Rattle.zk_model.specs.Single.{Done, most_creates, is_create_mode, is_ephemeral, is_sequential, is_open_acl, is_full, with_child, made_path, create_node, create_under, create};
+ghost use Rattle.zk_model.specs.Single.{Done, is_create_mode, is_ephemeral, is_sequential, is_full, with_child, made_path, create_node, create_under, create};
 ghost use Rattle.zk_model.specs.Znodes.{new_node, owned, root_alone};
 ghost use Rattle.zk_plain.specs.Faults.{BeyondUnless, IsWithin};
 ghost use Rattle.zk_plain.specs.Outcomes.{outcome_of};
+ghost use Rattle.zk_model.specs.Limits.{max_creates};
+ghost use Rattle.zk_model.specs.Access.{is_open_acl};
 
 use crate::fault::Fault;
 use crate::node::copy_node;
@@ -18,7 +20,7 @@ use crate::tree::Tree;
 use crate::turn::Turn;
 use std::alloc::Global;
 use zk_model::code::{NO_CHILDREN_FOR_EPHEMERALS, NO_NODE, NODE_EXISTS, SYSTEM_ERROR};
-use zk_model::limit::MOST_CREATES;
+use zk_model::limit::MAX_CREATES;
 use zk_model::{Acl, Node, PartResult, Path, Trigger};
 use zx_base::{Bytes, Memory, Seq, Text};
 
@@ -79,7 +81,7 @@ pub fn begin(alloc: Global, turn: &Turn) -> Result<Tree, Memory>
 /// The parent after the create of a child.
 fn with_child(alloc: Global, parent: &Node, zxid: i64) -> Result<Node, Fault>
     ensures ok { IfOk result (λ n. n ≡ with_child parent.now zxid) }
-    ensures beyond { IfErr result (BeyondUnless (parent.now.creates ≤ℤ most_creates)) }
+    ensures beyond { IfErr result (BeyondUnless (parent.now.creates ≤ℤ max_creates)) }
 {
     let Some(creates) = parent.creates.checked_add(1) else {
         return Err(Fault::Beyond);
@@ -97,9 +99,9 @@ fn has_most(alloc: Global, tree: &Tree, limit: usize, session: i64) -> Result<bo
 }
 
 fn is_full_by(creates: i32, ephemeral: bool, most: bool) -> bool
-    ensures { result ≡ int_eq creates most_creates || (ephemeral && most) }
+    ensures { result ≡ int_eq creates max_creates || (ephemeral && most) }
 {
-    creates == MOST_CREATES || (ephemeral && most)
+    creates == MAX_CREATES || (ephemeral && most)
 }
 
 /// Whether the parent or the session can have no more.
@@ -159,7 +161,7 @@ fn create_allowed(
     ensures ok { IfOk result (λ o. outcome_of o ≡ Done (results.Created path)
         (insert (insert tree.now parent (with_child up.now turn.now.zxid)) path (new_node content.now (if is_ephemeral flags then turn.now.session else pos 0) turn.now.zxid turn.now.moment))
         (trigger.Created path ∷ trigger.Children parent ∷ [])) }
-    ensures beyond { IfErr result (BeyondUnless (up.now.creates ≤ℤ most_creates)) }
+    ensures beyond { IfErr result (BeyondUnless (up.now.creates ≤ℤ max_creates)) }
 {
     let node = new_node(alloc, content, is_owned_by(flags, turn.session), turn)?;
     let counted = with_child(alloc, up, turn.zxid)?;
@@ -178,7 +180,7 @@ fn create_absent(
     path: Path,
 ) -> Result<Outcome, Fault>
     ensures ok { IfOk result (λ o. outcome_of o ≡ create_node tree.now turn.now.limit turn.now.session flags content.now turn.now.zxid turn.now.moment parent up.now path None) }
-    ensures beyond { IfErr result (BeyondUnless (up.now.creates ≤ℤ most_creates)) }
+    ensures beyond { IfErr result (BeyondUnless (up.now.creates ≤ℤ max_creates)) }
 {
     if up.owner != 0 {
         return Ok(Outcome::Refused(NO_CHILDREN_FOR_EPHEMERALS));
@@ -201,7 +203,7 @@ fn create_node(
     path: Path,
 ) -> Result<Outcome, Fault>
     ensures ok { IfOk result (λ o. outcome_of o ≡ create_node tree.now turn.now.limit turn.now.session flags content.now turn.now.zxid turn.now.moment parent up.now path (get tree.now path)) }
-    ensures beyond { IfErr result (BeyondUnless (up.now.creates ≤ℤ most_creates)) }
+    ensures beyond { IfErr result (BeyondUnless (up.now.creates ≤ℤ max_creates)) }
 {
     match tree.get(path.bytes()) {
         Some(_) => Ok(Outcome::Refused(NODE_EXISTS)),

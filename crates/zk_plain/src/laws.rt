@@ -1,6 +1,6 @@
 //! What the faults mean.
 
-ghost use Rattle.zk_model.specs.History.{State, IsSound};
+ghost use Rattle.zk_transcript.specs.History.{State, IsSound};
 ghost use Rattle.zk_plain.specs.Faults.{IsWithin};
 
 /// The tree of a sound state has no number beyond its field.

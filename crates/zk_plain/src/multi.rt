@@ -4,10 +4,11 @@ ghost use Rattle.std.specs.Prelude.{◌≡◌, ◌∷◌, [], ◌+◌, ◌++◌,
 ghost use Rattle.std.specs.FinMap.{get};
 ghost use Rattle.std.specs.Option.{option_to_list};
 ghost use Rattle.zk_model.specs.declared.reply.PartResult.TheVariants.{Code};
-ghost use Rattle.zk_model.specs.Multi.{data_len, distinct, load, most_load, row_of, several, parts_of, then_parts, touched_by, owner_list};
+ghost use Rattle.zk_model.specs.Multi.{data_len, distinct, load, row_of, several, parts_of, then_parts, touched_by, owner_list};
 ghost use Rattle.zk_model.specs.Znodes.{owned};
 ghost use Rattle.zk_plain.specs.Faults.{BeyondUnless, StaysWithin};
 ghost use Rattle.zk_plain.specs.Outcomes.{parts_as, IsPlacedBelow, several_as, within};
+ghost use Rattle.zk_model.specs.Limits.{max_load};
 
 use crate::create::is_ephemeral;
 use crate::fault::Fault;
@@ -145,14 +146,14 @@ fn parts_of(alloc: Global, tree: &Tree, turn: &Turn, parts: &[Part]) -> Result<P
 }
 
 /// The most bytes of a transaction's data and paths.
-const MOST_LOAD: usize = 1000000;
+const MAX_LOAD: usize = 1000000;
 
 /// A sum, unless it is above the most.
 fn add_within(sum: Option<usize>, more: usize) -> Option<usize>
     ensures { (n : ℕ) → sum ≡ within n → result ≡ within (n + more) }
 {
     match sum {
-        Some(sum) if more <= MOST_LOAD && sum <= MOST_LOAD - more => Some(sum + more),
+        Some(sum) if more <= MAX_LOAD && sum <= MAX_LOAD - more => Some(sum + more),
         _ => None,
     }
 }
@@ -219,7 +220,7 @@ fn owned_load(
 
 /// Whether the load of a transaction on this tree is above the most.
 fn exceeds(alloc: Global, tree: &Tree, parts: &[Part], touched: &[i64]) -> Result<bool, Memory>
-    ensures { IfOk result (λ above. above ≡ nat_lt most_load (load tree.now parts.now touched.now)) }
+    ensures { IfOk result (λ above. above ≡ nat_lt max_load (load tree.now parts.now touched.now)) }
 {
     let sessions = distinct(alloc, touched)?;
     Ok(owned_load(alloc, tree, &sessions, data_load(parts))?.is_none())

@@ -5,10 +5,10 @@
 ghost use Rattle.std.specs.Prelude.{◌≡◌, ◌≤◌, length, IfOk, IfErr};
 ghost use Rattle.zk_model.specs.declared.request.Part.TheVariants as part;
 ghost use Rattle.zk_model.specs.Single.{single};
-ghost use Rattle.zk_model.specs.Frames.{most_frame};
 ghost use Rattle.zk_model.specs.Multi.{data_len};
 ghost use Rattle.zk_plain.specs.Faults.{BeyondUnless, IsWithin};
 ghost use Rattle.zk_plain.specs.Outcomes.{outcome_of, IsRead};
+ghost use Rattle.zk_model.specs.Limits.{max_frame};
 
 use crate::create::{create, is_create_mode, is_open_acl, is_sequential};
 use crate::delete::delete;
@@ -86,7 +86,7 @@ pub fn single_set_data(
     version: i32,
 ) -> Result<Outcome, Fault>
     ensures ok { IfOk result (λ o. outcome_of o ≡ single tree.now turn.now.limit turn.now.session (part.SetData text.now content.now version) turn.now.zxid turn.now.moment) }
-    ensures beyond { IfErr result (BeyondUnless (IsWithin tree.now × (length content.now ≤ most_frame))) }
+    ensures beyond { IfErr result (BeyondUnless (IsWithin tree.now × (length content.now ≤ max_frame))) }
 {
     match read_path(alloc, text, false)? {
         Some(path) => Ok(set_data(alloc, tree, turn, path, content, version)?),
@@ -113,7 +113,7 @@ pub fn single_check(
 /// What one request makes of the tree.
 pub fn single(alloc: Global, tree: &Tree, turn: &Turn, part: &Part) -> Result<Outcome, Fault>
     ensures ok { IfOk result (λ o. outcome_of o ≡ single tree.now turn.now.limit turn.now.session part.now turn.now.zxid turn.now.moment) }
-    ensures beyond { IfErr result (BeyondUnless (IsWithin tree.now × (data_len part.now ≤ most_frame))) }
+    ensures beyond { IfErr result (BeyondUnless (IsWithin tree.now × (data_len part.now ≤ max_frame))) }
 {
     match part {
         Part::Create {

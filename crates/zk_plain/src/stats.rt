@@ -1,9 +1,9 @@
 //! What a client is shown of a node.
 
 ghost use Rattle.std.specs.Prelude.{◌≡◌, ◌≤◌, ◌≤ℤ◌, ◌*ℤ◌, ◌-ℤ◌, pos, IfOk, IfErr};
-ghost use Rattle.zk_model.specs.Single.{most_creates};
 ghost use Rattle.zk_plain.specs.Faults.{BeyondUnless, IsCounted};
 ghost use Rattle.zk_model.specs.Znodes.{stat};
+ghost use Rattle.zk_model.specs.Limits.{max_creates};
 
 use crate::fault::Fault;
 use zk_model::{Node, Stat};
@@ -22,7 +22,7 @@ fn count(number: usize) -> Result<i32, Fault>
 /// Twice the creates of children, less the children that are there.
 fn child_version(creates: i32, children: i32) -> Result<i32, Fault>
     ensures ok { IfOk result (λ n. n ≡ (pos 2 *ℤ creates) -ℤ children) }
-    ensures beyond { IfErr result (BeyondUnless ((pos 0 ≤ℤ children) × (children ≤ℤ creates) × (creates ≤ℤ most_creates))) }
+    ensures beyond { IfErr result (BeyondUnless ((pos 0 ≤ℤ children) × (children ≤ℤ creates) × (creates ≤ℤ max_creates))) }
 {
     match i32::try_from(2 * i64::from(creates) - i64::from(children)) {
         Ok(number) => Ok(number),

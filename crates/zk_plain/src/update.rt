@@ -6,9 +6,9 @@ ghost use Rattle.zk_model.specs.declared.reply.PartResult.TheVariants as results
 ghost use Rattle.zk_model.specs.declared.node.Trigger.TheVariants as trigger;
 ghost use Rattle.zk_model.specs.Znodes.{num_children, stat_of};
 ghost use Rattle.zk_model.specs.Single.{Done, set_data, check, with_content};
-ghost use Rattle.zk_model.specs.Frames.{most_frame};
 ghost use Rattle.zk_plain.specs.Faults.{BeyondUnless, IsCounted, IsWithin};
 ghost use Rattle.zk_plain.specs.Outcomes.{outcome_of};
+ghost use Rattle.zk_model.specs.Limits.{max_frame};
 
 use crate::delete::matches;
 use crate::fault::Fault;
@@ -66,7 +66,7 @@ pub fn set_data(
     version: i32,
 ) -> Result<Outcome, Fault>
     ensures ok { IfOk result (λ o. outcome_of o ≡ set_data tree.now path content.now version turn.now.zxid turn.now.moment (get tree.now path)) }
-    ensures beyond { IfErr result (BeyondUnless (IsWithin tree.now × (length content.now ≤ most_frame))) }
+    ensures beyond { IfErr result (BeyondUnless (IsWithin tree.now × (length content.now ≤ max_frame))) }
 {
     let Some(node) = tree.get(path.bytes()) else {
         return Ok(Outcome::Refused(NO_NODE));

@@ -1,8 +1,8 @@
 -- Reading the items of a vector or a multi one after the other, as a loop does.
 use Rattle.std.proofs.Common.{◌≡◌, ℕ, suc, ◌-◌, ◌+◌, ◌≤◌, ◌<◌, List, [], ◌∷◌, ◌++◌, Option, Ok, Err, refl, sym, ap, ◌∙◌, arith}
 use Rattle.std.proofs.lemmas.List.{append-nil}
-use Rattle.zk_model.specs.JuteReading.{Read, items_at}
-use Rattle.zk_model.proofs.Items.{with_front, with_front-cons, Goes, fails}
+use Rattle.zk_jute.specs.JuteReading.{Read, items_at}
+use Rattle.zk_jute.proofs.Items.{with_front, with_front-cons, Goes, fails}
 use Rattle.zk_wire.specs.declared.fault.Fault.{Fault}
 use Rattle.zk_wire.specs.declared.fault.Fault.TheVariants.{Memory, Unreadable}
 use Rattle.zk_wire.specs.Giving.{Gives}

@@ -2,8 +2,8 @@
 use Rattle.std.proofs.Common.{◌≡◌, ℕ, ◌+◌, ◌-◌, ◌<◌, ◌^◌, min, Bool, true, false, eqb, Some, None, List, [], ◌∷◌, ◌++◌, length, Result, Ok, Err, refl, sym, ap, subst, ◌∙◌, append_assoc, arith, ℤ, ◌⊎◌, inl, inr}
 use Rattle.std.proofs.lemmas.List.{append-nil}
 use Rattle.std.specs.Global.{Vec}
-use Rattle.zk_model.specs.Frames.{Framed, bad_length}
-use Rattle.zk_model.proofs.Framing.{no_frame, framed_join, bad_stays, bad_rest, some_none}
+use Rattle.zk_jute.specs.Frames.{Framed, bad_length}
+use Rattle.zk_jute.proofs.Framing.{no_frame, framed_join, bad_stays, bad_rest, some_none}
 use Rattle.zk_wire.specs.Cutting.{Stream, unread, Hands, Refuses, Takes, Stands, Call, Calls, taken, taken_by, handed, handed_by, all_taken, all_handed}
 use Rattle.zk_wire.specs.declared.cutter.CutFault.{CutFault}
 use Rattle.zk_wire.specs.declared.cutter.CutFault.TheVariants.{BadLength, Memory}

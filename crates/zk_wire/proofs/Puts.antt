@@ -3,8 +3,8 @@ use Rattle.std.proofs.Common.{◌≡◌, ℕ, ◌+◌, List, [], ◌∷◌, ◌+
 use Rattle.std.specs.List.{flat_map}
 use Rattle.std.proofs.lemmas.Grind.{flat_map-append}
 use Rattle.std.proofs.lemmas.List.{append-nil, length-append}
-use Rattle.zk_model.specs.JuteValues.{Value}
-use Rattle.zk_model.specs.JuteWriting.{canonical, written}
+use Rattle.zk_jute.specs.JuteValues.{Value}
+use Rattle.zk_jute.specs.JuteWriting.{canonical, written}
 use Rattle.zk_wire.specs.Putting.{put_all, counted}
 
 pub put_all-append : {S : Type 0} (put : S → Value → S) (s : S) (vs ws : List Value) → put_all put s (vs ++ ws) ≡ put_all put (put_all put s vs) ws

@@ -2,7 +2,7 @@
 use Rattle.std.specs.Prelude.{◌≡◌, ℕ, ◌+◌, ◌-◌, ◌^◌, min, ◌⊎◌, ℤ, Some, None, List, [], ◌∷◌, ◌++◌, length, Result, Ok, Err}
 use Rattle.std.specs.List.{flat_map}
 use Rattle.std.specs.Global.{Vec}
-use Rattle.zk_model.specs.Frames.{Framed, bad_length}
+use Rattle.zk_jute.specs.Frames.{Framed, bad_length}
 use Rattle.zk_wire.specs.declared.cutter.CutFault.{CutFault}
 use Rattle.zk_wire.specs.declared.cutter.CutFault.TheVariants.{BadLength, Memory}
 

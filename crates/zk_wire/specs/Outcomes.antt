@@ -3,9 +3,9 @@ use Rattle.std.specs.Prelude.{◌≡◌, ℤ, Option, Some, None, Result, Ok, Er
 use Rattle.zk_model.specs.declared.connect.ConnectRequest.{ConnectRequest}
 use Rattle.zk_model.specs.declared.reply.Reply.{Reply}
 use Rattle.zk_model.specs.declared.request.Request.{Request}
-use Rattle.zk_model.specs.Requests.{Frame, NoHeader, Unreadable, Unknown, Asks}
-use Rattle.zk_model.specs.ReplyReading as replies
-use Rattle.zk_model.specs.ReplyReading.{ReplyFrame, Answers}
+use Rattle.zk_jute.specs.Requests.{Frame, NoHeader, Unreadable, Unknown, Asks}
+use Rattle.zk_jute.specs.ReplyReading as replies
+use Rattle.zk_jute.specs.ReplyReading.{ReplyFrame, Answers}
 use Rattle.zk_wire.specs.declared.fault.WireFault.{WireFault}
 use Rattle.zk_wire.specs.declared.fault.WireFault.TheVariants as faults
 

@@ -1,6 +1,6 @@
 -- Values put one after the other into what takes them.
 use Rattle.std.specs.Prelude.{ℕ, ◌-◌, ◌^◌, min, List, [], ◌∷◌}
-use Rattle.zk_model.specs.JuteValues.{Value}
+use Rattle.zk_jute.specs.JuteValues.{Value}
 
 -- what stands there after the values
 abbrev pub put_all : {S : Type 0} → (S → Value → S) → S → List Value → S

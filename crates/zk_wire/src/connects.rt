@@ -1,7 +1,7 @@
 //! Reading the first frame of a connection.
 
 ghost use Rattle.std.specs.Prelude.{◌≡◌};
-ghost use Rattle.zk_model.specs.Connects.{connect_at, read_only_at, read_connect as read_as};
+ghost use Rattle.zk_jute.specs.Connects.{connect_at, read_only_at, read_connect as read_as};
 ghost use Rattle.zk_wire.specs.Giving.{Gives};
 ghost use Rattle.zk_wire.specs.Outcomes.{IsConnectReadAs};
 
@@ -11,7 +11,7 @@ use std::alloc::Global;
 use zk_model::ConnectRequest;
 
 /// The connect request of a frame, or `NoHeader` where it is none. Copies the password once.
-#[tactic(auto, unfolding(zk_model::specs::Connects::read_connect))]
+#[tactic(auto, unfolding(zk_jute::specs::Connects::read_connect))]
 pub fn read_connect(alloc: Global, frame: &[u8]) -> Result<ConnectRequest, WireFault>
     ensures { IsConnectReadAs result (read_as frame.now) }
 {
@@ -23,7 +23,7 @@ pub fn read_connect(alloc: Global, frame: &[u8]) -> Result<ConnectRequest, WireF
     }
 }
 
-#[tactic(auto, unfolding(zk_model::specs::JuteReading::values_at))]
+#[tactic(auto, unfolding(zk_jute::specs::JuteReading::values_at))]
 fn connect(reader: &mut Reader) -> Result<ConnectRequest, Fault>
     ensures { Gives (λ x. x) result reader.new (connect_at reader.old) }
 {

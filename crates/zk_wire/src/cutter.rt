@@ -1,20 +1,20 @@
 //! Cutting a stream into frames.
 
 ghost use Rattle.std.specs.Prelude.{◌≡◌, [], ℤ, MatchOption, Some, IfOk, Ok, Err, IsErr};
-ghost use Rattle.zk_model.specs.Frames.{Framed, bad_length as bad_length_of, frame_at};
+ghost use Rattle.zk_jute.specs.Frames.{Framed, bad_length as bad_length_of, frame_at};
 ghost use Rattle.zk_wire.specs.Cutting.{Stream, unread, Takes};
 ghost use Rattle.zk_wire.specs.declared.cutter.CutFault.TheVariants as faults;
 
 use crate::reader::first_int;
 use std::alloc::{AllocError, Global};
 use std::marker::Model;
-use zk_model::limit::MOST_FRAME;
+use zk_model::limit::MAX_FRAME;
 use zx_base::Bytes;
 
 /// Why a stream cannot be cut on.
 #[derive(Clone, Copy, Debug, PartialEq, Eq)]
 pub enum CutFault {
-    /// The length that stands after `place` bytes of the stream is below 0 or above [`MOST_FRAME`].
+    /// The length that stands after `place` bytes of the stream is below 0 or above [`MAX_FRAME`].
     BadLength { place: u64, length: i32 },
     Memory,
 }
@@ -137,7 +137,7 @@ fn split_frame(bytes: &[u8]) -> Option<(&[u8], &[u8])>
     let length = first_int(bytes);
     let rest = &bytes[4..];
     match usize::try_from(length) {
-        Ok(length) if length <= MOST_FRAME && length <= rest.len() => Some(rest.split_at(length)),
+        Ok(length) if length <= MAX_FRAME && length <= rest.len() => Some(rest.split_at(length)),
         _ => None,
     }
 }

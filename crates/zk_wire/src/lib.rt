@@ -9,7 +9,7 @@
 //! # Faults
 //!
 //! A frame that cannot be read is a [`WireFault`], with the place of the first byte that is to blame: an offset in the
-//! frame, without its length. The places are those of `read_request` and `read_reply` in zk_model's `specs/`:
+//! frame, without its length. The places are those of `read_request` and `read_reply` in zk_jute's `specs/`:
 //!
 //! - the first byte of the first value that cannot be read, which for a text or a buffer is its length's first byte;
 //! - where a vector has fewer items than its count, the first value that is missing;
@@ -45,10 +45,7 @@ mod writer;
 pub use connects::read_connect;
 pub use cutter::{CutFault, Cutter};
 pub use fault::WireFault;
-pub use laws::{
-    connects_are_spelled, frames_in_any_pieces, replies_are_spelled, replies_come_back,
-    requests_are_spelled, requests_come_back,
-};
+pub use laws::frames_in_any_pieces;
 pub use packets::{
     notice_can_be_sent, reply_can_be_sent, request_can_be_sent, write_connect, write_notice,
     write_reply, write_request,

@@ -1,10 +1,10 @@
 //! Writing packets. Each reserves its length once and copies each field once.
 
 ghost use Rattle.std.specs.Prelude.{◌≡◌, ◌↔◌, length, pos, IfOk, IsTrue};
-ghost use Rattle.zk_model.specs.Connects.{connect_response_values};
-ghost use Rattle.zk_model.specs.JuteWriting.{written};
-ghost use Rattle.zk_model.specs.Packets.{CanBeSent, NoticeCanBeSent, notice_values, reply_bytes, reply_packet, notice_packet, connect_packet};
-ghost use Rattle.zk_model.specs.Sending.{RequestCanBeSent, request_bytes, request_packet};
+ghost use Rattle.zk_jute.specs.Connects.{connect_response_values};
+ghost use Rattle.zk_jute.specs.JuteWriting.{written};
+ghost use Rattle.zk_jute.specs.Packets.{CanBeSent, NoticeCanBeSent, notice_values, reply_bytes, reply_packet, notice_packet, connect_packet};
+ghost use Rattle.zk_jute.specs.Sending.{RequestCanBeSent, request_bytes, request_packet};
 ghost use Rattle.zk_wire.specs.Putting.{counted};
 
 use crate::reply_fields::{put_connect, put_notice, put_reply};

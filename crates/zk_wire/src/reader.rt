@@ -2,9 +2,10 @@
 
 ghost use Rattle.std.specs.Prelude.{◌≡◌, ℕ, ◌<◌, ◌≤◌, List, Option, Some, Ok, length};
 ghost use Rattle.std.specs.Str.{is_utf8};
-ghost use Rattle.zk_model.specs.JuteReading.{Read, front_int, front_long, int_at, long_at, boolean_at, buffer_at, ustring_at, acl_at, count_at, items_at, vector_at, value_at, is_open, all_until_last, ended as whole_of};
-ghost use Rattle.zk_model.specs.JuteValues.{open_acl, the_open_acl};
+ghost use Rattle.zk_jute.specs.JuteReading.{Read, front_int, front_long, int_at, long_at, boolean_at, buffer_at, ustring_at, acl_at, count_at, items_at, vector_at, value_at, all_until_last, ended as whole_of};
+ghost use Rattle.zk_jute.specs.JuteValues.{open_acl, the_open_acl};
 ghost use Rattle.zk_wire.specs.Giving.{Gives};
+ghost use Rattle.zk_model.specs.Access.{is_open_acl};
 
 use crate::fault::Fault;
 use byteorder::{BigEndian, ByteOrder};
@@ -14,7 +15,7 @@ use zk_model::Acl;
 use zx_base::{Bytes, Seq, Text};
 
 /// The fewest bytes of an item of a vector: a text has a length.
-const LEAST_ITEM: usize = 4;
+const MIN_ITEM: usize = 4;
 
 /// The bytes of a frame that are still to be read.
 #[derive(Drop)]
@@ -144,7 +145,7 @@ impl<'a> Reader<'a> {
     fn items<T: Item>(&mut self, count: usize) -> Result<Vec<T>, Fault>
         ensures { Gives (λ x. x.items) result self.new (items_at T.item_at count self.old) }
     {
-        let room = count.min(self.rest.len() / LEAST_ITEM);
+        let room = count.min(self.rest.len() / MIN_ITEM);
         let mut items = Vec::with_capacity(self.alloc, room)?;
         for _ in 0..count {
             let item = T::read(self)?;
@@ -195,7 +196,7 @@ pub fn first_long(bytes: &[u8]) -> i64
 }
 
 fn is_open_list(entries: &[Acl]) -> bool
-    ensures { result ≡ is_open entries.now }
+    ensures { result ≡ is_open_acl entries.now }
 {
     match entries {
         [entry] => {

@@ -1,19 +1,20 @@
 //! Reading replies.
-#![tactic(auto, unfolding(zk_model::specs::JuteReading::values_at), using(zk_model::proofs::Stats::stat_back))]
+#![tactic(auto, unfolding(zk_jute::specs::JuteReading::values_at), using(zk_jute::proofs::Stats::stat_back))]
 
 ghost use Rattle.std.specs.Prelude.{◌≡◌, Some};
-ghost use Rattle.zk_model.specs.JuteReading.{values_at};
-ghost use Rattle.zk_model.specs.Records.{stat_fields, stat_values};
-ghost use Rattle.zk_model.specs.ReplyReading.{reply_body_at, reply_at, read_reply as read_as};
-ghost use Rattle.zk_model.specs.Results.{good_at, result_at};
-ghost use Rattle.zk_model.proofs.Items.{result_shorter};
+ghost use Rattle.zk_jute.specs.JuteReading.{values_at};
+ghost use Rattle.zk_jute.specs.Records.{stat_fields, stat_values};
+ghost use Rattle.zk_jute.specs.ReplyReading.{reply_body_at, reply_at, read_reply as read_as};
+ghost use Rattle.zk_jute.specs.Results.{good_at, result_at};
+ghost use Rattle.zk_jute.proofs.Items.{result_shorter};
 ghost use Rattle.zk_wire.specs.Giving.{Gives};
 ghost use Rattle.zk_wire.specs.Outcomes.{IsReplyReadAs};
 
 use crate::fault::{Fault, WireFault};
 use crate::reader::{Listed, Reader, first_int, first_long};
 use std::alloc::Global;
-use zk_model::{Body, Opcode, PartKind, PartResult, Reply, Stat};
+use zk_jute::{Opcode, PartKind};
+use zk_model::{Body, PartResult, Reply, Stat};
 
 /// The bytes of a reply's header, its xid, zxid and error.
 const HEADER: usize = 16;
@@ -83,7 +84,7 @@ fn body(reader: &mut Reader, code: Opcode) -> Result<Body, Fault>
     }
 }
 
-#[tactic(auto, unfolding(zk_model::specs::JuteReading::values_at, zk_model::specs::Records::stat_fields, zk_model::specs::Records::stat_values))]
+#[tactic(auto, unfolding(zk_jute::specs::JuteReading::values_at, zk_jute::specs::Records::stat_fields, zk_jute::specs::Records::stat_values))]
 fn stat(reader: &mut Reader) -> Result<Stat, Fault>
     ensures { Gives stat_values result reader.new (values_at stat_fields reader.old) }
 {

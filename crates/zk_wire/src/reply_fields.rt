@@ -2,15 +2,16 @@
 
 ghost use Rattle.std.specs.Prelude.{◌≡◌, OnOk};
 ghost use Rattle.std.specs.List.{AllByRecursion};
-ghost use Rattle.zk_model.specs.Connects.{connect_response_values, optional};
+ghost use Rattle.zk_jute.specs.Connects.{connect_response_values, optional};
 ghost use Rattle.zk_model.specs.declared.reply.Body.TheVariants as bodies;
-ghost use Rattle.zk_model.specs.Packets.{reply_values, notice_values};
-ghost use Rattle.zk_model.specs.Replies.{body_values};
-ghost use Rattle.zk_model.specs.Results.{result_header, result_values};
+ghost use Rattle.zk_jute.specs.Packets.{reply_values, notice_values};
+ghost use Rattle.zk_jute.specs.Replies.{body_values};
+ghost use Rattle.zk_jute.specs.Results.{result_header, result_values};
 ghost use Rattle.zk_wire.specs.Putting.{put_all};
 
 use crate::sink::FieldSink;
-use zk_model::{Body, ConnectResponse, Notice, PartKind, PartResult, Reply};
+use zk_jute::PartKind;
+use zk_model::{Body, ConnectResponse, Notice, PartResult, Reply};
 
 /// Puts a reply's header, and its body where it is no refusal.
 pub fn put_reply<S: FieldSink>(

@@ -2,13 +2,14 @@
 
 ghost use Rattle.std.specs.Prelude.{◌≡◌, OnOk};
 ghost use Rattle.std.specs.List.{AllByRecursion};
-ghost use Rattle.zk_model.specs.Numbers.{opcode_of, part_kind as kind_of_part};
-ghost use Rattle.zk_model.specs.Records.{part_values};
-ghost use Rattle.zk_model.specs.Sending.{header_values, whole_part, multi_values, asked_values, request_values};
+ghost use Rattle.zk_jute.specs.Numbers.{opcode_of, part_kind as kind_of_part};
+ghost use Rattle.zk_jute.specs.Records.{part_values};
+ghost use Rattle.zk_jute.specs.Sending.{header_values, whole_part, multi_values, asked_values, request_values};
 ghost use Rattle.zk_wire.specs.Putting.{put_all};
 
 use crate::sink::FieldSink;
-use zk_model::{Opcode, Part, PartKind, Request};
+use zk_jute::{Opcode, PartKind};
+use zk_model::{Part, Request};
 
 /// Puts a request's header and its body.
 pub fn put_request<S: FieldSink>(sink: &mut S, xid: i32, request: &Request) -> Result<(), S::Fault>

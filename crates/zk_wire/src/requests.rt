@@ -1,18 +1,19 @@
 //! Reading requests.
-#![tactic(auto, unfolding(zk_model::specs::JuteReading::values_at))]
+#![tactic(auto, unfolding(zk_jute::specs::JuteReading::values_at))]
 
 ghost use Rattle.std.specs.Prelude.{◌≡◌, ◌≤◌, length, All, IfOk, Some};
-ghost use Rattle.zk_model.specs.Records.{contents_of};
-ghost use Rattle.zk_model.specs.Requests.{header_at, part_after, part_at, plain_at, body_at, whole_at, read_request as read_as};
-ghost use Rattle.zk_model.specs.declared.opcode.Opcode.TheVariants as opcodes;
-ghost use Rattle.zk_model.proofs.Items.{part_shorter};
+ghost use Rattle.zk_jute.specs.Records.{contents_of};
+ghost use Rattle.zk_jute.specs.Requests.{header_at, part_after, part_at, plain_at, body_at, whole_at, read_request as read_as};
+ghost use Rattle.zk_jute.specs.declared.opcode.Opcode.TheVariants as opcodes;
+ghost use Rattle.zk_jute.proofs.Items.{part_shorter};
 ghost use Rattle.zk_wire.specs.Giving.{Gives};
 ghost use Rattle.zk_wire.specs.Outcomes.{IsReadAs};
 
 use crate::fault::{Fault, WireFault};
 use crate::reader::{Listed, Reader, first_int};
 use std::alloc::Global;
-use zk_model::{Opcode, Part, PartKind, Request};
+use zk_jute::{Opcode, PartKind};
+use zk_model::{Part, Request};
 
 /// The bytes of a request's header, its xid and its type.
 const HEADER: usize = 8;

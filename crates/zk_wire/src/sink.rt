@@ -1,10 +1,10 @@
 //! Where the fields of a record go, in order: one walk over a record serves its size and its bytes.
-#![tactic(auto, using(zk_model::proofs::Lengths::lengths))]
+#![tactic(auto, using(zk_jute::proofs::Lengths::lengths))]
 
 ghost use Rattle.std.specs.Prelude.{◌≡◌, ◌+◌, length, OnOk};
-ghost use Rattle.zk_model.specs.JuteValues.{Value, int as int_value, long as long_value, boolean as boolean_value, buffer as buffer_value, ustring as ustring_value, ustrings as ustrings_value, acls as acls_value, open_acl as open_acl_value};
-ghost use Rattle.zk_model.specs.JuteWriting.{string_bytes, acl_bytes, canonical};
-ghost use Rattle.zk_model.specs.Records.{stat_values};
+ghost use Rattle.zk_jute.specs.JuteValues.{Value, int as int_value, long as long_value, boolean as boolean_value, buffer as buffer_value, ustring as ustring_value, ustrings as ustrings_value, acls as acls_value, open_acl as open_acl_value};
+ghost use Rattle.zk_jute.specs.JuteWriting.{string_bytes, acl_bytes, canonical};
+ghost use Rattle.zk_jute.specs.Records.{stat_values};
 ghost use Rattle.zk_wire.specs.Putting.{counted, put_all};
 
 use std::convert::Infallible;
@@ -52,7 +52,7 @@ pub trait FieldSink {
         ensures { OnOk result (self.new ≡ put self.old open_acl_value) };
 
     /// The numbers of a Stat, one after the other.
-    #[tactic(auto, unfolding(zk_model::specs::Records::stat_values))]
+    #[tactic(auto, unfolding(zk_jute::specs::Records::stat_values))]
     fn stat(&mut self, stat: &Stat) -> Result<(), Self::Fault>
         ensures { OnOk result (self.new ≡ put_all put self.old (stat_values stat.now)) }
     {

@@ -1,8 +1,8 @@
 //! The bytes of a Stat. They are always as many, so that a packet takes them all at once.
 
 ghost use Rattle.std.specs.Prelude.{◌≡◌, ◌≤◌, ◌+◌, [], ◌++◌, length};
-ghost use Rattle.zk_model.specs.JuteWriting.{int_bytes, long_bytes, written};
-ghost use Rattle.zk_model.specs.Records.{stat_values};
+ghost use Rattle.zk_jute.specs.JuteWriting.{int_bytes, long_bytes, written};
+ghost use Rattle.zk_jute.specs.Records.{stat_values};
 
 use std::marker::Model;
 use zk_model::Stat;
@@ -48,7 +48,7 @@ impl Block {
     }
 
     #[inline(always)]
-    #[tactic(auto, unfolding(zk_model::specs::JuteWriting::int_bytes))]
+    #[tactic(auto, unfolding(zk_jute::specs::JuteWriting::int_bytes))]
     fn int(&mut self, number: i32)
         requires { length self.old + 4 ≤ 68 }
         ensures bytes { self.new ≡ self.old ++ int_bytes number }
@@ -58,7 +58,7 @@ impl Block {
     }
 
     #[inline(always)]
-    #[tactic(auto, unfolding(zk_model::specs::JuteWriting::long_bytes))]
+    #[tactic(auto, unfolding(zk_jute::specs::JuteWriting::long_bytes))]
     fn long(&mut self, number: i64)
         requires { length self.old + 8 ≤ 68 }
         ensures bytes { self.new ≡ self.old ++ long_bytes number }
@@ -77,7 +77,7 @@ impl Block {
 }
 
 /// The bytes of a Stat.
-#[tactic(auto, unfolding(zk_model::specs::Records::stat_values))]
+#[tactic(auto, unfolding(zk_jute::specs::Records::stat_values))]
 pub fn stat_bytes(stat: &Stat) -> [u8; STAT]
     ensures { result ≡ written (stat_values stat.now) }
 {

@@ -2,8 +2,8 @@
 
 ghost use Rattle.std.specs.Prelude.{◌≡◌, ◌<◌, ◌^◌, [], ◌++◌, length, OnOk, IfOk};
 ghost use Rattle.std.specs.List.{AllByRecursion};
-ghost use Rattle.zk_model.specs.JuteValues.{open_acl};
-ghost use Rattle.zk_model.specs.JuteWriting.{int_bytes, long_bytes, boolean_bytes, count_bytes, string_bytes, acl_bytes, vector_bytes, canonical, CanBeWritten, IsShort, IsShortAcl, FitsLength, with_length};
+ghost use Rattle.zk_jute.specs.JuteValues.{open_acl};
+ghost use Rattle.zk_jute.specs.JuteWriting.{int_bytes, long_bytes, boolean_bytes, count_bytes, string_bytes, acl_bytes, vector_bytes, canonical, CanBeWritten, IsShort, IsShortAcl, FitsLength, with_length};
 
 use crate::sink::FieldSink;
 use crate::stat_bytes::stat_bytes;
@@ -43,7 +43,7 @@ impl Writer {
     }
 
     /// The packet, with its length.
-    #[tactic(auto, unfolding(zk_model::specs::JuteWriting::int_bytes))]
+    #[tactic(auto, unfolding(zk_jute::specs::JuteWriting::int_bytes))]
     pub fn finish(self) -> Vec<u8>
         requires { FitsLength self }
         ensures { result.items ≡ with_length self }
@@ -94,12 +94,12 @@ impl FieldSink for Writer {
 
     ghost put = { λ out v. out ++ canonical v };
 
-    #[tactic(auto, unfolding(zk_model::specs::JuteWriting::int_bytes))]
+    #[tactic(auto, unfolding(zk_jute::specs::JuteWriting::int_bytes))]
     fn int(&mut self, number: i32) -> Result<(), Memory> {
         self.bytes(&number.to_be_bytes())
     }
 
-    #[tactic(auto, unfolding(zk_model::specs::JuteWriting::long_bytes))]
+    #[tactic(auto, unfolding(zk_jute::specs::JuteWriting::long_bytes))]
     fn long(&mut self, number: i64) -> Result<(), Memory> {
         self.bytes(&number.to_be_bytes())
     }

@@ -10,7 +10,7 @@ use Rattle.std.proofs.lemmas.Int.{ints}
 use Rattle.zk_model.specs.declared.node.Node.{Node}
 use Rattle.zk_model.specs.Paths.{root, parent, at_last_slash, is_child, is_path}
 use Rattle.zk_model.specs.Znodes.{Tree, num_children, is_owner, owned, new_node, root_alone}
-use Rattle.zk_model.specs.History.{State, updated, after, IsNodeWithin, IsSound}
+use Rattle.zk_transcript.specs.History.{State, updated, after, IsNodeWithin, IsSound}
 use Rattle.zx_base.specs.Maps.{Bytes}
 use Rattle.zx_base.proofs.MapLaws.{either, get-insert_same, get-insert_other, get-retain, retain-insert_out, ext}
 use Rattle.zn_layout.specs.Begin.{begin_lines}

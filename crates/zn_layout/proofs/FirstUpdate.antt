@@ -17,7 +17,7 @@ use Rattle.ev_types.specs.Denials.{is_denied, carry}
 use Rattle.zk_model.specs.declared.node.Node.{Node}
 use Rattle.zk_model.specs.Paths.{root}
 use Rattle.zk_model.specs.Znodes.{num_children, owned, new_node}
-use Rattle.zk_model.specs.History.{State, Session, nothing_yet, after, IsSound}
+use Rattle.zk_transcript.specs.History.{State, Session, nothing_yet, after, IsSound}
 use Rattle.zx_base.specs.Maps.{Bytes, same}
 use Rattle.zx_base.proofs.MapLaws.{same-true, apart-from_same}
 use Rattle.zn_layout.specs.Keys.{Key, HeadKey, DataKey, CountsKey, SessionKey, LeaseKey, key_bytes}

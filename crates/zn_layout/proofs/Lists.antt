@@ -10,7 +10,7 @@ use Rattle.std.proofs.lemmas.List.{append-nil, drop_all, length-append, length-d
 use Rattle.std.proofs.lemmas.List.Elements.{All-drop}
 use Rattle.zk_model.specs.declared.node.Trigger.{Trigger}
 use Rattle.zk_model.specs.declared.node.Trigger.TheVariants.{Created, Deleted, Changed, Children}
-use Rattle.zk_model.specs.JuteWriting.{int_bytes, count_bytes, string_bytes}
+use Rattle.zk_jute.specs.JuteWriting.{int_bytes, count_bytes, string_bytes}
 use Rattle.zx_base.specs.Maps.{Bytes}
 use Rattle.zn_layout.specs.declared.record.HeadRec.{HeadRec}
 use Rattle.zn_layout.specs.Records.{head_value, trigger_bytes, IsHeadRec}

@@ -10,7 +10,7 @@ use Rattle.std.proofs.lemmas.Nat.{div-mul-add, mod-mul-add}
 use Rattle.std.proofs.lemmas.List.{append-nil, length-drop, length-take-le, take_all, take-append-drop, drop_at}
 use Rattle.byteorder.specs.Endian.{big_number, big_from, big_bytes}
 use Rattle.byteorder.specs.Numbers.{big_number-reads_back, big_from-cons, big_from-take, big_from-lt, length-bytes_high_first}
-use Rattle.zk_model.specs.JuteWriting.{int_bytes, long_bytes}
+use Rattle.zk_jute.specs.JuteWriting.{int_bytes, long_bytes}
 use Rattle.zx_base.specs.Maps.{Bytes}
 
 -- each is a byte

@@ -8,10 +8,10 @@ use Rattle.ev_types.specs.declared.answer.ActAns.{ActAns}
 use Rattle.ev_types.specs.declared.answer.Answer.TheVariants as answer
 use Rattle.ev_types.specs.Store.{Store, new_store, revision, present}
 use Rattle.ev_types.specs.Denials.{carry}
-use Rattle.zk_model.specs.declared.transcript.UpdateKind.TheVariants.{Begin}
-use Rattle.zk_model.specs.declared.transcript.TranscriptLine.{TranscriptLine}
-use Rattle.zk_model.specs.declared.transcript.TranscriptLine.TheVariants.{Update}
-use Rattle.zk_model.specs.History.{after, IsSound}
+use Rattle.zk_transcript.specs.declared.transcript.UpdateKind.TheVariants.{Begin}
+use Rattle.zk_transcript.specs.declared.transcript.TranscriptLine.{TranscriptLine}
+use Rattle.zk_transcript.specs.declared.transcript.TranscriptLine.TheVariants.{Update}
+use Rattle.zk_transcript.specs.History.{after, IsSound}
 use Rattle.zk_model.specs.Paths.{root}
 use Rattle.zx_base.specs.Maps.{Bytes}
 use Rattle.zn_layout.specs.declared.record.NodeRec.{NodeRec}

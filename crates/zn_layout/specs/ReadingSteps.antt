@@ -4,7 +4,7 @@ use Rattle.std.specs.Int.{w32, w64}
 use Rattle.std.specs.Int.RustNames.{FitsSigned}
 use Rattle.std.specs.List.{All, flat_map}
 use Rattle.zk_model.specs.declared.node.Trigger.{Trigger}
-use Rattle.zk_model.specs.JuteWriting.{count_bytes, string_bytes}
+use Rattle.zk_jute.specs.JuteWriting.{count_bytes, string_bytes}
 use Rattle.zk_model.specs.Paths.{is_path}
 use Rattle.zx_base.specs.Maps.{Bytes}
 use Rattle.zn_layout.specs.declared.record.NodeRec.{NodeRec}

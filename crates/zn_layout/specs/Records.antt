@@ -6,14 +6,13 @@ use Rattle.std.specs.Ordering.{nat_cmp}
 use Rattle.std.specs.Cmp.Lexicographic.{slice_cmp}
 use Rattle.zk_model.specs.declared.node.Trigger.{Trigger}
 use Rattle.zk_model.specs.declared.node.Trigger.TheVariants.{Created, Deleted, Changed, Children}
-use Rattle.zk_model.specs.JuteWriting.{int_bytes, long_bytes, string_bytes, vector_bytes}
-use Rattle.zk_model.specs.Frames.{most_frame}
+use Rattle.zk_jute.specs.JuteWriting.{int_bytes, long_bytes, string_bytes, vector_bytes}
 use Rattle.zk_model.specs.Paths.{is_path}
-use Rattle.zk_model.specs.Single.{most_creates, most_version}
 use Rattle.zx_base.specs.Maps.{Bytes}
 use Rattle.zn_layout.specs.declared.record.NodeRec.{NodeRec}
 use Rattle.zn_layout.specs.declared.record.CountRec.{CountRec}
 use Rattle.zn_layout.specs.declared.record.LeaseRec.{LeaseRec}
+use Rattle.zk_model.specs.Limits.{max_creates, max_frame, max_long, max_timeout, max_version, min_timeout}
 
 -- ---- the bytes
 
@@ -40,28 +39,24 @@ head_value ts = 1 ∷ vector_bytes trigger_bytes ts
 
 -- ---- the bounds of a record
 
--- the greatest number of 64 bits with sign
-abbrev pub most_long : ℤ
-most_long = pos 9223372036854775807
-
 -- a number that isn't negative and fits 64 bits with sign
 pub record IsLongCount (n : ℤ) : Type 0 where
   pub least : pos 0 ≤ℤ n
-  pub most : n ≤ℤ most_long
+  pub most : n ≤ℤ max_long
 
 pub record IsNodeRec (r : NodeRec) : Type 0 where
   pub czxid : IsLongCount r.czxid
   pub version_least : pos 0 ≤ℤ r.version
-  pub version_most : r.version ≤ℤ most_version
+  pub version_most : r.version ≤ℤ max_version
   pub ctime : IsLongCount r.ctime
   pub mtime : IsLongCount r.mtime
   pub owner : IsLongCount r.owner
-  pub content : length r.content ≤ most_frame
+  pub content : length r.content ≤ max_frame
 
 pub record IsCountRec (r : CountRec) : Type 0 where
   pub children : pos 0 ≤ℤ r.children
   pub fewer : r.children ≤ℤ r.creates
-  pub creates : r.creates ≤ℤ most_creates
+  pub creates : r.creates ≤ℤ max_creates
 
 pub record IsSessionRec (paths : List Bytes) : Type 0 where
   pub count : length paths < 2 ^ 31
@@ -69,10 +64,10 @@ pub record IsSessionRec (paths : List Bytes) : Type 0 where
   pub rising : IsStrictlySortedBy (slice_cmp nat_cmp) paths
 
 pub record IsLeaseRec (r : LeaseRec) : Type 0 where
-  pub least : pos 4000 ≤ℤ r.timeout
-  pub most : r.timeout ≤ℤ pos 40000
+  pub least : min_timeout ≤ℤ r.timeout
+  pub most : r.timeout ≤ℤ max_timeout
   pub attached : pos 1 ≤ℤ r.attaches
-  pub attaches : r.attaches ≤ℤ most_long
+  pub attaches : r.attaches ≤ℤ max_long
   pub passwd : length r.passwd ≡ 16
 
 abbrev pub trigger_path : Trigger → Bytes

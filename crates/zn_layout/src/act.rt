@@ -1,11 +1,11 @@
 //! Operations of a transaction.
 
 ghost use Rattle.std.specs.Prelude.{◌≡◌, ◌≤◌, length, pos, IfOk};
-ghost use Rattle.zk_model.specs.Paths.{most_path};
 ghost use Rattle.zn_layout.specs.Begin.{read_key};
 ghost use Rattle.zn_layout.specs.Changes.{put_key, delete_key, head_put, act_of};
 ghost use Rattle.zn_layout.specs.Keys.{HeadKey, DataKey, CountsKey, key_bytes};
 ghost use Rattle.zn_layout.specs.Records.{node_value, counts_value, IsNodeRec, IsCountRec, IsHeadRec};
+ghost use Rattle.zk_model.specs.Limits.{max_path};
 
 use crate::key::{counts_key, data_key, head_key};
 use crate::record::{CountRec, HeadRec, NodeRec};
@@ -16,7 +16,7 @@ use zx_base::{Bytes, Memory, Seq};
 
 /// Puts a node's record, which keeps its bounds. The path has at most 1,024 bytes.
 pub fn put_node(alloc: Global, path: &[u8], node: &NodeRec) -> Result<Act, Memory>
-    requires short { length path.now ≤ most_path }
+    requires short { length path.now ≤ max_path }
     requires bounded { IsNodeRec node.now }
     ensures { IfOk result (λ a. a ≡ act_of (put_key (DataKey path.now) (node_value node.now))) }
 {
@@ -25,7 +25,7 @@ pub fn put_node(alloc: Global, path: &[u8], node: &NodeRec) -> Result<Act, Memor
 
 /// Puts a node's counts, which keep their bounds. The path has at most 1,024 bytes.
 pub fn put_counts(alloc: Global, path: &[u8], counts: &CountRec) -> Result<Act, Memory>
-    requires short { length path.now ≤ most_path }
+    requires short { length path.now ≤ max_path }
     requires bounded { IsCountRec counts.now }
     ensures { IfOk result (λ a. a ≡ act_of (put_key (CountsKey path.now) (counts_value counts.now))) }
 {
@@ -42,7 +42,7 @@ pub fn put_head(alloc: Global, head: &HeadRec) -> Result<Act, Memory>
 
 /// Deletes a node's record. The path has at most 1,024 bytes.
 pub fn delete_node(alloc: Global, path: &[u8]) -> Result<Act, Memory>
-    requires { length path.now ≤ most_path }
+    requires { length path.now ≤ max_path }
     ensures { IfOk result (λ a. a ≡ act_of (delete_key (DataKey path.now))) }
 {
     Ok(Act::Delete {
@@ -52,7 +52,7 @@ pub fn delete_node(alloc: Global, path: &[u8]) -> Result<Act, Memory>
 
 /// Deletes a node's counts. The path has at most 1,024 bytes.
 pub fn delete_counts(alloc: Global, path: &[u8]) -> Result<Act, Memory>
-    requires { length path.now ≤ most_path }
+    requires { length path.now ≤ max_path }
     ensures { IfOk result (λ a. a ≡ act_of (delete_key (CountsKey path.now))) }
 {
     Ok(Act::Delete {

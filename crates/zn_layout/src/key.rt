@@ -1,8 +1,9 @@
 //! The keys under which the service keeps its nodes, its sessions and its last update.
 
 ghost use Rattle.std.specs.Prelude.{◌≡◌, ◌+◌, ◌%◌, ◌^◌, ◌<◌, ◌≤◌, pos, nat_abs, ◌≤ℤ◌, [], length, IfOk};
-ghost use Rattle.zk_model.specs.Paths.{depth as path_depth, most_path};
+ghost use Rattle.zk_model.specs.Paths.{depth as path_depth};
 ghost use Rattle.zn_layout.specs.Keys.{HeadKey, DataKey, CountsKey, SessionKey, LeaseKey, key_bytes, node_key as bytes_of_node, session_key as bytes_of_session, hex_digits, hex_digit as digit_of};
+ghost use Rattle.zk_model.specs.Limits.{max_path};
 
 use std::alloc::Global;
 use zx_base::{Bytes, Memory};
@@ -22,7 +23,7 @@ pub fn head_key(alloc: Global) -> Result<Bytes, Memory>
 /// The key of a node's data. The path has at most 1,024 bytes.
 #[tactic(auto, unfolding(crate::specs::Keys::key_bytes))]
 pub fn data_key(alloc: Global, path: &[u8]) -> Result<Bytes, Memory>
-    requires { length path.now ≤ most_path }
+    requires { length path.now ≤ max_path }
     ensures { IfOk result (λ k. k ≡ key_bytes (DataKey path.now)) }
 {
     node_key(alloc, b'd', path)
@@ -31,7 +32,7 @@ pub fn data_key(alloc: Global, path: &[u8]) -> Result<Bytes, Memory>
 /// The key of the counts of a node's children. The path has at most 1,024 bytes.
 #[tactic(auto, unfolding(crate::specs::Keys::key_bytes))]
 pub fn counts_key(alloc: Global, path: &[u8]) -> Result<Bytes, Memory>
-    requires { length path.now ≤ most_path }
+    requires { length path.now ≤ max_path }
     ensures { IfOk result (λ k. k ≡ key_bytes (CountsKey path.now)) }
 {
     node_key(alloc, b'c', path)
@@ -56,7 +57,7 @@ pub fn lease_key(alloc: Global, id: i64) -> Result<Bytes, Memory>
 }
 
 fn node_key(alloc: Global, letter: u8, path: &[u8]) -> Result<Bytes, Memory>
-    requires { length path.now ≤ most_path }
+    requires { length path.now ≤ max_path }
     ensures { IfOk result (λ k. k ≡ bytes_of_node letter (path_depth path.now) path.now) }
 {
     let n = depth(path);

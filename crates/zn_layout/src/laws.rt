@@ -10,7 +10,7 @@ ghost use Rattle.ev_types.specs.Denials.{most_operations, is_denied, carry};
 ghost use Rattle.ev_types.specs.Ranges.{Keys, found};
 ghost use Rattle.ev_types.specs.Store.{Store, revision, last_revision, acts_applied, worked};
 ghost use Rattle.zk_model.specs.declared.node.Trigger.{Trigger as AnyTrigger};
-ghost use Rattle.zk_model.specs.History.{State};
+ghost use Rattle.zk_transcript.specs.History.{State};
 ghost use Rattle.zn_layout.specs.declared.record.CountRec.{CountRec};
 ghost use Rattle.zn_layout.specs.declared.record.LeaseRec.{LeaseRec};
 ghost use Rattle.zn_layout.specs.declared.record.NodeRec.{NodeRec};

@@ -1,7 +1,7 @@
 //! Reading the head, whose record is a list.
 
 ghost use Rattle.std.specs.Prelude.{◌≡◌, ◌↔◌, ℕ, List, ◌∷◌, [], IfOk, MatchOption, MatchResult, IsTrue};
-ghost use Rattle.zk_model.specs.JuteWriting.{string_bytes};
+ghost use Rattle.zk_jute.specs.JuteWriting.{string_bytes};
 ghost use Rattle.zn_layout.specs.Records.{trigger_bytes};
 ghost use Rattle.zn_layout.specs.Reading.{head_bytes, IsHeadWithin, IsValueOf, IsFault, IsReadAs};
 ghost use Rattle.zn_layout.specs.ReadingSteps.{IsValidPath, IsValidTrigger, TakesItem, TakesItems, IsOfKind, IsPathOf, IsCounted, IsNotCounted};

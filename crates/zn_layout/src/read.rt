@@ -3,7 +3,7 @@
 ghost use Rattle.std.specs.Prelude.{◌≡◌, ◌↔◌, ◌+◌, ◌≤◌, ◌∷◌, ◌++◌, length, IfOk, IsTrue, MatchOption, MatchResult};
 ghost use Rattle.std.specs.Int.{w32, w64};
 ghost use Rattle.std.specs.Int.RustNames.{FitsSigned};
-ghost use Rattle.zk_model.specs.JuteWriting.{int_bytes, long_bytes};
+ghost use Rattle.zk_jute.specs.JuteWriting.{int_bytes, long_bytes};
 ghost use Rattle.zx_base.specs.Maps.{Bytes as ListOfBytes};
 ghost use Rattle.zn_layout.specs.Records.{node_value, counts_value, lease_value, IsLongCount, IsNodeRec, IsCountRec, IsLeaseRec};
 ghost use Rattle.zn_layout.specs.Reading.{IsValueOf, IsFault, IsReadAs};
@@ -14,16 +14,16 @@ use crate::record::{CountRec, LeaseRec, NodeRec};
 use crate::writer::RECORD;
 use byteorder::{BigEndian, ByteOrder};
 use std::alloc::Global;
-use zk_model::limit::{MOST_CREATES, MOST_FRAME};
+use zk_model::limit::{MAX_CREATES, MAX_FRAME};
 use zx_base::{Bytes, Memory};
 
 /// How many bytes of a node's record stand between the first and the data.
 const NODE_NUMBERS: usize = 36;
 
 /// The range of a session's timeout, in milliseconds.
-const LEAST_TIMEOUT: i32 = 4_000;
+const MIN_TIMEOUT: i32 = 4_000;
 
-const MOST_TIMEOUT: i32 = 40_000;
+const MAX_TIMEOUT: i32 = 40_000;
 
 /// How many bytes a session's life has behind the first.
 const LEASE_NUMBERS: usize = 28;
@@ -112,7 +112,7 @@ fn bounded_node(node: NodeRec) -> Option<NodeRec>
     if !are_counts(node.czxid, node.owner) || !are_counts(node.ctime, node.mtime) {
         return None;
     }
-    if node.version < 0 || node.content.len() > MOST_FRAME {
+    if node.version < 0 || node.content.len() > MAX_FRAME {
         return None;
     }
     Some(node)
@@ -152,7 +152,7 @@ fn counts_of(numbers: &[u8]) -> CountRec
 fn bounded_counts(counts: CountRec) -> Option<CountRec>
     ensures { MatchOption result (IsCountRec counts → ⊥) (λ n. (n ≡ counts) × IsCountRec n) }
 {
-    if counts.children < 0 || counts.children > counts.creates || counts.creates > MOST_CREATES {
+    if counts.children < 0 || counts.children > counts.creates || counts.creates > MAX_CREATES {
         return None;
     }
     Some(counts)
@@ -191,7 +191,7 @@ fn lease_of(numbers: &[u8]) -> LeaseRec
 fn bounded_lease(lease: LeaseRec) -> Option<LeaseRec>
     ensures { MatchOption result (IsLeaseRec lease → ⊥) (λ r. (r ≡ lease) × IsLeaseRec r) }
 {
-    if lease.timeout < LEAST_TIMEOUT || lease.timeout > MOST_TIMEOUT || lease.attaches < 1 {
+    if lease.timeout < MIN_TIMEOUT || lease.timeout > MAX_TIMEOUT || lease.attaches < 1 {
         return None;
     }
     Some(lease)

@@ -1,7 +1,7 @@
 //! Writing records.
 
 ghost use Rattle.std.specs.Prelude.{◌≡◌, ◌∷◌, ◌++◌, IfOk, OnOk, IsTrue};
-ghost use Rattle.zk_model.specs.JuteWriting.{string_bytes};
+ghost use Rattle.zk_jute.specs.JuteWriting.{string_bytes};
 ghost use Rattle.zk_model.specs.Paths.{is_path};
 ghost use Rattle.zn_layout.specs.Records.{node_value, counts_value, session_value, lease_value, head_value, trigger_bytes, trigger_path, IsNodeRec, IsCountRec, IsSessionRec, IsLeaseRec, IsHeadRec};
 

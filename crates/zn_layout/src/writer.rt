@@ -1,7 +1,7 @@
 //! A record's value as far as it is written.
 
 ghost use Rattle.std.specs.Prelude.{◌≡◌, ◌<◌, ◌^◌, ◌∷◌, [], ◌++◌, length, IfOk, OnOk};
-ghost use Rattle.zk_model.specs.JuteWriting.{int_bytes, long_bytes, count_bytes, string_bytes};
+ghost use Rattle.zk_jute.specs.JuteWriting.{int_bytes, long_bytes, count_bytes, string_bytes};
 
 use std::alloc::Global;
 use std::marker::Model;
@@ -39,7 +39,7 @@ impl Writer {
         self.out
     }
 
-    #[tactic(auto, unfolding(zk_model::specs::JuteWriting::int_bytes))]
+    #[tactic(auto, unfolding(zk_jute::specs::JuteWriting::int_bytes))]
     pub(crate) fn int(&mut self, n: i32) -> Result<(), Memory>
         ensures { OnOk result (self.new ≡ self.old ++ int_bytes n) }
     {
@@ -47,7 +47,7 @@ impl Writer {
         Ok(())
     }
 
-    #[tactic(auto, unfolding(zk_model::specs::JuteWriting::long_bytes))]
+    #[tactic(auto, unfolding(zk_jute::specs::JuteWriting::long_bytes))]
     pub(crate) fn long(&mut self, n: i64) -> Result<(), Memory>
         ensures { OnOk result (self.new ≡ self.old ++ long_bytes n) }
     {

@@ -18,17 +18,15 @@ use Rattle.zk_model.specs.declared.reply.Reply.TheVariants as reply
 use Rattle.zk_model.specs.declared.request.Acl.{Acl}
 use Rattle.zk_model.specs.declared.request.Request.TheVariants as req
 use Rattle.zk_model.specs.declared.request.Part.TheVariants as part
-use Rattle.zk_model.specs.Answers.{refusal_of, tree_reply}
+use Rattle.zk_transcript.specs.Answers.{refusal_of, tree_reply}
 use Rattle.zk_model.specs.Codes.{node_exists}
-use Rattle.zk_model.specs.Frames.{most_frame}
-use Rattle.zk_model.specs.History.{State, IsSound, IsNodeWithin, Commit, commit, commit_single, committed}
+use Rattle.zk_transcript.specs.History.{State, IsSound, IsNodeWithin, Commit, commit, commit_single, committed}
 use Rattle.zk_model.specs.Paths.{is_path, parent}
-use Rattle.zk_model.specs.Runs.{last_moment}
-use Rattle.zk_model.specs.Single.{Refused, Done, most_owned, form_refusal, with_child, single}
+use Rattle.zk_model.specs.Single.{Refused, Done, form_refusal, with_child, single}
 use Rattle.zk_model.specs.Watches.{no_watches}
 use Rattle.zk_model.specs.Znodes.{num_children, new_node}
-use Rattle.zk_model.proofs.Children.{create_tree}
-use Rattle.zk_model.proofs.Sound.{create_sound}
+use Rattle.zk_transcript.proofs.Children.{create_tree}
+use Rattle.zk_transcript.proofs.Sound.{create_sound}
 use Rattle.zn_layout.specs.declared.record.CountRec.{CountRec}
 use Rattle.zn_layout.specs.Fits.{Fits}
 use Rattle.zn_layout.specs.Keys.{HeadKey, DataKey, CountsKey}
@@ -46,6 +44,7 @@ use Rattle.zn_ops.proofs.Bounds.{present-within}
 use Rattle.zn_ops.proofs.Effects.{root-exists, made_under, single-made, chosen-refuses, IsMaking, chosen-makes}
 use Rattle.zn_ops.specs.Basis.{IsZxid, ShowsAt}
 use Rattle.zn_ops.proofs.Fitting.{create_fits, parent_fits}
+use Rattle.zk_model.specs.Limits.{max_frame, max_moment, max_owned}
 
 -- ---- the head
 
@@ -61,7 +60,7 @@ zxid-is m zxid z s stands = z.is ∙ head-zxid m s z.head stands z.there
 
 -- ---- refusals
 
-reply_of_refusal : (s : State) (p content : Bytes) (acl : List Acl) (code : ℤ) → single s.tree most_owned (pos 0) (part.Create p content acl (pos 0)) (pos 0) 0 ≡ Refused code →
+reply_of_refusal : (s : State) (p content : Bytes) (acl : List Acl) (code : ℤ) → single s.tree max_owned (pos 0) (part.Create p content acl (pos 0)) (pos 0) 0 ≡ Refused code →
     tree_reply s.tree (pos 0) no_watches (req.Create p content acl (pos 0)) ≡ Some (record { reply = reply.Refused code; notices = []; watches = no_watches })
 unfolding tree_reply
 reply_of_refusal s p content acl code e = ap (refusal_of no_watches) e
@@ -97,7 +96,7 @@ module _ (m : Keys) (p q content : Bytes) (o : Option Shown) (shows : ShowsAt m 
   }
 
   module _ (old new : Store) (is_present : m ≡ present old) (now : ℕ) (zxid : ℤ) (counts : CountRec) (head : Kv) (sound : IsSound s) (valid : IsTrue (is_path p))
-      (moment : now ≤ last_moment) (short : length content ≤ most_frame)
+      (moment : now ≤ max_moment) (short : length content ≤ max_frame)
       (choice : create_choice o (is_some (at m (DataKey p))) ≡ Make counts) (head_is : at m HeadKey ≡ Some head)
       (step : IsStep old new (create_changes p q content now counts) (create_triggers p q) zxid) where
     making : IsMaking s.tree content zxid now p q o (get s.tree p) counts
@@ -112,10 +111,10 @@ module _ (m : Keys) (p q content : Bytes) (o : Option Shown) (shows : ShowsAt m 
     abbrev made : Commit
     made = record { response = body.Path p; tree = create_tree s.tree q (with_child up zxid) p (new_node content (pos 0) zxid now); triggers = create_triggers p q }
 
-    done : single s.tree most_owned (pos 0) (part.Create p content acl (pos 0)) zxid now ≡ Done (result.Created p) made.tree made.triggers
+    done : single s.tree max_owned (pos 0) (part.Create p content acl (pos 0)) zxid now ≡ Done (result.Created p) made.tree made.triggers
     done = single-made s.tree content zxid now p q acl form below ∙ ap (λ (n : Option Node). made_under s.tree content zxid now p q n (get s.tree p)) shown.0 ∙ making.makes
 
-    commits : commit s.tree most_owned (pos 0) (req.Create p content acl (pos 0)) zxid now ≡ Some made
+    commits : commit s.tree max_owned (pos 0) (req.Create p content acl (pos 0)) zxid now ≡ Some made
     unfolding commit
     commits = ap commit_single done
 
@@ -186,7 +185,7 @@ module _ (m : Keys) (p q content : Bytes) (o : Option Shown) (shows : ShowsAt m 
 
 -- the update that was made, as the answer
 pub made-answers : (old new : Store) (p q content : Bytes) (now : ℕ) (o : Option Shown) (counts : CountRec) (head : Kv) → ShowsAt (present old) q o → parent p ≡ Some q → IsTrue (is_path p) →
-    now ≤ last_moment → length content ≤ most_frame → create_choice o (is_some (at (present old) (DataKey p))) ≡ Make counts → at (present old) HeadKey ≡ Some head →
+    now ≤ max_moment → length content ≤ max_frame → create_choice o (is_some (at (present old) (DataKey p))) ≡ Make counts → at (present old) HeadKey ≡ Some head →
     (a : Answered) → IsMade old new p q content now counts a → AnswersCreate old new p content now a
 made-answers old new p q content now o counts head shows below valid moment short choice head_is (Repeats r) is acl form = absurd is
 made-answers old new p q content now o counts head shows below valid moment short choice head_is (Looked r zxid) is acl form = absurd is

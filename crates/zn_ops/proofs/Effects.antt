@@ -10,36 +10,37 @@ use Rattle.zk_model.specs.declared.request.Part.TheVariants.{Create}
 use Rattle.zk_model.specs.declared.reply.PartResult.TheVariants.{Created}
 use Rattle.zk_model.specs.Codes.{no_node, node_exists, no_children_for_ephemerals, system_error}
 use Rattle.zk_model.specs.Paths.{parent}
-use Rattle.zk_model.specs.Single.{Outcome, Refused, Done, most_creates, most_owned, form_refusal, with_child, create_node, create_under, create_at, unless_refused, effect, single}
+use Rattle.zk_model.specs.Single.{Outcome, Refused, Done, form_refusal, with_child, create_node, create_under, create_at, unless_refused, effect, single}
 use Rattle.zk_model.specs.Znodes.{Tree, new_node}
-use Rattle.zk_model.proofs.Children.{create_tree}
+use Rattle.zk_transcript.proofs.Children.{create_tree}
 use Rattle.zn_layout.specs.declared.record.CountRec.{CountRec}
 use Rattle.zn_ops.specs.declared.create.Choice.{Choice}
 use Rattle.zn_ops.specs.declared.create.Choice.TheVariants.{Refuse, Make}
 use Rattle.zn_ops.specs.declared.znode.Shown.{Shown}
 use Rattle.zn_ops.specs.Choices.{Shows, one_more, create_choice, create_triggers}
+use Rattle.zk_model.specs.Limits.{max_creates, max_owned}
 
 module _ (t : Tree) (content : Bytes) (z : ℤ) (now : ℕ) (p : Bytes) where
-  pub root-exists : (acl : List Acl) → form_refusal (Create p content acl (pos 0)) ≡ None → parent p ≡ None → single t most_owned (pos 0) (Create p content acl (pos 0)) z now ≡ Refused node_exists
+  pub root-exists : (acl : List Acl) → form_refusal (Create p content acl (pos 0)) ≡ None → parent p ≡ None → single t max_owned (pos 0) (Create p content acl (pos 0)) z now ≡ Refused node_exists
   unfolding single effect
   root-exists acl form top =
-      ap (λ o. unless_refused o (create_at t most_owned (pos 0) (pos 0) content z now p (parent p))) form
-      ∙ ap (create_at t most_owned (pos 0) (pos 0) content z now p) top
+      ap (λ o. unless_refused o (create_at t max_owned (pos 0) (pos 0) content z now p (parent p))) form
+      ∙ ap (create_at t max_owned (pos 0) (pos 0) content z now p) top
 
   -- under the node q, which may be there
   abbrev pub made_under : Bytes → Option Node → Option Node → Outcome
   made_under q None here = Refused no_node
-  made_under q (Some up) here = create_node t most_owned (pos 0) (pos 0) content z now q up p here
+  made_under q (Some up) here = create_node t max_owned (pos 0) (pos 0) content z now q up p here
 
-  under : (q : Bytes) (up : Option Node) → create_under t most_owned (pos 0) (pos 0) content z now p q up ≡ made_under q up (get t p)
+  under : (q : Bytes) (up : Option Node) → create_under t max_owned (pos 0) (pos 0) content z now p q up ≡ made_under q up (get t p)
   under q None = refl
   under q (Some up) = refl
 
-  pub single-made : (q : Bytes) (acl : List Acl) → form_refusal (Create p content acl (pos 0)) ≡ None → parent p ≡ Some q → single t most_owned (pos 0) (Create p content acl (pos 0)) z now ≡ made_under q (get t q) (get t p)
+  pub single-made : (q : Bytes) (acl : List Acl) → form_refusal (Create p content acl (pos 0)) ≡ None → parent p ≡ Some q → single t max_owned (pos 0) (Create p content acl (pos 0)) z now ≡ made_under q (get t q) (get t p)
   unfolding single effect
   single-made q acl form below =
-      ap (λ o. unless_refused o (create_at t most_owned (pos 0) (pos 0) content z now p (parent p))) form
-      ∙ ap (create_at t most_owned (pos 0) (pos 0) content z now p) below
+      ap (λ o. unless_refused o (create_at t max_owned (pos 0) (pos 0) content z now p (parent p))) form
+      ∙ ap (create_at t max_owned (pos 0) (pos 0) content z now p) below
       ∙ under q (get t q)
 
   -- what is chosen by the parent and the node that were looked up is that effect
@@ -68,10 +69,10 @@ module _ (t : Tree) (content : Bytes) (z : ℤ) (now : ℕ) (p : Bytes) where
   refuses-here : (q : Bytes) (x : Shown) (here : Option Node) (code : ℤ) → create_choice (Some x) (is_some here) ≡ Refuse code → made_under q (Some x.node) here ≡ Refused code
   refuses-here q x (Some h) code e = refused_as _ code e
   refuses-here q x None code e =
-      elim (int_eq x.node.owner (pos 0)) as (λ b. cond (not b) (Refuse no_children_for_ephemerals) (cond (int_eq x.node.creates most_creates) (Refuse system_error) (Make (one_more x))) ≡ Refuse code
-      → cond (not b) (Refused no_children_for_ephemerals) (cond (int_eq x.node.creates most_creates || false) (Refused system_error) (Done (Created p) (create_tree t q (with_child x.node z) p (new_node content (pos 0) z now)) (create_triggers p q))) ≡ Refused code) [
+      elim (int_eq x.node.owner (pos 0)) as (λ b. cond (not b) (Refuse no_children_for_ephemerals) (cond (int_eq x.node.creates max_creates) (Refuse system_error) (Make (one_more x))) ≡ Refuse code
+      → cond (not b) (Refused no_children_for_ephemerals) (cond (int_eq x.node.creates max_creates || false) (Refused system_error) (Done (Created p) (create_tree t q (with_child x.node z) p (new_node content (pos 0) z now)) (create_triggers p q))) ≡ Refused code) [
         | false ↦ λ e. refused_as _ code e
-        | true ↦ elim (int_eq x.node.creates most_creates) as (λ b. cond b (Refuse system_error) (Make (one_more x)) ≡ Refuse code
+        | true ↦ elim (int_eq x.node.creates max_creates) as (λ b. cond b (Refuse system_error) (Make (one_more x)) ≡ Refuse code
             → cond (b || false) (Refused system_error) (Done (Created p) (create_tree t q (with_child x.node z) p (new_node content (pos 0) z now)) (create_triggers p q)) ≡ Refused code) [
               | true ↦ λ e. refused_as _ code e
               | false ↦ λ e. absurd (not_refused _ code e)
@@ -88,15 +89,15 @@ module _ (t : Tree) (content : Bytes) (z : ℤ) (now : ℕ) (p : Bytes) where
     pub is : o ≡ Some up
     pub free : here ≡ None
     pub plain : up.node.owner ≡ pos 0
-    pub room : int_eq up.node.creates most_creates ≡ false
+    pub room : int_eq up.node.creates max_creates ≡ false
     pub counts_are : one_more up ≡ counts
     pub makes : made_under q (Some up.node) here ≡ Done (Created p) (create_tree t q (with_child up.node z) p (new_node content (pos 0) z now)) (create_triggers p q)
 
   making : (q : Bytes) (x : Shown) (counts : CountRec) → create_choice (Some x) false ≡ Make counts → IsMaking q (Some x) None counts
   making q x counts e =
-      elim (int_eq x.node.owner (pos 0)) as (λ b. int_eq x.node.owner (pos 0) ≡ b → cond (not b) (Refuse no_children_for_ephemerals) (cond (int_eq x.node.creates most_creates) (Refuse system_error) (Make (one_more x))) ≡ Make counts → IsMaking q (Some x) None counts) [
+      elim (int_eq x.node.owner (pos 0)) as (λ b. int_eq x.node.owner (pos 0) ≡ b → cond (not b) (Refuse no_children_for_ephemerals) (cond (int_eq x.node.creates max_creates) (Refuse system_error) (Make (one_more x))) ≡ Make counts → IsMaking q (Some x) None counts) [
         | false ↦ λ h e. absurd (not_made _ counts e)
-        | true ↦ λ h. elim (int_eq x.node.creates most_creates) as (λ b. int_eq x.node.creates most_creates ≡ b → cond b (Refuse system_error) (Make (one_more x)) ≡ Make counts → IsMaking q (Some x) None counts) [
+        | true ↦ λ h. elim (int_eq x.node.creates max_creates) as (λ b. int_eq x.node.creates max_creates ≡ b → cond b (Refuse system_error) (Make (one_more x)) ≡ Make counts → IsMaking q (Some x) None counts) [
           | true ↦ λ g e. absurd (not_made _ counts e)
           | false ↦ λ g e. record {
             up = x;

@@ -9,15 +9,13 @@ use Rattle.zx_base.specs.Maps.{Bytes, same}
 use Rattle.zx_base.proofs.MapLaws.{either, same-true, apart-from_same}
 use Rattle.zk_model.specs.declared.node.Node.{Node}
 use Rattle.zk_model.specs.declared.node.Trigger.{Trigger}
-use Rattle.zk_model.specs.Frames.{most_frame}
 use Rattle.zk_model.specs.Paths.{parent}
-use Rattle.zk_model.specs.Runs.{last_moment}
-use Rattle.zk_model.specs.Single.{most_creates, with_child}
+use Rattle.zk_model.specs.Single.{with_child}
 use Rattle.zk_model.specs.Znodes.{num_children, owned, new_node}
-use Rattle.zk_model.specs.History.{State, Session, IsSound, session_at, advanced}
+use Rattle.zk_transcript.specs.History.{State, Session, IsSound, session_at, advanced}
 use Rattle.zk_model.proofs.Paths.{apart_from_parent}
-use Rattle.zk_model.proofs.Children.{create_tree, create_new, create_parent, create_other, create_count_parent, create_count_other, no_orphans}
-use Rattle.zk_model.proofs.Owned.{owned-create_other, not_zero}
+use Rattle.zk_transcript.proofs.Children.{create_tree, create_new, create_parent, create_other, create_count_parent, create_count_other, no_orphans}
+use Rattle.zk_transcript.proofs.Owned.{owned-create_other, not_zero}
 use Rattle.zn_layout.specs.declared.record.CountRec.{CountRec}
 use Rattle.zn_layout.specs.Begin.{new_record, no_counts}
 use Rattle.zn_layout.specs.Changes.{Put, last, or_else}
@@ -26,6 +24,7 @@ use Rattle.zn_layout.specs.Keys.{Key, HeadKey, DataKey, CountsKey, SessionKey, L
 use Rattle.zn_layout.specs.Records.{node_value, counts_value, IsLongCount, IsNodeRec, IsCountRec}
 use Rattle.zn_layout.specs.StandsFor.{Stored, data_record, counts_record, IsData, IsCounts, DataMeans, CountsMean, NodesMean}
 use Rattle.zn_ops.specs.Choices.{create_changes}
+use Rattle.zk_model.specs.Limits.{max_creates, max_frame, max_moment}
 
 -- a node whose data stay
 data_same : (o : Option Stored) (x y : Node) → ((c : ℤ) → data_record x c ≡ data_record y c) → y.czxid ≡ x.czxid → y.mzxid ≡ x.mzxid → DataMeans (Some x) o → DataMeans (Some y) o
@@ -57,12 +56,12 @@ closed_means a b (Some o) h = h
 true_false : true ≡ false → ⊥
 true_false e = cc
 
-below_most : (n : ℤ) → n ≤ℤ most_creates → n ≢ most_creates → (n +ℤ pos 1) ≤ℤ most_creates
+below_most : (n : ℤ) → n ≤ℤ max_creates → n ≢ max_creates → (n +ℤ pos 1) ≤ℤ max_creates
 below_most n h apart = omega (arith, ints)
 
 module _ (s : State) (p q content : Bytes) (z : ℤ) (now : ℕ) (up : Node) (triggers : List Trigger) (sound : IsSound s)
-    (below_q : parent p ≡ Some q) (there : get s.tree q ≡ Some up) (none : get s.tree p ≡ None) (plain : up.owner ≡ pos 0) (room : int_eq up.creates most_creates ≡ false)
-    (moment : now ≤ last_moment) (short : length content ≤ most_frame) where
+    (below_q : parent p ≡ Some q) (there : get s.tree q ≡ Some up) (none : get s.tree p ≡ None) (plain : up.owner ≡ pos 0) (room : int_eq up.creates max_creates ≡ false)
+    (moment : now ≤ max_moment) (short : length content ≤ max_frame) where
   abbrev fresh : Node
   fresh = new_node content (pos 0) z now
 
@@ -92,7 +91,7 @@ module _ (s : State) (p q content : Bytes) (z : ℤ) (now : ℕ) (up : Node) (tr
 
   -- ---- bounds
 
-  small_long : (n : ℕ) → n ≤ last_moment → IsLongCount (pos n)
+  small_long : (n : ℕ) → n ≤ max_moment → IsLongCount (pos n)
   small_long n h = record { least = omega (arith, ints); most = omega (arith, ints) }
 
   pub new_fits : IsNodeRec (new_record content now (pos 0))
@@ -106,8 +105,8 @@ module _ (s : State) (p q content : Bytes) (z : ℤ) (now : ℕ) (up : Node) (tr
     content = short;
   }
 
-  not_most : up.creates ≢ most_creates
-  not_most e = let t : int_eq up.creates most_creates ≡ true = (Decides-int_eq up.creates most_creates).1 e in true_false (sym t ∙ room)
+  not_most : up.creates ≢ max_creates
+  not_most e = let t : int_eq up.creates max_creates ≡ true = (Decides-int_eq up.creates max_creates).1 e in true_false (sym t ∙ room)
 
   pub parent_fits : IsCountRec (counts_record above (num_children s.tree q + 1))
   parent_fits =

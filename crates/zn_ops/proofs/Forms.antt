@@ -6,17 +6,18 @@ use Rattle.zk_model.specs.declared.request.Acl.{Acl}
 use Rattle.zk_model.specs.declared.request.Part.TheVariants.{Create}
 use Rattle.zk_model.specs.Codes.{bad_arguments, invalid_acl}
 use Rattle.zk_model.specs.Paths.{is_path}
-use Rattle.zk_model.specs.Single.{form_refusal, is_open_acl, or_else, path_refusal}
+use Rattle.zk_model.specs.Single.{form_refusal, or_else, path_refusal}
 use Rattle.std.specs.Prelude.{ℤ, ℕ}
 use Rattle.ev_types.specs.Store.{Store}
 use Rattle.zk_model.specs.declared.reply.Reply.TheVariants as reply
 use Rattle.zk_model.specs.declared.request.Request.{Request}
 use Rattle.zk_model.specs.declared.request.Request.TheVariants as req
-use Rattle.zk_model.specs.Answers.{plain_request, path_reply, refused_reply}
+use Rattle.zk_transcript.specs.Answers.{plain_request, path_reply, refused_reply}
 use Rattle.zn_ops.specs.Answering.{Answers}
 use Rattle.zn_ops.specs.Steps.{AnswersByTree}
 use Rattle.zn_ops.specs.declared.requests.Answered.{Answered}
 use Rattle.zn_ops.specs.declared.requests.Answered.TheVariants.{Repeats, Looked, Updated}
+use Rattle.zk_model.specs.Access.{is_open_acl}
 
 create_parts : (p content : Bytes) (acl : List Acl) → form_refusal (Create p content acl (pos 0)) ≡ or_else (path_refusal (is_path p)) (cond (not (is_open_acl acl)) (Some invalid_acl) None)
 unfolding form_refusal

@@ -7,8 +7,8 @@ use Rattle.zk_model.specs.declared.node.Node.{Node}
 use Rattle.zk_model.specs.declared.reply.Body.TheVariants as body
 use Rattle.zk_model.specs.declared.reply.Reply.{Reply}
 use Rattle.zk_model.specs.declared.request.Request.TheVariants as req
-use Rattle.zk_model.specs.Answers.{about, told, tree_reply}
-use Rattle.zk_model.specs.History.{State}
+use Rattle.zk_transcript.specs.Answers.{about, told, tree_reply}
+use Rattle.zk_transcript.specs.History.{State}
 use Rattle.zk_model.specs.Watches.{no_watches}
 use Rattle.zk_model.specs.Znodes.{num_children, stat}
 use Rattle.zn_layout.specs.Keys.{DataKey, CountsKey}

@@ -4,13 +4,13 @@ use Rattle.ev_types.specs.Store.{Store, present, revision, last_revision}
 use Rattle.zk_model.specs.declared.request.Request.{Request}
 use Rattle.zk_model.specs.declared.reply.Reply.{Reply}
 use Rattle.zk_model.specs.declared.reply.Reply.TheVariants as replies
-use Rattle.zk_model.specs.Single.{most_owned}
 use Rattle.zk_model.specs.Watches.{no_watches}
-use Rattle.zk_model.specs.History.{State, IsSound, Commit, commit, committed}
-use Rattle.zk_model.specs.Answers.{plain_request, tree_reply}
+use Rattle.zk_transcript.specs.History.{State, IsSound, Commit, commit, committed}
+use Rattle.zk_transcript.specs.Answers.{plain_request, tree_reply}
 use Rattle.zn_layout.specs.StandsFor.{StandsFor}
 use Rattle.zn_ops.specs.declared.requests.Answered.{Answered}
 use Rattle.zn_ops.specs.declared.requests.Answered.TheVariants.{Repeats, Looked, Updated}
+use Rattle.zk_model.specs.Limits.{max_owned}
 
 -- the store can take one revision more
 abbrev pub HasRoom : Store → Type 0
@@ -25,7 +25,7 @@ pub record IsLooked (s : State) (r : Request) (reply : Reply) (zxid : ℤ) : Typ
 pub record IsUpdated (new : Store) (s : State) (r : Request) (now : ℕ) (reply : Reply) (zxid : ℤ) : Type 0 where
   pub above : s.zxid <ℤ zxid
   pub made : Commit
-  pub commits : commit s.tree most_owned (pos 0) r zxid now ≡ Some made
+  pub commits : commit s.tree max_owned (pos 0) r zxid now ≡ Some made
   pub told : reply ≡ replies.Good made.response
   pub stands : StandsFor (present new) (committed s zxid (Some made))
   pub sound : IsSound (committed s zxid (Some made))

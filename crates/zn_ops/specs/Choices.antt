@@ -9,7 +9,6 @@ use Rattle.zk_model.specs.declared.reply.Reply.{Reply}
 use Rattle.zk_model.specs.declared.reply.Reply.TheVariants as replies
 use Rattle.zk_model.specs.declared.reply.Body.TheVariants as bodies
 use Rattle.zk_model.specs.Codes.{system_error, no_node, no_children_for_ephemerals, node_exists}
-use Rattle.zk_model.specs.Single.{most_creates}
 use Rattle.zk_model.specs.Znodes.{stat}
 use Rattle.zn_layout.specs.declared.record.CountRec.{CountRec}
 use Rattle.zn_layout.specs.Begin.{new_record, no_counts}
@@ -19,6 +18,7 @@ use Rattle.zn_layout.specs.Records.{node_value, counts_value}
 use Rattle.zn_ops.specs.declared.znode.Shown.{Shown}
 use Rattle.zn_ops.specs.declared.create.Choice.{Choice}
 use Rattle.zn_ops.specs.declared.create.Choice.TheVariants.{Refuse, Make}
+use Rattle.zk_model.specs.Limits.{max_creates}
 
 -- ---- what was looked up is what the tree has
 
@@ -39,7 +39,7 @@ create_choice None taken = Refuse no_node
 create_choice (Some up) true = Refuse node_exists
 create_choice (Some up) false =
     if not (int_eq up.node.owner (pos 0)) then Refuse no_children_for_ephemerals
-    else (if int_eq up.node.creates most_creates then Refuse system_error else Make (one_more up))
+    else (if int_eq up.node.creates max_creates then Refuse system_error else Make (one_more up))
 
 -- what holds of the counts that a create would leave
 abbrev pub IfMakes : Choice → (CountRec → Type 0) → Type 0

@@ -6,3 +6,4 @@ pub mod Shown
 pub mod Forms
 pub mod Basis
 pub mod Steps
+pub mod Built

@@ -1,11 +1,10 @@
 -- The node that two records show.
 use Rattle.std.specs.Prelude.{◌≤◌, ℤ, pos, nat_abs, ◌≤ℤ◌, length}
-use Rattle.zk_model.specs.Frames.{most_frame}
-use Rattle.zk_model.specs.Single.{most_creates}
 use Rattle.zn_layout.specs.declared.record.NodeRec.{NodeRec}
 use Rattle.zn_layout.specs.declared.record.CountRec.{CountRec}
 use Rattle.zn_layout.specs.StandsFor.{czxid_of}
 use Rattle.zn_ops.specs.declared.znode.Shown.{Shown}
+use Rattle.zk_model.specs.Limits.{max_creates, max_frame}
 
 -- each record with the revision of its put
 abbrev pub shown_by : NodeRec → ℤ → CountRec → ℤ → Shown
@@ -27,5 +26,5 @@ shown_by d data_revision c counts_revision = record {
 -- what every stored node keeps
 pub record IsWithin (x : Shown) : Type 0 where
   pub counted : pos x.children ≤ℤ x.node.creates
-  pub creates : x.node.creates ≤ℤ most_creates
-  pub content : length x.node.content ≤ most_frame
+  pub creates : x.node.creates ≤ℤ max_creates
+  pub content : length x.node.content ≤ max_frame

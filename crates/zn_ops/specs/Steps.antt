@@ -7,7 +7,7 @@ use Rattle.zk_model.specs.declared.request.Request.TheVariants as req
 use Rattle.zk_model.specs.declared.request.Part.TheVariants as part
 use Rattle.zk_model.specs.declared.request.Acl.{Acl}
 use Rattle.zk_model.specs.Single.{form_refusal}
-use Rattle.zk_model.specs.Answers.{plain_request}
+use Rattle.zk_transcript.specs.Answers.{plain_request}
 use Rattle.zk_model.specs.declared.node.Trigger.{Trigger}
 use Rattle.zk_model.specs.declared.reply.Reply.TheVariants as replies
 use Rattle.zk_model.specs.declared.reply.Body.TheVariants as bodies
@@ -15,7 +15,7 @@ use Rattle.zn_layout.specs.declared.record.CountRec.{CountRec}
 use Rattle.zn_layout.specs.Changes.{Change, update_acts}
 use Rattle.ev_types.specs.Store.{acts_applied, last_revision}
 use Rattle.zn_ops.specs.Choices.{create_changes, create_triggers}
-use Rattle.zk_model.specs.History.{State, IsSound}
+use Rattle.zk_transcript.specs.History.{State, IsSound}
 use Rattle.zn_layout.specs.StandsFor.{StandsFor}
 use Rattle.zx_base.specs.Maps.{Bytes}
 use Rattle.std.specs.Prelude.{List}

@@ -2,10 +2,8 @@
 
 ghost use Rattle.std.specs.Prelude.{◌≡◌, ◌≤◌, ℕ, pos, IfOk, IfErr, IfSome, IsTrue, OnErr, Some, None, length, map};
 ghost use Rattle.ev_types.specs.Store.{present};
-ghost use Rattle.zk_model.specs.Frames.{most_frame};
-ghost use Rattle.zk_model.specs.Packets.{CanBeSent};
-ghost use Rattle.zk_model.specs.Paths.{is_path, most_path, parent};
-ghost use Rattle.zk_model.specs.Runs.{last_moment};
+ghost use Rattle.zk_jute.specs.Packets.{CanBeSent};
+ghost use Rattle.zk_model.specs.Paths.{is_path, parent};
 ghost use Rattle.zk_model.specs.declared.request.Request.TheVariants as req;
 ghost use Rattle.zn_layout.specs.Begin.{new_record};
 ghost use Rattle.zn_layout.specs.Changes.{update_acts};
@@ -18,6 +16,7 @@ ghost use Rattle.zx_base.specs.Maps.{Bytes as ByteList};
 ghost use Rattle.zn_ops.specs.Basis.{IsBasis};
 ghost use Rattle.zn_ops.specs.Shown.{IsWithin};
 ghost use Rattle.zn_ops.specs.Steps.{AnswersCreate, StandsForNone, HasNoState, IsMade};
+ghost use Rattle.zk_model.specs.Limits.{max_frame, max_moment, max_path};
 
 use crate::fault::Fault;
 use crate::form::{Form, create_form};
@@ -29,7 +28,7 @@ use ev_store::Store;
 use ev_types::Act;
 use std::alloc::Global;
 use zk_model::code::{NO_CHILDREN_FOR_EPHEMERALS, NO_NODE, NODE_EXISTS, SYSTEM_ERROR};
-use zk_model::limit::MOST_CREATES;
+use zk_model::limit::MAX_CREATES;
 use zk_model::{Acl, Body, Path, Reply, Trigger};
 use zn_layout::{
     CountRec, HeadRec, NodeRec, counts_key, data_key, get_head, put_counts, put_head, put_node,
@@ -65,7 +64,7 @@ fn choose(up: &Option<Shown>, taken: bool) -> Choice
     if up.node.owner != 0 {
         return Choice::Refuse(NO_CHILDREN_FOR_EPHEMERALS);
     }
-    if up.node.creates == MOST_CREATES {
+    if up.node.creates == MAX_CREATES {
         return Choice::Refuse(SYSTEM_ERROR);
     }
     Choice::Make(CountRec {
@@ -88,8 +87,8 @@ pub(crate) struct Basis {
 
 /// The keys of the parent, and the data key of the node.
 fn keys(alloc: Global, path: &Path, above: &Path) -> Result<Seq<Bytes>, Memory>
-    requires below { length path.now ≤ most_path }
-    requires above { length above.now ≤ most_path }
+    requires below { length path.now ≤ max_path }
+    requires above { length above.now ≤ max_path }
     ensures { IfOk result (λ keys. keys ≡ create_keys path.now above.now) }
 {
     let mut keys = Seq::new(alloc);
@@ -101,8 +100,8 @@ fn keys(alloc: Global, path: &Path, above: &Path) -> Result<Seq<Bytes>, Memory>
 
 /// Looks up what a create below another node is decided on.
 fn look_up(alloc: Global, store: &mut Store, path: &Path, above: &Path) -> Result<Basis, Fault>
-    requires below { length path.now ≤ most_path }
-    requires above { length above.now ≤ most_path }
+    requires below { length path.now ≤ max_path }
+    requires above { length above.now ≤ max_path }
     ensures ok { IfOk result (IsBasis (present store.old) path.now above.now) }
     ensures same { store.new ≡ store.old }
     ensures no_state { IfErr result (λ e. e ≡ Fault.NoState → StandsForNone (present store.old)) }
@@ -131,8 +130,8 @@ fn triggers(alloc: Global, path: &Path, above: &Path) -> Result<Seq<Trigger>, Me
 
 /// A new plain node. Its czxid is left to the revision of the put.
 fn new_node(alloc: Global, content: &[u8], now: u64) -> Result<NodeRec, Memory>
-    requires moment { now ≤ last_moment }
-    requires short { length content.now ≤ most_frame }
+    requires moment { now ≤ max_moment }
+    requires short { length content.now ≤ max_frame }
     ensures fits { IfOk result IsNodeRec }
     ensures is { IfOk result (λ r. r ≡ new_record content.now now (pos 0)) }
 {
@@ -155,8 +154,8 @@ fn acts(
     now: u64,
     counts: CountRec,
 ) -> Result<Seq<Act>, Memory>
-    requires moment { now ≤ last_moment }
-    requires short { length content.now ≤ most_frame }
+    requires moment { now ≤ max_moment }
+    requires short { length content.now ≤ max_frame }
     requires below { IsTrue (is_path path.now) }
     requires above { IsTrue (is_path above.now) }
     requires counted { IsCountRec counts }
@@ -188,7 +187,7 @@ fn path_reply(alloc: Global, path: &Path) -> Result<Reply, Memory>
 
 /// Creates the root, which is always there.
 fn create_root(alloc: Global, store: &mut Store, path: &Path) -> Result<Answered, Fault>
-    requires short { length path.now ≤ most_path }
+    requires short { length path.now ≤ max_path }
     requires root { parent path.now ≡ None }
     ensures ok { IfOk result (λ a. (content : ByteList) → (now : ℕ) → AnswersCreate store.old store.new path.now content now a) }
     ensures sent { IfOk result (λ a. CanBeSent (reply_in a)) }
@@ -216,8 +215,8 @@ fn make(
     counts: CountRec,
 ) -> Result<Answered, Memory>
     requires room { HasRoom store.old }
-    requires moment { now ≤ last_moment }
-    requires short { length content.now ≤ most_frame }
+    requires moment { now ≤ max_moment }
+    requires short { length content.now ≤ max_frame }
     requires parent { parent path.now ≡ Some above.now }
     requires valid { IsTrue (is_path path.now) }
     requires counted { IsCountRec counts }
@@ -243,8 +242,8 @@ fn create_below(
     now: u64,
 ) -> Result<Answered, Fault>
     requires room { HasRoom store.old }
-    requires moment { now ≤ last_moment }
-    requires short { length content.now ≤ most_frame }
+    requires moment { now ≤ max_moment }
+    requires short { length content.now ≤ max_frame }
     requires valid { IsTrue (is_path path.now) }
     requires parent { parent path.now ≡ Some above.now }
     ensures ok { IfOk result (AnswersCreate store.old store.new path.now content.now now) }
@@ -280,8 +279,8 @@ fn create_at(
     now: u64,
 ) -> Result<Answered, Fault>
     requires room { HasRoom store.old }
-    requires moment { now ≤ last_moment }
-    requires short { length content.now ≤ most_frame }
+    requires moment { now ≤ max_moment }
+    requires short { length content.now ≤ max_frame }
     requires valid { IsTrue (is_path path.now) }
     ensures ok { IfOk result (AnswersCreate store.old store.new path.now content.now now) }
     ensures sent { IfOk result (λ a. CanBeSent (reply_in a)) }
@@ -304,8 +303,8 @@ pub(crate) fn create(
     now: u64,
 ) -> Result<Answered, Fault>
     requires room { HasRoom store.old }
-    requires moment { now ≤ last_moment }
-    requires short { length content.now ≤ most_frame }
+    requires moment { now ≤ max_moment }
+    requires short { length content.now ≤ max_frame }
     ensures ok { IfOk result (Answers store.old store.new (req.Create path.now content.now acl.now (pos 0)) now) }
     ensures sent { IfOk result (λ a. CanBeSent (reply_in a)) }
     ensures err { OnErr result (store.new ≡ store.old) }

@@ -1,10 +1,11 @@
 //! What is refused by the form of a request alone.
 
 ghost use Rattle.std.specs.Prelude.{◌≡◌, pos, IfOk};
-ghost use Rattle.zk_model.specs.Single.{is_open_acl, form_refusal};
+ghost use Rattle.zk_model.specs.Single.{form_refusal};
 ghost use Rattle.zk_model.specs.declared.request.Part.TheVariants as part;
 ghost use Rattle.zn_ops.specs.Forms.{IsPathOf, IsChecked};
 ghost use Rattle.zx_base.specs.Maps.{Bytes as ByteList};
+ghost use Rattle.zk_model.specs.Access.{is_open_acl};
 
 use std::alloc::Global;
 use zk_model::code::{BAD_ARGUMENTS, INVALID_ACL};

@@ -2,13 +2,13 @@
 
 ghost use Rattle.std.specs.Prelude.{◌≡◌, ◌≤◌, ℕ, length, false, IfOk, IfErr, IfSome};
 ghost use Rattle.ev_types.specs.Store.{present};
-ghost use Rattle.zk_model.specs.Paths.{most_path};
-ghost use Rattle.zk_model.specs.Packets.{CanBeSent};
+ghost use Rattle.zk_jute.specs.Packets.{CanBeSent};
 ghost use Rattle.zk_model.specs.declared.request.Request.TheVariants as req;
 ghost use Rattle.zn_ops.specs.Answering.{Answers, reply_in};
 ghost use Rattle.zn_ops.specs.Choices.{get_data_keys, get_data_reply};
 ghost use Rattle.zn_ops.specs.Shown.{IsWithin};
 ghost use Rattle.zn_ops.specs.Steps.{AnswersByTree, StandsForNone, HasNoState};
+ghost use Rattle.zk_model.specs.Limits.{max_path};
 
 use crate::fault::Fault;
 use crate::form::read_path;
@@ -29,7 +29,7 @@ const COUNTS: usize = 1;
 
 /// The keys of the node.
 fn keys(alloc: Global, path: &Path) -> Result<Seq<Bytes>, Memory>
-    requires { length path.now ≤ most_path }
+    requires { length path.now ≤ max_path }
     ensures { IfOk result (λ keys. keys ≡ get_data_keys path.now) }
 {
     let mut keys = Seq::new(alloc);
@@ -54,7 +54,7 @@ fn reply_of(shown: Option<Shown>) -> Reply
 
 /// Answers a getData whose path is valid.
 fn get_data_at(alloc: Global, store: &mut Store, path: &Path) -> Result<Answered, Fault>
-    requires { length path.now ≤ most_path }
+    requires { length path.now ≤ max_path }
     ensures ok { IfOk result (λ a. (now : ℕ) → AnswersByTree store.old store.new (req.GetData path.now false) now a) }
     ensures sent { IfOk result (λ a. CanBeSent (reply_in a)) }
     ensures same { store.new ≡ store.old }

@@ -2,12 +2,12 @@
 
 ghost use Rattle.std.specs.Prelude.{◌≤◌, IfOk, IfErr, OnErr, ◌≡◌, All, length, true};
 ghost use Rattle.ev_types.specs.Store.{present};
-ghost use Rattle.zk_model.specs.Frames.{most_frame};
-ghost use Rattle.zk_model.specs.Packets.{CanBeSent};
-ghost use Rattle.zk_model.specs.Records.{contents_of};
-ghost use Rattle.zk_model.specs.Runs.{last_moment, is_built_request};
+ghost use Rattle.zk_jute.specs.Packets.{CanBeSent};
+ghost use Rattle.zk_jute.specs.Records.{contents_of};
+ghost use Rattle.zn_ops.specs.Built.{is_built_request};
 ghost use Rattle.zn_ops.specs.Answering.{Answers, HasRoom, reply_in};
 ghost use Rattle.zn_ops.specs.Steps.{HasNoState};
+ghost use Rattle.zk_model.specs.Limits.{max_frame, max_moment};
 
 use crate::create::create;
 use crate::fault::Fault;
@@ -37,9 +37,9 @@ fn try_answer(
     now: u64,
 ) -> Result<Answered, Fault>
     requires room { HasRoom store.old }
-    requires moment { now ≤ last_moment }
+    requires moment { now ≤ max_moment }
     requires built { is_built_request request.now ≡ true }
-    requires short { All (λ content. length content ≤ most_frame) (contents_of request.now) }
+    requires short { All (λ content. length content ≤ max_frame) (contents_of request.now) }
     ensures ok { IfOk result (Answers store.old store.new request.now now) }
     ensures sent { IfOk result (λ a. CanBeSent (reply_in a)) }
     ensures err { OnErr result (store.new ≡ store.old) }
@@ -73,9 +73,9 @@ pub fn answer(
     now: u64,
 ) -> Result<Answered, Memory>
     requires room { HasRoom store.old }
-    requires moment { now ≤ last_moment }
+    requires moment { now ≤ max_moment }
     requires built { is_built_request request.now ≡ true }
-    requires short { All (λ content. length content ≤ most_frame) (contents_of request.now) }
+    requires short { All (λ content. length content ≤ max_frame) (contents_of request.now) }
     ensures ok { IfOk result (Answers store.old store.new request.now now) }
     ensures sent { IfOk result (λ a. CanBeSent (reply_in a)) }
     ensures err { OnErr result (store.new ≡ store.old) }

@@ -16,7 +16,7 @@ use zn_layout::{get_head, get_key};
 use zx_base::{Bytes, Memory, Seq};
 
 /// The most keys that one transaction looks up: a hundred reads with the head's, of 128 that an etcd takes.
-const MOST_KEYS: usize = 99;
+const MAX_KEYS: usize = 99;
 
 /// Keys that were looked up, and what was found under each of them and then under the head.
 #[derive(Drop)]
@@ -51,7 +51,7 @@ fn look_txn(alloc: Global, keys: &[Bytes]) -> Result<TxnReq, Memory>
 
 /// Looks up some keys and the head. The store stays as it is.
 pub(crate) fn look(alloc: Global, store: &mut Store, keys: Seq<Bytes>) -> Result<View, Memory>
-    requires few { length keys ≤ MOST_KEYS }
+    requires few { length keys ≤ MAX_KEYS }
     ensures keys { IfOk result (λ v. v.keys ≡ keys) }
     ensures found { IfOk result (λ v. map kv_in v.parts ≡ found_at (present store.old) keys) }
     ensures same { store.new ≡ store.old }

@@ -2,7 +2,7 @@
 use Rattle.std.proofs.Common.{◌≡◌, ℕ, List, ◌∷◌, ◌++◌, subst}
 use Rattle.std.specs.List.{AllByRecursion}
 use Rattle.ev_types.specs.Store.{Store}
-use Rattle.zk_model.specs.Transcripts.{IsWellFormed}
+use Rattle.zt_text.specs.Transcripts.{IsWellFormed}
 use Rattle.zn_ops.specs.declared.requests.Answered.{Answered}
 use Rattle.zn_ops.specs.Answering.{Answers, HasRoom}
 use Rattle.zp_alone.specs.declared.waiting.Waiting.{Waiting}

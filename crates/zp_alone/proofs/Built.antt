@@ -7,16 +7,18 @@ use Rattle.zk_model.specs.declared.request.Request.{Request}
 use Rattle.zk_model.specs.declared.request.Request.TheVariants as req
 use Rattle.zk_model.specs.Codes.{bad_arguments, invalid_acl}
 use Rattle.zk_model.specs.Paths.{is_path, is_sequence_prefix}
-use Rattle.zk_model.specs.Single.{form_refusal, path_refusal, or_else, is_sequential, is_create_mode, is_open_acl}
-use Rattle.zk_model.specs.Answers.{plain_request, refused_reply}
-use Rattle.zk_model.specs.Legal.{is_within_parts}
-use Rattle.zk_model.specs.Conversations.{is_auth_refusal}
-use Rattle.zk_model.specs.Runs.{is_built, is_built_request}
-use Rattle.zk_model.specs.Records.{contents_of}
-use Rattle.zk_model.specs.Requests.{Asks, read_request}
-use Rattle.zk_model.specs.Frames.{most_frame}
-use Rattle.zk_model.specs.History.{when}
+use Rattle.zk_model.specs.Single.{form_refusal, path_refusal, or_else, is_sequential, is_create_mode}
+use Rattle.zk_transcript.specs.Answers.{plain_request, refused_reply}
+use Rattle.zk_transcript.specs.Legal.{is_within_parts}
+use Rattle.zk_transcript.specs.Conversations.{is_auth_refusal}
+use Rattle.zp_alone.specs.Runs.{is_built}
+use Rattle.zn_ops.specs.Built.{is_built_request}
+use Rattle.zk_jute.specs.Records.{contents_of}
+use Rattle.zk_jute.specs.Requests.{Asks, read_request}
+use Rattle.zk_transcript.specs.History.{when}
 use Rattle.zp_alone.specs.World.{IsReadBuilt}
+use Rattle.zk_model.specs.Limits.{max_frame}
+use Rattle.zk_model.specs.Access.{is_open_acl}
 
 -- ---- none of them ends its connection
 
@@ -45,12 +47,12 @@ built-parts _ built = refl
 
 -- ---- reading them
 
-kept_if : (frame : List ℕ) (xid : ℤ) (r : Request) (b : Bool) → read_request frame ≡ Asks xid r → length frame ≤ most_frame
+kept_if : (frame : List ℕ) (xid : ℤ) (r : Request) (b : Bool) → read_request frame ≡ Asks xid r → length frame ≤ max_frame
     → All (λ content. length content ≤ length frame) (contents_of r) → is_built_request r ≡ b → IsReadBuilt frame (when b (xid, r))
 unfolding is_built
 kept_if frame xid r true read small contents b = (read, record { built = b; short = λ k d less. omega (arith, contents k d less) })
 kept_if frame xid r false read small contents b = rw (read, b) refl
 
-pub built_read : (frame : List ℕ) (xid : ℤ) (r : Request) → read_request frame ≡ Asks xid r → length frame ≤ most_frame
+pub built_read : (frame : List ℕ) (xid : ℤ) (r : Request) → read_request frame ≡ Asks xid r → length frame ≤ max_frame
     → All (λ content. length content ≤ length frame) (contents_of r) → IsReadBuilt frame (when (is_built_request r) (xid, r))
 built_read frame xid r read small contents = kept_if frame xid r (is_built_request r) read small contents refl

@@ -7,18 +7,18 @@ use Rattle.std.proofs.lemmas.List.Elements.{All-nil, All-cons, All-append}
 use Rattle.ev_types.specs.Store.{Store, present, revision}
 use Rattle.zk_model.specs.declared.reply.Reply.{Reply}
 use Rattle.zk_model.specs.declared.request.Request.{Request}
-use Rattle.zk_model.specs.declared.transcript.TranscriptLine.{TranscriptLine}
-use Rattle.zk_model.specs.declared.transcript.TranscriptLine.TheVariants.{Open, Frame as FrameLine, Send}
-use Rattle.zk_model.specs.Frames.{most_frame}
-use Rattle.zk_model.specs.Requests.{Asks, read_request}
-use Rattle.zk_model.specs.Packets.{reply_packet}
-use Rattle.zk_model.specs.History.{State, IsSound, after, most_long}
-use Rattle.zk_model.specs.Answers.{plain_request}
-use Rattle.zk_model.specs.Transcripts.{IsWellFormed}
-use Rattle.zk_model.specs.Runs.{IsAnswerLine, AreNumbered, frames_of, is_built_request}
-use Rattle.zk_model.proofs.Lists.{both_of}
-use Rattle.zk_model.proofs.Quiet.{IsQuiet, open_quiet, frame_quiet, send_quiet, after-quiet, is_legal-quiet, is_ordered-quiet}
-use Rattle.zk_model.proofs.Counts.{frames_of-append}
+use Rattle.zk_transcript.specs.declared.transcript.TranscriptLine.{TranscriptLine}
+use Rattle.zk_transcript.specs.declared.transcript.TranscriptLine.TheVariants.{Open, Frame as FrameLine, Send}
+use Rattle.zk_jute.specs.Requests.{Asks, read_request}
+use Rattle.zk_jute.specs.Packets.{reply_packet}
+use Rattle.zk_transcript.specs.History.{State, IsSound, after}
+use Rattle.zk_transcript.specs.Answers.{plain_request}
+use Rattle.zt_text.specs.Transcripts.{IsWellFormed}
+use Rattle.zp_alone.specs.Runs.{IsAnswerLine, AreNumbered, frames_of}
+use Rattle.zn_ops.specs.Built.{is_built_request}
+use Rattle.zk_jute.proofs.Lists.{both_of}
+use Rattle.zk_transcript.proofs.Quiet.{IsQuiet, open_quiet, frame_quiet, send_quiet, after-quiet, is_legal-quiet, is_ordered-quiet}
+use Rattle.zp_alone.proofs.Counts.{frames_of-append}
 use Rattle.zn_layout.specs.StandsFor.{StandsFor}
 use Rattle.zn_ops.specs.declared.requests.Answered.{Answered}
 use Rattle.zn_ops.specs.declared.requests.Answered.TheVariants.{Repeats, Looked, Updated}
@@ -32,6 +32,7 @@ use Rattle.zp_alone.proofs.Linked.{linked-push, linked-open}
 use Rattle.zp_alone.proofs.Talked.{talks-open, talks-frame, talks-plain, talks-looked, talks-updated}
 use Rattle.zp_alone.proofs.Walked.{one_frame}
 use Rattle.zp_alone.proofs.Updated.{asked_commit-of, kept-asked}
+use Rattle.zk_model.specs.Limits.{max_frame, max_long}
 
 -- a line that changes nothing
 kept_in-quiet : (store : Store) (lines : List TranscriptLine) (l : TranscriptLine) → IsQuiet l → IsWellFormed l → IsKeptIn store lines → IsKeptIn store (lines ++ l ∷ [])
@@ -69,7 +70,7 @@ kept-open w c p id pw linked formed k =
 -- ---- a frame comes
 
 pub kept-frame : (w : World) (c : ℕ) (bytes : List ℕ) (xid : ℤ) (r : Request) → w.connection ≡ Some c
-    → read_request bytes ≡ Asks xid r → length bytes ≤ most_frame → is_built_request r ≡ true
+    → read_request bytes ≡ Asks xid r → length bytes ≤ max_frame → is_built_request r ≡ true
     → IsWellFormed (FrameLine c (w.frames + 1) (revision w.store) bytes) → IsKept w → IsKept (framed w c bytes xid r)
 kept-frame w c bytes xid r linked read small built formed k =
     let t = talking c w linked k.keeps in
@@ -137,7 +138,7 @@ kept-updated c w q qs store answer zxid linked oldest room grown at updates form
     let l : TranscriptLine = Send c (reply_packet q.xid zxid answer) in
     let commits = asked_commit-of c next w.clock zxid w.lines (after w.lines) h.place h.bytes q.xid q.request h.frame h.read ∙ updates.commits in
     let asked : IsWellFormed u = subst (λ (i : ℕ). IsWellFormed (asked_line c i w.clock zxid)) h.index formed.0 in
-    let long : zxid ≤ℤ most_long = rw at (grind (arith, ints, grown, room)) in
+    let long : zxid ≤ℤ max_long = rw at (grind (arith, ints, grown, room)) in
     let kept = kept-asked c next w.clock zxid w.lines updates.made q w.store store k.kept talks.stands.least h talks.below updates.above long commits (sym at) updates.stands updates.sound asked in
     let lines : (w.lines ++ u ∷ []) ++ l ∷ [] ≡ w.lines ++ (asked_line c q.index w.clock zxid ∷ l ∷ []) =
     append_assoc w.lines (u ∷ []) (l ∷ []) ∙ ap (λ i. w.lines ++ (asked_line c i w.clock zxid ∷ l ∷ [])) (sym h.index) in

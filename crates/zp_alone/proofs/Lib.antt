@@ -10,3 +10,5 @@ pub mod Refusals
 pub mod Worlds
 pub mod Answering
 pub mod Begun
+pub mod Counts
+pub mod Happened

@@ -2,11 +2,11 @@
 use Rattle.std.proofs.Common.{◌≡◌, ℕ, List, [], ◌∷◌, ◌++◌, refl, sym, ap, ◌∙◌, subst, Bool, true, false, ℤ}
 use Rattle.std.specs.Prelude.{Option, Some, None, is_some, ◌==◌, ◌||◌}
 use Rattle.std.proofs.lemmas.List.Folds.{list_any-append}
-use Rattle.zk_model.specs.declared.transcript.TranscriptLine.{TranscriptLine}
-use Rattle.zk_model.specs.declared.transcript.TranscriptLine.TheVariants.{Open, Send}
-use Rattle.zk_model.specs.History.{when, opening, open_shown}
-use Rattle.zk_model.specs.Runs.{is_opening}
-use Rattle.zk_model.proofs.Lookups.{first_shown-skip, first_shown-new}
+use Rattle.zk_transcript.specs.declared.transcript.TranscriptLine.{TranscriptLine}
+use Rattle.zk_transcript.specs.declared.transcript.TranscriptLine.TheVariants.{Open, Send}
+use Rattle.zk_transcript.specs.History.{when, opening, open_shown}
+use Rattle.zp_alone.specs.Runs.{is_opening}
+use Rattle.zk_transcript.proofs.Lookups.{first_shown-skip, first_shown-new}
 use Rattle.zp_alone.specs.World.{IsLinked}
 use Rattle.zp_alone.specs.Effects.{asked_line}
 

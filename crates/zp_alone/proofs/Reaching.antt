@@ -6,22 +6,22 @@ use Rattle.std.proofs.lemmas.Bool.{not-false}
 use Rattle.std.proofs.lemmas.Bool.Decides.{nat_tests}
 use Rattle.ev_types.specs.Store.{Store, revision}
 use Rattle.zk_model.specs.declared.request.Request.{Request}
-use Rattle.zk_model.specs.declared.script.Happening.{Happening}
-use Rattle.zk_model.specs.declared.script.Happening.TheVariants as line
-use Rattle.zk_model.specs.declared.script.Why.{Why}
-use Rattle.zk_model.specs.declared.transcript.TranscriptLine.{TranscriptLine}
-use Rattle.zk_model.specs.declared.transcript.TranscriptLine.TheVariants.{Update, Open, Frame as FrameLine, Send}
-use Rattle.zk_model.specs.declared.transcript.UpdateKind.{UpdateKind}
-use Rattle.zk_model.specs.declared.transcript.UpdateKind.TheVariants.{Begin, Asked}
-use Rattle.zk_model.specs.Frames.{most_frame}
-use Rattle.zk_model.specs.Requests.{Asks, read_request}
-use Rattle.zk_model.specs.History.{after, updated}
-use Rattle.zk_model.specs.Legal.{Tick, is_legal, is_ordered, may_update}
-use Rattle.zk_model.specs.Conversations.{IsLawfulAlone}
-use Rattle.zk_model.specs.Transcripts.{IsWellFormed}
-use Rattle.zk_model.specs.Runs.{IsAnswerLine, AreNumbered, Adds, clock_after, why_not, is_open, is_opening, is_built, is_built_request, refused_if, frames_of, sends_of, begin_line, Run, new_run, run_after, Happens, Runs, IsOneRun}
-use Rattle.zk_model.proofs.Counts.{frames_of-append, before_close}
-use Rattle.zk_model.proofs.Happened.{within-new, within-runs, RunsFrom-push, punctual-happens, shown-happens}
+use Rattle.zt_text.specs.declared.script.Happening.{Happening}
+use Rattle.zt_text.specs.declared.script.Happening.TheVariants as line
+use Rattle.zt_text.specs.declared.script.Why.{Why}
+use Rattle.zk_transcript.specs.declared.transcript.TranscriptLine.{TranscriptLine}
+use Rattle.zk_transcript.specs.declared.transcript.TranscriptLine.TheVariants.{Update, Open, Frame as FrameLine, Send}
+use Rattle.zk_transcript.specs.declared.transcript.UpdateKind.{UpdateKind}
+use Rattle.zk_transcript.specs.declared.transcript.UpdateKind.TheVariants.{Begin, Asked}
+use Rattle.zk_jute.specs.Requests.{Asks, read_request}
+use Rattle.zk_transcript.specs.History.{after, updated}
+use Rattle.zk_transcript.specs.Legal.{Tick, is_legal, is_ordered, may_update}
+use Rattle.zk_transcript.specs.Conversations.{IsLawfulAlone}
+use Rattle.zt_text.specs.Transcripts.{IsWellFormed}
+use Rattle.zp_alone.specs.Runs.{IsAnswerLine, AreNumbered, Adds, clock_after, why_not, is_open, is_opening, is_built, refused_if, frames_of, sends_of, begin_line, Run, new_run, run_after, Happens, Runs, IsOneRun}
+use Rattle.zn_ops.specs.Built.{is_built_request}
+use Rattle.zp_alone.proofs.Counts.{frames_of-append, before_close}
+use Rattle.zp_alone.proofs.Happened.{within-new, within-runs, RunsFrom-push, punctual-happens, shown-happens}
 use Rattle.zp_alone.specs.World.{World, IsLinked, is_number}
 use Rattle.zp_alone.specs.Talking.{AreQueued}
 use Rattle.zp_alone.specs.Reached.{IsKeptIn, IsTalking, IsKept, Reached}
@@ -29,6 +29,7 @@ use Rattle.zp_alone.specs.Applying.{Plays}
 use Rattle.zp_alone.specs.Effects.{IsBegun, begun, opened, framed, ticked, AnswersSome}
 use Rattle.zp_alone.proofs.Linked.{not_there}
 use Rattle.zp_alone.proofs.Kept.{talking, kept-open, kept-frame, kept-tick}
+use Rattle.zk_model.specs.Limits.{max_frame}
 
 -- ---- what is kept says that each open connection was served lawfully
 
@@ -92,11 +93,11 @@ may_open : (lines : List TranscriptLine) (clock c p : ℕ) (id : ℤ) (pw : List
 unfolding why_not
 may_open lines clock c p id pw h = (not_refused (list_any is_opening lines) _ _ (not_refused (is_open c lines) _ _ h).1).0
 
-may_frame : (lines : List TranscriptLine) (clock c : ℕ) (bytes : List ℕ) → why_not lines clock (line.Frame c bytes) ≡ None → (is_open c lines ≡ true) × (nat_lt most_frame (length bytes) ≡ false) × (is_built bytes ≡ true)
+may_frame : (lines : List TranscriptLine) (clock c : ℕ) (bytes : List ℕ) → why_not lines clock (line.Frame c bytes) ≡ None → (is_open c lines ≡ true) × (nat_lt max_frame (length bytes) ≡ false) × (is_built bytes ≡ true)
 unfolding why_not
 may_frame lines clock c bytes h =
     let first = not_refused (not (is_open c lines)) _ _ h in
-    let second = not_refused (nat_lt most_frame (length bytes)) _ _ first.1 in
+    let second = not_refused (nat_lt max_frame (length bytes)) _ _ first.1 in
     let third = not_refused (not (is_built bytes)) _ None second.1 in
     (not-false (is_open c lines) first.0, second.0, not-false (is_built bytes) third.0)
 
@@ -119,7 +120,7 @@ pub plays-frame : (w : World) (c : ℕ) (bytes : List ℕ) (xid : ℤ) (q : Requ
     → IsWellFormed (FrameLine c (w.frames + 1) (revision w.store) bytes) → Plays w (line.Frame c bytes) (framed w c bytes xid q)
 plays-frame w c bytes xid q possible read formed = λ hs r.
     let may = may_frame w.lines w.clock c bytes possible in
-    let small : length bytes ≤ most_frame = grind (arith, nat_tests) in
+    let small : length bytes ≤ max_frame = grind (arith, nat_tests) in
     let linked = linked_to w c r.kept.linked may.0 in
     let t = talking c w linked r.kept.keeps in
     let shows : FrameLine c (w.frames + 1) (revision w.store) bytes ≡ FrameLine c (frames_of c w.lines + 1) (after w.lines).zxid bytes = λ i. FrameLine c (t.counts i + 1) (r.kept.kept.revision i) bytes in

@@ -7,27 +7,28 @@ use Rattle.std.proofs.Math.Seq.{take-append_seam}
 use Rattle.std.specs.Int.Signed.{≤ℤ_refl}
 use Rattle.zk_model.specs.declared.reply.Reply.{Reply}
 use Rattle.zk_model.specs.declared.reply.Reply.TheVariants as reply
-use Rattle.zk_model.specs.declared.transcript.TranscriptLine.{TranscriptLine}
-use Rattle.zk_model.specs.declared.transcript.TranscriptLine.TheVariants.{Open, Frame as FrameLine, Send}
-use Rattle.zk_model.specs.declared.transcript.UpdateKind.TheVariants.{Asked}
-use Rattle.zk_model.specs.Frames.{most_frame}
-use Rattle.zk_model.specs.Requests.{Asks, read_request}
-use Rattle.zk_model.specs.Packets.{reply_packet}
+use Rattle.zk_transcript.specs.declared.transcript.TranscriptLine.{TranscriptLine}
+use Rattle.zk_transcript.specs.declared.transcript.TranscriptLine.TheVariants.{Open, Frame as FrameLine, Send}
+use Rattle.zk_transcript.specs.declared.transcript.UpdateKind.TheVariants.{Asked}
+use Rattle.zk_jute.specs.Requests.{Asks, read_request}
+use Rattle.zk_jute.specs.Packets.{reply_packet}
 use Rattle.zk_model.specs.Watches.{no_watches}
-use Rattle.zk_model.specs.Answers.{plain_request, tree_reply}
-use Rattle.zk_model.specs.History.{State, Commit, after, updated, asked_commit}
-use Rattle.zk_model.specs.Conversations.{Walker, Choice, Plain, Answer, at_start, walk, move, later_of, response_at, carried, carried_shown}
-use Rattle.zk_model.specs.Runs.{frames_of, is_built_request, begin_line}
-use Rattle.zk_model.proofs.Quiet.{frame_quiet, send_quiet, after-quiet}
-use Rattle.zk_model.proofs.Choices.{MayAnswer, AsksNext, answered_now, answered_plainly, answer-looked, answer-carried, answer-plain, plain-due, after_update-bound}
+use Rattle.zk_transcript.specs.Answers.{plain_request, tree_reply}
+use Rattle.zk_transcript.specs.History.{State, Commit, after, updated, asked_commit}
+use Rattle.zk_transcript.specs.Conversations.{Walker, Choice, Plain, Answer, at_start, walk, move, later_of, response_at, carried, carried_shown}
+use Rattle.zp_alone.specs.Runs.{frames_of, begin_line}
+use Rattle.zn_ops.specs.Built.{is_built_request}
+use Rattle.zk_transcript.proofs.Quiet.{frame_quiet, send_quiet, after-quiet}
+use Rattle.zk_transcript.proofs.Choices.{MayAnswer, AsksNext, answered_now, answered_plainly, answer-looked, answer-carried, answer-plain, plain-due, after_update-bound}
 use Rattle.zp_alone.specs.declared.waiting.Waiting.{Waiting}
 use Rattle.zp_alone.specs.Talking.{IsQueued, AreQueued, IsWalked, StandsAt, AreCounted, AreBelow, Talks}
 use Rattle.zp_alone.specs.Effects.{asked_line}
 use Rattle.zp_alone.proofs.Built.{built-goes_on}
 use Rattle.zp_alone.proofs.Walked.{same_number, longer, walked-push, walked-send, stands-push, queued-push, queued-frame, counted-push, counted-send, counted-frame, below-later, below-push, uncarried}
 use Rattle.zp_alone.proofs.Updated.{after-asked}
-use Rattle.zk_model.proofs.Lookups.{first_place-new}
-use Rattle.zk_model.specs.Legal.{index_shown, is_below}
+use Rattle.zk_transcript.proofs.Lookups.{first_place-new}
+use Rattle.zk_transcript.specs.Legal.{index_shown, is_below}
+use Rattle.zk_model.specs.Limits.{max_frame}
 
 -- ---- it opens behind the store's first update
 
@@ -47,7 +48,7 @@ talks-open c p id pw = record {
 -- ---- a frame comes
 
 pub talks-frame : (c : ℕ) (lines : List TranscriptLine) (ws : List Waiting) (told z : ℤ) (bytes : List ℕ) (q : Waiting) → Talks c lines ws told
-    → q.index ≡ frames_of c lines + 1 → read_request bytes ≡ Asks q.xid q.request → length bytes ≤ most_frame → is_built_request q.request ≡ true
+    → q.index ≡ frames_of c lines + 1 → read_request bytes ≡ Asks q.xid q.request → length bytes ≤ max_frame → is_built_request q.request ≡ true
     → Talks c (lines ++ FrameLine c (frames_of c lines + 1) z bytes ∷ []) (ws ++ q ∷ []) told
 talks-frame c lines ws told z bytes q t index read small built =
     let l : TranscriptLine = FrameLine c (frames_of c lines + 1) z bytes in

@@ -6,22 +6,22 @@ use Rattle.std.proofs.lemmas.Bool.Decides.{nat_tests}
 use Rattle.std.proofs.lemmas.Int.{ints}
 use Rattle.ev_types.specs.Store.{Store, present, revision}
 use Rattle.zk_model.specs.declared.request.Request.{Request}
-use Rattle.zk_model.specs.declared.transcript.TranscriptLine.{TranscriptLine}
-use Rattle.zk_model.specs.Requests.{Asks, read_request}
-use Rattle.zk_model.specs.History.{State, Commit, IsSound, commit, after, updated, committed, asked_commit, frame, frame_shown, request, asked_in, most_long}
-use Rattle.zk_model.specs.Single.{most_owned}
-use Rattle.zk_model.specs.Legal.{is_legal_line, may_update, is_small_frame, is_within_parts}
-use Rattle.zk_model.specs.Conversations.{placed_frame}
-use Rattle.zk_model.specs.Transcripts.{IsWellFormed}
-use Rattle.zk_model.proofs.Lists.{both_of}
-use Rattle.zk_model.proofs.Appending.{after-push, is_legal-push, is_ordered-push}
-use Rattle.zk_model.proofs.Lookups.{first_shown-place}
+use Rattle.zk_transcript.specs.declared.transcript.TranscriptLine.{TranscriptLine}
+use Rattle.zk_jute.specs.Requests.{Asks, read_request}
+use Rattle.zk_transcript.specs.History.{State, Commit, IsSound, commit, after, updated, committed, asked_commit, frame, frame_shown, request, asked_in}
+use Rattle.zk_transcript.specs.Legal.{is_legal_line, may_update, is_small_frame, is_within_parts}
+use Rattle.zk_transcript.specs.Conversations.{placed_frame}
+use Rattle.zt_text.specs.Transcripts.{IsWellFormed}
+use Rattle.zk_jute.proofs.Lists.{both_of}
+use Rattle.zk_transcript.proofs.Appending.{after-push, is_legal-push, is_ordered-push}
+use Rattle.zk_transcript.proofs.Lookups.{first_shown-place}
 use Rattle.zn_layout.specs.StandsFor.{StandsFor}
 use Rattle.zp_alone.specs.declared.waiting.Waiting.{Waiting}
 use Rattle.zp_alone.specs.Talking.{IsQueued, AreBelow}
 use Rattle.zp_alone.specs.Reached.{IsKeptIn}
 use Rattle.zp_alone.specs.Effects.{asked_line}
 use Rattle.zp_alone.proofs.Built.{built-parts}
+use Rattle.zk_model.specs.Limits.{max_long, max_owned}
 
 request-of : (c i : ℕ) (lines : List TranscriptLine) (place : ℕ) (bytes : List ℕ) (xid : ℤ) (r : Request)
     → placed_frame c i lines ≡ Some (place, bytes) → read_request bytes ≡ Asks xid r → request c i lines ≡ Some r
@@ -30,7 +30,7 @@ request-of c i lines place bytes xid r placed read =
 
 -- what the update does is what its request does
 pub asked_commit-of : (c i now : ℕ) (zxid : ℤ) (lines : List TranscriptLine) (s : State) (place : ℕ) (bytes : List ℕ) (xid : ℤ) (r : Request)
-    → placed_frame c i lines ≡ Some (place, bytes) → read_request bytes ≡ Asks xid r → asked_commit lines s zxid c i now ≡ commit s.tree most_owned (pos 0) r zxid now
+    → placed_frame c i lines ≡ Some (place, bytes) → read_request bytes ≡ Asks xid r → asked_commit lines s zxid c i now ≡ commit s.tree max_owned (pos 0) r zxid now
 asked_commit-of c i now zxid lines s place bytes xid r placed read = rw (request-of c i lines place bytes xid r placed read, asked_commit) refl
 
 pub after-asked : (c i now : ℕ) (zxid : ℤ) (lines : List TranscriptLine) (made : Commit)
@@ -41,7 +41,7 @@ after-asked c i now zxid lines made commits = after-push lines (asked_line c i n
 -- ---- it is legal, and in order
 
 legal-asked : (c i now : ℕ) (zxid : ℤ) (lines : List TranscriptLine) (made : Commit) (q : Waiting)
-    → 1 ≤ i → IsQueued c lines i q → (after lines).zxid <ℤ zxid → zxid ≤ℤ most_long → asked_commit lines (after lines) zxid c i now ≡ Some made
+    → 1 ≤ i → IsQueued c lines i q → (after lines).zxid <ℤ zxid → zxid ≤ℤ max_long → asked_commit lines (after lines) zxid c i now ≡ Some made
     → is_legal_line lines (after lines) (asked_line c i now zxid) ≡ true
 unfolding may_update
 legal-asked c i now zxid lines made q least h above small_zxid commits =
@@ -51,11 +51,11 @@ legal-asked c i now zxid lines made q least h above small_zxid commits =
     let parts : is_within_parts (Some q.request) ≡ true = built-parts q.request h.built in
     let first : nat_lt 0 i ≡ true = grind (arith, nat_tests) in
     let rises : int_lt (after lines).zxid zxid ≡ true = grind (arith, ints) in
-    let long : int_le zxid most_long ≡ true = grind (arith, ints) in
+    let long : int_le zxid max_long ≡ true = grind (arith, ints) in
     rw (commits, asks, shown, first, small, parts, rises, long) refl
 
 pub kept-asked : (c i now : ℕ) (zxid : ℤ) (lines : List TranscriptLine) (made : Commit) (q : Waiting) (old new : Store)
-    → IsKeptIn old lines → 1 ≤ i → IsQueued c lines i q → AreBelow c lines i → (after lines).zxid <ℤ zxid → zxid ≤ℤ most_long → asked_commit lines (after lines) zxid c i now ≡ Some made
+    → IsKeptIn old lines → 1 ≤ i → IsQueued c lines i q → AreBelow c lines i → (after lines).zxid <ℤ zxid → zxid ≤ℤ max_long → asked_commit lines (after lines) zxid c i now ≡ Some made
     → revision new ≡ zxid → StandsFor (present new) (committed (after lines) zxid (Some made)) → IsSound (committed (after lines) zxid (Some made))
     → IsWellFormed (asked_line c i now zxid) → IsKeptIn new (lines ++ asked_line c i now zxid ∷ [])
 kept-asked c i now zxid lines made q old new k least h below above long commits at stands sound formed =

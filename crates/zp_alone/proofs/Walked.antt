@@ -7,24 +7,25 @@ use Rattle.std.proofs.lemmas.Bool.{and_parts, eq-eqb}
 use Rattle.std.proofs.lemmas.Bool.Decides.{nat_tests}
 use Rattle.std.proofs.lemmas.Int.{ints}
 use Rattle.std.proofs.lemmas.Slice.Eq.{bytes_eq-Decides}
-use Rattle.zk_model.specs.declared.transcript.TranscriptLine.{TranscriptLine}
-use Rattle.zk_model.specs.declared.transcript.TranscriptLine.TheVariants.{Update, Open, Frame as FrameLine, Send, Lapse, Close}
-use Rattle.zk_model.specs.declared.transcript.UpdateRec.{UpdateRec}
-use Rattle.zk_model.specs.declared.transcript.UpdateKind.{UpdateKind}
-use Rattle.zk_model.specs.declared.transcript.UpdateKind.TheVariants.{Begin, Session as NewSession, Attach, Asked, Closed, Reaped}
-use Rattle.zk_model.specs.Frames.{most_frame}
-use Rattle.zk_model.specs.Requests.{Asks, read_request}
-use Rattle.zk_model.specs.History.{State, after, state_at, first_place, frame_shown, when}
-use Rattle.zk_model.specs.Legal.{index_shown, index_in, is_below}
-use Rattle.zk_model.specs.Conversations.{Walker, Choice, Due, move, at_start, packets, packets_from, are_sent, placed_frame, carried, carried_in, carried_shown, close_shown}
-use Rattle.zk_model.specs.Runs.{frames_of, sends_of, is_built_request}
-use Rattle.zk_model.proofs.Appending.{first_place-push}
-use Rattle.zk_model.proofs.Lookups.{first_place-skip, first_place-new}
-use Rattle.zk_model.proofs.Walks.{state_at-push}
-use Rattle.zk_model.proofs.Longer.{stays-line, walk-push, walk-more}
-use Rattle.zk_model.proofs.Counts.{frames_of-append, sends_of-append, packets-append, are_sent-append}
+use Rattle.zk_transcript.specs.declared.transcript.TranscriptLine.{TranscriptLine}
+use Rattle.zk_transcript.specs.declared.transcript.TranscriptLine.TheVariants.{Update, Open, Frame as FrameLine, Send, Lapse, Close}
+use Rattle.zk_transcript.specs.declared.transcript.UpdateRec.{UpdateRec}
+use Rattle.zk_transcript.specs.declared.transcript.UpdateKind.{UpdateKind}
+use Rattle.zk_transcript.specs.declared.transcript.UpdateKind.TheVariants.{Begin, Session as NewSession, Attach, Asked, Closed, Reaped}
+use Rattle.zk_jute.specs.Requests.{Asks, read_request}
+use Rattle.zk_transcript.specs.History.{State, after, state_at, first_place, frame_shown, when}
+use Rattle.zk_transcript.specs.Legal.{index_shown, index_in, is_below}
+use Rattle.zk_transcript.specs.Conversations.{Walker, Choice, Due, move, at_start, packets, packets_from, are_sent, placed_frame, carried, carried_in, carried_shown, close_shown}
+use Rattle.zp_alone.specs.Runs.{frames_of, sends_of}
+use Rattle.zn_ops.specs.Built.{is_built_request}
+use Rattle.zk_transcript.proofs.Appending.{first_place-push}
+use Rattle.zk_transcript.proofs.Lookups.{first_place-skip, first_place-new}
+use Rattle.zk_transcript.proofs.Walks.{state_at-push}
+use Rattle.zk_transcript.proofs.Longer.{stays-line, walk-push, walk-more}
+use Rattle.zp_alone.proofs.Counts.{frames_of-append, sends_of-append, packets-append, are_sent-append}
 use Rattle.zp_alone.specs.declared.waiting.Waiting.{Waiting}
 use Rattle.zp_alone.specs.Talking.{IsQueued, AreQueued, IsWalked, StandsAt, AreCounted, AreBelow}
+use Rattle.zk_model.specs.Limits.{max_frame}
 
 -- ---- the walk
 
@@ -135,7 +136,7 @@ shown-other_frame c i j z bytes small =
     rw (same_number c, apart) refl
 
 pub queued-frame : (c : ℕ) (lines : List TranscriptLine) (z : ℤ) (bytes : List ℕ) (q : Waiting) (next : ℕ) (ws : List Waiting)
-    → q.index ≡ frames_of c lines + 1 → read_request bytes ≡ Asks q.xid q.request → length bytes ≤ most_frame → is_built_request q.request ≡ true
+    → q.index ≡ frames_of c lines + 1 → read_request bytes ≡ Asks q.xid q.request → length bytes ≤ max_frame → is_built_request q.request ≡ true
     → placed_frame c (frames_of c lines + 1) lines ≡ None → AreQueued c lines next ws → AreQueued c (lines ++ FrameLine c (frames_of c lines + 1) z bytes ∷ []) next (ws ++ q ∷ [])
 queued-frame c lines z bytes q next [] index read small built new h =
     let i : ℕ = frames_of c lines + 1 in

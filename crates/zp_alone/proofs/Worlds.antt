@@ -6,13 +6,13 @@ use Rattle.std.proofs.lemmas.List.{length-append}
 use Rattle.std.proofs.lemmas.List.Elements.{All-nil, All-cons, All-append}
 use Rattle.ev_types.specs.Store.{Store}
 use Rattle.zk_model.specs.declared.request.Request.{Request}
-use Rattle.zk_model.specs.declared.transcript.TranscriptLine.{TranscriptLine}
-use Rattle.zk_model.specs.declared.transcript.TranscriptLine.TheVariants.{Open, Frame as FrameLine}
+use Rattle.zk_transcript.specs.declared.transcript.TranscriptLine.{TranscriptLine}
+use Rattle.zk_transcript.specs.declared.transcript.TranscriptLine.TheVariants.{Open, Frame as FrameLine}
 use Rattle.zn_ops.specs.declared.requests.Answered.{Answered}
 use Rattle.zn_ops.specs.declared.requests.Answered.TheVariants.{Repeats, Looked, Updated}
 use Rattle.zn_ops.specs.Answering.{Answers, HasRoom}
 use Rattle.zp_alone.specs.declared.waiting.Waiting.{Waiting}
-use Rattle.zp_alone.specs.World.{World, IsWorld, IsLinked, IsAnswerable, most_frames}
+use Rattle.zp_alone.specs.World.{World, IsWorld, IsLinked, IsAnswerable, max_frames}
 use Rattle.zp_alone.proofs.Linked.{not_there, linked-push, linked-open}
 
 pub world-opened : (w : World) (lines : List TranscriptLine) (c p : ℕ) (id : ℤ) (pw : List ℕ) → is_some w.connection ≡ false → lines ≡ w.lines ++ Open c p id pw ∷ []
@@ -29,7 +29,7 @@ linked-framed : (w : World) (lines : List TranscriptLine) (c i : ℕ) (z : ℤ) 
 linked-framed w lines c i z bytes e h = subst (IsLinked w.connection) (sym e) (linked-push w.connection w.lines (FrameLine c i z bytes) (λ d. refl) refl h)
 
 -- a frame's line stands, and its request doesn't wait yet
-pub world-framed : (w : World) (lines : List TranscriptLine) (waiting : List Waiting) (c i : ℕ) (z : ℤ) (bytes : List ℕ) → w.frames < most_frames → lines ≡ w.lines ++ FrameLine c i z bytes ∷ []
+pub world-framed : (w : World) (lines : List TranscriptLine) (waiting : List Waiting) (c i : ℕ) (z : ℤ) (bytes : List ℕ) → w.frames < max_frames → lines ≡ w.lines ++ FrameLine c i z bytes ∷ []
     → waiting ≡ w.waiting → IsWorld w → IsWorld (record w { lines = lines; frames = w.frames + 1; waiting = waiting })
 world-framed w lines waiting c i z bytes few e same h = record {
   linked = linked-framed w lines c i z bytes e h.linked;
@@ -40,7 +40,7 @@ world-framed w lines waiting c i z bytes few e same h = record {
 }
 
 -- and then it does
-pub world-waiting : (w : World) (lines : List TranscriptLine) (waiting : List Waiting) (q : Waiting) (c i : ℕ) (z : ℤ) (bytes : List ℕ) → w.frames < most_frames
+pub world-waiting : (w : World) (lines : List TranscriptLine) (waiting : List Waiting) (q : Waiting) (c i : ℕ) (z : ℤ) (bytes : List ℕ) → w.frames < max_frames
     → lines ≡ w.lines ++ FrameLine c i z bytes ∷ [] → waiting ≡ w.waiting ++ q ∷ [] → IsAnswerable q.request → IsWorld w → IsWorld (record w { lines = lines; frames = w.frames + 1; waiting = waiting })
 world-waiting w lines waiting q c i z bytes few e more answerable h =
     let P : Waiting → Type 0 = λ p. IsAnswerable p.request in

@@ -1,7 +1,7 @@
 -- What applying a happening does to a world.
 use Rattle.std.specs.Prelude.{◌≡◌, List, [], ◌∷◌, ◌++◌, Some, None, Result, Ok, Err}
-use Rattle.zk_model.specs.declared.script.Happening.{Happening}
-use Rattle.zk_model.specs.Runs.{why_not}
+use Rattle.zt_text.specs.declared.script.Happening.{Happening}
+use Rattle.zp_alone.specs.Runs.{why_not}
 use Rattle.zp_alone.specs.declared.fault.ApplyFault.{ApplyFault}
 use Rattle.zp_alone.specs.declared.fault.ApplyFault.TheVariants as fault
 use Rattle.zp_alone.specs.World.{World}

@@ -3,13 +3,13 @@ use Rattle.std.specs.Prelude.{◌≡◌, ℕ, ◌+◌, ℤ, pos, Bool, true, fal
 use Rattle.std.specs.List.{AllByRecursion}
 use Rattle.ev_types.specs.Store.{Store, present, revision}
 use Rattle.zk_model.specs.declared.request.Request.{Request}
-use Rattle.zk_model.specs.declared.transcript.TranscriptLine.{TranscriptLine}
-use Rattle.zk_model.specs.declared.transcript.TranscriptLine.TheVariants.{Update, Open, Frame, Send}
-use Rattle.zk_model.specs.declared.transcript.UpdateKind.TheVariants.{Asked}
-use Rattle.zk_model.specs.Packets.{reply_packet}
-use Rattle.zk_model.specs.History.{IsSound, after}
-use Rattle.zk_model.specs.Transcripts.{IsWellFormed}
-use Rattle.zk_model.specs.Runs.{IsAnswerLine, AreNumbered, begin_line}
+use Rattle.zk_transcript.specs.declared.transcript.TranscriptLine.{TranscriptLine}
+use Rattle.zk_transcript.specs.declared.transcript.TranscriptLine.TheVariants.{Update, Open, Frame, Send}
+use Rattle.zk_transcript.specs.declared.transcript.UpdateKind.TheVariants.{Asked}
+use Rattle.zk_jute.specs.Packets.{reply_packet}
+use Rattle.zk_transcript.specs.History.{IsSound, after}
+use Rattle.zt_text.specs.Transcripts.{IsWellFormed}
+use Rattle.zp_alone.specs.Runs.{IsAnswerLine, AreNumbered, begin_line}
 use Rattle.zn_layout.specs.StandsFor.{StandsFor}
 use Rattle.zn_ops.specs.declared.requests.Answered.{Answered}
 use Rattle.zn_ops.specs.declared.requests.Answered.TheVariants.{Repeats, Looked, Updated}

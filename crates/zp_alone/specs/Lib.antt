@@ -3,3 +3,4 @@ pub mod Reached
 pub mod Applying
 pub mod Talking
 pub mod Effects
+pub mod Runs

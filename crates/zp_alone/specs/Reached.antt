@@ -2,12 +2,12 @@
 use Rattle.std.specs.Prelude.{◌≡◌, ℕ, pos, true, List, [], ◌∷◌, Option, Some, None}
 use Rattle.std.specs.List.{AllByRecursion}
 use Rattle.ev_types.specs.Store.{Store, present, revision}
-use Rattle.zk_model.specs.declared.script.Happening.{Happening}
-use Rattle.zk_model.specs.declared.transcript.TranscriptLine.{TranscriptLine}
-use Rattle.zk_model.specs.History.{after, IsSound}
-use Rattle.zk_model.specs.Legal.{is_legal, is_ordered}
-use Rattle.zk_model.specs.Transcripts.{IsWellFormed}
-use Rattle.zk_model.specs.Runs.{Run, Runs, IsOneRun, begin_line, frames_of}
+use Rattle.zt_text.specs.declared.script.Happening.{Happening}
+use Rattle.zk_transcript.specs.declared.transcript.TranscriptLine.{TranscriptLine}
+use Rattle.zk_transcript.specs.History.{after, IsSound}
+use Rattle.zk_transcript.specs.Legal.{is_legal, is_ordered}
+use Rattle.zt_text.specs.Transcripts.{IsWellFormed}
+use Rattle.zp_alone.specs.Runs.{Run, Runs, IsOneRun, begin_line, frames_of}
 use Rattle.zn_layout.specs.StandsFor.{StandsFor}
 use Rattle.zp_alone.specs.World.{World, IsLinked}
 use Rattle.zp_alone.specs.Talking.{Talks}

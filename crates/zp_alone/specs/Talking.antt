@@ -1,15 +1,16 @@
 -- What is kept of one connection's conversation: the walk that gives what it was sent, and the requests that wait.
 use Rattle.std.specs.Prelude.{◌≡◌, ℕ, ◌+◌, ◌<◌, ◌≤◌, ℤ, pos, ◌≤ℤ◌, true, false, List, [], ◌∷◌, length, Some, None}
 use Rattle.std.specs.List.{list_all}
-use Rattle.zk_model.specs.declared.transcript.TranscriptLine.{TranscriptLine}
-use Rattle.zk_model.specs.Frames.{most_frame}
-use Rattle.zk_model.specs.Requests.{Asks, read_request}
+use Rattle.zk_transcript.specs.declared.transcript.TranscriptLine.{TranscriptLine}
+use Rattle.zk_jute.specs.Requests.{Asks, read_request}
 use Rattle.zk_model.specs.Watches.{no_watches}
-use Rattle.zk_model.specs.History.{after, state_at, first_place}
-use Rattle.zk_model.specs.Legal.{index_shown, is_below}
-use Rattle.zk_model.specs.Conversations.{Walker, Choice, Due, walk, at_start, packets, are_sent, placed_frame, close_shown}
-use Rattle.zk_model.specs.Runs.{frames_of, sends_of, is_built_request}
+use Rattle.zk_transcript.specs.History.{after, state_at, first_place}
+use Rattle.zk_transcript.specs.Legal.{index_shown, is_below}
+use Rattle.zk_transcript.specs.Conversations.{Walker, Choice, Due, walk, at_start, packets, are_sent, placed_frame, close_shown}
+use Rattle.zp_alone.specs.Runs.{frames_of, sends_of}
+use Rattle.zn_ops.specs.Built.{is_built_request}
 use Rattle.zp_alone.specs.declared.waiting.Waiting.{Waiting}
+use Rattle.zk_model.specs.Limits.{max_frame}
 
 -- a request that waits is that of its frame
 pub record IsQueued (c : ℕ) (lines : List TranscriptLine) (next : ℕ) (q : Waiting) : Type 0 where
@@ -18,7 +19,7 @@ pub record IsQueued (c : ℕ) (lines : List TranscriptLine) (next : ℕ) (q : Wa
   pub bytes : List ℕ
   pub frame : placed_frame c next lines ≡ Some (place, bytes)
   pub read : read_request bytes ≡ Asks q.xid q.request
-  pub small : length bytes ≤ most_frame
+  pub small : length bytes ≤ max_frame
   pub built : is_built_request q.request ≡ true
 
 -- those that wait are the frames from this index on, up to the last

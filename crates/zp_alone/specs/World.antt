@@ -3,12 +3,13 @@ use Rattle.std.specs.Prelude.{◌≡◌, ℕ, ◌+◌, ◌≤◌, ℤ, Bool, tru
 use Rattle.std.specs.List.{list_any}
 use Rattle.ev_types.specs.Store.{Store}
 use Rattle.zk_model.specs.declared.request.Request.{Request}
-use Rattle.zk_model.specs.declared.transcript.TranscriptLine.{TranscriptLine}
-use Rattle.zk_model.specs.Frames.{most_frame}
-use Rattle.zk_model.specs.Requests.{Asks, read_request}
-use Rattle.zk_model.specs.Runs.{is_open, is_opening, is_built, is_built_request, last_moment}
-use Rattle.zk_model.specs.Records.{contents_of}
+use Rattle.zk_transcript.specs.declared.transcript.TranscriptLine.{TranscriptLine}
+use Rattle.zk_jute.specs.Requests.{Asks, read_request}
+use Rattle.zp_alone.specs.Runs.{is_open, is_opening, is_built}
+use Rattle.zn_ops.specs.Built.{is_built_request}
+use Rattle.zk_jute.specs.Records.{contents_of}
 use Rattle.zp_alone.specs.declared.waiting.Waiting.{Waiting}
+use Rattle.zk_model.specs.Limits.{max_frame, max_moment}
 
 pub record World : Type 0 where
   pub store : Store
@@ -38,7 +39,7 @@ pub record IsLinked (connection : Option ℕ) (lines : List TranscriptLine) : Ty
 -- what answering it requires
 pub record IsAnswerable (request : Request) : Type 0 where
   pub built : is_built_request request ≡ true
-  pub short : All (λ content. length content ≤ most_frame) (contents_of request)
+  pub short : All (λ content. length content ≤ max_frame) (contents_of request)
 
 -- what a frame is read as, where it is a request that is built
 abbrev pub IsReadBuilt : List ℕ → Option (ℤ × Request) → Type 0
@@ -46,13 +47,13 @@ IsReadBuilt frame None = is_built frame ≡ false
 IsReadBuilt frame (Some x) = (read_request frame ≡ Asks x.0 x.1) × IsAnswerable x.1
 
 -- more lines than any memory holds
-abbrev pub most_frames : ℕ
-most_frames = 2305843009213693952
+abbrev pub max_frames : ℕ
+max_frames = 2305843009213693952
 
 pub record IsWorld (w : World) : Type 0 where
   pub linked : IsLinked w.connection w.lines
   pub answerable : All (λ (q : Waiting). IsAnswerable q.request) w.waiting
   -- each revision but the first two is an answered frame's
   pub room : length w.store.revisions + length w.waiting ≤ w.frames + 2
-  pub many : w.frames ≤ most_frames
-  pub moment : w.clock ≤ last_moment
+  pub many : w.frames ≤ max_frames
+  pub moment : w.clock ≤ max_moment

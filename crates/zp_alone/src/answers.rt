@@ -2,8 +2,8 @@
 
 ghost use Rattle.std.specs.Prelude.{◌≡◌, ◌++◌, ◌∷◌, [], ℕ, Option, IfOk, OnOk};
 ghost use Rattle.std.specs.List.{AllByRecursion};
-ghost use Rattle.zk_model.specs.Packets.{CanBeSent, reply_packet};
-ghost use Rattle.zk_model.specs.Transcripts.{IsWellFormed};
+ghost use Rattle.zk_jute.specs.Packets.{CanBeSent, reply_packet};
+ghost use Rattle.zt_text.specs.Transcripts.{IsWellFormed};
 ghost use Rattle.zn_ops.specs.Answering.{reply_in};
 ghost use Rattle.zp_alone.specs.Effects.{asked_line, answer_lines, zxid_of};
 ghost use Rattle.zp_alone.specs.World.{IsLinked};
@@ -11,7 +11,8 @@ ghost use Rattle.zp_alone.specs.World.{IsLinked};
 use crate::formed::are_bytes;
 use crate::waiting::Waiting;
 use std::alloc::Global;
-use zk_model::{Reply, TranscriptLine, UpdateKind, UpdateRec};
+use zk_model::Reply;
+use zk_transcript::{TranscriptLine, UpdateKind, UpdateRec};
 use zk_wire::write_reply;
 use zn_ops::Answered;
 use zx_base::{Bytes, Memory};

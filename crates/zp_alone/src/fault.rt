@@ -1,7 +1,7 @@
 //! Why a happening was not applied.
 
 use std::alloc::AllocFailed;
-use zk_model::Why;
+use zt_text::Why;
 use zx_base::Memory;
 
 #[derive(Clone, Copy, Debug, PartialEq, Eq)]

@@ -1,10 +1,10 @@
 //! Reading the requests that are built.
 
 ghost use Rattle.std.specs.Prelude.{◌≡◌, ◌≤◌, length, IfOk};
-ghost use Rattle.zk_model.specs.Frames.{most_frame};
-ghost use Rattle.zk_model.specs.History.{when as keep_if};
-ghost use Rattle.zk_model.specs.Runs.{is_built_request};
+ghost use Rattle.zk_transcript.specs.History.{when as keep_if};
+ghost use Rattle.zn_ops.specs.Built.{is_built_request};
 ghost use Rattle.zp_alone.specs.World.{IsReadBuilt};
+ghost use Rattle.zk_model.specs.Limits.{max_frame};
 
 use std::alloc::Global;
 use zk_model::Request;
@@ -34,9 +34,9 @@ fn if_built(xid: i32, request: Request) -> Option<(i32, Request)>
 }
 
 /// The xid and the request of a frame, or nothing where it is none that is built.
-#[tactic(auto, using(crate::proofs::Built::built_read), unfolding(zk_model::specs::Runs::is_built))]
+#[tactic(auto, using(crate::proofs::Built::built_read), unfolding(crate::specs::Runs::is_built))]
 pub fn read_built(alloc: Global, frame: &[u8]) -> Result<Option<(i32, Request)>, Memory>
-    requires { length frame.now ≤ most_frame }
+    requires { length frame.now ≤ max_frame }
     ensures { IfOk result (IsReadBuilt frame.now) }
 {
     match read_request(alloc, frame) {

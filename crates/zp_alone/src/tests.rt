@@ -4,7 +4,8 @@ use crate::{Alone, ApplyFault};
 use std::alloc::Global;
 use std::process::Abort;
 use std::test::Fail;
-use zk_model::{Happening, TranscriptLine, UpdateKind, Why};
+use zk_transcript::{TranscriptLine, UpdateKind};
+use zt_text::{Happening, Why};
 use zx_base::{Bytes, Memory};
 
 /// Create of `/a` with `x`, by the open access list, xid 1; getData of it, xid 2.

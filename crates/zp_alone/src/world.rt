@@ -2,10 +2,10 @@
 
 ghost use Rattle.std.specs.Prelude.{◌≡◌, ◌+◌, [], false, IfOk, OnOk, is_some};
 ghost use Rattle.std.specs.List.{list_any};
-ghost use Rattle.zk_model.specs.declared.script.Happening.TheVariants as line;
+ghost use Rattle.zt_text.specs.declared.script.Happening.TheVariants as line;
 ghost use Rattle.ev_types.specs.Store.{revision};
-ghost use Rattle.zk_model.specs.Runs.{is_open, is_opening};
-ghost use Rattle.zk_model.specs.Transcripts.{AreBytes, IsWellFormed};
+ghost use Rattle.zp_alone.specs.Runs.{is_open, is_opening};
+ghost use Rattle.zt_text.specs.Transcripts.{AreBytes, IsWellFormed};
 ghost use Rattle.zp_alone.specs.Applying.{Applies};
 ghost use Rattle.zp_alone.specs.Effects.{AnswersNext, framed, opened};
 ghost use Rattle.zp_alone.specs.Reached.{Reached};
@@ -21,13 +21,15 @@ use ev_store::Store;
 use std::alloc::Global;
 use std::collections::VecDeque;
 use std::marker::Model;
-use zk_model::limit::{LAST_MOMENT, MOST_FRAME};
-use zk_model::{Happening, Request, TranscriptLine, UpdateKind, UpdateRec, Why};
+use zk_model::limit::{MAX_MOMENT, MAX_FRAME};
+use zk_model::Request;
+use zk_transcript::{TranscriptLine, UpdateKind, UpdateRec};
+use zt_text::{Happening, Why};
 use zn_ops::answer;
 use zx_base::{Bytes, Memory};
 
 /// More frames than any memory holds, since each has a line.
-const MOST_FRAMES: u64 = 2_305_843_009_213_693_952;
+const MAX_FRAMES: u64 = 2_305_843_009_213_693_952;
 
 /// A store that nobody else changes, and one connection to a service over it.
 #[derive(Drop)]
@@ -153,7 +155,7 @@ impl Alone {
         if !self.is_open(connection) {
             return Err(refused(Why::NoSuchConnection));
         }
-        if bytes.len() > MOST_FRAME {
+        if bytes.len() > MAX_FRAME {
             return Err(refused(Why::TooLong));
         }
         let frame = bytes.as_slice();
@@ -171,7 +173,7 @@ impl Alone {
         ensures { Applies self.old (line.Tick millis) result self.new }
     {
         let clock = self.clock + u64::from(millis);
-        if clock > LAST_MOMENT {
+        if clock > MAX_MOMENT {
             return Err(refused(Why::ClockLimit));
         }
         self.clock = clock;
@@ -237,7 +239,7 @@ impl Alone {
         ensures added { OnOk result (self.new ≡ framed self.old connection bytes xid request) }
         ensures formed { OnOk result (IsWellFormed (TranscriptLine.Frame connection (self.old.frames + 1) (revision self.old.store) bytes)) }
     {
-        if self.frames >= MOST_FRAMES {
+        if self.frames >= MAX_FRAMES {
             return Err(Memory);
         }
         let index = self.frames + 1;

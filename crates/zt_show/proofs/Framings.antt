@@ -2,10 +2,10 @@
 use Rattle.std.proofs.Common.{◌≡◌, ℕ, zero, suc, ◌+◌, ◌<◌, List, [], ◌∷◌, ◌++◌, length, Ok, Err, refl, sym, ap, ◌∙◌, append_assoc, arith}
 use Rattle.std.proofs.lemmas.List.{append-nil, length-append}
 use Rattle.std.proofs.lemmas.List.Sums.{sum_by-append}
-use Rattle.zk_model.specs.JuteValues.{Spelled}
-use Rattle.zk_model.specs.JuteReading.{Read}
-use Rattle.zk_model.specs.Frames.{IsFrame, IsRest, Framed, frame_at}
-use Rattle.zk_model.proofs.Framing.{no_frame, shorter, frame_field, one_framing}
+use Rattle.zk_jute.specs.JuteValues.{Spelled}
+use Rattle.zk_jute.specs.JuteReading.{Read}
+use Rattle.zk_jute.specs.Frames.{IsFrame, IsRest, Framed, frame_at}
+use Rattle.zk_jute.proofs.Framing.{no_frame, shorter, frame_field, one_framing}
 use Rattle.zt_show.specs.Showing.{size_of}
 
 -- ---- a stream has frames

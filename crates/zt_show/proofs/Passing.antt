@@ -7,7 +7,7 @@ use Rattle.zt_show.specs.declared.ending.Ending.{Ending}
 use Rattle.zt_show.specs.declared.ending.Ending.TheVariants as ending
 use Rattle.zt_show.specs.declared.progress.Progress.{Progress}
 use Rattle.zt_show.specs.FrameLines.{line_of_frame, IsAdded}
-use Rattle.zt_show.specs.Shown.{Shown, joined, most_stream, before, shown_from}
+use Rattle.zt_show.specs.Shown.{Shown, joined, max_stream, before, shown_from}
 use Rattle.zt_show.specs.Showing.{behind, shown_on, size_of, passed, Passes, Blocks, AddsLines}
 
 pub size_of-more : (frames : List (List ℕ)) (frame : List ℕ) → size_of (frames ++ frame ∷ []) ≡ size_of frames + (4 + length frame)
@@ -46,14 +46,14 @@ shown_blocked : (is_begun : Bool) (place : ℕ) (frame : List ℕ) (later : List
 unfolding shown_from
 shown_blocked is_begun place frame later rest is = ap (λ (l : Option (List ℕ)). before place l (shown_from true (place + 4 + length frame) later rest)) is
 
-passed_place : (p : Progress) (size : ℕ) → p.place + 4 + size ≤ most_stream → (passed p size).place ≡ p.place + 4 + size
+passed_place : (p : Progress) (size : ℕ) → p.place + 4 + size ≤ max_stream → (passed p size).place ≡ p.place + 4 + size
 passed_place p size fits = omega arith
 
-pub Passes-more : (frames added : List (List ℕ)) (frame line : List ℕ) (old mid : Progress) → old.place + size_of (frames ++ frame ∷ []) ≤ most_stream → Passes frames added old mid →
+pub Passes-more : (frames added : List (List ℕ)) (frame line : List ℕ) (old mid : Progress) → old.place + size_of (frames ++ frame ∷ []) ≤ max_stream → Passes frames added old mid →
     line_of_frame mid.is_begun mid.place frame ≡ Some line → Passes (frames ++ frame ∷ []) (added ++ line ∷ []) old (passed mid (length frame))
 Passes-more frames added frame line old mid fits so_far is =
     let size = size_of-more frames frame in
-    let at : mid.place + 4 + length frame ≤ most_stream = omega (arith, so_far.place) in
+    let at : mid.place + 4 + length frame ≤ max_stream = omega (arith, so_far.place) in
     let place = passed_place mid (length frame) at in
     record {
       says = λ later rest.
@@ -66,7 +66,7 @@ Passes-more frames added frame line old mid fits so_far is =
       few = omega (arith, so_far.few);
     }
 
-pub Blocks-more : (frames added : List (List ℕ)) (frame : List ℕ) (later : List (List ℕ)) (old mid : Progress) → old.place + size_of (frames ++ frame ∷ later) ≤ most_stream → Passes frames added old mid →
+pub Blocks-more : (frames added : List (List ℕ)) (frame : List ℕ) (later : List (List ℕ)) (old mid : Progress) → old.place + size_of (frames ++ frame ∷ later) ≤ max_stream → Passes frames added old mid →
     line_of_frame mid.is_begun mid.place frame ≡ None → Blocks (frames ++ frame ∷ later) added old mid
 Blocks-more frames added frame others old mid fits so_far is =
     let size : size_of (frames ++ frame ∷ others) ≡ size_of frames + size_of (frame ∷ others) = sum_by-append (λ (f : List ℕ). 4 + length f) frames (frame ∷ others) in
@@ -101,7 +101,7 @@ AddsLines-blocked frames i frame text text' text'' is_shown old mid within at li
       lines.2,
       λ few fits.
           let sizes = sum_by-append (λ (f : List ℕ). 4 + length f) (take i frames) (frame ∷ drop (i + 1) frames) in
-          let fits_whole : old.place + size_of (take i frames ++ frame ∷ drop (i + 1) frames) ≤ most_stream = rw whole fits in
+          let fits_whole : old.place + size_of (take i frames ++ frame ∷ drop (i + 1) frames) ≤ max_stream = rw whole fits in
           subst (λ (fs : List (List ℕ)). Blocks fs lines.0 old mid) whole
           (Blocks-more (take i frames) lines.0 frame (drop (i + 1) frames) old mid fits_whole (lines.3 few (omega arith)) none.0),
     )
@@ -118,6 +118,6 @@ AddsLines-more frames i frame text text' text'' is_shown old mid new within at l
       ap (λ (p : Progress). p.room) passes ∙ lines.2,
       λ few fits.
           let size = size_of-more (take i frames) frame in
-          let fits_front : old.place + size_of (take i frames ++ frame ∷ []) ≤ most_stream = rw (← front) fits in
+          let fits_front : old.place + size_of (take i frames ++ frame ∷ []) ≤ max_stream = rw (← front) fits in
           rw (front, passes) (Passes-more (take i frames) lines.0 frame some.0 old mid fits_front (lines.3 few (omega arith)) some.1),
     )

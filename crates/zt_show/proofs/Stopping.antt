@@ -4,12 +4,12 @@ use Rattle.std.specs.Prelude.{nat_lt, ◌==◌, if◌then◌else◌}
 use Rattle.std.proofs.Math.Seq.{take-append-add}
 use Rattle.std.proofs.lemmas.Bool.{le-ltb, lt-ltb}
 use Rattle.std.proofs.lemmas.List.{append-nil, length-append, take_all, take_at}
-use Rattle.zk_model.specs.Frames.{Framed, bad_length}
-use Rattle.zk_model.proofs.Framing.{framed_join, bad_stays, bad_rest}
+use Rattle.zk_jute.specs.Frames.{Framed, bad_length}
+use Rattle.zk_jute.proofs.Framing.{framed_join, bad_stays, bad_rest}
 use Rattle.zt_show.specs.declared.ending.Ending.{Ending}
 use Rattle.zt_show.specs.declared.ending.Ending.TheVariants as ending
 use Rattle.zt_show.specs.declared.progress.Progress.{Progress}
-use Rattle.zt_show.specs.Shown.{Shown, most_stream, ending_of, ending_at, shown_from, IsShownWhole, ending_before_more, before_more}
+use Rattle.zt_show.specs.Shown.{Shown, max_stream, ending_of, ending_at, shown_from, IsShownWhole, ending_before_more, before_more}
 use Rattle.zt_show.specs.Showing.{Showing, showing, behind, shown_on, size_of, Follows, Passes, Blocks, Stops, IsShownAs}
 use Rattle.zt_show.proofs.Framings.{has_frames, framed_size, framed_none}
 use Rattle.zt_show.proofs.Passing.{behind-behind}
@@ -23,7 +23,7 @@ pub record Came (seen : List ℕ) (lines : List (List ℕ)) (rest : List ℕ) (p
   pub place : p.place + length rest ≡ length seen
   pub count : p.lines ≡ length lines
   pub few : p.lines ≤ p.place
-  pub room : length seen + p.room ≡ most_stream
+  pub room : length seen + p.room ≡ max_stream
 
 pub Came-from : (seen : List ℕ) (lines : List (List ℕ)) (rest : List ℕ) (p : Progress) → Follows seen lines (showing rest p) → Came seen lines rest p
 Came-from seen lines rest p f = record { frames = f.frames; framed = f.framed; says = f.says; place = f.place; count = f.count; few = f.few; room = f.room }
@@ -41,13 +41,13 @@ says_more frames more lines added p q first second later rest =
 -- the frames of a piece that all have lines; `q` is what `p` is with the room for the piece taken away
 pub Came-more : (seen bytes : List ℕ) (lines added frames : List (List ℕ)) (rest rest' : List ℕ) (p q r : Progress) → q.place ≡ p.place → q.is_begun ≡ p.is_begun → q.lines ≡ p.lines →
     q.room + length bytes ≡ p.room → r.room ≡ q.room → Came seen lines rest p → Framed (rest ++ bytes) frames rest' →
-    (q.lines ≤ q.place → q.place + size_of frames ≤ most_stream → Passes frames added q r) → Came (seen ++ bytes) (lines ++ added) rest' r
+    (q.lines ≤ q.place → q.place + size_of frames ≤ max_stream → Passes frames added q r) → Came (seen ++ bytes) (lines ++ added) rest' r
 Came-more seen bytes lines added frames rest rest' p q r place begun count room stays came framed passes =
     let size = framed_size (rest ++ bytes) frames rest' framed in
     let both = length-append rest bytes in
     let all = length-append seen bytes in
     let few : q.lines ≤ q.place = omega (arith, came.few) in
-    let fits : q.place + size_of frames ≤ most_stream = omega (arith, came.place, came.room) in
+    let fits : q.place + size_of frames ≤ max_stream = omega (arith, came.place, came.room) in
     let passed = passes few fits in
     let same : (later : List (List ℕ)) (behind_them : List ℕ) → shown_on q later behind_them ≡ shown_on p later behind_them =
     λ later behind_them. ap (λ (b : Bool). shown_from b q.place later behind_them) begun ∙ ap (λ (n : ℕ). shown_from p.is_begun n later behind_them) place in
@@ -94,13 +94,13 @@ Stops-length seen lines rest p n came bad = record {
 -- at a frame without a header
 pub Stops-blocked : (seen bytes : List ℕ) (lines added frames : List (List ℕ)) (rest rest' : List ℕ) (p q r : Progress) → q.place ≡ p.place → q.is_begun ≡ p.is_begun → q.lines ≡ p.lines →
     q.room + length bytes ≡ p.room → r.room ≡ q.room → Came seen lines rest p → Framed (rest ++ bytes) frames rest' →
-    (q.lines ≤ q.place → q.place + size_of frames ≤ most_stream → Blocks frames added q r) → Stops (seen ++ bytes) (lines ++ added) (ending.NoHeader r.place) r
+    (q.lines ≤ q.place → q.place + size_of frames ≤ max_stream → Blocks frames added q r) → Stops (seen ++ bytes) (lines ++ added) (ending.NoHeader r.place) r
 Stops-blocked seen bytes lines added frames rest rest' p q r place begun count room stays came framed blocks =
     let size = framed_size (rest ++ bytes) frames rest' framed in
     let both = length-append rest bytes in
     let all = length-append seen bytes in
     let few : q.lines ≤ q.place = omega (arith, came.few) in
-    let fits : q.place + size_of frames ≤ most_stream = omega (arith, came.place, came.room) in
+    let fits : q.place + size_of frames ≤ max_stream = omega (arith, came.place, came.room) in
     let blocked = blocks few fits in
     let same : (later : List (List ℕ)) (behind_them : List ℕ) → shown_on q later behind_them ≡ shown_on p later behind_them =
     λ later behind_them. ap (λ (b : Bool). shown_from b q.place later behind_them) begun ∙ ap (λ (n : ℕ). shown_from p.is_begun n later behind_them) place in
@@ -126,18 +126,18 @@ before_more-stays : (b : Bool) (lines : List (List ℕ)) (end : Ending) → endi
 before_more-stays true lines end stays = ap (ended lines) stays
 before_more-stays false lines end stays = refl
 
-front_of : (seen more : List ℕ) → length seen ≤ most_stream → take most_stream (seen ++ more) ≡ seen ++ take (most_stream - length seen) more
+front_of : (seen more : List ℕ) → length seen ≤ max_stream → take max_stream (seen ++ more) ≡ seen ++ take (max_stream - length seen) more
 front_of seen more fits =
-    let parts : most_stream ≡ length seen + (most_stream - length seen) = omega arith in
-    ap (λ (n : ℕ). take n (seen ++ more)) parts ∙ take-append-add seen more (most_stream - length seen)
+    let parts : max_stream ≡ length seen + (max_stream - length seen) = omega arith in
+    ap (λ (n : ℕ). take n (seen ++ more)) parts ∙ take-append-add seen more (max_stream - length seen)
 
 -- it ended, whatever comes
 pub IsShown-stops : (seen more : List ℕ) (lines : List (List ℕ)) (end : Ending) (p : Progress) → Stops seen lines end p → IsShownAs (seen ++ more) lines end
 IsShown-stops seen more lines end p stops =
     let front = front_of seen more (omega (arith, stops.room)) in (
       ended lines end,
-      subst (λ (t : List ℕ). IsShownWhole t (ended lines end)) (sym front) (stops.shown (take (most_stream - length seen) more)),
-      sym (before_more-stays (nat_lt most_stream (length (seen ++ more))) lines end stops.stays),
+      subst (λ (t : List ℕ). IsShownWhole t (ended lines end)) (sym front) (stops.shown (take (max_stream - length seen) more)),
+      sym (before_more-stays (nat_lt max_stream (length (seen ++ more))) lines end stops.stays),
     )
 
 whole_of : (seen : List ℕ) (lines : List (List ℕ)) (s : Showing) → Follows seen lines s → IsShownWhole seen (ended lines (ending_at s.progress.place s.rest))
@@ -156,11 +156,11 @@ long_of : (place size : ℕ) (bad : Option ℤ) → bad ≡ None → ending_befo
 long_of place size bad none = ap (λ (b : Option ℤ). ending_before_more (ending_of place size b)) none ∙ long_part (size == 0) place size
 
 -- it came up to the limit, and there is more
-pub IsShown-long : (seen more : List ℕ) (lines : List (List ℕ)) (s : Showing) → Follows seen lines s → length seen ≡ most_stream → 0 < length more → IsShownAs (seen ++ more) lines ending.Long
+pub IsShown-long : (seen more : List ℕ) (lines : List (List ℕ)) (s : Showing) → Follows seen lines s → length seen ≡ max_stream → 0 < length more → IsShownAs (seen ++ more) lines ending.Long
 IsShown-long seen more lines s f full some =
     let end = ending_at s.progress.place s.rest in
-    let front : take most_stream (seen ++ more) ≡ seen = take_at seen more most_stream full in
-    let over : nat_lt most_stream (length (seen ++ more)) ≡ true = lt-ltb most_stream (length (seen ++ more)) (omega (arith, length-append seen more)) in (
+    let front : take max_stream (seen ++ more) ≡ seen = take_at seen more max_stream full in
+    let over : nat_lt max_stream (length (seen ++ more)) ≡ true = lt-ltb max_stream (length (seen ++ more)) (omega (arith, length-append seen more)) in (
       ended lines end,
       subst (λ (t : List ℕ). IsShownWhole t (ended lines end)) (sym front) (whole_of seen lines s f),
       sym (ap (λ (b : Bool). before_more b (ended lines end)) over ∙ ap (ended lines) (long_of s.progress.place (length s.rest) (bad_length s.rest) f.good)),
@@ -170,8 +170,8 @@ IsShown-long seen more lines s f full some =
 pub IsShown-whole : (seen : List ℕ) (lines : List (List ℕ)) (s : Showing) (end : Ending) → Follows seen lines s → end ≡ ending_of s.progress.place (length s.rest) None → IsShownAs seen lines end
 IsShown-whole seen lines s end f is =
     let last : ending_at s.progress.place s.rest ≡ end = ap (ending_of s.progress.place (length s.rest)) f.good ∙ sym is in
-    let front : take most_stream seen ≡ seen = take_all most_stream seen (omega (arith, f.room)) in
-    let under : nat_lt most_stream (length seen) ≡ false = le-ltb most_stream (length seen) (omega (arith, f.room)) in (
+    let front : take max_stream seen ≡ seen = take_all max_stream seen (omega (arith, f.room)) in
+    let under : nat_lt max_stream (length seen) ≡ false = le-ltb max_stream (length seen) (omega (arith, f.room)) in (
       ended lines end,
       subst (λ (t : List ℕ). IsShownWhole t (ended lines end)) (sym front) (subst (λ (e : Ending). IsShownWhole seen (ended lines e)) last (whole_of seen lines s f)),
       sym (ap (λ (b : Bool). before_more b (ended lines end)) under),

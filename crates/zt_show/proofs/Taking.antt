@@ -2,14 +2,14 @@
 use Rattle.std.proofs.Common.{◌≡◌, ◌≢◌, ℕ, ◌+◌, ◌-◌, ◌<◌, ◌≤◌, Bool, true, false, ne_eqb, ℤ, Option, Some, None, List, [], ◌++◌, length, take, drop, refl, sym, ap, subst, ◌∙◌, append_assoc, arith}
 use Rattle.std.specs.Prelude.{◌==◌, if◌then◌else◌}
 use Rattle.std.proofs.lemmas.List.{append-nil, length-append, length-take, take-append-drop}
-use Rattle.zk_model.specs.Frames.{bad_length}
-use Rattle.zk_model.proofs.Framing.{bad_rest}
+use Rattle.zk_jute.specs.Frames.{bad_length}
+use Rattle.zk_jute.proofs.Framing.{bad_rest}
 use Rattle.zk_wire.specs.Cutting.{Stream, Hands, Refuses}
 use Rattle.zk_wire.specs.Putting.{counted}
 use Rattle.zt_show.specs.declared.ending.Ending.{Ending}
 use Rattle.zt_show.specs.declared.ending.Ending.TheVariants as ending
 use Rattle.zt_show.specs.declared.progress.Progress.{Progress}
-use Rattle.zt_show.specs.Shown.{joined, most_stream, ending_of, ending_line}
+use Rattle.zt_show.specs.Shown.{joined, max_stream, ending_of, ending_line}
 use Rattle.zt_show.specs.Showing.{Showing, showing, Follows, Passes, Blocks, PassesIf, AddsLines, AddsFrames, IsShownAs, Adds, Finishes, long_unless}
 use Rattle.zt_show.proofs.Framings.{framed_none, nothing_more}
 use Rattle.zt_show.proofs.Passing.{Passes-nil}
@@ -84,7 +84,7 @@ AddsFrames-blocked old mid bytes text text' frames are_all p r rest fits is hand
 
 -- ---- a piece
 
-last_count : (p : Progress) (last : ℕ) (lines : List (List ℕ)) → last ≡ counted (p.lines + 1) → p.lines ≡ length lines → p.lines ≤ most_stream → last ≡ length lines + 1
+last_count : (p : Progress) (last : ℕ) (lines : List (List ℕ)) → last ≡ counted (p.lines + 1) → p.lines ≡ length lines → p.lines ≤ max_stream → last ≡ length lines + 1
 last_count p last lines is count few = omega arith
 
 text_end : (text text' text'' added last : List ℕ) → text' ≡ text ++ added → text'' ≡ text' ++ last → text'' ≡ text ++ (added ++ last)
@@ -130,7 +130,7 @@ Adds-long old new piece text text' text'' None last over frames written count = 
       let room = old.progress.room in
       let front = take room piece in
       let follows = frames.2 seen lines f in
-      let full : length (seen ++ front) ≡ most_stream = omega (arith, f.room, length-append seen front, length-take room piece) in
+      let full : length (seen ++ front) ≡ max_stream = omega (arith, f.room, length-append seen front, length-take room piece) in
       let some : 0 < length (drop room piece ++ more) = omega (arith, length-append (drop room piece) more, ap length (take-append-drop room piece), length-append front (drop room piece), length-take room piece) in (
         record {
           shown = subst (λ (t : List ℕ). IsShownAs t (lines ++ frames.0) ending.Long) (regroup seen piece more room) (IsShown-long (seen ++ front) (drop room piece ++ more) (lines ++ frames.0) new follows full some);
@@ -142,13 +142,13 @@ Adds-long old new piece text text' text'' None last over frames written count = 
 
 -- ---- the end
 
-pub ends_whole : (old : Showing) (place : ℕ) → place ≡ most_stream - old.progress.room → place ≡ old.progress.place → (seen : List ℕ) (lines : List (List ℕ)) → Follows seen lines old →
+pub ends_whole : (old : Showing) (place : ℕ) → place ≡ max_stream - old.progress.room → place ≡ old.progress.place → (seen : List ℕ) (lines : List (List ℕ)) → Follows seen lines old →
     ending.End place ≡ ending_of old.progress.place (length old.rest) None
 ends_whole old place is same seen lines f =
     let none : length old.rest ≡ 0 = omega (arith, f.place, f.room) in
     ap ending.End same ∙ sym (ap (λ (n : ℕ). ending_of old.progress.place n None) none)
 
-pub ends_cut : (old : Showing) (place : ℕ) → place ≡ most_stream - old.progress.room → place ≢ old.progress.place → (seen : List ℕ) (lines : List (List ℕ)) → Follows seen lines old →
+pub ends_cut : (old : Showing) (place : ℕ) → place ≡ max_stream - old.progress.room → place ≢ old.progress.place → (seen : List ℕ) (lines : List (List ℕ)) → Follows seen lines old →
     ending.Cut place ≡ ending_of old.progress.place (length old.rest) None
 ends_cut old place is other seen lines f =
     let at : place ≡ old.progress.place + length old.rest = omega (arith, f.place, f.room) in

@@ -3,8 +3,9 @@ use Rattle.std.specs.Prelude.{ℕ, ℤ, Bool, true, false, List, [], ◌∷◌, 
 use Rattle.std.specs.Fmt.{signed_decimal}
 use Rattle.std.specs.List.{flat_map}
 use Rattle.zk_model.specs.declared.request.Acl.{Acl}
-use Rattle.zk_model.specs.JuteValues.{Value, int, long, boolean, buffer, ustring, ustrings, acls, open_acl, open_entry}
-use Rattle.zk_model.specs.Transcripts.{hex_text}
+use Rattle.zk_jute.specs.JuteValues.{Value, int, long, boolean, buffer, ustring, ustrings, acls, open_acl}
+use Rattle.zt_text.specs.Transcripts.{hex_text}
+use Rattle.zk_model.specs.Access.{open_entry}
 
 -- a word behind a blank (32)
 abbrev pub spaced : List ℕ → List ℕ

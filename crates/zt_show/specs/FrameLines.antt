@@ -1,19 +1,19 @@
 -- The line of a frame: what a client says in it (this project's own format).
 use Rattle.std.specs.Prelude.{◌≡◌, ℕ, ℤ, Bool, true, false, Option, Some, None, List, [], ◌∷◌, ◌++◌, codes, decimal}
 use Rattle.zk_model.specs.declared.connect.ConnectRequest.{ConnectRequest}
-use Rattle.zk_model.specs.declared.opcode.Opcode.{Opcode}
-use Rattle.zk_model.specs.declared.opcode.Opcode.TheVariants as opcodes
-use Rattle.zk_model.specs.declared.opcode.PartKind.{PartKind}
-use Rattle.zk_model.specs.declared.opcode.PartKind.TheVariants as kinds
+use Rattle.zk_jute.specs.declared.opcode.Opcode.{Opcode}
+use Rattle.zk_jute.specs.declared.opcode.Opcode.TheVariants as opcodes
+use Rattle.zk_jute.specs.declared.opcode.PartKind.{PartKind}
+use Rattle.zk_jute.specs.declared.opcode.PartKind.TheVariants as kinds
 use Rattle.zk_model.specs.declared.request.Part.{Part}
 use Rattle.zk_model.specs.declared.request.Request.{Request}
 use Rattle.zk_model.specs.declared.request.Request.TheVariants as requests
-use Rattle.zk_model.specs.Connects.{read_connect}
-use Rattle.zk_model.specs.JuteValues.{int, long}
-use Rattle.zk_model.specs.JuteWriting.{long_bytes}
-use Rattle.zk_model.specs.Numbers.{opcode_of, part_kind}
-use Rattle.zk_model.specs.Records.{values_of, part_values}
-use Rattle.zk_model.specs.Requests.{Frame, NoHeader, Unreadable, Unknown, Asks, read_request}
+use Rattle.zk_jute.specs.Connects.{read_connect}
+use Rattle.zk_jute.specs.JuteValues.{int, long}
+use Rattle.zk_jute.specs.JuteWriting.{long_bytes}
+use Rattle.zk_jute.specs.Numbers.{opcode_of, part_kind}
+use Rattle.zk_jute.specs.Records.{values_of, part_values}
+use Rattle.zk_jute.specs.Requests.{Frame, NoHeader, Unreadable, Unknown, Asks, read_request}
 use Rattle.zt_show.specs.FieldWords.{spaced, signed_word, boolean_word, hex_word, vector_words, record_words}
 
 -- ---- requests

@@ -1,11 +1,11 @@
 -- A stream that comes piece by piece: what of it was shown, and what a piece adds.
 use Rattle.std.specs.Prelude.{◌≡◌, ℕ, ◌+◌, ◌≤◌, Bool, true, false, Option, Some, None, List, [], ◌++◌, length, sum_by}
-use Rattle.zk_model.specs.Frames.{Framed, bad_length}
+use Rattle.zk_jute.specs.Frames.{Framed, bad_length}
 use Rattle.zk_wire.specs.Putting.{counted}
 use Rattle.zt_show.specs.declared.ending.Ending.{Ending}
 use Rattle.zt_show.specs.declared.ending.Ending.TheVariants as ending
 use Rattle.zt_show.specs.declared.progress.Progress.{Progress}
-use Rattle.zt_show.specs.Shown.{Shown, joined, most_stream, ending_line, shown_from, IsShown, IsShownWhole, ending_before_more}
+use Rattle.zt_show.specs.Shown.{Shown, joined, max_stream, ending_line, shown_from, IsShown, IsShownWhole, ending_before_more}
 
 -- what is known of a stream that came in part: the bytes of a frame that is not whole, and how far it is shown
 pub record Showing : Type 0 where
@@ -14,7 +14,7 @@ pub record Showing : Type 0 where
 
 -- a stream of which nothing came
 abbrev pub unshown : Showing
-unshown = record { rest = []; progress = record { is_begun = false; place = 0; room = most_stream; lines = 0 } }
+unshown = record { rest = []; progress = record { is_begun = false; place = 0; room = max_stream; lines = 0 } }
 
 -- what was shown before, and then
 abbrev pub behind : List (List ℕ) → Shown → Shown
@@ -33,7 +33,7 @@ pub record Follows (seen : List ℕ) (lines : List (List ℕ)) (s : Showing) : T
   pub place : s.progress.place + length s.rest ≡ length seen
   pub count : s.progress.lines ≡ length lines
   pub few : s.progress.lines ≤ s.progress.place
-  pub room : length seen + s.progress.room ≡ most_stream
+  pub room : length seen + s.progress.room ≡ max_stream
 
 -- this is shown of the stream
 abbrev pub IsShownAs : List ℕ → List (List ℕ) → Ending → Type 0
@@ -81,7 +81,7 @@ pub record Passes (frames added : List (List ℕ)) (old new : Progress) : Type 0
 pub record Blocks (frames added : List (List ℕ)) (old new : Progress) : Type 0 where
   pub says : (later : List (List ℕ)) (rest : List ℕ) → shown_on old (frames ++ later) rest ≡ record { lines = added; ending = ending.NoHeader new.place }
   pub count : new.lines ≡ old.lines + length added
-  pub few : new.lines ≤ most_stream
+  pub few : new.lines ≤ max_stream
 
 abbrev pub PassesIf : Bool → List (List ℕ) → List (List ℕ) → Progress → Progress → Type 0
 PassesIf true frames added old new = Passes frames added old new
@@ -91,7 +91,7 @@ PassesIf false frames added old new = Blocks frames added old new
 abbrev pub AddsLines : Bool → List (List ℕ) → Progress → List ℕ → List ℕ → Progress → Type 0
 AddsLines are_all frames old text text' new =
     (added : List (List ℕ)) × (text' ≡ text ++ joined added) × (new.room ≡ old.room)
-    × (old.lines ≤ old.place → old.place + size_of frames ≤ most_stream → PassesIf are_all frames added old new)
+    × (old.lines ≤ old.place → old.place + size_of frames ≤ max_stream → PassesIf are_all frames added old new)
 
 -- ---- within the limit
 
@@ -100,8 +100,8 @@ pub record Stops (seen : List ℕ) (lines : List (List ℕ)) (end : Ending) (p :
   pub shown : (more : List ℕ) → IsShownWhole (seen ++ more) (record { lines = lines; ending = end })
   pub stays : ending_before_more end ≡ end
   pub count : p.lines ≡ length lines
-  pub few : p.lines ≤ most_stream
-  pub room : length seen + p.room ≡ most_stream
+  pub few : p.lines ≤ max_stream
+  pub room : length seen + p.room ≡ max_stream
 
 -- what came so far goes on, or ended
 abbrev pub Stands : Option Ending → List ℕ → List (List ℕ) → Showing → Type 0

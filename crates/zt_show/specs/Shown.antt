@@ -1,7 +1,7 @@
 -- What `show` says of a stream of bytes from a client to a server: one line for each frame, and how the stream ended (this
 -- project's own format). It is said of the whole stream, and so is the same in whatever pieces the stream comes.
 use Rattle.std.specs.Prelude.{◌≡◌, ℕ, ◌+◌, ◌==◌, Bool, true, false, ℤ, Option, Some, None, List, [], ◌∷◌, ◌++◌, length, take, flat_map, nat_lt, if◌then◌else◌, codes, decimal}
-use Rattle.zk_model.specs.Frames.{Framed, bad_length}
+use Rattle.zk_jute.specs.Frames.{Framed, bad_length}
 use Rattle.zt_show.specs.declared.ending.Ending.{Ending}
 use Rattle.zt_show.specs.declared.ending.Ending.TheVariants as ending
 use Rattle.zt_show.specs.FieldWords.{spaced, signed_word}
@@ -16,8 +16,8 @@ abbrev pub joined : List (List ℕ) → List ℕ
 joined lines = flat_map (λ line. line) lines
 
 -- the most bytes of a stream that are shown
-abbrev pub most_stream : ℕ
-most_stream = 100000000
+abbrev pub max_stream : ℕ
+max_stream = 100000000
 
 abbrev pub at_place : List ℕ → ℕ → List ℕ
 at_place word place = word ++ spaced (decimal place)
@@ -80,4 +80,4 @@ before_more true shown = record { lines = shown.lines; ending = ending_before_mo
 
 -- this is shown of a stream: what its first 100,000,000 bytes say, and whether there are more
 abbrev pub IsShown : List ℕ → Shown → Type 0
-IsShown stream shown = (front : Shown) × IsShownWhole (take most_stream stream) front × (shown ≡ before_more (nat_lt most_stream (length stream)) front)
+IsShown stream shown = (front : Shown) × IsShownWhole (take max_stream stream) front × (shown ≡ before_more (nat_lt max_stream (length stream)) front)

@@ -1,9 +1,9 @@
 //! The line of a frame.
 
 ghost use Rattle.std.specs.Prelude.{◌≡◌, ◌++◌, decimal, OnOk, IfOk};
-ghost use Rattle.zk_model.specs.Connects.{read_connect as connect_read};
-ghost use Rattle.zk_model.specs.JuteWriting.{long_bytes};
-ghost use Rattle.zk_model.specs.Requests.{read_request as request_read};
+ghost use Rattle.zk_jute.specs.Connects.{read_connect as connect_read};
+ghost use Rattle.zk_jute.specs.JuteWriting.{long_bytes};
+ghost use Rattle.zk_jute.specs.Requests.{read_request as request_read};
 ghost use Rattle.zt_show.specs.FrameLines.{part_words, body_words, named, request_words, unreadable_words, unknown_words, frame_words, session_words, connect_words, read_only_words, words_of_connect, line, line_of_words, line_of_frame, IsAdded};
 ghost use Rattle.zt_show.specs.FieldWords.{hex_word, vector_words};
 
@@ -72,7 +72,7 @@ fn push_session_words(text: &mut Lines, request: &ConnectRequest) -> Result<(), 
 }
 
 /// Adds a session's number as 16 hex digits.
-#[tactic(auto, unfolding(zk_model::specs::JuteWriting::long_bytes))]
+#[tactic(auto, unfolding(zk_jute::specs::JuteWriting::long_bytes))]
 fn push_session(text: &mut Lines, session: i64) -> Result<(), Memory>
     ensures { OnOk result (text.new ≡ text.old ++ hex_word (long_bytes session)) }
 {

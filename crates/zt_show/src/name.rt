@@ -1,7 +1,7 @@
 //! The names of requests (ZooKeeper's API; `ZooDefs.OpCode`, release 3.4).
 
 ghost use Rattle.std.specs.Prelude.{◌≡◌};
-ghost use Rattle.zk_model.specs.Numbers.{opcode_of, part_kind};
+ghost use Rattle.zk_jute.specs.Numbers.{opcode_of, part_kind};
 ghost use Rattle.zt_show.specs.FrameLines.{request_name as request_name_of, part_name as part_name_of};
 
 use zk_model::{Part, Request};

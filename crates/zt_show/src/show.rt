@@ -12,7 +12,7 @@ use zk_wire::Cutter;
 use zx_base::Memory;
 
 /// The most bytes of a stream that are shown.
-const MOST_STREAM: u64 = 100_000_000;
+const MAX_STREAM: u64 = 100_000_000;
 
 /// A stream of which some bytes came. The line of a frame is added once the frame is whole, so that no more than one
 /// frame is kept. After an ending, or a refusal of memory, nothing is said of what it adds.
@@ -39,7 +39,7 @@ impl Show {
         let progress = Progress {
             is_begun: false,
             place: 0,
-            room: MOST_STREAM,
+            room: MAX_STREAM,
             lines: 0,
         };
         Show {
@@ -86,7 +86,7 @@ impl Show {
     pub fn finish(&mut self, text: &mut Lines) -> Result<Ending, Memory>
         ensures { IfOk result (λ ending. Finishes ending self.old text.old text.new self.new) }
     {
-        let place = MOST_STREAM.saturating_sub(self.progress.room);
+        let place = MAX_STREAM.saturating_sub(self.progress.room);
         let ending = if place == self.progress.place {
             Ending::End { place }
         } else {

@@ -4,7 +4,7 @@ use Rattle.std.specs.Prelude.{option_and_then}
 use Rattle.std.proofs.lemmas.List.{append-nil, append_assoc, drop_all, drop_more, take_all, take_more_set}
 use Rattle.std.proofs.lemmas.Grind.{common_steps}
 use Rattle.std.proofs.Math.Nat.{pow-le-pow_right}
-use Rattle.zk_model.specs.Scripts.{decimal_digit, digits_value, hex_byte, hex_digit, hex_pairs, is_zero_led, most_number, not_above, number, ◌>>=◌}
+use Rattle.zt_text.specs.Scripts.{decimal_digit, digits_value, hex_byte, hex_digit, hex_pairs, is_zero_led, max_number, not_above, number, ◌>>=◌}
 
 -- a number that is too great stays so
 pub digits_value-above : (most n : ℕ) (bs : List ℕ) → most < n → (digits_value 10 decimal_digit n bs >>= not_above most) ≡ None
@@ -15,7 +15,7 @@ digits_value-above most n (b ∷ bs) above =
       | Some d ↦ digits_value-above most (n * 10 + d) bs (omega arith)
     ]
 
-number-none : (word : List ℕ) → (digits_value 10 decimal_digit 0 word >>= not_above most_number) ≡ None → number word ≡ None
+number-none : (word : List ℕ) → (digits_value 10 decimal_digit 0 word >>= not_above max_number) ≡ None → number word ≡ None
 unfolding number
 number-none [] none = refl
 number-none (b ∷ bs) none =
@@ -24,12 +24,12 @@ number-none (b ∷ bs) none =
 
 -- a word whose first digits are too great a number
 pub number-above : (word : List ℕ) (value at digit : ℕ) → digits_value 10 decimal_digit value (drop at word) ≡ digits_value 10 decimal_digit 0 word → at < length word →
-    decimal_digit (get_or word at 0) ≡ Some digit → most_number < value * 10 + digit → number word ≡ None
+    decimal_digit (get_or word at 0) ≡ Some digit → max_number < value * 10 + digit → number word ≡ None
 number-above word value at digit told within read above =
     let here = drop_more word at 0 within in
     let next : digits_value 10 decimal_digit 0 word ≡ digits_value 10 decimal_digit (value * 10 + digit) (drop (at + 1) word) =
     sym told ∙ rw (here, read) refl in
-    number-none word (ap (λ (o : Option ℕ). o >>= not_above most_number) next ∙ digits_value-above most_number (value * 10 + digit) (drop (at + 1) word) above)
+    number-none word (ap (λ (o : Option ℕ). o >>= not_above max_number) next ∙ digits_value-above max_number (value * 10 + digit) (drop (at + 1) word) above)
 
 pub hex_digit-small : (b d : ℕ) → hex_digit b ≡ Some d → d < 16
 hex_digit-small b d some = grind arith

@@ -2,7 +2,7 @@
 use Rattle.std.proofs.Common.{◌≡◌, ℕ, zero, suc, ◌/◌, ◌%◌, ◌<◌, ◌==◌, Bool, true, ◌&&◌, inl, inr, List, [], ◌∷◌, slice_index, refl, ap, arith}
 use Rattle.std.proofs.lemmas.Bool.{and_parts, cases_lt, eqb-true}
 use Rattle.hex.specs.Hex.{encode_lower, encode_with, lower_digits}
-use Rattle.zk_model.specs.Transcripts.{hex_digit_text, hex_digits}
+use Rattle.zt_text.specs.Transcripts.{hex_digit_text, hex_digits}
 
 abbrev same_digits : ℕ → Bool
 same_digits zero = true

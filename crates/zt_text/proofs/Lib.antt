@@ -1,3 +1,7 @@
 pub mod Digits
 pub mod WordCounts
 pub mod HexDigits
+pub mod PieceLaws
+pub mod WrittenWords
+pub mod LineReading
+pub mod TranscriptLaws

@@ -1,7 +1,7 @@
 -- The words of a line, one after the other.
 use Rattle.std.proofs.Common.{◌≡◌, ℕ, List, ◌∷◌, Option, Some, None, refl, ap, ◌∙◌}
-use Rattle.zk_model.specs.Scripts.{Lacks, pieces, one_word, two_words, three_words, four_words}
-use Rattle.zk_model.proofs.PieceLaws.{pieces-first, pieces-none, pieces-some}
+use Rattle.zt_text.specs.Scripts.{Lacks, pieces, one_word, two_words, three_words, four_words}
+use Rattle.zt_text.proofs.PieceLaws.{pieces-first, pieces-none, pieces-some}
 use Rattle.zt_text.specs.Words.{Slice, joined_at, words_of}
 
 pub one_word_and_more : (a rest : List ℕ) → one_word (a ∷ pieces 32 rest) ≡ None

@@ -1,6 +1,6 @@
 -- The words of a line as slices.
 use Rattle.std.specs.Prelude.{ℕ, List, [], ◌∷◌, ◌++◌, Option, Some, None}
-use Rattle.zk_model.specs.Scripts.{pieces}
+use Rattle.zt_text.specs.Scripts.{pieces}
 use denote.Ref.{Bor}
 
 abbrev pub Slice : Type 0

@@ -1,7 +1,7 @@
 -- The words that are written.
 use Rattle.std.specs.Prelude.{ℕ, ℤ, List, ◌∷◌, [], ◌++◌, map, flat_map, codes, decimal}
 use Rattle.std.specs.Fmt.{signed_decimal}
-use Rattle.zk_model.specs.Transcripts.{hex_text, id_text, spaced}
+use Rattle.zt_text.specs.Transcripts.{hex_text, id_text, spaced}
 use Rattle.zt_text.specs.declared.word.Word.{Word}
 use Rattle.zt_text.specs.declared.word.Word.TheVariants.{Name, Number, Signed, Session, Hex}
 

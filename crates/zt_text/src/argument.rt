@@ -1,7 +1,7 @@
 //! What the words of a script's line say.
 
 ghost use Rattle.std.specs.Prelude.{◌≡◌, ◌+◌, ◌*◌, ◌∷◌, [], length, Some, None, IfOk, MatchBool, option_map, List, ℕ};
-ghost use Rattle.zk_model.specs.Scripts.{decimal_digit as decimal_digit_of, hex_digit as hex_digit_of, hex_byte as hex_byte_of, hex_pairs as hex_pairs_of, number as number_of, hex as hex_of, session_id as session_id_of, password as password_of};
+ghost use Rattle.zt_text.specs.Scripts.{decimal_digit as decimal_digit_of, hex_digit as hex_digit_of, hex_byte as hex_byte_of, hex_pairs as hex_pairs_of, number as number_of, hex as hex_of, session_id as session_id_of, password as password_of};
 
 use std::alloc::Global;
 use zx_base::{Bytes, Memory};
@@ -28,7 +28,7 @@ fn hex_digit(byte: u8) -> Option<u8>
 }
 
 /// The byte of two hex digits, the high one first.
-#[tactic(auto, unfolding(zk_model::specs::Scripts::hex_byte))]
+#[tactic(auto, unfolding(crate::specs::Scripts::hex_byte))]
 fn hex_byte(high: u8, low: u8) -> Option<u8>
     ensures { result ≡ hex_byte_of high low }
 {
@@ -38,7 +38,7 @@ fn hex_byte(high: u8, low: u8) -> Option<u8>
 }
 
 /// A decimal number without sign or leading zero, up to 4294967295.
-#[tactic(auto, unfolding(zk_model::specs::Scripts::number))]
+#[tactic(auto, unfolding(crate::specs::Scripts::number))]
 pub(crate) fn number(word: &[u8]) -> Option<u32>
     ensures { result ≡ number_of word.now }
 {
@@ -57,7 +57,7 @@ pub(crate) fn number(word: &[u8]) -> Option<u32>
 }
 
 /// A session's number: 16 hex digits, from 1 to 2^63 - 1.
-#[tactic(auto, unfolding(zk_model::specs::Scripts::session_id))]
+#[tactic(auto, unfolding(crate::specs::Scripts::session_id))]
 pub(crate) fn session_id(word: &[u8]) -> Option<i64>
     ensures { result ≡ session_id_of word.now }
 {
@@ -91,7 +91,7 @@ fn fill_from_hex(word: &[u8], out: &mut [u8]) -> bool
 }
 
 /// A session's password: 32 hex digits.
-#[tactic(auto, unfolding(zk_model::specs::Scripts::password))]
+#[tactic(auto, unfolding(crate::specs::Scripts::password))]
 pub(crate) fn password(word: &[u8]) -> Option<[u8; 16]>
     ensures { result ≡ password_of word.now }
 {
@@ -107,7 +107,7 @@ pub(crate) fn password(word: &[u8]) -> Option<[u8; 16]>
 }
 
 /// Bytes: an even number of hex digits in lower case, or `-` for none.
-#[tactic(auto, unfolding(zk_model::specs::Scripts::hex))]
+#[tactic(auto, unfolding(crate::specs::Scripts::hex))]
 pub(crate) fn hex(alloc: Global, word: &[u8]) -> Result<Option<Bytes>, Memory>
     ensures { IfOk result (λ bytes. bytes ≡ hex_of word.now) }
 {

@@ -1,7 +1,7 @@
 //! Bytes, cut at the first of a kind.
 
 ghost use Rattle.std.specs.Prelude.{◌≡◌};
-ghost use Rattle.zk_model.specs.Scripts.{Lacks};
+ghost use Rattle.zt_text.specs.Scripts.{Lacks};
 ghost use Rattle.zt_text.specs.Words.{joined_at};
 
 /// The bytes before the first line feed, and those behind it; None where there is none.

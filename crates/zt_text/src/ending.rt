@@ -1,10 +1,9 @@
 //! The last line of a transcript: `done`, or the fault of the script's line that stopped it.
 
 ghost use Rattle.std.specs.Prelude.{◌≡◌, ◌++◌, OnOk, OnErr};
-ghost use Rattle.zk_model.specs.Runs.{done_text, fault_text, unread_text, why_text};
-
+ghost use Rattle.zt_text.specs.Faults.{done_text, fault_text, unread_text, why_text};
 use crate::word::{Word, push_words};
-use zk_model::{Unread, Why};
+use crate::{Unread, Why};
 use zx_base::Memory;
 
 /// Adds the line `done`. Without memory, what was there stays, here and below.

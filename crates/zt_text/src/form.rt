@@ -1,17 +1,17 @@
 //! The forms of a script's lines: the first word, and what its arguments are.
 
 ghost use Rattle.std.specs.Prelude.{◌≡◌, IfOk, bytes_eq};
-ghost use Rattle.zk_model.specs.Scripts.{number_and_bytes as number_and_bytes_of, numbered_line, of_number as of_number_of, open_line, frame_line, bytes_line, lapse_line, foreign_line, reap_line, line_of_form as line_of_form_of};
+ghost use Rattle.zt_text.specs.Scripts.{number_and_bytes as number_and_bytes_of, numbered_line, of_number as of_number_of, open_line, frame_line, bytes_line, lapse_line, foreign_line, reap_line, line_of_form as line_of_form_of};
 ghost use Rattle.zt_text.specs.Words.{words_of};
 
 use crate::argument::{hex, number, password, session_id};
 use crate::words::{Words, four_words, one_word, three_words, two_words};
 use std::alloc::Global;
-use zk_model::Happening;
+use crate::Happening;
 use zx_base::{Bytes, Memory};
 
 /// What a line says, by its first word and the others.
-#[tactic(auto, unfolding(zk_model::specs::Scripts::line_of_form))]
+#[tactic(auto, unfolding(crate::specs::Scripts::line_of_form))]
 pub(crate) fn line_of_form(
     alloc: Global,
     form: &[u8],
@@ -43,7 +43,7 @@ fn is(form: &[u8], name: &[u8]) -> bool
 }
 
 /// A line whose one argument is a number.
-#[tactic(auto, unfolding(zk_model::specs::Scripts::numbered_line))]
+#[tactic(auto, unfolding(crate::specs::Scripts::numbered_line))]
 fn numbered(form: &[u8], words: Words<'_>) -> Option<Happening>
     ensures { result ≡ numbered_line form.now (words_of words.entry) }
 {
@@ -51,7 +51,7 @@ fn numbered(form: &[u8], words: Words<'_>) -> Option<Happening>
     of_number(form, number)
 }
 
-#[tactic(auto, unfolding(zk_model::specs::Scripts::of_number))]
+#[tactic(auto, unfolding(crate::specs::Scripts::of_number))]
 fn of_number(form: &[u8], number: u32) -> Option<Happening>
     ensures { result ≡ of_number_of form.now number }
 {
@@ -84,7 +84,7 @@ fn of_number(form: &[u8], number: u32) -> Option<Happening>
 }
 
 /// `open C P ID PW`
-#[tactic(auto, unfolding(zk_model::specs::Scripts::open_line))]
+#[tactic(auto, unfolding(crate::specs::Scripts::open_line))]
 fn open(words: Words<'_>) -> Option<Happening>
     ensures { result ≡ open_line (words_of words.entry) }
 {
@@ -118,7 +118,7 @@ fn number_and_bytes(alloc: Global, words: Words<'_>) -> Result<Option<(u32, Byte
 }
 
 /// `frame C HEX`
-#[tactic(auto, unfolding(zk_model::specs::Scripts::frame_line))]
+#[tactic(auto, unfolding(crate::specs::Scripts::frame_line))]
 fn frame(alloc: Global, words: Words<'_>) -> Result<Option<Happening>, Memory>
     ensures { IfOk result (λ h. h ≡ frame_line (words_of words.entry)) }
 {
@@ -129,7 +129,7 @@ fn frame(alloc: Global, words: Words<'_>) -> Result<Option<Happening>, Memory>
 }
 
 /// `bytes C HEX`
-#[tactic(auto, unfolding(zk_model::specs::Scripts::bytes_line))]
+#[tactic(auto, unfolding(crate::specs::Scripts::bytes_line))]
 fn arrive(alloc: Global, words: Words<'_>) -> Result<Option<Happening>, Memory>
     ensures { IfOk result (λ h. h ≡ bytes_line (words_of words.entry)) }
 {
@@ -140,7 +140,7 @@ fn arrive(alloc: Global, words: Words<'_>) -> Result<Option<Happening>, Memory>
 }
 
 /// `lapse ID`
-#[tactic(auto, unfolding(zk_model::specs::Scripts::lapse_line))]
+#[tactic(auto, unfolding(crate::specs::Scripts::lapse_line))]
 fn lapse(words: Words<'_>) -> Option<Happening>
     ensures { result ≡ lapse_line (words_of words.entry) }
 {
@@ -149,7 +149,7 @@ fn lapse(words: Words<'_>) -> Option<Happening>
 }
 
 /// `foreign KEYHEX VALHEX`
-#[tactic(auto, unfolding(zk_model::specs::Scripts::foreign_line))]
+#[tactic(auto, unfolding(crate::specs::Scripts::foreign_line))]
 fn foreign(alloc: Global, words: Words<'_>) -> Result<Option<Happening>, Memory>
     ensures { IfOk result (λ h. h ≡ foreign_line (words_of words.entry)) }
 {
@@ -166,7 +166,7 @@ fn foreign(alloc: Global, words: Words<'_>) -> Result<Option<Happening>, Memory>
 }
 
 /// `reap C P ID`
-#[tactic(auto, unfolding(zk_model::specs::Scripts::reap_line))]
+#[tactic(auto, unfolding(crate::specs::Scripts::reap_line))]
 fn reap(words: Words<'_>) -> Option<Happening>
     ensures { result ≡ reap_line (words_of words.entry) }
 {

@@ -2,8 +2,8 @@
 
 ghost use Rattle.std.specs.Prelude.{◌≡◌, ◌++◌, ◌∷◌, [], List, ℕ, Contains};
 ghost use Rattle.std.specs.List.{AllByRecursion};
-ghost use Rattle.zk_model.specs.declared.transcript.TranscriptLine.{TranscriptLine};
-ghost use Rattle.zk_model.specs.Transcripts.{IsWellFormed, line_text, transcript_text};
+ghost use Rattle.zk_transcript.specs.declared.transcript.TranscriptLine.{TranscriptLine};
+ghost use Rattle.zt_text.specs.Transcripts.{IsWellFormed, line_text, transcript_text};
 
 /// The text of a transcript has one reading.
 pub fn one_reading()

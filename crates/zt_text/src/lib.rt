@@ -4,7 +4,7 @@
 //! each form exactly: a line that it answers None for is of no form. A transcript is written line by line by
 //! [`push_line`], and its last line by [`push_done`], [`push_fault`] or [`push_unread`].
 //!
-//! Both formats are this project's own; `zk_model` has them in `specs/Scripts` and `specs/Transcripts`. Reading a line takes
+//! Both formats are this project's own; they stand in `specs/Scripts` and `specs/Transcripts`. Reading a line takes
 //! time in proportion to its bytes, and memory for the bytes that its hex digits spell; writing one grows the buffer and
 //! takes no other memory. What holds of every text is said by [`one_reading`] and [`one_line_feed`].
 #![tactic(auto)]
@@ -14,6 +14,7 @@ mod cut;
 mod ending;
 mod form;
 mod laws;
+mod script;
 mod script_line;
 #[cfg(test)]
 mod tests;
@@ -24,6 +25,7 @@ mod words;
 pub use cut::first_line;
 pub use ending::{push_done, push_fault, push_unread};
 pub use laws::{one_line_feed, one_reading};
-pub use script_line::{MOST_LINE, MOST_SCRIPT, read_line};
+pub use script::{Happening, Unread, Why};
+pub use script_line::{MAX_LINE, MAX_SCRIPT, read_line};
 pub use transcript_line::push_line;
 pub use word::{push_hex, push_number, push_signed};

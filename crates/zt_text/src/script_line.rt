@@ -1,28 +1,28 @@
 //! Lines of a script.
 
 ghost use Rattle.std.specs.Prelude.{◌≡◌, IfOk};
-ghost use Rattle.zk_model.specs.Scripts.{line_read};
+ghost use Rattle.zt_text.specs.Scripts.{line_read};
 
 use crate::form::line_of_form;
 use crate::words::first_word;
 use std::alloc::Global;
-use zk_model::Happening;
+use crate::Happening;
 use zx_base::Memory;
 
 /// The most bytes of a line, without its line feed.
-pub const MOST_LINE: usize = 2_200_000;
+pub const MAX_LINE: usize = 2_200_000;
 
 /// The most bytes of a script.
-pub const MOST_SCRIPT: usize = 100_000_000;
+pub const MAX_SCRIPT: usize = 100_000_000;
 
-/// What a line of a script says, without its line feed; None where it is of no form, or longer than [`MOST_LINE`].
+/// What a line of a script says, without its line feed; None where it is of no form, or longer than [`MAX_LINE`].
 ///
 /// Each byte is read twice, and none is copied but the bytes that HEX spells.
-#[tactic(auto, unfolding(zk_model::specs::Scripts::line_read))]
+#[tactic(auto, unfolding(crate::specs::Scripts::line_read))]
 pub fn read_line(alloc: Global, line: &[u8]) -> Result<Option<Happening>, Memory>
     ensures { IfOk result (λ h. h ≡ line_read line.now) }
 {
-    if line.len() > MOST_LINE {
+    if line.len() > MAX_LINE {
         return Ok(None);
     }
     let (form, words) = first_word(line);

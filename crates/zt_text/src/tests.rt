@@ -4,7 +4,8 @@ use crate::{first_line, push_done, push_fault, push_line, push_unread, read_line
 use std::alloc::Global;
 use std::process::Abort;
 use std::test::Fail;
-use zk_model::{Cause, Ended, TranscriptLine, Unread, UpdateKind, UpdateRec, Why};
+use zk_transcript::{Cause, Ended, TranscriptLine, UpdateKind, UpdateRec};
+use crate::{Unread, Why};
 use zx_base::Bytes;
 
 fn says(rt: &impl Abort, alloc: Global, line: &[u8], meaning: &str) -> Result<(), Fail> {

@@ -1,15 +1,15 @@
 //! Lines of a transcript.
 
 ghost use Rattle.std.specs.Prelude.{◌≡◌, ◌++◌, ◌∷◌, OnOk, OnErr, map};
-ghost use Rattle.zk_model.specs.Transcripts.{cause_words, end_words, kind_words, line_text};
+ghost use Rattle.zt_text.specs.Transcripts.{cause_words, end_words, kind_words, line_text};
 ghost use Rattle.zt_text.specs.Written.{close_text, update_text, word_text};
 
 use crate::word::{Word, push_words};
-use zk_model::{Cause, Ended, TranscriptLine, UpdateKind};
+use zk_transcript::{Cause, Ended, TranscriptLine, UpdateKind};
 use zx_base::Memory;
 
 /// Adds a line, with its line feed. Without memory, what was there stays.
-#[tactic(auto, unfolding(zk_model::specs::Transcripts::line_text))]
+#[tactic(auto, unfolding(crate::specs::Transcripts::line_text))]
 pub fn push_line(out: &mut Vec<u8>, line: &TranscriptLine) -> Result<(), Memory>
     ensures ok { OnOk result (out.new.items ≡ out.old.items ++ line_text line.now) }
     ensures err { OnErr result (out.new.items ≡ out.old.items) }

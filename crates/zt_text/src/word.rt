@@ -2,7 +2,7 @@
 
 ghost use Rattle.std.specs.Prelude.{◌≡◌, ◌++◌, ◌∷◌, [], OnOk, OnErr, decimal, length, ◌*◌, take, vec_len};
 ghost use Rattle.std.specs.Fmt.{signed_decimal};
-ghost use Rattle.zk_model.specs.Transcripts.{hex_digits as hex_digits_of, hex_text, id_text};
+ghost use Rattle.zt_text.specs.Transcripts.{hex_digits as hex_digits_of, hex_text, id_text};
 ghost use Rattle.zt_text.specs.Written.{spaced_behind, word_text, text_of_words};
 
 use itoa::Buffer;
@@ -63,7 +63,7 @@ fn push_hex_digits(out: &mut Vec<u8>, bytes: &[u8]) -> Result<(), Memory>
 }
 
 /// Adds bytes as hex, two lower-case digits for each, and `-` for none.
-#[tactic(auto, unfolding(zk_model::specs::Transcripts::hex_text))]
+#[tactic(auto, unfolding(crate::specs::Transcripts::hex_text))]
 pub fn push_hex(out: &mut Vec<u8>, bytes: &[u8]) -> Result<(), Memory>
     ensures ok { OnOk result (out.new.items ≡ out.old.items ++ hex_text bytes.now) }
     ensures err { OnErr result (out.new.items ≡ out.old.items) }
@@ -76,7 +76,7 @@ pub fn push_hex(out: &mut Vec<u8>, bytes: &[u8]) -> Result<(), Memory>
     }
 }
 
-#[tactic(auto, unfolding(zk_model::specs::Transcripts::id_text))]
+#[tactic(auto, unfolding(crate::specs::Transcripts::id_text))]
 fn push_session(out: &mut Vec<u8>, id: i64) -> Result<(), Memory>
     ensures ok { OnOk result (out.new.items ≡ out.old.items ++ id_text id) }
     ensures err { OnErr result (out.new.items ≡ out.old.items) }

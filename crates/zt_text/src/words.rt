@@ -1,7 +1,7 @@
 //! The words of a line, between single blanks.
 
 ghost use Rattle.std.specs.Prelude.{◌≡◌, ◌∷◌, option_copied};
-ghost use Rattle.zk_model.specs.Scripts.{pieces, one_word as one_word_of, two_words as two_words_of, three_words as three_words_of, four_words as four_words_of};
+ghost use Rattle.zt_text.specs.Scripts.{pieces, one_word as one_word_of, two_words as two_words_of, three_words as three_words_of, four_words as four_words_of};
 ghost use Rattle.zt_text.specs.Words.{words_of, seen_two, seen_three, seen_four};
 
 use crate::cut::cut;

@@ -7,7 +7,8 @@ use crate::{
 };
 use std::alloc::Global;
 use std::test::Fail;
-use zk_model::{Opcode, Part, Request};
+use zk_jute::Opcode;
+use zk_model::{Part, Request};
 use zx_base::{Memory, Seq, Text};
 
 /// A frame with xid 1 of each kind; `request` makes what it spells.

@@ -1,6 +1,6 @@
 use Rattle.std.proofs.Common.{◌++◌, List, sym, ◌∙◌, subst}
-use Rattle.zk_model.specs.declared.transcript.TranscriptLine.{TranscriptLine}
-use Rattle.zk_model.specs.Transcripts.{transcript_text}
+use Rattle.zk_transcript.specs.declared.transcript.TranscriptLine.{TranscriptLine}
+use Rattle.zt_text.specs.Transcripts.{transcript_text}
 use Rattle.zx_outside.specs.Writing.{Takes}
 use Rattle.zetcd_cmd.specs.Reporting.{ending_text}
 use Rattle.zetcd_cmd.proofs.Headlines.{Replays-done, Stops-script, Settles-script, CutsShort-fault, fault_from, no_read_fault, never_write_fault, never_usage}

@@ -1,6 +1,6 @@
 use Rattle.std.proofs.Common.{List, ℕ, subst}
 use Rattle.std.proofs.lemmas.Result.{on_ok_weaker}
-use Rattle.zk_model.specs.Transcripts.{transcript_text}
+use Rattle.zt_text.specs.Transcripts.{transcript_text}
 use Rattle.zx_outside.specs.Writing.{Takes}
 use Rattle.zetcd_cmd.specs.Reporting.{Passes, ending_text}
 use Rattle.zetcd_cmd.proofs.Reports.{Passes-out}

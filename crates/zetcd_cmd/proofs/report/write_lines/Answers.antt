@@ -1,6 +1,6 @@
 use Rattle.std.proofs.Common.{◌≡◌, ◌<◌, ◌+◌, ◌++◌, ◌∙◌, ap, length, take, List, ℕ, arith, refl, subst, sym}
-use Rattle.zk_model.specs.declared.transcript.TranscriptLine.{TranscriptLine}
-use Rattle.zk_model.specs.Transcripts.{line_text, transcript_text}
+use Rattle.zk_transcript.specs.declared.transcript.TranscriptLine.{TranscriptLine}
+use Rattle.zt_text.specs.Transcripts.{line_text, transcript_text}
 use Rattle.zetcd_cmd.specs.Reporting.{Passes}
 use Rattle.zetcd_cmd.proofs.Reports.{Passes-nil, Passes-append, transcript_text-nil, transcript_text-more}
 use Rattle.zetcd_cmd.proofs.report.write_lines.Goals as goal

@@ -1,5 +1,5 @@
 use Rattle.std.proofs.Common.{◌≡◌, ◌≤◌, take}
-use Rattle.zk_model.specs.Transcripts.{transcript_text}
+use Rattle.zt_text.specs.Transcripts.{transcript_text}
 use Rattle.zetcd_cmd.specs.Reporting.{Passes}
 use Rattle.zetcd_cmd.proofs.report.write_lines.Given as goal
 

@@ -1,6 +1,6 @@
 use Rattle.std.proofs.Common.{◌++◌, ◌∷◌, take, drop, ◌+◌, ◌<◌, ℕ, List, length, ap, sym, ◌∙◌, arith, ne_eqb}
 use Rattle.std.proofs.lemmas.List.{drop_more, take-append-drop, take_rest}
-use Rattle.zk_model.proofs.PieceLaws.{Lacks-all, Lacks-more}
+use Rattle.zt_text.proofs.PieceLaws.{Lacks-all, Lacks-more}
 use Rattle.zetcd_cmd.proofs.script.first_line.Goals as goal
 
 pub returns-then-byte-eq-LINE_FEED : goal.returns-then-byte-eq-LINE_FEED

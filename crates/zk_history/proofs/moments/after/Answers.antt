@@ -1,9 +1,9 @@
 use Rattle.std.proofs.Common.{◌≡◌, ◌+◌, ◌<◌, ◌≤◌, ◌∷◌, [], ◌++◌, List, take, drop, ap, sym, ◌∙◌, subst, arith}
 use Rattle.std.proofs.lemmas.Grind.{common_steps}
 use Rattle.std.proofs.lemmas.List.{drop_more, take_more, take-append-drop}
-use Rattle.zk_model.specs.declared.transcript.TranscriptLine.{TranscriptLine}
-use Rattle.zk_model.specs.History.{State, after, change}
-use Rattle.zk_model.proofs.Appending.{after-push}
+use Rattle.zk_transcript.specs.declared.transcript.TranscriptLine.{TranscriptLine}
+use Rattle.zk_transcript.specs.History.{State, after, change}
+use Rattle.zk_transcript.proofs.Appending.{after-push}
 use Rattle.zk_plain.proofs.FaultLaws.{beyond-weaker}
 use Rattle.zk_history.specs.Fits.{AllFit, Fits, IsCountable}
 use Rattle.zk_history.proofs.Counts.{change-updates}

@@ -1,5 +1,5 @@
 use Rattle.std.proofs.Common.{◌≡◌, ◌≤◌, take}
-use Rattle.zk_model.specs.History.{after}
+use Rattle.zk_transcript.specs.History.{after}
 use Rattle.zk_history.proofs.moments.after.Given as goal
 
 abbrev pub invariant-loop-place : goal.invariant-loop-place

@@ -1,5 +1,5 @@
 use Rattle.std.proofs.Common.{◌≡◌, drop}
-use Rattle.zk_model.specs.History.{frame}
+use Rattle.zk_transcript.specs.History.{frame}
 use Rattle.zk_history.proofs.shown.frame.Given as goal
 
 abbrev pub invariant-loop-line : goal.invariant-loop-line

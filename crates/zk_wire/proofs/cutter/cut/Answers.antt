@@ -1,4 +1,4 @@
-use Rattle.zk_model.proofs.Framing.{goes_on}
+use Rattle.zk_jute.proofs.Framing.{goes_on}
 use Rattle.zk_wire.proofs.cutter.cut.Goals as goal
 
 pub loop-frame-preserved : goal.loop-frame-preserved

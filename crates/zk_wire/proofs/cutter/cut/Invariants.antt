@@ -1,6 +1,6 @@
 use Rattle.std.proofs.Common.{◌≡◌, ℕ, List, ◌++◌, length}
-use Rattle.zk_model.specs.JuteValues.{Spelled}
-use Rattle.zk_model.specs.Frames.{IsFrame}
+use Rattle.zk_jute.specs.JuteValues.{Spelled}
+use Rattle.zk_jute.specs.Frames.{IsFrame}
 use Rattle.zk_wire.proofs.cutter.cut.Given as goal
 
 abbrev pub invariant-loop-frame : goal.invariant-loop-frame

@@ -1,4 +1,4 @@
-use Rattle.zk_model.proofs.Framing.{one_framing}
+use Rattle.zk_jute.proofs.Framing.{one_framing}
 use Rattle.zk_wire.proofs.Pieces.{at_first, takes_on, calls_from_first}
 use Rattle.zk_wire.proofs.laws.frames_in_any_pieces.Goals as goal
 

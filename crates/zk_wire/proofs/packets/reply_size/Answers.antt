@@ -1,5 +1,5 @@
 use Rattle.std.proofs.Common.{pos, ◌∙◌}
-use Rattle.zk_model.specs.Packets.{reply_values}
+use Rattle.zk_jute.specs.Packets.{reply_values}
 use Rattle.zk_wire.proofs.Puts.{size_is}
 use Rattle.zk_wire.proofs.packets.reply_size.Goals as goal
 

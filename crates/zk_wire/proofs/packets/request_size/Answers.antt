@@ -1,5 +1,5 @@
 use Rattle.std.proofs.Common.{pos, ◌∙◌}
-use Rattle.zk_model.specs.Sending.{request_values}
+use Rattle.zk_jute.specs.Sending.{request_values}
 use Rattle.zk_wire.proofs.Puts.{size_is}
 use Rattle.zk_wire.proofs.packets.request_size.Goals as goal
 

@@ -1,8 +1,8 @@
 use Rattle.std.proofs.Common.{rules, arith, ◌≡◌, length, ap, ◌∙◌}
-use Rattle.zk_model.specs.Connects.{connect_response_values}
-use Rattle.zk_model.specs.JuteWriting.{written, with_length}
-use Rattle.zk_model.specs.Packets.{connect_packet}
-use Rattle.zk_model.proofs.Lengths.{written_can, connect_short}
+use Rattle.zk_jute.specs.Connects.{connect_response_values}
+use Rattle.zk_jute.specs.JuteWriting.{written, with_length}
+use Rattle.zk_jute.specs.Packets.{connect_packet}
+use Rattle.zk_jute.proofs.Lengths.{written_can, connect_short}
 use Rattle.zk_wire.proofs.Puts.{frame_is}
 use Rattle.zk_wire.proofs.packets.write_connect.Goals as goal
 

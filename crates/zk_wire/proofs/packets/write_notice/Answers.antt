@@ -1,6 +1,6 @@
 use Rattle.std.proofs.Common.{◌≡◌, ap, ◌∙◌}
-use Rattle.zk_model.specs.JuteWriting.{written, with_length}
-use Rattle.zk_model.specs.Packets.{notice_values, notice_packet}
+use Rattle.zk_jute.specs.JuteWriting.{written, with_length}
+use Rattle.zk_jute.specs.Packets.{notice_values, notice_packet}
 use Rattle.zk_wire.proofs.Puts.{frame_is}
 use Rattle.zk_wire.proofs.packets.write_notice.Goals as goal
 

@@ -1,8 +1,8 @@
 use Rattle.std.proofs.Common.{rules, arith, ◌≡◌, length, pos, ap, ◌∙◌, w32, w64, SFits}
 use Rattle.std.proofs.lemmas.Int.{to_z-of_z}
-use Rattle.zk_model.specs.JuteWriting.{with_length}
-use Rattle.zk_model.specs.Packets.{reply_values, reply_bytes, reply_packet}
-use Rattle.zk_model.proofs.Lengths.{written_can, length-reply_bytes}
+use Rattle.zk_jute.specs.JuteWriting.{with_length}
+use Rattle.zk_jute.specs.Packets.{reply_values, reply_bytes, reply_packet}
+use Rattle.zk_jute.proofs.Lengths.{written_can, length-reply_bytes}
 use Rattle.zk_wire.proofs.Puts.{frame_is}
 use Rattle.zk_wire.proofs.packets.write_reply.Goals as goal
 

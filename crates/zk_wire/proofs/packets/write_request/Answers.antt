@@ -1,8 +1,8 @@
 use Rattle.std.proofs.Common.{rules, arith, ◌≡◌, length, pos, ap, ◌∙◌, w32, SFits}
 use Rattle.std.proofs.lemmas.Int.{to_z-of_z}
-use Rattle.zk_model.specs.JuteWriting.{with_length}
-use Rattle.zk_model.specs.Sending.{request_values, request_bytes, request_packet}
-use Rattle.zk_model.proofs.Lengths.{written_can, length-request_bytes}
+use Rattle.zk_jute.specs.JuteWriting.{with_length}
+use Rattle.zk_jute.specs.Sending.{request_values, request_bytes, request_packet}
+use Rattle.zk_jute.proofs.Lengths.{written_can, length-request_bytes}
 use Rattle.zk_wire.proofs.Puts.{frame_is}
 use Rattle.zk_wire.proofs.packets.write_request.Goals as goal
 

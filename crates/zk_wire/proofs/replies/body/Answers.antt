@@ -1,4 +1,4 @@
-use Rattle.zk_model.proofs.ReplyLaws.{content_then_stat, names_then_stat, acl_then_stat}
+use Rattle.zk_jute.proofs.ReplyLaws.{content_then_stat, names_then_stat, acl_then_stat}
 use Rattle.zk_wire.proofs.replies.body.Goals as goal
 
 pub returns-in_ok-stat-in-GetData : goal.returns-in_ok-stat-in-GetData

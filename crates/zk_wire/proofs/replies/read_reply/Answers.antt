@@ -1,9 +1,9 @@
 use Rattle.std.proofs.Common.{rules, arith, ◌≡◌, w32, w64, SFits, drop, sym, ◌∙◌}
 use Rattle.std.proofs.lemmas.Grind.{common_steps}
 use Rattle.std.proofs.lemmas.Int.{to_z-of_z}
-use Rattle.zk_model.specs.JuteReading.{front_int, front_long}
-use Rattle.zk_model.specs.ReplyReading.{read_reply, Unknown, Answers, Unreadable}
-use Rattle.zk_model.proofs.ReplyLaws.{reads_no_header, reads_unknown, reads_answers, reads_unreadable}
+use Rattle.zk_jute.specs.JuteReading.{front_int, front_long}
+use Rattle.zk_jute.specs.ReplyReading.{read_reply, Unknown, Answers, Unreadable}
+use Rattle.zk_jute.proofs.ReplyLaws.{reads_no_header, reads_unknown, reads_answers, reads_unreadable}
 use Rattle.zk_wire.proofs.replies.read_reply.Goals as goal
 
 pub returns-then-frame-lt-HEADER : goal.returns-then-frame-lt-HEADER

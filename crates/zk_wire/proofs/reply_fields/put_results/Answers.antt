@@ -1,5 +1,5 @@
-use Rattle.zk_model.specs.Results.{result_values, last_result}
-use Rattle.zk_model.proofs.Lists.{item_can}
+use Rattle.zk_jute.specs.Results.{result_values, last_result}
+use Rattle.zk_jute.proofs.Lists.{item_can}
 use Rattle.zk_wire.proofs.reply_fields.put_results.Goals as goal
 
 pub put_result-requires : goal.put_result-requires

@@ -1,6 +1,6 @@
 use Rattle.std.proofs.Common.{◌≡◌, take}
 use Rattle.std.specs.List.{flat_map}
-use Rattle.zk_model.specs.Results.{result_values}
+use Rattle.zk_jute.specs.Results.{result_values}
 use Rattle.zk_wire.specs.Putting.{put_all}
 use Rattle.zk_wire.proofs.reply_fields.put_results.Given as goal
 

@@ -1,6 +1,6 @@
-use Rattle.zk_model.specs.Sending.{whole_part, header_values}
+use Rattle.zk_jute.specs.Sending.{whole_part, header_values}
 use Rattle.std.proofs.Common.{negsuc, true}
-use Rattle.zk_model.proofs.Lists.{item_can}
+use Rattle.zk_jute.proofs.Lists.{item_can}
 use Rattle.zk_wire.proofs.request_fields.put_parts.Goals as goal
 
 pub put_part-requires : goal.put_part-requires

@@ -1,6 +1,6 @@
 use Rattle.std.proofs.Common.{◌≡◌, take}
 use Rattle.std.specs.List.{flat_map}
-use Rattle.zk_model.specs.Sending.{whole_part}
+use Rattle.zk_jute.specs.Sending.{whole_part}
 use Rattle.zk_wire.specs.Putting.{put_all}
 use Rattle.zk_wire.proofs.request_fields.put_parts.Given as goal
 

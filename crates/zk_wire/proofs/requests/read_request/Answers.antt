@@ -1,11 +1,11 @@
 use Rattle.std.proofs.Common.{rules, arith, ◌≡◌, w32, SFits, drop, None, Some, Err, sym, ap, ◌∙◌}
 use Rattle.std.proofs.lemmas.Grind.{common_steps}
 use Rattle.std.proofs.lemmas.Int.{to_z-of_z}
-use Rattle.zk_model.specs.Numbers.{opcode_numbered}
-use Rattle.zk_model.specs.JuteReading.{front_int}
-use Rattle.zk_model.specs.Requests.{read_request, whole_at, Unknown, Asks, Unreadable}
-use Rattle.zk_model.proofs.Contents.{contents_within}
-use Rattle.zk_model.proofs.RequestLaws.{reads_no_header, reads_unknown, reads_asks, reads_unreadable}
+use Rattle.zk_jute.specs.Numbers.{opcode_numbered}
+use Rattle.zk_jute.specs.JuteReading.{front_int}
+use Rattle.zk_jute.specs.Requests.{read_request, whole_at, Unknown, Asks, Unreadable}
+use Rattle.zk_jute.proofs.Contents.{contents_within}
+use Rattle.zk_jute.proofs.RequestLaws.{reads_no_header, reads_unknown, reads_asks, reads_unreadable}
 use Rattle.zk_wire.proofs.requests.read_request.Goals as goal
 
 pub returns-then-frame-lt-HEADER : goal.returns-then-frame-lt-HEADER

@@ -1,7 +1,7 @@
 use Rattle.std.proofs.Common.{rules, ◌≡◌, ℕ, List, [], ◌++◌, ◌∙◌}
-use Rattle.zk_model.specs.JuteValues.{Value}
-use Rattle.zk_model.specs.JuteWriting.{canonical}
-use Rattle.zk_model.specs.Records.{stat_values}
+use Rattle.zk_jute.specs.JuteValues.{Value}
+use Rattle.zk_jute.specs.JuteWriting.{canonical}
+use Rattle.zk_jute.specs.Records.{stat_values}
 use Rattle.zk_wire.specs.Putting.{put_all}
 use Rattle.zk_wire.proofs.Puts.{put_all_written}
 use Rattle.zk_wire.proofs.stat_bytes.stat_bytes.Goals as goal

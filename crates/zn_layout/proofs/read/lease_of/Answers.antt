@@ -1,6 +1,6 @@
 use Rattle.std.proofs.Common.{◌++◌, ◌∙◌, sym, ap}
 use Rattle.std.proofs.lemmas.Int.{to_z-of_z}
-use Rattle.zk_model.specs.JuteWriting.{long_bytes}
+use Rattle.zk_jute.specs.JuteWriting.{long_bytes}
 use Rattle.zn_layout.proofs.Leases.{lease_joined}
 use Rattle.zn_layout.proofs.read.lease_of.Goals as goal
 

@@ -1,6 +1,6 @@
 use Rattle.std.proofs.Common.{◌≡◌, ◌∷◌, ◌++◌, length, take}
 use Rattle.std.specs.List.{flat_map}
-use Rattle.zk_model.specs.JuteWriting.{count_bytes}
+use Rattle.zk_jute.specs.JuteWriting.{count_bytes}
 use Rattle.zn_layout.specs.Records.{trigger_bytes}
 use Rattle.zn_layout.proofs.write.write_head.Given as goal
 

@@ -1,7 +1,7 @@
 use Rattle.std.proofs.Common.{◌≡◌, ◌∷◌, ◌++◌, length, take}
 use Rattle.std.specs.List.{flat_map}
-use Rattle.zk_model.specs.JuteWriting.{count_bytes}
-use Rattle.zk_model.specs.JuteWriting.{string_bytes}
+use Rattle.zk_jute.specs.JuteWriting.{count_bytes}
+use Rattle.zk_jute.specs.JuteWriting.{string_bytes}
 use Rattle.zn_layout.proofs.write.write_session.Given as goal
 
 abbrev pub invariant-loop-path : goal.invariant-loop-path

@@ -6,7 +6,7 @@ use Rattle.std.proofs.lemmas.Result.{IfOk-weaker, IfErr-weaker}
 use mir.Val.{SFits}
 use Rattle.zk_model.specs.declared.reply.Reply.TheVariants as reply
 use Rattle.zk_model.specs.declared.request.Part.TheVariants.{Create}
-use Rattle.zk_model.specs.Answers.{refused_reply}
+use Rattle.zk_transcript.specs.Answers.{refused_reply}
 use Rattle.zk_model.specs.Single.{form_refusal}
 use Rattle.zx_base.specs.Maps.{Bytes}
 use Rattle.zn_ops.specs.declared.form.Form.{Form}

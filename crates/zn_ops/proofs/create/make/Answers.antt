@@ -3,7 +3,7 @@ use Rattle.std.proofs.Common.{sym, ◌∙◌, subst, w64, rules, to_z, of_z}
 use Rattle.std.proofs.lemmas.Int.{to_z-of_z}
 use mir.Val.{SFits}
 use Rattle.zk_model.specs.declared.reply.Reply.{Reply}
-use Rattle.zk_model.specs.Packets.{CanBeSent}
+use Rattle.zk_jute.specs.Packets.{CanBeSent}
 use Rattle.zk_model.proofs.ValidPaths.{parent-valid}
 use Rattle.zn_layout.proofs.Paths.{path_short}
 use Rattle.zn_ops.proofs.Committing.{made-allowed, made-step}

@@ -3,7 +3,6 @@ use Rattle.std.proofs.Common.{◌≤◌, sym, subst, false, length, refl}
 use Rattle.std.specs.Prelude.{Option}
 use Rattle.std.proofs.lemmas.Result.{IfOk-weaker, IfErr-weaker}
 use Rattle.zk_model.specs.declared.request.Request.TheVariants as req
-use Rattle.zk_model.specs.Paths.{most_path}
 use Rattle.zx_base.specs.Maps.{Bytes}
 use Rattle.zn_layout.proofs.Paths.{path_short}
 use Rattle.zn_ops.specs.Forms.{IsPathOf}
@@ -11,6 +10,7 @@ use Rattle.zn_ops.specs.Steps.{AnswersByTree}
 use Rattle.zn_ops.proofs.Forms.{data-valid, data-invalid, answers-by-tree}
 use Rattle.zn_ops.proofs.Sizes.{refused-sent}
 use Rattle.zn_ops.proofs.get_data.get_data.Goals as goal
+use Rattle.zk_model.specs.Limits.{max_path}
 
 pub returns-in_default-clause-ok : goal.returns-in_default-clause-ok
 returns-in_default-clause-ok c = λ now. (refl, data-invalid c.args.path.now (subst (λ (o : Option Bytes). IsPathOf o c.args.path.now) c.in_default.is c.in_ok-path.ensures))
@@ -21,7 +21,7 @@ returns-in_default-clause-sent c = refused-sent _
 pub get_data_at-requires : goal.get_data_at-requires
 get_data_at-requires c =
     let path = subst (λ (o : Option Bytes). IsPathOf o c.args.path.now) c.in-Some.is c.in_ok-path.ensures in
-    subst (λ (p : Bytes). length p ≤ most_path) (sym path.0) (path_short c.args.path.now path.1)
+    subst (λ (p : Bytes). length p ≤ max_path) (sym path.0) (path_short c.args.path.now path.1)
 
 pub returns-clause-ok : goal.returns-clause-ok
 returns-clause-ok c =

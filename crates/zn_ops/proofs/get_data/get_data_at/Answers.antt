@@ -6,7 +6,7 @@ use mir.Val.{SFits}
 use Rattle.ev_types.specs.declared.answer.Kv.{Kv}
 use Rattle.ev_types.specs.Store.{present}
 use Rattle.zk_model.specs.declared.reply.Reply.{Reply}
-use Rattle.zk_model.specs.Packets.{CanBeSent}
+use Rattle.zk_jute.specs.Packets.{CanBeSent}
 use Rattle.zn_ops.specs.Views.{found_at}
 use Rattle.zn_ops.proofs.Creating.{zxid-is}
 use Rattle.zn_ops.proofs.Reading.{data-looked}

@@ -1,6 +1,6 @@
 use Rattle.std.proofs.Common.{◌≡◌, subst, arith, rules}
-use Rattle.zk_model.specs.Packets.{reply_packet}
-use Rattle.zk_model.specs.Transcripts.{AreBytes}
+use Rattle.zk_jute.specs.Packets.{reply_packet}
+use Rattle.zt_text.specs.Transcripts.{AreBytes}
 use Rattle.zp_alone.proofs.Linked.{linked_send}
 use Rattle.zp_alone.proofs.answers.push_reply.Goals as goal
 

@@ -1,5 +1,5 @@
 use Rattle.std.proofs.Common.{◌≡◌, ◌≤◌, drop}
-use Rattle.zk_model.specs.Scripts.{decimal_digit, digits_value}
+use Rattle.zt_text.specs.Scripts.{decimal_digit, digits_value}
 use Rattle.zt_text.proofs.argument.number.Given as goal
 
 -- the rest of the digits, behind the value so far, give the number

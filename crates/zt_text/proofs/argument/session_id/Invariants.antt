@@ -1,5 +1,5 @@
 use Rattle.std.proofs.Common.{◌≡◌, ◌^◌, ◌<◌, drop}
-use Rattle.zk_model.specs.Scripts.{hex_digit, digits_value}
+use Rattle.zt_text.specs.Scripts.{hex_digit, digits_value}
 use Rattle.zt_text.proofs.argument.session_id.Given as goal
 
 -- the rest of the digits, behind the value so far, give the number

@@ -1,5 +1,5 @@
 use Rattle.std.proofs.Common.{arith, ne_eqb}
-use Rattle.zk_model.proofs.PieceLaws.{Lacks-all, Lacks-more}
+use Rattle.zt_text.proofs.PieceLaws.{Lacks-all, Lacks-more}
 use Rattle.zt_text.proofs.cut.cut.Goals as goal
 
 pub loop-place-preserved : goal.loop-place-preserved

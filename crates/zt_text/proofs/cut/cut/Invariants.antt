@@ -1,5 +1,5 @@
 use Rattle.std.proofs.Common.{take}
-use Rattle.zk_model.specs.Scripts.{Lacks}
+use Rattle.zt_text.specs.Scripts.{Lacks}
 use Rattle.zt_text.proofs.cut.cut.Given as goal
 
 -- none so far

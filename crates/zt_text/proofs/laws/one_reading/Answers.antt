@@ -1,4 +1,4 @@
-use Rattle.zk_model.proofs.TranscriptLaws.{transcript_text-injective}
+use Rattle.zt_text.proofs.TranscriptLaws.{transcript_text-injective}
 use Rattle.zt_text.proofs.laws.one_reading.Goals as goal
 
 pub returns : goal.returns

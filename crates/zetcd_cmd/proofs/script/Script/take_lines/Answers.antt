@@ -1,6 +1,6 @@
 use Rattle.std.proofs.Common.{◌≡◌, ◌≤◌, ◌++◌, length, refl, ◌∙◌}
 use Rattle.std.proofs.lemmas.Result.{err_from_is_err_and, on_ok_weaker, IfErr-weaker}
-use Rattle.zk_model.specs.Scripts.{most_line}
+use Rattle.zt_text.specs.Scripts.{max_line}
 use Rattle.zetcd_cmd.specs.declared.script.Stop.{Stop}
 use Rattle.zetcd_cmd.specs.Scripting.{IsKeptOut}
 use Rattle.zetcd_cmd.proofs.Progress.{Goes-line, Goes-halts, Goes-begun, Goes-kept_out}
@@ -21,7 +21,7 @@ lines-preserved c = record {
 pub returns-clause-ok : goal.returns-clause-ok
 returns-clause-ok c =
     on_ok_weaker c.keep.result
-    (λ (kept : (c.keep.new.pending.items ≡ c.lines.self.pending.items ++ c.lines.rest.now) × (length c.keep.new.pending.items ≤ most_line)).
+    (λ (kept : (c.keep.new.pending.items ≡ c.lines.self.pending.items ++ c.lines.rest.now) × (length c.keep.new.pending.items ≤ max_line)).
     Goes-begun c.args.self.now c.lines.self _ c.args.bytes.now c.lines.rest.now c.in_default.ensures kept.0 kept.1 refl refl c.lines.invariant.goes)
     c.keep.ensures.ok
 

@@ -1,6 +1,6 @@
 use Rattle.std.proofs.Common.{rules, eqb, false, ◌≡◌, [], ◌++◌, length, refl, sym, ap, ◌∙◌, None}
 use Rattle.std.proofs.lemmas.List.{nil_from_length}
-use Rattle.zk_model.specs.Frames.{bad_length}
+use Rattle.zk_jute.specs.Frames.{bad_length}
 use Rattle.zk_wire.proofs.Pieces.{hands_none, hands_some, not_empty}
 use Rattle.zk_wire.proofs.cutter.Cutter.take_behind.Goals as goal
 

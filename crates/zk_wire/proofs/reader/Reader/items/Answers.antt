@@ -1,5 +1,5 @@
 use Rattle.std.proofs.lemmas.Result.{err_from_is_err_and}
-use Rattle.zk_model.specs.JuteReading.{items_at}
+use Rattle.zk_jute.specs.JuteReading.{items_at}
 use Rattle.zk_wire.proofs.Loop.{goes_on, ends, is_done}
 use Rattle.zk_wire.proofs.reader.Reader.items.Goals as goal
 

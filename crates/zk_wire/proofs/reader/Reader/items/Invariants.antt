@@ -1,6 +1,6 @@
 use Rattle.std.proofs.Common.{◌≡◌, ◌-◌}
-use Rattle.zk_model.specs.JuteReading.{items_at}
-use Rattle.zk_model.proofs.Items.{with_front}
+use Rattle.zk_jute.specs.JuteReading.{items_at}
+use Rattle.zk_jute.proofs.Items.{with_front}
 use Rattle.zk_wire.proofs.reader.Reader.items.Given as goal
 
 abbrev pub invariant-loop : goal.invariant-loop

@@ -1,6 +1,6 @@
 use Rattle.std.proofs.lemmas.Result.{err_from_is_err_and}
-use Rattle.zk_model.specs.JuteReading.{all_until_last}
-use Rattle.zk_model.proofs.Items.{goes_on, is_done}
+use Rattle.zk_jute.specs.JuteReading.{all_until_last}
+use Rattle.zk_jute.proofs.Items.{goes_on, is_done}
 use Rattle.zk_wire.proofs.Loop.{ends_listed}
 use Rattle.zk_wire.proofs.reader.Reader.until_last.Goals as goal
 

@@ -1,6 +1,6 @@
 use Rattle.std.proofs.Common.{length}
-use Rattle.zk_model.specs.JuteReading.{all_until_last}
-use Rattle.zk_model.proofs.Items.{Goes}
+use Rattle.zk_jute.specs.JuteReading.{all_until_last}
+use Rattle.zk_jute.proofs.Items.{Goes}
 use Rattle.zk_wire.proofs.reader.Reader.until_last.Given as goal
 
 abbrev pub invariant-loop-items : goal.invariant-loop-items

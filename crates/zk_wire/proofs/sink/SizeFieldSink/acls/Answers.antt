@@ -1,7 +1,7 @@
 use Rattle.std.proofs.Common.{arith, ◌≡◌, take}
 use Rattle.std.proofs.lemmas.Grind.{common_steps}
-use Rattle.zk_model.specs.JuteWriting.{acl_bytes}
-use Rattle.zk_model.proofs.Lengths.{length-vector_bytes}
+use Rattle.zk_jute.specs.JuteWriting.{acl_bytes}
+use Rattle.zk_jute.proofs.Lengths.{length-vector_bytes}
 use Rattle.zk_wire.proofs.sink.SizeFieldSink.acls.Goals as goal
 
 pub returns : goal.returns

@@ -1,6 +1,6 @@
 use Rattle.std.proofs.Common.{◌≡◌, ◌+◌, length, take}
 use Rattle.std.specs.List.{flat_map}
-use Rattle.zk_model.specs.JuteWriting.{string_bytes}
+use Rattle.zk_jute.specs.JuteWriting.{string_bytes}
 use Rattle.zk_wire.specs.Putting.{counted}
 use Rattle.zk_wire.proofs.sink.SizeFieldSink.ustrings.Given as goal
 

@@ -1,4 +1,4 @@
-use Rattle.zk_model.specs.Records.{stat_values}
+use Rattle.zk_jute.specs.Records.{stat_values}
 use Rattle.zk_wire.proofs.Puts.{put_all_written}
 use Rattle.zk_wire.proofs.writer.WriterFieldSink.stat.Goals as goal
 

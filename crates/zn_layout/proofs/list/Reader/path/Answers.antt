@@ -1,5 +1,5 @@
 use Rattle.std.proofs.Common.{sym, subst}
-use Rattle.zk_model.specs.JuteWriting.{string_bytes}
+use Rattle.zk_jute.specs.JuteWriting.{string_bytes}
 use Rattle.zx_base.specs.Maps.{Bytes}
 use Rattle.zn_layout.specs.ReadingSteps.{IsCounted, IsNotCounted, IsPathOf, IsValidPath, TakesItem}
 use Rattle.zn_layout.proofs.Lists.{path-uncounted, path-short, path-taken, ok_along}

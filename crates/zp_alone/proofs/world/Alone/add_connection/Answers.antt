@@ -1,6 +1,6 @@
 use Rattle.std.proofs.Common.{◌≡◌, ◌++◌, ◌∷◌, [], false, ap, ◌∙◌, rules}
 use Rattle.std.specs.Prelude.{is_some}
-use Rattle.zk_model.specs.declared.transcript.TranscriptLine.TheVariants.{Open}
+use Rattle.zk_transcript.specs.declared.transcript.TranscriptLine.TheVariants.{Open}
 use Rattle.zp_alone.specs.World.{World}
 use Rattle.zp_alone.proofs.Worlds.{world-opened}
 use Rattle.zp_alone.proofs.world.Alone.add_connection.Goals as goal

@@ -2,7 +2,7 @@ use Rattle.std.proofs.Common.{◌≡◌, ◌+◌, ◌≤◌, length, ap, refl, a
 use Rattle.std.specs.List.{AllByRecursion}
 use Rattle.std.proofs.lemmas.Int.{to_z-of_z}
 use Rattle.ev_types.specs.Store.{Store}
-use Rattle.zk_model.specs.Transcripts.{IsWellFormed}
+use Rattle.zt_text.specs.Transcripts.{IsWellFormed}
 use Rattle.zp_alone.specs.Effects.{answer_lines, zxid_of}
 use Rattle.zp_alone.proofs.Answering.{answers-one}
 use Rattle.zp_alone.proofs.Worlds.{world-answered, answers-length, room-left}

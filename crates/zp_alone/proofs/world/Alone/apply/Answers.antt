@@ -1,4 +1,4 @@
-use Rattle.zk_model.specs.declared.script.Why.TheVariants as why
+use Rattle.zt_text.specs.declared.script.Why.TheVariants as why
 use Rattle.zp_alone.proofs.Refusals.{refuses, unbuilt}
 use Rattle.zp_alone.proofs.world.Alone.apply.Goals as goal
 

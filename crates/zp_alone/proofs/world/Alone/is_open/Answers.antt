@@ -1,5 +1,5 @@
 use Rattle.std.proofs.Common.{ap, sym, ◌∙◌}
-use Rattle.zk_model.specs.Runs.{is_open}
+use Rattle.zp_alone.specs.Runs.{is_open}
 use Rattle.zp_alone.specs.World.{World, is_number}
 use Rattle.zp_alone.proofs.world.Alone.is_open.Goals as goal
 

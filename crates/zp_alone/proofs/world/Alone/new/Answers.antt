@@ -1,5 +1,5 @@
 use Rattle.std.proofs.Common.{◌≡◌, ◌∷◌, [], pos, refl, ◌∙◌, w64, to_z, of_z}
-use Rattle.zk_model.specs.Runs.{begin_line}
+use Rattle.zp_alone.specs.Runs.{begin_line}
 use Rattle.zp_alone.proofs.Reaching.{reached-begun}
 use Rattle.zp_alone.proofs.world.Alone.new.Goals as goal
 

@@ -1,5 +1,5 @@
 use Rattle.std.proofs.Common.{◌≡◌, [], false, ap, sym, ◌∙◌, subst}
-use Rattle.zk_model.specs.declared.script.Why.TheVariants as why
+use Rattle.zt_text.specs.declared.script.Why.TheVariants as why
 use Rattle.zp_alone.specs.World.{World}
 use Rattle.zp_alone.specs.Effects.{AnswersNext, AnswersOne, AnswersSome}
 use Rattle.zp_alone.proofs.Kept.{answers-more}

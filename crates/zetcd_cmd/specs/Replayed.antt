@@ -1,0 +1,52 @@
+-- What a replay of an input writes.
+use Rattle.std.specs.Prelude.{◌≡◌, ℕ, ◌+◌, List, [], ◌∷◌, ◌++◌, length, Option, Some, None, Contains}
+use Rattle.zt_text.specs.declared.script.Happening.{Happening}
+use Rattle.zt_text.specs.declared.script.Why.{Why}
+use Rattle.zt_text.specs.declared.script.Unread.{Unread}
+use Rattle.zt_text.specs.Scripts.{script, IsWholeLines}
+use Rattle.zt_text.specs.Transcripts.{transcript_text}
+use Rattle.zt_text.specs.Faults.{why_text, unread_text, done_text, fault_text}
+use Rattle.zp_alone.specs.Runs.{Run, Runs, IsOneRun, why_not}
+
+-- The whole input is a script, and the output is the transcript of a run to which exactly its happenings were applied.
+pub record IsReplayed (input output : List ℕ) : Type 0 where
+  pub happenings : List Happening
+  pub run : Run
+  pub read : script input ≡ (happenings, None)
+  pub runs : Runs happenings run
+  pub one_run : IsOneRun run
+  pub written : output ≡ transcript_text run.lines ++ done_text
+
+-- what stands against the next line: its happening isn't possible, or it can't be read
+abbrev pub StandsAgainst : Run → ℕ → List Happening → Option (ℕ × Unread) → List ℕ → Type 0
+StandsAgainst r n (h ∷ hs) end text = (w : Why) × (why_not r.lines r.clock h ≡ Some w) × (text ≡ why_text w)
+StandsAgainst r n [] end text = (u : Unread) × (end ≡ Some (n, u)) × (text ≡ unread_text u)
+
+-- Line n of the input is the first that can't be read or isn't possible, and the output is the transcript of the lines
+-- before it, with that fault.
+pub record IsStopped (input output : List ℕ) (n : ℕ) : Type 0 where
+  pub before : List Happening
+  pub later : List Happening
+  pub end : Option (ℕ × Unread)
+  pub run : Run
+  pub read : script input ≡ (before ++ later, end)
+  pub number : n ≡ length before + 1
+  pub runs : Runs before run
+  pub one_run : IsOneRun run
+  pub why : List ℕ
+  pub because : StandsAgainst run n later end why
+  pub written : output ≡ transcript_text run.lines ++ fault_text n why
+
+-- The input couldn't be read further: the output is the transcript of the whole lines that were.
+pub record IsCutShort (input output : List ℕ) : Type 0 where
+  pub lines : List ℕ
+  pub rest : List ℕ
+  pub parts : input ≡ lines ++ rest
+  pub whole : IsWholeLines lines
+  pub begun : Contains rest 10 → ⊥
+  pub happenings : List Happening
+  pub run : Run
+  pub read : script lines ≡ (happenings, None)
+  pub runs : Runs happenings run
+  pub one_run : IsOneRun run
+  pub written : output ≡ transcript_text run.lines

@@ -1,0 +1,52 @@
+-- What a frame spells: the wire protocol as relations between records and bytes, with each spelling that a record has.
+use Rattle.std.specs.Prelude.{◌≡◌, ◌≢◌, ℕ, ℤ, pos, Bool, true, false, List, [], ◌∷◌, ◌++◌}
+use Rattle.zk_model.specs.declared.connect.ConnectRequest.{ConnectRequest}
+use Rattle.zk_jute.specs.declared.opcode.Opcode.{Opcode}
+use Rattle.zk_model.specs.declared.reply.Reply.{Reply}
+use Rattle.zk_model.specs.declared.reply.Reply.TheVariants as replies
+use Rattle.zk_model.specs.declared.request.Part.{Part}
+use Rattle.zk_model.specs.declared.request.Request.{Request}
+use Rattle.zk_model.specs.declared.request.Request.TheVariants as requests
+use Rattle.zk_jute.specs.JuteValues.{int, boolean, Spelled, Spells}
+use Rattle.zk_jute.specs.Numbers.{number_of, opcode_of, part_number, part_kind}
+use Rattle.zk_jute.specs.Records.{values_of, part_values}
+use Rattle.zk_jute.specs.Connects.{connect_values}
+use Rattle.zk_jute.specs.Replies.{shape_for, shape_of}
+use Rattle.zk_jute.specs.Packets.{reply_values}
+
+-- items one after the other, and then the last
+abbrev pub IsListed : {A : Type 0} → (A → List ℕ → Type 0) → (List ℕ → Type 0) → List A → List ℕ → Type 0
+IsListed Is IsLast xs bytes = (front : List ℕ) × (last : List ℕ) × Spelled Is xs front × IsLast last × (bytes ≡ front ++ last)
+
+-- a MultiHeader of a request; its error is any number
+abbrev pub IsHeader : ℤ → Bool → List ℕ → Type 0
+IsHeader type last bytes = (err : ℤ) × Spelled Spells (int type ∷ boolean last ∷ int err ∷ []) bytes
+
+abbrev pub IsPart : Part → List ℕ → Type 0
+IsPart part bytes = (header : List ℕ) × (rest : List ℕ) × IsHeader (part_number (part_kind part)) false header × Spelled Spells (part_values part) rest × (bytes ≡ header ++ rest)
+
+-- the last header of a request; its type is any number
+abbrev pub IsLastHeader : List ℕ → Type 0
+IsLastHeader bytes = (type : ℤ) × IsHeader type true bytes
+
+abbrev pub IsAsked : Request → List ℕ → Type 0
+IsAsked (requests.Multi ps) bytes = IsListed IsPart IsLastHeader ps bytes
+IsAsked request bytes = Spelled Spells (values_of request) bytes
+
+-- a frame of a request
+abbrev pub IsRequest : ℤ → Request → List ℕ → Type 0
+IsRequest xid request frame = (header : List ℕ) × (body : List ℕ) × Spelled Spells (int xid ∷ int (number_of (opcode_of request)) ∷ []) header × IsAsked request body × (frame ≡ header ++ body)
+
+-- the first frame of a connection
+abbrev pub IsConnect : ConnectRequest → List ℕ → Type 0
+IsConnect r frame = Spelled Spells (connect_values r) frame
+
+-- a refusal's code is not 0, and a body is of the shape that answers this kind
+abbrev pub Suits : Opcode → Reply → Type 0
+Suits code (replies.Refused err) = err ≢ pos 0
+Suits code (replies.Good body) = shape_of body ≡ shape_for code
+
+-- a frame of a reply to a request of this kind
+pub record IsReply (code : Opcode) (xid zxid : ℤ) (reply : Reply) (frame : List ℕ) : Type 0 where
+  pub suits : Suits code reply
+  pub spelled : Spelled Spells (reply_values xid zxid reply) frame

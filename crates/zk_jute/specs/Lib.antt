@@ -1,0 +1,15 @@
+pub mod JuteValues
+pub mod JuteReading
+pub mod JuteWriting
+pub mod Numbers
+pub mod Records
+pub mod FromValues
+pub mod Requests
+pub mod Grammar
+pub mod Sending
+pub mod Results
+pub mod Replies
+pub mod ReplyReading
+pub mod Connects
+pub mod Frames
+pub mod Packets

@@ -1,0 +1,90 @@
+-- The kinds of requests and of the parts of a multi, and their numbers (`ZooDefs.OpCode`, release 3.4).
+use Rattle.std.specs.Prelude.{ℕ, ◌==◌, ℤ, pos, negsuc, Option, Some, None, if◌then◌else◌}
+use Rattle.zk_jute.specs.declared.opcode.Opcode.{Opcode}
+use Rattle.zk_jute.specs.declared.opcode.Opcode.TheVariants as opcodes
+use Rattle.zk_jute.specs.declared.opcode.PartKind.{PartKind}
+use Rattle.zk_jute.specs.declared.opcode.PartKind.TheVariants as kinds
+use Rattle.zk_model.specs.declared.request.Part.{Part}
+use Rattle.zk_model.specs.declared.request.Part.TheVariants as parts
+use Rattle.zk_model.specs.declared.request.Request.{Request}
+use Rattle.zk_model.specs.declared.request.Request.TheVariants as requests
+
+abbrev pub opcode_of : Request → Opcode
+opcode_of (requests.Create path content acl flags) = opcodes.Create
+opcode_of (requests.Delete path version) = opcodes.Delete
+opcode_of (requests.Exists path watch) = opcodes.Exists
+opcode_of (requests.GetData path watch) = opcodes.GetData
+opcode_of (requests.SetData path content version) = opcodes.SetData
+opcode_of (requests.GetAcl path) = opcodes.GetAcl
+opcode_of (requests.GetChildren path watch) = opcodes.GetChildren
+opcode_of (requests.Sync path) = opcodes.Sync
+opcode_of requests.Ping = opcodes.Ping
+opcode_of (requests.GetChildren2 path watch) = opcodes.GetChildren2
+opcode_of (requests.Check path version) = opcodes.Check
+opcode_of (requests.Multi ps) = opcodes.Multi
+opcode_of (requests.Auth kind scheme auth) = opcodes.Auth
+opcode_of (requests.SetWatches relative exists datas children) = opcodes.SetWatches
+opcode_of requests.Close = opcodes.Close
+
+abbrev pub part_kind : Part → PartKind
+part_kind (parts.Create path content acl flags) = kinds.Create
+part_kind (parts.Delete path version) = kinds.Delete
+part_kind (parts.SetData path content version) = kinds.SetData
+part_kind (parts.Check path version) = kinds.Check
+
+-- a request's type
+abbrev pub number_of : Opcode → ℤ
+number_of opcodes.Create = pos 1
+number_of opcodes.Delete = pos 2
+number_of opcodes.Exists = pos 3
+number_of opcodes.GetData = pos 4
+number_of opcodes.SetData = pos 5
+number_of opcodes.GetAcl = pos 6
+number_of opcodes.GetChildren = pos 8
+number_of opcodes.Sync = pos 9
+number_of opcodes.Ping = pos 11
+number_of opcodes.GetChildren2 = pos 12
+number_of opcodes.Check = pos 13
+number_of opcodes.Multi = pos 14
+number_of opcodes.Auth = pos 100
+number_of opcodes.SetWatches = pos 101
+number_of opcodes.Close = negsuc 10
+
+abbrev pub unsigned_opcode : ℕ → Option Opcode
+unsigned_opcode n =
+    if n == 1 then Some opcodes.Create
+    else (if n == 2 then Some opcodes.Delete
+    else (if n == 3 then Some opcodes.Exists
+    else (if n == 4 then Some opcodes.GetData
+    else (if n == 5 then Some opcodes.SetData
+    else (if n == 6 then Some opcodes.GetAcl
+    else (if n == 8 then Some opcodes.GetChildren
+    else (if n == 9 then Some opcodes.Sync
+    else (if n == 11 then Some opcodes.Ping
+    else (if n == 12 then Some opcodes.GetChildren2
+    else (if n == 13 then Some opcodes.Check
+    else (if n == 14 then Some opcodes.Multi
+    else (if n == 100 then Some opcodes.Auth
+    else (if n == 101 then Some opcodes.SetWatches
+    else None)))))))))))))
+
+-- the kind of request that has this type, if there is one
+abbrev pub opcode_numbered : ℤ → Option Opcode
+opcode_numbered (pos n) = unsigned_opcode n
+opcode_numbered (negsuc n) = if n == 10 then Some opcodes.Close else None
+
+-- the type of a part of a multi
+abbrev pub part_number : PartKind → ℤ
+part_number kinds.Create = pos 1
+part_number kinds.Delete = pos 2
+part_number kinds.SetData = pos 5
+part_number kinds.Check = pos 13
+
+abbrev pub part_numbered : ℤ → Option PartKind
+part_numbered (pos n) =
+    if n == 1 then Some kinds.Create
+    else (if n == 2 then Some kinds.Delete
+    else (if n == 5 then Some kinds.SetData
+    else (if n == 13 then Some kinds.Check
+    else None)))
+part_numbered (negsuc n) = None

@@ -1,0 +1,42 @@
+-- The packets that a server sends: a length, and a reply, a notification or the answer to the connect (zookeeper.jute,
+-- `ReplyHeader`, `WatcherEvent`, `ConnectResponse`).
+use Rattle.std.specs.Prelude.{ℕ, ℤ, pos, negsuc, List, [], ◌∷◌, ◌++◌}
+use Rattle.zk_model.specs.declared.connect.ConnectResponse.{ConnectResponse}
+use Rattle.zk_model.specs.declared.reply.Notice.{Notice}
+use Rattle.zk_model.specs.declared.reply.Reply.{Reply}
+use Rattle.zk_model.specs.declared.reply.Reply.TheVariants as replies
+use Rattle.zk_jute.specs.JuteValues.{Value, int, long, ustring}
+use Rattle.zk_jute.specs.JuteWriting.{written, with_length, FitsLength}
+use Rattle.zk_jute.specs.Connects.{connect_response_values}
+use Rattle.zk_jute.specs.Replies.{body_values}
+
+abbrev pub reply_header : ℤ → ℤ → ℤ → List Value
+reply_header xid zxid err = int xid ∷ long zxid ∷ int err ∷ []
+
+-- a refusal has no body
+abbrev pub reply_values : ℤ → ℤ → Reply → List Value
+reply_values xid zxid (replies.Refused code) = reply_header xid zxid code
+reply_values xid zxid (replies.Good body) = reply_header xid zxid (pos 0) ++ body_values body
+
+abbrev pub reply_bytes : ℤ → ℤ → Reply → List ℕ
+reply_bytes xid zxid reply = written (reply_values xid zxid reply)
+
+unfoldable pub reply_packet : ℤ → ℤ → Reply → List ℕ
+reply_packet xid zxid reply = with_length (reply_bytes xid zxid reply)
+
+-- the length of a reply's frame is the same whatever its xid and zxid
+abbrev pub CanBeSent : Reply → Type 0
+CanBeSent reply = FitsLength (reply_bytes (pos 0) (pos 0) reply)
+
+-- a notification has xid -1, zxid -1, no error, and the state "connected", 3
+abbrev pub notice_values : Notice → List Value
+notice_values n = int (negsuc 0) ∷ long (negsuc 0) ∷ int (pos 0) ∷ int n.kind ∷ int (pos 3) ∷ ustring n.path ∷ []
+
+unfoldable pub notice_packet : Notice → List ℕ
+notice_packet n = with_length (written (notice_values n))
+
+abbrev pub NoticeCanBeSent : Notice → Type 0
+NoticeCanBeSent n = FitsLength (written (notice_values n))
+
+unfoldable pub connect_packet : ConnectResponse → List ℕ
+connect_packet r = with_length (written (connect_response_values r))

@@ -1,0 +1,106 @@
+//! Kinds of requests, and their numbers on the wire (`ZooDefs.OpCode`, release 3.4).
+
+ghost use Rattle.std.specs.Prelude.{◌≡◌};
+ghost use Rattle.zk_jute.specs.Numbers.{number_of, opcode_numbered, part_number, part_numbered};
+
+#[derive(Clone, Copy, Debug, PartialEq, Eq)]
+pub enum Opcode {
+    Create,
+    Delete,
+    Exists,
+    GetData,
+    SetData,
+    GetAcl,
+    GetChildren,
+    Sync,
+    Ping,
+    GetChildren2,
+    Check,
+    Multi,
+    Auth,
+    SetWatches,
+    Close,
+}
+
+impl Opcode {
+    /// The kind that has this number, where one has it.
+    pub fn from_number(number: i32) -> Option<Opcode>
+        ensures { result ≡ opcode_numbered number }
+    {
+        match number {
+            1 => Some(Opcode::Create),
+            2 => Some(Opcode::Delete),
+            3 => Some(Opcode::Exists),
+            4 => Some(Opcode::GetData),
+            5 => Some(Opcode::SetData),
+            6 => Some(Opcode::GetAcl),
+            8 => Some(Opcode::GetChildren),
+            9 => Some(Opcode::Sync),
+            11 => Some(Opcode::Ping),
+            12 => Some(Opcode::GetChildren2),
+            13 => Some(Opcode::Check),
+            14 => Some(Opcode::Multi),
+            100 => Some(Opcode::Auth),
+            101 => Some(Opcode::SetWatches),
+            -11 => Some(Opcode::Close),
+            _ => None,
+        }
+    }
+
+    pub fn number(self) -> i32
+        ensures { result ≡ number_of self }
+    {
+        match self {
+            Opcode::Create => 1,
+            Opcode::Delete => 2,
+            Opcode::Exists => 3,
+            Opcode::GetData => 4,
+            Opcode::SetData => 5,
+            Opcode::GetAcl => 6,
+            Opcode::GetChildren => 8,
+            Opcode::Sync => 9,
+            Opcode::Ping => 11,
+            Opcode::GetChildren2 => 12,
+            Opcode::Check => 13,
+            Opcode::Multi => 14,
+            Opcode::Auth => 100,
+            Opcode::SetWatches => 101,
+            Opcode::Close => -11,
+        }
+    }
+}
+
+/// The kinds of parts of a multi.
+#[derive(Clone, Copy, Debug, PartialEq, Eq)]
+pub enum PartKind {
+    Create,
+    Delete,
+    SetData,
+    Check,
+}
+
+impl PartKind {
+    /// The kind of part that has this number, where one has it.
+    pub fn from_number(number: i32) -> Option<PartKind>
+        ensures { result ≡ part_numbered number }
+    {
+        match number {
+            1 => Some(PartKind::Create),
+            2 => Some(PartKind::Delete),
+            5 => Some(PartKind::SetData),
+            13 => Some(PartKind::Check),
+            _ => None,
+        }
+    }
+
+    pub fn number(self) -> i32
+        ensures { result ≡ part_number self }
+    {
+        match self {
+            PartKind::Create => 1,
+            PartKind::Delete => 2,
+            PartKind::SetData => 5,
+            PartKind::Check => 13,
+        }
+    }
+}

@@ -1,0 +1,10 @@
+pub mod Appending
+pub mod Lookups
+pub mod Walks
+pub mod Longer
+pub mod Placed
+pub mod Quiet
+pub mod Choices
+pub mod Children
+pub mod Owned
+pub mod Sound

@@ -1,0 +1,141 @@
+-- What the service answers to a frame (ZooKeeper API; Programmer's Guide, "ZooKeeper Watches", "ZooKeeper Sessions").
+use Rattle.std.specs.Prelude.{ℕ, ℤ, pos, Bool, not, List, [], length, nat_lt, ◌==◌, if◌then◌else◌, Option, Some, None, bytes_eq, codes}
+use Rattle.zk_model.specs.declared.node.Node.{Node}
+use Rattle.zk_model.specs.declared.reply.Body.{Body}
+use Rattle.zk_model.specs.declared.reply.Body.TheVariants as body
+use Rattle.zk_model.specs.declared.request.Part.TheVariants as part
+use Rattle.zk_model.specs.declared.reply.Reply.{Reply}
+use Rattle.zk_model.specs.declared.reply.Reply.TheVariants as reply
+use Rattle.zk_model.specs.declared.request.Request.{Request}
+use Rattle.zk_model.specs.declared.request.Request.TheVariants as req
+use Rattle.zk_model.specs.declared.reply.Notice.{Notice}
+use Rattle.zk_model.specs.Codes.{marshalling_error, unimplemented, bad_arguments, no_node, session_expired, session_moved, auth_failed, system_error}
+use Rattle.zk_jute.specs.Requests.{Frame, NoHeader, Unreadable, Unknown, Asks}
+use Rattle.zk_jute.specs.Packets.{reply_bytes}
+use Rattle.std.specs.FinMap.{get}
+use Rattle.zk_model.specs.Paths.{is_path}
+use Rattle.zk_model.specs.Znodes.{Tree, stat_of, child_names}
+use Rattle.zk_model.specs.Single.{Outcome, Refused, Done, single, form_refusal}
+use Rattle.zk_model.specs.Multi.{Several, Denied, Codes, All as AllDone, several}
+use Rattle.zk_model.specs.Watches.{Watches, Seen, arm_data, arm_children, set_watches}
+use Rattle.zk_transcript.specs.History.{State, Session, session_at}
+use Rattle.zk_model.specs.Limits.{max_owned, max_parts}
+
+-- ---- answers that need no tree
+
+abbrev pub refused_reply : Option ℤ → Option Reply
+refused_reply None = None
+refused_reply (Some code) = Some (reply.Refused code)
+
+abbrev pub path_reply : List ℕ → Option Reply
+path_reply p = if is_path p then None else Some (reply.Refused bad_arguments)
+
+unfoldable pub plain_request : Request → Option Reply
+plain_request req.Ping = Some (reply.Good body.Empty)
+plain_request (req.Auth kind scheme auth) = Some (if bytes_eq scheme (codes "digest") then reply.Good body.Empty else reply.Refused auth_failed)
+plain_request (req.Multi parts) = if nat_lt max_parts (length parts) then Some (reply.Refused bad_arguments) else None
+plain_request (req.Create p d a f) = refused_reply (form_refusal (part.Create p d a f))
+plain_request (req.Delete p v) = refused_reply (form_refusal (part.Delete p v))
+plain_request (req.SetData p d v) = refused_reply (form_refusal (part.SetData p d v))
+plain_request (req.Check p v) = refused_reply (form_refusal (part.Check p v))
+plain_request (req.Exists p w) = path_reply p
+plain_request (req.GetData p w) = path_reply p
+plain_request (req.GetAcl p) = path_reply p
+plain_request (req.GetChildren p w) = path_reply p
+plain_request (req.GetChildren2 p w) = path_reply p
+plain_request (req.Sync p) = path_reply p
+plain_request (req.SetWatches r e d c) = None
+plain_request req.Close = None
+
+abbrev pub plain_reply : Frame → Option Reply
+plain_reply NoHeader = None
+plain_reply (Unreadable xid place) = Some (reply.Refused marshalling_error)
+plain_reply (Unknown xid kind) = Some (reply.Refused unimplemented)
+plain_reply (Asks xid r) = plain_request r
+
+abbrev pub xid_of : Frame → ℤ
+xid_of NoHeader = pos 0
+xid_of (Unreadable xid place) = xid
+xid_of (Unknown xid kind) = xid
+xid_of (Asks xid r) = xid
+
+-- ---- the session test
+
+abbrev pub session_refusal : ℕ → Option Session → Option Reply
+session_refusal c None = Some (reply.Refused session_expired)
+session_refusal c (Some x) =
+    if x.lapsed then Some (reply.Refused session_expired)
+    else if not (c == x.connection) then Some (reply.Refused session_moved)
+    else None
+
+-- what the state refuses to a session's connection
+abbrev pub state_refusal : State → ℤ → ℕ → Option Reply
+state_refusal s id c = session_refusal c (session_at id s)
+
+-- Until there are sessions nothing is refused so: with sessions it is `state_refusal`.
+abbrev pub session_reply : State → ℤ → ℕ → Option Reply
+session_reply s id c = None
+
+-- ---- reads, and refusals by the tree
+
+-- a reply, the notices that stand before it, and what is armed after it
+pub record Told : Type 0 where
+  pub reply : Reply
+  pub notices : List Notice
+  pub watches : Watches
+
+abbrev pub told : Watches → Reply → Option Told
+told w r = Some (record { reply = r; notices = []; watches = w })
+
+abbrev pub armed_data : Bool → List ℕ → Watches → Watches
+armed_data watch p w = if watch then arm_data w p else w
+
+abbrev pub armed_children : Bool → List ℕ → Watches → Watches
+armed_children watch p w = if watch then arm_children w p else w
+
+-- the answer about the node at p, which arms where the node is there
+abbrev pub about : Watches → Watches → Option Node → (Node → Body) → Option Told
+about armed w None f = told w (reply.Refused no_node)
+about armed w (Some n) f = told armed (reply.Good (f n))
+
+-- a reply's frame is at most what an int counts
+abbrev pub fits_reply : Body → Bool
+fits_reply b = not (nat_lt 2147483647 (length (reply_bytes (pos 0) (pos 0) (reply.Good b))))
+
+abbrev pub listing : Watches → Watches → Option Node → (Node → Body) → Option Told
+listing armed w None f = told w (reply.Refused no_node)
+listing armed w (Some n) f = if fits_reply (f n) then told armed (reply.Good (f n)) else told w (reply.Refused system_error)
+
+-- an update is answered by its refusal here; what succeeds has a line of its own
+abbrev pub refusal_of : Watches → Outcome → Option Told
+refusal_of w (Refused code) = told w (reply.Refused code)
+refusal_of w (Done r t g) = None
+
+abbrev pub checked : Watches → Outcome → Option Told
+checked w (Refused code) = told w (reply.Refused code)
+checked w (Done r t g) = told w (reply.Good body.Empty)
+
+abbrev pub refusal_of_several : Watches → Several → Option Told
+refusal_of_several w (Denied code) = told w (reply.Refused code)
+refusal_of_several w (Codes row) = told w (reply.Good (body.Parts row))
+refusal_of_several w (AllDone rs t g) = None
+
+abbrev pub rearmed : Seen → Option Told
+rearmed s = Some (record { reply = reply.Good body.Empty; notices = s.notices; watches = s.watches })
+
+unfoldable pub tree_reply : Tree → ℤ → Watches → Request → Option Told
+tree_reply t session w (req.Exists p watch) = about (armed_data watch p w) (armed_data watch p w) (get t p) (λ n. body.Stat (stat_of t p n))
+tree_reply t session w (req.GetData p watch) = about (armed_data watch p w) w (get t p) (λ n. body.Content n.content (stat_of t p n))
+tree_reply t session w (req.GetAcl p) = about w w (get t p) (λ n. body.OpenAcl (stat_of t p n))
+tree_reply t session w (req.GetChildren p watch) = listing (armed_children watch p w) w (get t p) (λ n. body.Names (child_names t p))
+tree_reply t session w (req.GetChildren2 p watch) = listing (armed_children watch p w) w (get t p) (λ n. body.NamesStat (child_names t p) (stat_of t p n))
+tree_reply t session w (req.Sync p) = told w (reply.Good (body.Path p))
+tree_reply t session w (req.SetWatches since exists datas children) = rearmed (set_watches t since datas exists children w)
+tree_reply t session w (req.Check p v) = checked w (single t max_owned session (part.Check p v) (pos 0) 0)
+tree_reply t session w (req.Create p d a f) = refusal_of w (single t max_owned session (part.Create p d a f) (pos 0) 0)
+tree_reply t session w (req.Delete p v) = refusal_of w (single t max_owned session (part.Delete p v) (pos 0) 0)
+tree_reply t session w (req.SetData p d v) = refusal_of w (single t max_owned session (part.SetData p d v) (pos 0) 0)
+tree_reply t session w (req.Multi parts) = refusal_of_several w (several t max_owned session parts (pos 0) 0)
+tree_reply t session w req.Ping = None
+tree_reply t session w (req.Auth kind scheme auth) = None
+tree_reply t session w req.Close = None

@@ -1,0 +1,273 @@
+-- Transcripts, their moments, and the state of the service at each (Programmer's Guide, "ZooKeeper Sessions",
+-- "Consistency Guarantees": updates stand in one order, that of their zxids).
+-- A moment is a place between two lines: the number of lines before it.
+use Rattle.std.specs.Prelude.{◌≡◌, ℕ, ℤ, pos, ◌+◌, ◌≤◌, ◌≤ℤ◌, Bool, true, false, ◌&&◌, List, [], ◌∷◌, ◌++◌, length, take, fold, flat_map, Option, Some, None, option_map, option_and_then, if◌then◌else◌, ◌==◌, IsTrue}
+use Rattle.std.specs.Int.{int_max, int_min}
+use Rattle.std.specs.Ordering.{int_cmp}
+use Rattle.zk_model.specs.declared.node.Node.{Node}
+use Rattle.zk_model.specs.declared.reply.Body.{Body}
+use Rattle.zk_model.specs.declared.reply.Body.TheVariants as body
+use Rattle.zk_model.specs.declared.reply.PartResult.{PartResult}
+use Rattle.zk_model.specs.declared.reply.PartResult.TheVariants as result
+use Rattle.zk_model.specs.declared.request.Request.{Request}
+use Rattle.zk_model.specs.declared.request.Request.TheVariants as req
+use Rattle.zk_model.specs.declared.request.Part.TheVariants as part
+use Rattle.zk_model.specs.declared.node.Trigger.{Trigger}
+use Rattle.zk_model.specs.declared.connect.ConnectRequest.{ConnectRequest}
+use Rattle.zk_transcript.specs.declared.transcript.UpdateKind.{UpdateKind}
+use Rattle.zk_transcript.specs.declared.transcript.UpdateKind.TheVariants.{Begin, Session as NewSession, Attach, Asked, Closed, Reaped}
+use Rattle.zk_transcript.specs.declared.transcript.TranscriptLine.{TranscriptLine}
+use Rattle.zk_transcript.specs.declared.transcript.TranscriptLine.TheVariants.{Update, Open, Frame as FrameLine, Lapse}
+use Rattle.zk_jute.specs.Requests.{Frame, NoHeader, Unreadable, Unknown, Asks, read_request}
+use Rattle.zk_jute.specs.Connects.{read_connect}
+use Rattle.std.specs.FinMap.{FinMap, get, insert, remove, empty, entries}
+use Rattle.zx_base.specs.Maps.{Bytes}
+use Rattle.zk_model.specs.Paths.{root, parent, is_path}
+use Rattle.zk_model.specs.Znodes.{Tree, owned, num_children, root_alone}
+use Rattle.zk_model.specs.Single.{single, Outcome, Refused, Done, removed, removal}
+use Rattle.zk_model.specs.Multi.{several, Several, Denied, Codes, All as AllDone}
+use Rattle.zk_model.specs.Limits.{max_creates, max_frame, max_long, max_owned, max_timeout, max_version, min_timeout}
+
+-- ---- what a transcript shows of a connection
+
+-- the first line that shows it
+abbrev pub first_shown : {A : Type 0} → (TranscriptLine → Option A) → List TranscriptLine → Option A
+first_shown show [] = None
+first_shown show (l ∷ ls) = elim (show l) [ Some x ↦ Some x | None ↦ first_shown show ls ]
+
+-- the same, with its place
+abbrev pub first_place : {A : Type 0} → (TranscriptLine → Option A) → ℕ → List TranscriptLine → Option (ℕ × A)
+first_place show k [] = None
+first_place show k (l ∷ ls) = elim (show l) [ Some x ↦ Some (k, x) | None ↦ first_place show (k + 1) ls ]
+
+abbrev pub when : {A : Type 0} → Bool → A → Option A
+when b x = if b then Some x else None
+
+-- the number and the password that a connection offers for a new session
+abbrev pub open_shown : ℕ → TranscriptLine → Option (ℤ × List ℕ)
+open_shown c (Open connection proxy id passwd) = when (c == connection) (id, passwd)
+open_shown c _ = None
+
+abbrev pub opening : ℕ → List TranscriptLine → Option (ℤ × List ℕ)
+opening c lines = first_shown (open_shown c) lines
+
+-- the bytes of a frame; frame 0 is the connect
+abbrev pub frame_shown : ℕ → ℕ → TranscriptLine → Option (List ℕ)
+frame_shown c i (FrameLine connection index zxid bytes) = when ((c == connection) && (i == index)) bytes
+frame_shown c i _ = None
+
+abbrev pub frame : ℕ → ℕ → List TranscriptLine → Option (List ℕ)
+frame c i lines = first_shown (frame_shown c i) lines
+
+abbrev pub connect : ℕ → List TranscriptLine → Option ConnectRequest
+connect c lines = option_and_then read_connect (frame c 0 lines)
+
+abbrev pub asked_in : Frame → Option Request
+asked_in NoHeader = None
+asked_in (Unreadable xid place) = None
+asked_in (Unknown xid kind) = None
+asked_in (Asks xid r) = Some r
+
+-- the request of a frame, where it is readable
+abbrev pub request : ℕ → ℕ → List TranscriptLine → Option Request
+request c i lines = option_and_then (λ bytes. asked_in (read_request bytes)) (frame c i lines)
+
+-- ---- the state
+
+pub record Session : Type 0 where
+  pub passwd : List ℕ
+  pub timeout : ℤ
+  -- the connection that it is attached to, and the zxid of that attachment
+  pub connection : ℕ
+  pub attached : ℤ
+  pub lapsed : Bool
+
+-- by their numbers
+abbrev pub Sessions : Type 0
+Sessions = FinMap int_cmp Session
+
+pub record State : Type 0 where
+  pub tree : Tree
+  -- the zxid of the last update, how many updates there were, and what watches see of the last
+  pub zxid : ℤ
+  pub updates : ℕ
+  pub triggers : List Trigger
+  -- the open sessions
+  pub sessions : Sessions
+
+abbrev pub nothing_yet : State
+nothing_yet = record { tree = empty; zxid = pos 0; updates = 0; triggers = []; sessions = empty }
+
+abbrev pub session_at : ℤ → State → Option Session
+session_at id s = get s.sessions id
+
+abbrev pub is_attached_to : ℕ → ℤ × Session → Bool
+is_attached_to c e = c == e.1.connection
+
+abbrev pub attached_in : ℕ → List (ℤ × Session) → Option (ℤ × Session)
+attached_in c [] = None
+attached_in c (e ∷ es) = if is_attached_to c e then Some e else attached_in c es
+
+-- the session that is attached to a connection
+abbrev pub attached_session : ℕ → State → Option (ℤ × Session)
+attached_session c s = attached_in c (entries s.sessions)
+
+-- Until there are sessions, each connection counts as attached to a session of number 0, which is never lapsed: with sessions
+-- it is `attached_session`.
+abbrev pub session_zero : ℕ → Session
+session_zero c = record { passwd = []; timeout = pos 0; connection = c; attached = pos 0; lapsed = false }
+
+abbrev pub attached : ℕ → State → Option (ℤ × Session)
+attached c s = Some (pos 0, session_zero c)
+
+abbrev pub session_of : ℕ → State → Option ℤ
+session_of c s = option_map (λ (e : ℤ × Session). e.0) (attached c s)
+
+-- ---- what an update does
+
+pub record Commit : Type 0 where
+  pub response : Body
+  pub tree : Tree
+  pub triggers : List Trigger
+
+abbrev pub response_of : PartResult → Body
+response_of (result.Created p) = body.Path p
+response_of result.Deleted = body.Empty
+response_of (result.Set s) = body.Stat s
+response_of result.Checked = body.Empty
+response_of (result.Code c) = body.Empty
+
+abbrev pub commit_single : Outcome → Option Commit
+commit_single (Refused code) = None
+commit_single (Done r t g) = Some (record { response = response_of r; tree = t; triggers = g })
+
+abbrev pub commit_several : Several → Option Commit
+commit_several (Denied code) = None
+commit_several (Codes row) = None
+commit_several (AllDone rs t g) = Some (record { response = body.Parts rs; tree = t; triggers = g })
+
+-- a create, delete, setData or multi that isn't refused
+unfoldable pub commit : Tree → ℕ → ℤ → Request → ℤ → ℕ → Option Commit
+commit t limit session (req.Create p d a f) zxid now = commit_single (single t limit session (part.Create p d a f) zxid now)
+commit t limit session (req.Delete p v) zxid now = commit_single (single t limit session (part.Delete p v) zxid now)
+commit t limit session (req.SetData p d v) zxid now = commit_single (single t limit session (part.SetData p d v) zxid now)
+commit t limit session (req.Multi parts) zxid now = commit_several (several t limit session parts zxid now)
+commit t limit session _ zxid now = None
+
+abbrev pub advanced : State → ℤ → Tree → List Trigger → Sessions → State
+advanced s zxid t triggers sessions = record { tree = t; zxid = zxid; updates = s.updates + 1; triggers = triggers; sessions = sessions }
+
+-- a requested timeout, brought into the service's range
+abbrev pub granted_timeout : ℤ → ℤ
+granted_timeout asked = int_min max_timeout (int_max min_timeout asked)
+
+abbrev pub or_nothing : {A : Type 0} → A → Option A → A
+or_nothing x None = x
+or_nothing x (Some y) = y
+
+abbrev pub new_session : Option (ℤ × List ℕ) → Option ConnectRequest → ℕ → ℤ → Session
+new_session opened asked c zxid = record {
+  passwd = or_nothing [] (option_map (λ (o : ℤ × List ℕ). o.1) opened);
+  timeout = granted_timeout (or_nothing (pos 0) (option_map (λ (r : ConnectRequest). r.timeout) asked));
+  connection = c;
+  attached = zxid;
+  lapsed = false;
+}
+
+abbrev pub with_session : State → ℤ → Session → Sessions
+with_session s id x = insert s.sessions id x
+
+abbrev pub attached_anew : State → ℤ → ℤ → ℕ → Option Session → Sessions
+attached_anew s zxid id c None = s.sessions
+attached_anew s zxid id c (Some x) = with_session s id (record x { connection = c; attached = zxid })
+
+abbrev pub committed : State → ℤ → Option Commit → State
+committed s zxid None = s
+committed s zxid (Some x) = advanced s zxid x.tree x.triggers s.sessions
+
+-- the nodes of a session are removed one by one, at one zxid
+abbrev pub removed_all : Tree → List (List ℕ) → ℤ → Tree
+removed_all t ps zxid = fold (λ u p. removed u p zxid) t ps
+
+abbrev pub session_ended : State → ℤ → ℤ → State
+session_ended s zxid id =
+    let ps = owned s.tree id in
+    advanced s zxid (removed_all s.tree ps zxid) (flat_map removal ps) (remove s.sessions id)
+
+abbrev pub asked_commit : List TranscriptLine → State → ℤ → ℕ → ℕ → ℕ → Option Commit
+asked_commit before s zxid c i now =
+    elim (session_of c s) [
+      | None ↦ None
+      | Some session ↦ elim (request c i before) [ None ↦ None | Some r ↦ commit s.tree max_owned session r zxid now ]
+    ]
+
+unfoldable pub updated : List TranscriptLine → State → ℤ → UpdateKind → State
+updated before s zxid (Begin now) = record { tree = root_alone zxid now; zxid = zxid; updates = 1; triggers = []; sessions = empty }
+updated before s zxid (NewSession id c) = advanced s zxid s.tree [] (with_session s id (new_session (opening c before) (connect c before) c zxid))
+updated before s zxid (Attach id c) = advanced s zxid s.tree [] (attached_anew s zxid id c (session_at id s))
+updated before s zxid (Asked c i now) = committed s zxid (asked_commit before s zxid c i now)
+updated before s zxid (Closed id c i) = session_ended s zxid id
+updated before s zxid (Reaped id) = session_ended s zxid id
+
+abbrev pub lapsed_in : State → ℤ → Option Session → State
+lapsed_in s id None = s
+lapsed_in s id (Some x) = record s { sessions = with_session s id (record x { lapsed = true }) }
+
+-- the state after a line that stands behind these
+abbrev pub change : List TranscriptLine → State → TranscriptLine → State
+change before s (Update u) = updated before s u.zxid u.kind
+change before s (Lapse revision id) = lapsed_in s id (session_at id s)
+change before s _ = s
+
+-- the state after the updates and lapses among these lines
+abbrev pub after_from : List TranscriptLine → State → List TranscriptLine → State
+after_from before s [] = s
+after_from before s (l ∷ ls) = after_from (before ++ l ∷ []) (change before s l) ls
+
+unfoldable pub after : List TranscriptLine → State
+after lines = after_from [] nothing_yet lines
+
+-- the state at a moment
+abbrev pub state_at : List TranscriptLine → ℕ → State
+state_at lines moment = after (take moment lines)
+
+-- ---- sound states: the first update leads to one, and so does each update that is built, from one to the next. No clause says
+-- it of every legal history
+
+-- the parent of a path is there, and is no ephemeral node
+pub record HasParent (t : Tree) (p : Bytes) : Type 0 where
+  pub path : Bytes
+  pub is : parent p ≡ Some path
+  pub node : Node
+  pub there : get t path ≡ Some node
+  pub plain : node.owner ≡ pos 0
+
+pub record HasRoot (t : Tree) : Type 0 where
+  pub node : Node
+  pub there : get t root ≡ Some node
+  pub plain : node.owner ≡ pos 0
+
+-- a node's numbers are in their ranges, and its creates are at least its children
+pub record IsNodeWithin (n : Node) (children : ℕ) : Type 0 where
+  pub counted : pos children ≤ℤ n.creates
+  pub creates : n.creates ≤ℤ max_creates
+  pub version_least : pos 0 ≤ℤ n.version
+  pub version_most : n.version ≤ℤ max_version
+  pub czxid : pos 1 ≤ℤ n.czxid
+  pub pzxid : pos 1 ≤ℤ n.pzxid
+  pub owner : pos 0 ≤ℤ n.owner
+  pub small : length n.content ≤ max_frame
+
+-- the numbers that sessions have
+pub record IsId (id : ℤ) : Type 0 where
+  pub least : pos 1 ≤ℤ id
+  pub most : id ≤ℤ max_long
+
+pub record IsSound (s : State) : Type 0 where
+  pub valid : (p : Bytes) (n : Node) → get s.tree p ≡ Some n → IsTrue (is_path p)
+  pub rooted : HasRoot s.tree
+  pub parents : (p : Bytes) (n : Node) → get s.tree p ≡ Some n → (p ≡ root → ⊥) → HasParent s.tree p
+  pub within : (p : Bytes) (n : Node) → get s.tree p ≡ Some n → IsNodeWithin n (num_children s.tree p)
+  pub numbered : (id : ℤ) (x : Session) → session_at id s ≡ Some x → IsId id
+  pub owners : (p : Bytes) (n : Node) → get s.tree p ≡ Some n → (n.owner ≡ pos 0 → ⊥) → (x : Session) × (session_at n.owner s ≡ Some x)
+  pub limited : (id : ℤ) → pos 1 ≤ℤ id → length (owned s.tree id) ≤ max_owned

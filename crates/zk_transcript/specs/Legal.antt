@@ -1,0 +1,168 @@
+-- Legal histories: each update is one that the service could make in the state before it (Programmer's Guide,
+-- "Consistency Guarantees", "ZooKeeper Sessions").
+use Rattle.std.specs.Prelude.{◌≡◌, ℕ, zero, suc, ℤ, pos, ◌<◌, ◌≤◌, Bool, true, false, not, ◌&&◌, List, [], ◌∷◌, ◌++◌, length, nat_lt, nat_le, ◌==◌, int_lt, int_le, Option, Some, None, is_some, is_none, option_map, bytes_eq, slice_get, slice_index_or}
+use Rattle.std.specs.List.{list_all}
+use Rattle.std.specs.Ordering.{int_eq}
+use Rattle.zk_model.specs.declared.request.Request.{Request}
+use Rattle.zk_model.specs.declared.request.Request.TheVariants as req
+use Rattle.zk_model.specs.declared.connect.ConnectRequest.{ConnectRequest}
+use Rattle.zk_transcript.specs.declared.transcript.UpdateKind.{UpdateKind}
+use Rattle.zk_transcript.specs.declared.transcript.UpdateKind.TheVariants.{Begin, Session as NewSession, Attach, Asked, Closed, Reaped}
+use Rattle.zk_transcript.specs.declared.transcript.TranscriptLine.{TranscriptLine}
+use Rattle.zk_transcript.specs.declared.transcript.TranscriptLine.TheVariants.{Update}
+use Rattle.zk_transcript.specs.History.{State, Session, nothing_yet, session_at, attached, opening, connect, frame, request, first_place, frame_shown, when, asked_commit, change}
+use Rattle.zk_model.specs.Limits.{max_frame, max_long, max_parts}
+-- the connection of a Session or Attach line; its place, with the zxid and the session
+abbrev pub attach_in : ℕ → ℤ → UpdateKind → Option (ℤ × ℤ)
+attach_in c zxid (NewSession id connection) = when (c == connection) (zxid, id)
+attach_in c zxid (Attach id connection) = when (c == connection) (zxid, id)
+attach_in c zxid _ = None
+
+abbrev pub attach_shown : ℕ → TranscriptLine → Option (ℤ × ℤ)
+attach_shown c (Update u) = attach_in c u.zxid u.kind
+attach_shown c _ = None
+
+abbrev pub attach_of : ℕ → List TranscriptLine → Option (ℕ × ℤ × ℤ)
+attach_of c lines = option_map (λ (x : ℕ × (ℤ × ℤ)). (x.0, x.1.0, x.1.1)) (first_place (attach_shown c) 0 lines)
+
+-- a frame that is there, within the limit
+abbrev pub is_small_frame : Option (List ℕ) → Bool
+is_small_frame None = false
+is_small_frame (Some bytes) = nat_le (length bytes) max_frame
+
+-- c has no session yet, and its connect has seen less than this zxid
+abbrev pub may_attach : List TranscriptLine → ℕ → ℤ → Option ConnectRequest → Bool
+may_attach before c zxid None = false
+may_attach before c zxid (Some r) = is_none (attach_of c before) && is_small_frame (frame c 0 before) && int_lt r.last_zxid zxid
+
+abbrev pub offers : ℤ → Option (ℤ × List ℕ) → Bool
+offers id None = false
+offers id (Some o) = int_eq id o.0
+
+abbrev pub asks_anew : Option ConnectRequest → Bool
+asks_anew None = false
+asks_anew (Some r) = int_eq r.session (pos 0)
+
+-- the session is open, isn't lapsed, and the connect names it with its password
+abbrev pub is_resumed_by : ℤ → Option ConnectRequest → Option Session → Bool
+is_resumed_by id None o = false
+is_resumed_by id (Some r) None = false
+is_resumed_by id (Some r) (Some x) = int_eq id r.session && bytes_eq r.passwd x.passwd && not x.lapsed
+
+-- the connection is the one to which a live session is attached
+abbrev pub is_live : Option (ℤ × Session) → Bool
+is_live None = false
+is_live (Some e) = not e.1.lapsed
+
+abbrev pub is_live_as : ℤ → Option (ℤ × Session) → Bool
+is_live_as id None = false
+is_live_as id (Some e) = int_eq id e.0 && not e.1.lapsed
+
+abbrev pub is_within_parts : Option Request → Bool
+is_within_parts (Some (req.Multi parts)) = nat_le (length parts) max_parts
+is_within_parts _ = true
+
+abbrev pub is_close : Option Request → Bool
+is_close (Some req.Close) = true
+is_close _ = false
+
+abbrev pub is_lapsed : Option Session → Bool
+is_lapsed None = false
+is_lapsed (Some x) = x.lapsed
+
+-- the numbers that sessions have
+abbrev pub is_id : ℤ → Bool
+is_id id = int_lt (pos 0) id && int_le id max_long
+
+-- the condition of each kind of update in the state before it
+unfoldable pub may_update : List TranscriptLine → State → ℤ → UpdateKind → Bool
+may_update before s zxid (Begin now) = s.updates == 0
+may_update before s zxid (NewSession id c) =
+    is_none (session_at id s) && is_id id && offers id (opening c before) && asks_anew (connect c before) && may_attach before c zxid (connect c before)
+may_update before s zxid (Attach id c) = is_resumed_by id (connect c before) (session_at id s) && may_attach before c zxid (connect c before)
+may_update before s zxid (Asked c i now) =
+    is_live (attached c s) && nat_lt 0 i && is_small_frame (frame c i before) && is_within_parts (request c i before) && is_some (asked_commit before s zxid c i now)
+may_update before s zxid (Closed id c i) =
+    is_id id && is_live_as id (attached c s) && nat_lt 0 i && is_small_frame (frame c i before) && is_close (request c i before)
+may_update before s zxid (Reaped id) = is_lapsed (session_at id s)
+
+-- zxids rise, from 1 on, and each is a `long` (jute)
+abbrev pub is_next_zxid : ℤ → ℤ → Bool
+is_next_zxid last zxid = int_lt last zxid && int_le zxid max_long
+
+abbrev pub is_legal_line : List TranscriptLine → State → TranscriptLine → Bool
+is_legal_line before s (Update u) = may_update before s u.zxid u.kind && is_next_zxid s.zxid u.zxid
+is_legal_line before s _ = true
+
+abbrev pub is_legal_from : List TranscriptLine → State → List TranscriptLine → Bool
+is_legal_from before s [] = true
+is_legal_from before s (l ∷ ls) = is_legal_line before s l && is_legal_from (before ++ l ∷ []) (change before s l) ls
+
+abbrev pub is_begin : UpdateKind → Bool
+is_begin (Begin now) = true
+is_begin _ = false
+
+-- the first line is the store's first update
+abbrev pub begins : List TranscriptLine → Bool
+begins (Update u ∷ ls) = is_begin u.kind
+begins _ = false
+
+-- the first line is Begin, no other is, and every line is legal where it stands
+unfoldable pub is_legal : List TranscriptLine → Bool
+is_legal lines = begins lines && is_legal_from [] nothing_yet lines
+
+-- ---- a session's requests are carried out in order, each at most once
+
+abbrev pub index_in : ℕ → UpdateKind → Option ℕ
+index_in c (Asked connection i now) = when (c == connection) i
+index_in c (Closed id connection i) = when (c == connection) i
+index_in c _ = None
+
+abbrev pub index_shown : ℕ → TranscriptLine → Option ℕ
+index_shown c (Update u) = index_in c u.kind
+index_shown c _ = None
+
+-- the request of c that this line carries out comes after those before
+abbrev pub is_below : ℕ → Option ℕ → Bool
+is_below i None = true
+is_below i (Some j) = nat_lt j i
+
+abbrev pub follows : List TranscriptLine → ℕ → Option ℕ → Bool
+follows before c None = true
+follows before c (Some i) = list_all (λ l. is_below i (index_shown c l)) before
+
+abbrev pub carrier : TranscriptLine → Option ℕ
+carrier (Update u) = elim u.kind [ Begin n ↦ None | NewSession i c ↦ None | Attach i c ↦ None | Asked c i n ↦ Some c | Closed s c i ↦ Some c | Reaped i ↦ None ]
+carrier _ = None
+
+abbrev pub is_in_order : List TranscriptLine → TranscriptLine → Bool
+is_in_order before l = elim (carrier l) [ None ↦ true | Some c ↦ follows before c (index_shown c l) ]
+
+abbrev pub is_ordered_from : List TranscriptLine → List TranscriptLine → Bool
+is_ordered_from before [] = true
+is_ordered_from before (l ∷ ls) = is_in_order before l && is_ordered_from (before ++ l ∷ []) ls
+
+unfoldable pub is_ordered : List TranscriptLine → Bool
+is_ordered lines = is_ordered_from [] lines
+
+-- ---- the clock of a script: the moment of an update was the clock's at a script line between its frame's and its own
+
+-- the clock and the number of lines as a script line left them
+pub record Tick : Type 0 where
+  pub clock : ℕ
+  pub lines : ℕ
+
+-- how many lines stood before the script line at a place
+abbrev pub lines_before : List Tick → ℕ → ℕ
+lines_before ticks k = elim k [ zero ↦ 0 | suc j ↦ (slice_index_or ticks j (record { clock = 0; lines = 0 })).lines ]
+
+-- some script line, not before the one that gave the line at `first` and not after the one that gave the line at `last`
+abbrev pub IsClockBetween : List Tick → ℕ → ℕ → ℕ → Type 0
+IsClockBetween ticks first last now = (k : ℕ) × (t : Tick) × (slice_get ticks k ≡ Some t) × (t.clock ≡ now) × (first < t.lines) × (lines_before ticks k ≤ last)
+
+abbrev pub frame_place : ℕ → ℕ → List TranscriptLine → Option ℕ
+frame_place c i lines = option_map (λ (x : ℕ × List ℕ). x.0) (first_place (frame_shown c i) 0 lines)
+
+-- each moment that the transcript shows is one of the script's clock
+abbrev pub IsPunctual : List Tick → List TranscriptLine → Type 0
+IsPunctual ticks lines = (place first c i now : ℕ) (zxid : ℤ) → slice_get lines place ≡ Some (Update (record { zxid = zxid; kind = Asked c i now })) → frame_place c i lines ≡ Some first → IsClockBetween ticks first place now

@@ -1,0 +1,4 @@
+pub mod History
+pub mod Legal
+pub mod Answers
+pub mod Conversations

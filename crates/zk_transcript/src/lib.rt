@@ -1,0 +1,10 @@
+//! Transcripts of the service and what they mean: the lines as Rust types, and in `specs/` the definitions that the
+//! statement about a run is made of.
+//!
+//! In reading order: `History` (the state of the service at each moment of a transcript), `Legal` (the updates are one run
+//! of the machine), `Answers` (what a request is answered in a state), `Conversations` (what a connection may be sent).
+#![tactic(auto)]
+
+mod transcript;
+
+pub use transcript::{Cause, Conversation, Ended, TranscriptLine, UpdateKind, UpdateRec};
