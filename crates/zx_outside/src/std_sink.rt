@@ -13,8 +13,8 @@ use std::io;
 use std::io::Write;
 use std::marker::Model;
 
-/// A writer of `std`, as it is called here: each writer is one.
-pub trait Writer {
+/// A writer of `std`, of which this crate sees single calls. Each writer is one.
+pub trait SingleWrite {
     // The bytes that it holds, where they are known.
     ghost held: { Self → Option (List ℕ) };
 
@@ -25,29 +25,29 @@ pub trait Writer {
     ghost flushed: { Self → Self → Result (Unit {0}) Error → Type 0 };
 
     /// Writes once.
-    fn call(&mut self, piece: &[u8]) -> io::Result<usize>
+    fn single_write(&mut self, piece: &[u8]) -> io::Result<usize>
         ensures bound { WritesAtMost result piece.now }
         ensures bytes { WriteAppends (held self.old) (held self.new) result piece.now }
         ensures call { wrote self.old self.new piece.now result };
 
     /// Flushes once.
-    fn settle(&mut self) -> io::Result<()>
+    fn single_flush(&mut self) -> io::Result<()>
         ensures bytes { Keeps (held self.old) (held self.new) }
         ensures call { flushed self.old self.new result };
 }
 
-impl<W: Write> Writer for W {
+impl<W: Write> SingleWrite for W {
     ghost held = { W.contents };
 
     ghost wrote = { λ old new piece outcome. WriteAppends (W.contents old) (W.contents new) outcome piece };
 
     ghost flushed = { λ old new _. Keeps (W.contents old) (W.contents new) };
 
-    fn call(&mut self, piece: &[u8]) -> io::Result<usize> {
+    fn single_write(&mut self, piece: &[u8]) -> io::Result<usize> {
         self.write(piece)
     }
 
-    fn settle(&mut self) -> io::Result<()> {
+    fn single_flush(&mut self) -> io::Result<()> {
         self.flush()
     }
 }
@@ -70,7 +70,7 @@ impl<W> Model for StdSink<W> {
     ghost view = { λ s. record { writer = s.inner; counts = record { faults = s.faults } } };
 }
 
-impl<W: Writer> StdSink<W> {
+impl<W: SingleWrite> StdSink<W> {
     /// A sink over this writer.
     pub fn new(inner: W) -> StdSink<W>
         ensures writer { result.writer ≡ inner }
@@ -101,20 +101,20 @@ fn judge_flush(count: usize, outcome: io::Result<()>) -> Took
 }
 
 /// Writes once, and flushes once what was taken.
-fn write_through<W: Writer>(inner: &mut W, piece: &[u8]) -> Took
+fn write_through<W: SingleWrite>(inner: &mut W, piece: &[u8]) -> Took
     requires { 0 < length piece.now }
     ensures size { FitsPiece result (length piece.now) }
     ensures calls { AnswersWrite (λ old new outcome. W.wrote old new piece.now outcome)
         W.flushed inner.old inner.new result }
     ensures bytes { PassesWrite result piece.now (W.held inner.old) (W.held inner.new) }
 {
-    match judge_write(inner.call(piece)) {
-        Took::Bytes(count) => judge_flush(count, inner.settle()),
+    match judge_write(inner.single_write(piece)) {
+        Took::Bytes(count) => judge_flush(count, inner.single_flush()),
         Took::Failed => Took::Failed,
     }
 }
 
-impl<W: Writer> Sink for StdSink<W> {
+impl<W: SingleWrite> Sink for StdSink<W> {
     ghost use Rattle.std.specs.Prelude.{◌≡◌, ◌<◌, length, None};
     ghost use Rattle.zx_outside.specs.Adapters.{AnswersWrite, PassesWrite};
     ghost use Rattle.zx_outside.specs.Writing.{FitsPiece, Writes, counts_after_write};

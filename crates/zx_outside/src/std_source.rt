@@ -12,8 +12,8 @@ use std::io;
 use std::io::{ErrorKind, Read};
 use std::marker::Model;
 
-/// A reader of `std`, as it is called here: each reader is one.
-pub trait Reader {
+/// A reader of `std`, of which this crate sees single calls. Each reader is one.
+pub trait SingleRead {
     // The bytes that are left, where they are known.
     ghost unread: { Self → Option (List ℕ) };
 
@@ -21,18 +21,18 @@ pub trait Reader {
     ghost gave: { Self → Self → List ℕ → Result ℕ Error → Type 0 };
 
     /// Calls the reader once.
-    fn call(&mut self, buf: &mut [u8]) -> io::Result<usize>
+    fn single_read(&mut self, buf: &mut [u8]) -> io::Result<usize>
         ensures bound { ReadsAtMost result buf.new }
         ensures bytes { ReadConsumes (unread self.old) (unread self.new) result buf.new }
         ensures call { gave self.old self.new buf.new result };
 }
 
-impl<R: Read> Reader for R {
+impl<R: Read> SingleRead for R {
     ghost unread = { R.remaining };
 
     ghost gave = { λ old new buf outcome. ReadConsumes (R.remaining old) (R.remaining new) outcome buf };
 
-    fn call(&mut self, buf: &mut [u8]) -> io::Result<usize> {
+    fn single_read(&mut self, buf: &mut [u8]) -> io::Result<usize> {
         self.read(buf)
     }
 }
@@ -41,14 +41,14 @@ impl<R: Read> Reader for R {
 /// is an idle turn: a reader with a read timeout answers so when its time has passed. Every other error is a fault,
 /// `TimedOut` too, by which a socket says that its peer is gone. After the reader's end it is not called any more.
 #[derive(Drop)]
-pub struct StdSource<R: Reader> {
+pub struct StdSource<R: SingleRead> {
     inner: R,
     ended: bool,
     faults: u64,
     idles: u64,
 }
 
-impl<R: Reader> Model for StdSource<R> {
+impl<R: SingleRead> Model for StdSource<R> {
     ghost use Rattle.std.specs.Prelude.{◌≡◌, true};
     ghost use Rattle.std.specs.Io.KnownBytes.{IsAtEnd};
     ghost use Rattle.zx_outside.specs.Adapters.{OverReader};
@@ -64,7 +64,7 @@ impl<R: Reader> Model for StdSource<R> {
     ghost invariant = { λ s. s.ended ≡ true → IsAtEnd (R.unread s.inner) };
 }
 
-impl<R: Reader> StdSource<R> {
+impl<R: SingleRead> StdSource<R> {
     /// A source over this reader.
     pub fn new(inner: R) -> StdSource<R>
         ensures reader { result.reader ≡ inner }
@@ -100,7 +100,7 @@ fn judge(outcome: io::Result<usize>) -> Got
     }
 }
 
-impl<R: Reader> Source for StdSource<R> {
+impl<R: SingleRead> Source for StdSource<R> {
     ghost use Rattle.std.specs.Prelude.{◌≡◌, ◌<◌, length, None, true, false};
     ghost use Rattle.zx_outside.specs.Adapters.{AnswersRead, PassesRead};
     ghost use Rattle.zx_outside.specs.Reading.{FitsBuffer, Reads, EndsForGood, counts_after_read};
@@ -130,7 +130,7 @@ impl<R: Reader> Source for StdSource<R> {
         if self.ended {
             return Got::End;
         }
-        let answer = judge(self.inner.call(buf));
+        let answer = judge(self.inner.single_read(buf));
         match answer {
             Got::Bytes(_) => {}
             Got::End => self.ended = true,
