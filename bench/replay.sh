@@ -1,10 +1,11 @@
 #!/usr/bin/env bash
 # How long a replay takes, and how much memory: N creates and N reads on one connection, and scripts of tick lines, which
-# show that reading a script is linear and keeps one line. Prints seconds and peak kilobytes; asserts nothing.
+# show that reading a script is linear and keeps one line. Prints seconds and peak kilobytes, and fails where a peak is above
+# its bound or a status is another one. Of time it asserts nothing.
 # The store of this stage folds its revisions at each ask, so creates and reads cost N * N.
 set -eu
 here=$(cd "$(dirname "$0")/.." && pwd)
-program=$here/crates/zetcd_cmd/out/zetcd_cmd
+program=$here/crates/zetcd/out/zetcd
 [ -x "$program" ] || "$here/run" replay </dev/null >/dev/null
 work=$(mktemp -d)
 trap 'rm -rf "$work"' EXIT
@@ -36,30 +37,35 @@ sys.stdout.write("tick 1\n" * (n // 7))
 P
 }
 
-measure() { # measure LABEL SCRIPT
-  python3 - "$program" "$1" "$2" <<'P'
+failed=0
+
+measure() { # measure LABEL SCRIPT STATUS BOUND: the peak may have so many kilobytes
+  python3 - "$program" "$@" <<'P' || failed=1
 import resource, subprocess, sys, time
-program, label, script = sys.argv[1:]
+program, label, script, wanted, bound = sys.argv[1:]
 start = time.time()
 with open(script) as source:
     status = subprocess.run([program, "replay"], stdin=source, stdout=subprocess.DEVNULL).returncode
 seconds = time.time() - start
 peak = resource.getrusage(resource.RUSAGE_CHILDREN).ru_maxrss
-print("%-28s status %d  %8.2f s  %9d kB" % (label, status, seconds, peak))
+good = status == int(wanted) and peak <= int(bound)
+print("%-28s status %d  %8.2f s  %9d kB of %s%s" % (label, status, seconds, peak, bound, "" if good else "  FAILED"))
+sys.exit(0 if good else 1)
 P
 }
 
 for n in 250 500 1000; do
   creates "$n" >"$work/script"
-  measure "$n creates and reads" "$work/script"
+  measure "$n creates and reads" "$work/script" 0 "$((8192 + 16 * n))"
 done
 for n in 10000000 50000000; do
   ticks "$n" >"$work/script"
-  measure "$n bytes of ticks" "$work/script"
+  measure "$n bytes of ticks" "$work/script" 0 8192
 done
 # the longest script ends with status 0, and one byte more with status 3
 ticks 99999984 >"$work/script"
 printf 'tick 10\ntick 10\n' >>"$work/script"
-measure "100000000 bytes of ticks" "$work/script"
+measure "100000000 bytes of ticks" "$work/script" 0 8192
 printf 't' >>"$work/script"
-measure "100000001 bytes" "$work/script"
+measure "100000001 bytes" "$work/script" 3 8192
+exit "$failed"

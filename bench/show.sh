@@ -1,10 +1,10 @@
 #!/usr/bin/env bash
 # How fast `zetcd show` is, and how much memory it takes: a stream of 95 MB of mixed requests, beside `xxd -p` of the same
-# file. Prints the best of five runs of each in seconds, and ours in peak kilobytes; then a stream of 100,000,001 bytes.
-# Asserts nothing.
+# file. Prints the best of five runs of each in seconds, and the peak kilobytes; then a stream of 100,000,001 bytes. Fails where
+# our peak is above its bound: a frame, a piece and the text of a piece, and not the stream. Of time it asserts nothing.
 set -eu
 here=$(cd "$(dirname "$0")/.." && pwd)
-program=$here/crates/zetcd_cmd/out/zetcd_cmd
+program=$here/crates/zetcd/out/zetcd
 [ -x "$program" ] || "$here/run" show </dev/null >/dev/null
 command -v xxd >/dev/null || { echo "show.sh: xxd is not on the path" >&2; exit 1; }
 work=$(mktemp -d)
@@ -59,10 +59,12 @@ with open(name, "wb") as out:
 P
 }
 
-measure() { # measure LABEL COMMAND..: the least seconds of five runs, and the peak kilobytes
-  python3 - "$work/stream" "$@" <<'P'
+failed=0
+
+measure() { # measure LABEL BOUND COMMAND..: the least seconds of five runs, and the peak, which may have so many kilobytes
+  python3 - "$work/stream" "$@" <<'P' || failed=1
 import resource, subprocess, sys, time
-name, label, command = sys.argv[1], sys.argv[2], sys.argv[3:]
+name, label, bound, command = sys.argv[1], sys.argv[2], int(sys.argv[3]), sys.argv[4:]
 best = None
 for _ in range(5):
     with open(name, "rb") as source:
@@ -71,14 +73,16 @@ for _ in range(5):
         seconds = time.time() - start
     best = seconds if best is None else min(best, seconds)
 peak = resource.getrusage(resource.RUSAGE_CHILDREN).ru_maxrss
-print("%-24s status %d  %6.2f s  %8d kB" % (label, status, best, peak))
+print("%-24s status %d  %6.2f s  %8d kB of %d%s" % (label, status, best, peak, bound, "" if peak <= bound else "  FAILED"))
+sys.exit(0 if peak <= bound else 1)
 P
 }
 
 stream 95000000
-measure "zetcd show" "$program" show
-measure "xxd -p" xxd -p
+measure "zetcd show" 8192 "$program" show
+measure "xxd -p" 1000000 xxd -p
 "$program" show <"$work/stream" | tail -n 1
 stream 100000001
-measure "one byte too long" "$program" show
+measure "one byte too long" 8192 "$program" show
 "$program" show <"$work/stream" | tail -n 1
+exit "$failed"
