@@ -11,9 +11,11 @@ pub mod Histories
 pub mod Prefixes
 pub mod Ordered
 pub mod Zxids
+pub mod UpdateCounts
 pub mod SessionMaps
 pub mod SoundTrees
 pub mod SoundEffects
 pub mod SoundSessions
 pub mod SoundHistories
 pub mod Attachments
+pub mod Requests
