@@ -7,4 +7,15 @@ pub mod Quiet
 pub mod Choices
 pub mod Children
 pub mod Owned
-pub mod Sound
+pub mod Histories
+pub mod Prefixes
+pub mod Ordered
+pub mod Zxids
+pub mod UpdateCounts
+pub mod SessionMaps
+pub mod SoundTrees
+pub mod SoundEffects
+pub mod SoundSessions
+pub mod SoundHistories
+pub mod Attachments
+pub mod Requests

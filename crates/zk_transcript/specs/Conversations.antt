@@ -23,7 +23,7 @@ use Rattle.zk_jute.specs.Requests.{Frame, NoHeader, Unreadable, Unknown, Asks, r
 use Rattle.zk_jute.specs.Packets.{reply_packet, notice_packet, connect_packet}
 use Rattle.zk_model.specs.Watches.{Watches, no_watches, is_unarmed, fire_all}
 use Rattle.zk_transcript.specs.History.{State, Session, session_at, after, state_at, first_place, when, frame_shown, connect, Commit, asked_commit, asked_in}
-use Rattle.zk_transcript.specs.Legal.{attach_of, index_shown, is_below}
+use Rattle.zk_transcript.specs.Legal.{Attachment, attach_of, index_shown, is_below}
 use Rattle.zk_transcript.specs.Answers.{Told, plain_reply, session_reply, tree_reply, xid_of}
 
 -- ---- updates and frames in a transcript, by their lines' places
@@ -293,10 +293,10 @@ abbrev pub IsRefused : List TranscriptLine → ℕ → Due → Option (ℕ × Li
 IsRefused lines c p (Some f) (Some r) = (m : ℕ) × (f.0 < m) × (m ≤ p.0) × IsTrue (may_refuse r (state_at lines m)) × (p.1 ≡ connect_packet (refusal r))
 IsRefused lines c p _ _ = ⊥
 
-abbrev pub IsAnsweredAs : List TranscriptLine → ℕ → Due → List Due → Option (ℕ × ℤ × ℤ) → Type 0
+abbrev pub IsAnsweredAs : List TranscriptLine → ℕ → Due → List Due → Option (ℕ × Attachment) → Type 0
 IsAnsweredAs lines c p ps None = IsRefused lines c p (placed_frame c 0 lines) (connect c lines) × (ps ≡ [])
 IsAnsweredAs lines c p ps (Some a) =
-    IsWelcomed lines c a.0 a.2 p (connect c lines) (session_at a.2 (state_at lines (a.0 + 1))) × IsWalk lines c a.2 a.1 (a.0 + 1) ps
+    IsWelcomed lines c a.0 a.1.session p (connect c lines) (session_at a.1.session (state_at lines (a.0 + 1))) × IsWalk lines c a.1.session a.1.zxid (a.0 + 1) ps
 
 abbrev pub IsAnswered : List TranscriptLine → ℕ → List Due → Type 0
 IsAnswered lines c [] = ⊤

@@ -5,6 +5,12 @@
 //! of the machine), `Answers` (what a request is answered in a state), `Conversations` (what a connection may be sent).
 #![tactic(auto)]
 
+mod laws;
 mod transcript;
 
+pub use laws::{
+    alive_since_own_line, attached_by_own_line, attached_last, attached_since_own_line,
+    attached_to_own_line, legal_histories_are_bounded, legal_histories_are_sound,
+    requests_are_carried_out_in_order, updates_are_counted, zxids_rise,
+};
 pub use transcript::{Cause, Conversation, Ended, TranscriptLine, UpdateKind, UpdateRec};
