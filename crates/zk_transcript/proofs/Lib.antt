@@ -8,4 +8,13 @@ pub mod Choices
 pub mod Unarmed
 pub mod Children
 pub mod Owned
-pub mod Sound
+pub mod Histories
+pub mod Prefixes
+pub mod Ordered
+pub mod Zxids
+pub mod SessionMaps
+pub mod SoundTrees
+pub mod SoundEffects
+pub mod SoundSessions
+pub mod SoundHistories
+pub mod Attachments

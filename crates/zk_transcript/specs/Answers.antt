@@ -18,8 +18,8 @@ use Rattle.zk_model.specs.Znodes.{Tree, stat_of, child_names}
 use Rattle.zk_model.specs.Single.{Outcome, Refused, Done, single, form_refusal}
 use Rattle.zk_model.specs.Multi.{Several, Denied, Codes, All as AllDone, several}
 use Rattle.zk_model.specs.Watches.{Watches, Seen, arm_data, arm_children, set_watches}
-use Rattle.zk_transcript.specs.History.{State, Session, session_zero}
-use Rattle.zk_model.specs.Limits.{max_owned, max_parts}
+use Rattle.zk_transcript.specs.History.{State, Session, session_zero, limit_of}
+use Rattle.zk_model.specs.Limits.{max_parts}
 
 -- ---- what a client is told
 
@@ -78,8 +78,8 @@ xid_of (Asks xid r) = xid
 -- ---- the session test
 
 -- Until there are sessions each connection asks under one of number 0 that is its own: with sessions it is `session_at id s`.
-abbrev pub session_seen : State → ℤ → ℕ → Option Session
-session_seen s id c = Some (session_zero c)
+abbrev pub session_seen : State → ℕ → ℤ → Option Session
+session_seen s c id = Some (session_zero c)
 
 -- the refusal where the session isn't open or is lapsed, or where another connection is attached to it
 abbrev pub session_refusal : ℕ → Option Session → Option Reply
@@ -89,9 +89,10 @@ session_refusal c (Some x) =
     else if not (c == x.connection) then Some (reply.Refused session_moved)
     else None
 
--- how many nodes the session may own
+-- how many nodes it may own
 abbrev pub limit_in : Option Session → ℕ
-limit_in o = max_owned
+limit_in None = 0
+limit_in (Some x) = limit_of x
 
 -- ---- reads, and refusals by the tree
 

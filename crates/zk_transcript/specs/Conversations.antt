@@ -9,7 +9,7 @@ use Rattle.zk_transcript.specs.declared.transcript.TranscriptLine.{TranscriptLin
 use Rattle.zk_transcript.specs.declared.transcript.TranscriptLine.TheVariants.{Frame as FrameLine, Close}
 use Rattle.zk_jute.specs.Packets.{connect_packet}
 use Rattle.zk_transcript.specs.History.{State, Session, session_at, state_at, first_place, when, opening, connect}
-use Rattle.zk_transcript.specs.Legal.{attach_of}
+use Rattle.zk_transcript.specs.Legal.{Attachment, attach_of}
 use Rattle.zk_transcript.specs.Walks.{Due, packets, placed_frame, IsLawfulWalk, IsFreshWalk, IsWalk}
 
 -- ---- the answer to the connect
@@ -40,10 +40,10 @@ IsRefused lines c p (Some f) (Some r) = (m : ℕ) × (f.0 < m) × (m ≤ p.0) ×
 IsRefused lines c p _ _ = ⊥
 
 -- the first packet is the welcome behind the attachment's line; without one it is the refusal, and the last
-abbrev pub IsConnectAnswered : List TranscriptLine → ℕ → List Due → Option (ℕ × ℤ × ℤ) → Type 0
+abbrev pub IsConnectAnswered : List TranscriptLine → ℕ → List Due → Option (ℕ × Attachment) → Type 0
 IsConnectAnswered lines c [] o = ⊤
 IsConnectAnswered lines c (p ∷ ps) None = IsRefused lines c p (placed_frame c 0 lines) (connect c lines) × (ps ≡ [])
-IsConnectAnswered lines c (p ∷ ps) (Some a) = IsWelcomed lines c a.0 a.2 p (connect c lines) (session_at a.2 (state_at lines (a.0 + 1)))
+IsConnectAnswered lines c (p ∷ ps) (Some a) = IsWelcomed lines c a.0 a.1.session p (connect c lines) (session_at a.1.session (state_at lines (a.0 + 1)))
 
 -- ---- whole conversations, of every number that a connection may have
 
@@ -63,8 +63,8 @@ are_before_close lines c = list_all (λ (p : Due). is_before p.0 (first_place (c
 abbrev pub IsSilentUnopened : List TranscriptLine → ℕ → Type 0
 IsSilentUnopened lines c = opening c lines ≡ None → packets c lines ≡ []
 
--- what a conversation keeps besides the walk
-pub record IsFramed (lines : List TranscriptLine) (c : ℕ) : Type 0 where
+-- what holds besides the walk: the packets stand within the connection
+pub record IsInConnection (lines : List TranscriptLine) (c : ℕ) : Type 0 where
   pub silent : IsSilentUnopened lines c
   pub connected : IsConnectAnswered lines c (packets c lines) (attach_of c lines)
   pub in_time : IsTrue (are_before_close lines c)
@@ -75,18 +75,18 @@ later_packets c lines = drop 1 (packets c lines)
 
 -- lawful: where c has an attachment, some walk from there gives the packets behind the welcome
 pub record IsLawful (lines : List TranscriptLine) (c : ℕ) : Type 0 where
-  pub framed : IsFramed lines c
-  pub walks : (a : ℕ × ℤ × ℤ) → attach_of c lines ≡ Some a → IsLawfulWalk lines c a.2 a.1 (a.0 + 1) (later_packets c lines)
+  pub within : IsInConnection lines c
+  pub walks : (a : ℕ × Attachment) → attach_of c lines ≡ Some a → IsLawfulWalk lines c a.1.session a.1.zxid (a.0 + 1) (later_packets c lines)
 
 -- lawful and fresh
 pub record IsLawfulAndFresh (lines : List TranscriptLine) (c : ℕ) : Type 0 where
-  pub framed : IsFramed lines c
-  pub walks : (a : ℕ × ℤ × ℤ) → attach_of c lines ≡ Some a → IsFreshWalk lines c a.2 a.1 (a.0 + 1) (later_packets c lines)
+  pub within : IsInConnection lines c
+  pub walks : (a : ℕ × Attachment) → attach_of c lines ≡ Some a → IsFreshWalk lines c a.1.session a.1.zxid (a.0 + 1) (later_packets c lines)
 
 -- what the service gives a connection: lawful, fresh and in turn
 pub record IsServed (lines : List TranscriptLine) (c : ℕ) : Type 0 where
-  pub framed : IsFramed lines c
-  pub walks : (a : ℕ × ℤ × ℤ) → attach_of c lines ≡ Some a → IsWalk lines c a.2 a.1 (a.0 + 1) (later_packets c lines)
+  pub within : IsInConnection lines c
+  pub walks : (a : ℕ × Attachment) → attach_of c lines ≡ Some a → IsWalk lines c a.1.session a.1.zxid (a.0 + 1) (later_packets c lines)
 
 -- a frame's line shows the last update before it
 abbrev pub IsShownFresh : List TranscriptLine → Type 0

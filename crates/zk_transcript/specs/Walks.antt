@@ -159,7 +159,7 @@ seen_told s limit id x w (Some r) = Some (true, only w r)
 seen_told s limit id x w None = with_end false (looked s limit id w x (plain_reply w x))
 
 abbrev pub told_by_state : State → ℕ → ℤ → Frame → Watches → Option (Bool × Told)
-told_by_state s c id x w = let session = session_seen s id c in seen_told s (limit_in session) id x w (session_refusal c session)
+told_by_state s c id x w = let session = session_seen s c id in seen_told s (limit_in session) id x w (session_refusal c session)
 
 -- the response to a request that was carried out, by what its line did
 abbrev pub response_at : List TranscriptLine → ℕ → ℤ → UpdateKind → Option Body

@@ -2,10 +2,15 @@
 //! statement about a run is made of.
 //!
 //! In reading order: `History` (the state of the service at each moment of a transcript), `Legal` (the updates are one run
-//! of the machine), `Answers` (what a request is answered in a state), `Walks` (what a connection is sent behind its attachment), `Conversations`
-//! (all that it is sent).
+//! of the machine), `Answers` (what a request is answered in a state), `Walks` (what a connection is sent behind its attachment),
+//! `Conversations` (all that it is sent).
 #![tactic(auto)]
 
+mod laws;
 mod transcript;
 
+pub use laws::{
+    attached_by_own_line, attached_last, attached_to_own_line, legal_histories_are_bounded,
+    legal_histories_are_sound, requests_are_carried_out_in_order, zxids_rise,
+};
 pub use transcript::{Cause, Conversation, Ended, TranscriptLine, UpdateKind, UpdateRec};

@@ -17,7 +17,7 @@ use Rattle.ev_types.specs.Denials.{is_denied, carry}
 use Rattle.zk_model.specs.declared.node.Node.{Node}
 use Rattle.zk_model.specs.Paths.{root}
 use Rattle.zk_model.specs.Znodes.{num_children, owned, new_node}
-use Rattle.zk_transcript.specs.History.{State, Session, nothing_yet, after, IsSound}
+use Rattle.zk_transcript.specs.History.{State, Session, nothing_yet, after}
 use Rattle.zx_base.specs.Maps.{Bytes, same}
 use Rattle.zx_base.proofs.MapLaws.{same-true, apart-from_same}
 use Rattle.zn_layout.specs.Keys.{Key, HeadKey, DataKey, CountsKey, SessionKey, LeaseKey, key_bytes}
@@ -27,7 +27,7 @@ use Rattle.zn_layout.specs.Begin.{read_key, new_record, no_counts, begin_ask, be
 use Rattle.zn_layout.specs.Changes.{Change, put_key, update_acts, or_else, last}
 use Rattle.zn_layout.specs.Commits.{update_txn}
 use Rattle.zn_layout.specs.Fits.{KeyFits}
-use Rattle.zn_layout.proofs.First.{first_tree, first_state, first_there, first_other, first_childless, after-begin, first_sound}
+use Rattle.zn_layout.proofs.First.{first_tree, first_state, first_there, first_other, first_childless, after-begin}
 use Rattle.zn_layout.proofs.Stands.{stands_over}
 use Rattle.zn_layout.proofs.Denials.{update-not_denied}
 use Rattle.zn_layout.proofs.Commits.{carried, committed}
@@ -190,5 +190,4 @@ begin_stands now h =
       carried = ap (carry new_store) (as_update now) ∙ begin_carried now ∙ ap (λ (r : ℤ). Some (first_new now, answer.Txn r true (first_parts now))) second;
       revision_is = second;
       stands = subst (λ (m : Keys). StandsFor m (after (begin_lines now))) (sym keys) (subst (λ (s : State). StandsFor (acts_applied (pos 2) empty (update_acts (begin_changes now) [])) s) (sym (after-begin now)) (first_stands now h));
-      sound = subst IsSound (sym (after-begin now)) (first_sound now);
     }

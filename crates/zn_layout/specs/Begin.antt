@@ -11,7 +11,7 @@ use Rattle.ev_types.specs.Denials.{carry}
 use Rattle.zk_transcript.specs.declared.transcript.UpdateKind.TheVariants.{Begin}
 use Rattle.zk_transcript.specs.declared.transcript.TranscriptLine.{TranscriptLine}
 use Rattle.zk_transcript.specs.declared.transcript.TranscriptLine.TheVariants.{Update}
-use Rattle.zk_transcript.specs.History.{after, IsSound}
+use Rattle.zk_transcript.specs.History.{after}
 use Rattle.zk_model.specs.Paths.{root}
 use Rattle.zx_base.specs.Maps.{Bytes}
 use Rattle.zn_layout.specs.declared.record.NodeRec.{NodeRec}
@@ -51,11 +51,10 @@ begin_ask now = ask.Txn (record {
 abbrev pub begin_lines : ℕ → List TranscriptLine
 begin_lines now = Update (record { zxid = pos 2; kind = Begin now }) ∷ []
 
--- it isn't denied, succeeds at revision 2, and the keys that it leaves stand for the state after its line, which is sound
+-- it isn't denied, succeeds at revision 2, and the keys that it leaves stand for the state after its line
 pub record Begins (now : ℕ) : Type 0 where
   pub new : Store
   pub parts : List ActAns
   pub carried : carry new_store (begin_ask now) ≡ Some (new, answer.Txn (pos 2) true parts)
   pub revision_is : revision new ≡ pos 2
   pub stands : StandsFor (present new) (after (begin_lines now))
-  pub sound : IsSound (after (begin_lines now))

@@ -28,7 +28,6 @@ pub record IsUpdated (new : Store) (s : State) (r : Request) (now : ℕ) (reply 
   pub commits : commit s.tree max_owned (pos 0) r zxid now ≡ Some made
   pub told : reply ≡ replies.Good made.response
   pub stands : StandsFor (present new) (committed s zxid (Some made))
-  pub sound : IsSound (committed s zxid (Some made))
 
 abbrev pub Answers : Store → Store → Request → ℕ → Answered → Type 0
 Answers old new r now (Repeats reply) = (new ≡ old) × (plain_request no_watches r ≡ told no_watches reply)

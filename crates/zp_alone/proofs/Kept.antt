@@ -11,7 +11,7 @@ use Rattle.zk_transcript.specs.declared.transcript.TranscriptLine.{TranscriptLin
 use Rattle.zk_transcript.specs.declared.transcript.TranscriptLine.TheVariants.{Open, Frame as FrameLine, Send}
 use Rattle.zk_jute.specs.Requests.{Asks, read_request}
 use Rattle.zk_jute.specs.Packets.{reply_packet}
-use Rattle.zk_transcript.specs.History.{State, IsSound, after}
+use Rattle.zk_transcript.specs.History.{State, after}
 use Rattle.zk_transcript.specs.Answers.{plain_request, told}
 use Rattle.zk_model.specs.Watches.{no_watches}
 use Rattle.zt_text.specs.Transcripts.{IsWellFormed}
@@ -29,6 +29,7 @@ use Rattle.zp_alone.specs.World.{World, IsLinked}
 use Rattle.zp_alone.specs.Talking.{Talks}
 use Rattle.zp_alone.specs.Reached.{AreSilent, IsKeptIn, IsNew, IsTalking, KeepsTo, IsKept}
 use Rattle.zp_alone.specs.Effects.{asked_line, opened, framed, ticked, answered, answer_lines, asked_next, AnswersOne, AnswersSome}
+use Rattle.zk_transcript.proofs.SoundHistories.{legal-sound}
 use Rattle.zp_alone.proofs.Linked.{linked-push, linked-open}
 use Rattle.zp_alone.proofs.Silent.{silent-push, silent-send, silent-open}
 use Rattle.zp_alone.proofs.Talked.{talks-open, talks-frame, talks-plain, talks-looked, talks-updated}
@@ -42,7 +43,6 @@ kept_in-quiet store lines l q formed k =
     let same : after (lines ++ l ∷ []) ≡ after lines = after-quiet lines l q in
     record {
       stands = subst (StandsFor (present store)) (sym same) k.stands;
-      sound = subst IsSound (sym same) k.sound;
       revision = k.revision ∙ ap (λ (s : State). s.zxid) (sym same);
       legal = is_legal-quiet lines l q k.legal;
       ordered = is_ordered-quiet lines l q k.ordered;
@@ -145,7 +145,7 @@ kept-updated c w q qs store answer zxid linked oldest room grown at updates form
     let commits = asked_commit-of c next w.clock zxid w.lines (after w.lines) h.place h.bytes q.xid q.request h.frame h.read ∙ updates.commits in
     let asked : IsWellFormed u = subst (λ (i : ℕ). IsWellFormed (asked_line c i w.clock zxid)) h.index formed.0 in
     let long : zxid ≤ℤ max_long = rw at (grind (arith, ints, grown, room)) in
-    let kept = kept-asked c next w.clock zxid w.lines updates.made q w.store store k.kept talks.stands.least h talks.below updates.above long commits (sym at) updates.stands updates.sound asked in
+    let kept = kept-asked c next w.clock zxid w.lines updates.made q w.store store k.kept talks.stands.least h talks.below updates.above long commits (sym at) updates.stands asked in
     let lines : (w.lines ++ u ∷ []) ++ l ∷ [] ≡ w.lines ++ (asked_line c q.index w.clock zxid ∷ l ∷ []) =
     append_assoc w.lines (u ∷ []) (l ∷ []) ∙ ap (λ i. w.lines ++ (asked_line c i w.clock zxid ∷ l ∷ [])) (sym h.index) in
     let after_u = linked-push w.connection w.lines u (λ d. refl) refl k.linked in
@@ -165,9 +165,9 @@ kept-answered : (c : ℕ) (w : World) (q : Waiting) (qs : List Waiting) (store :
     → HasRoom w.store → Answers w.store store q.request w.clock a → AllByRecursion IsWellFormed (answer_lines c w.clock q w.told a) → IsKept w → IsKept (answered w c q qs store a)
 kept-answered c w q qs store (Repeats reply) linked oldest room answers formed k = kept-repeats c w q qs store reply linked oldest answers.0 answers.1 formed k
 kept-answered c w q qs store (Looked reply zxid) linked oldest room answers formed k =
-    kept-looked c w q qs store reply zxid linked oldest answers.0 answers.1 (answers.2 (after w.lines) k.kept.stands k.kept.sound) formed k
+    kept-looked c w q qs store reply zxid linked oldest answers.0 answers.1 (answers.2 (after w.lines) k.kept.stands (legal-sound w.lines k.kept.legal)) formed k
 kept-answered c w q qs store (Updated reply zxid) linked oldest room answers formed k =
-    kept-updated c w q qs store reply zxid linked oldest room answers.0 answers.1 (answers.3 (after w.lines) k.kept.stands k.kept.sound) formed k
+    kept-updated c w q qs store reply zxid linked oldest room answers.0 answers.1 (answers.3 (after w.lines) k.kept.stands (legal-sound w.lines k.kept.legal)) formed k
 
 -- ---- some answers, one after another
 

@@ -218,7 +218,7 @@ unfolding after updated
 begin-zxid = refl
 
 begin-kept : (store : Store) → IsBegun store → IsKeptIn store (begin_line ∷ [])
-begin-kept store b = record { stands = b.stands; sound = b.sound; revision = b.revision ∙ sym begin-zxid; legal = begin-legal; ordered = begin-ordered; formed = begin-formed }
+begin-kept store b = record { stands = b.stands; revision = b.revision ∙ sym begin-zxid; legal = begin-legal; ordered = begin-ordered; formed = begin-formed }
 
 pub reached-begin : (store : Store) → IsBegun store → Reached [] (begun store)
 reached-begin store b = record {

@@ -4,7 +4,7 @@ use Rattle.std.specs.List.{AllByRecursion}
 use Rattle.ev_types.specs.Store.{Store, present, revision}
 use Rattle.zt_text.specs.declared.script.Happening.{Happening}
 use Rattle.zk_transcript.specs.declared.transcript.TranscriptLine.{TranscriptLine}
-use Rattle.zk_transcript.specs.History.{after, IsSound}
+use Rattle.zk_transcript.specs.History.{after}
 use Rattle.zk_transcript.specs.Legal.{is_legal, is_ordered}
 use Rattle.zk_transcript.specs.Walks.{packets}
 use Rattle.zt_text.specs.Transcripts.{IsWellFormed}
@@ -16,7 +16,6 @@ use Rattle.zp_alone.specs.Talking.{Talks}
 -- the store's keys stand for the state that the lines lead to, and its revision is that of the last update
 pub record IsKeptIn (store : Store) (lines : List TranscriptLine) : Type 0 where
   pub stands : StandsFor (present store) (after lines)
-  pub sound : IsSound (after lines)
   pub revision : revision store ≡ (after lines).zxid
   pub legal : is_legal lines ≡ true
   pub ordered : is_ordered lines ≡ true
