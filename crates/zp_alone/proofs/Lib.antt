@@ -12,5 +12,4 @@ pub mod Answering
 pub mod Begun
 pub mod Counts
 pub mod Silent
-pub mod Silent
 pub mod Happened

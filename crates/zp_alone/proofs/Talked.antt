@@ -13,7 +13,7 @@ use Rattle.zk_transcript.specs.declared.transcript.UpdateKind.TheVariants.{Asked
 use Rattle.zk_jute.specs.Requests.{Asks, read_request}
 use Rattle.zk_jute.specs.Packets.{reply_packet}
 use Rattle.zk_model.specs.Watches.{no_watches}
-use Rattle.zk_transcript.specs.Answers.{plain_request, told, tree_reply}
+use Rattle.zk_transcript.specs.Answers.{only, plain_request, tree_reply}
 use Rattle.zk_transcript.specs.History.{State, Commit, after, updated, asked_commit}
 use Rattle.zk_transcript.specs.Walks.{Walker, Choice, Plain, Answer, at_start, walk, move, later_of, response_at, own_update, own_update_shown, all_choices, are_fresh, are_in_turn, is_not_overtaken}
 use Rattle.zp_alone.specs.Runs.{frames_of, begin_line}
@@ -101,7 +101,7 @@ stands-now lines w h = record {
 
 -- without the tree: the reply repeats the zxid of the last
 pub talks-plain : (c : ℕ) (lines : List TranscriptLine) (q : Waiting) (qs : List Waiting) (told : ℤ) (answer : Reply) → Talks c lines (q ∷ qs) told
-    → plain_request no_watches q.request ≡ told no_watches answer → Talks c (lines ++ Send c (reply_packet q.xid told answer) ∷ []) qs told
+    → plain_request no_watches q.request ≡ Some (only no_watches answer) → Talks c (lines ++ Send c (reply_packet q.xid told answer) ∷ []) qs told
 talks-plain c lines q qs told answer t plain =
     let w : Walker = t.walker in
     let h = t.queued.0 in
@@ -123,7 +123,7 @@ talks-plain c lines q qs told answer t plain =
 
 -- by the tree as it is now
 pub talks-looked : (c : ℕ) (lines : List TranscriptLine) (q : Waiting) (qs : List Waiting) (told : ℤ) (answer : Reply) → Talks c lines (q ∷ qs) told
-    → plain_request no_watches q.request ≡ None → tree_reply (after lines).tree max_owned (pos 0) no_watches q.request ≡ told no_watches answer
+    → plain_request no_watches q.request ≡ None → tree_reply (after lines).tree max_owned (pos 0) no_watches q.request ≡ Some (only no_watches answer)
     → Talks c (lines ++ Send c (reply_packet q.xid (after lines).zxid answer) ∷ []) qs (after lines).zxid
 talks-looked c lines q qs told answer t plain looks =
     let w : Walker = t.walker in
