@@ -5,6 +5,7 @@ pub mod Longer
 pub mod Placed
 pub mod Quiet
 pub mod Choices
+pub mod Unarmed
 pub mod Children
 pub mod Owned
 pub mod Histories

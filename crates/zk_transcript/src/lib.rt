@@ -2,7 +2,8 @@
 //! statement about a run is made of.
 //!
 //! In reading order: `History` (the state of the service at each moment of a transcript), `Legal` (the updates are one run
-//! of the machine), `Answers` (what a request is answered in a state), `Conversations` (what a connection may be sent).
+//! of the machine), `Answers` (what a request is answered in a state), `Walks` (what a connection is sent behind its attachment),
+//! `Conversations` (all that it is sent).
 #![tactic(auto)]
 
 mod laws;

@@ -18,7 +18,7 @@ use Rattle.zk_model.specs.declared.reply.Reply.TheVariants as reply
 use Rattle.zk_model.specs.declared.request.Acl.{Acl}
 use Rattle.zk_model.specs.declared.request.Request.TheVariants as req
 use Rattle.zk_model.specs.declared.request.Part.TheVariants as part
-use Rattle.zk_transcript.specs.Answers.{refusal_of, tree_reply}
+use Rattle.zk_transcript.specs.Answers.{refusal_of, told, tree_reply}
 use Rattle.zk_model.specs.Codes.{node_exists}
 use Rattle.zk_transcript.specs.History.{State, IsSound, Commit, commit, commit_single, committed}
 use Rattle.zk_model.specs.Paths.{is_path, parent}
@@ -61,7 +61,7 @@ zxid-is m zxid z s stands = z.is ∙ head-zxid m s z.head stands z.there
 -- ---- refusals
 
 reply_of_refusal : (s : State) (p content : Bytes) (acl : List Acl) (code : ℤ) → single s.tree max_owned (pos 0) (part.Create p content acl (pos 0)) (pos 0) 0 ≡ Refused code →
-    tree_reply s.tree (pos 0) no_watches (req.Create p content acl (pos 0)) ≡ Some (record { reply = reply.Refused code; notices = []; watches = no_watches })
+    tree_reply s.tree max_owned (pos 0) no_watches (req.Create p content acl (pos 0)) ≡ told no_watches (reply.Refused code)
 unfolding tree_reply
 reply_of_refusal s p content acl code e = ap (refusal_of no_watches) e
 

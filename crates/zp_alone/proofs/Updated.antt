@@ -10,7 +10,7 @@ use Rattle.zk_transcript.specs.declared.transcript.TranscriptLine.{TranscriptLin
 use Rattle.zk_jute.specs.Requests.{Asks, read_request}
 use Rattle.zk_transcript.specs.History.{State, Commit, commit, after, updated, committed, asked_commit, frame, frame_shown, request, asked_in}
 use Rattle.zk_transcript.specs.Legal.{is_legal_line, may_update, is_small_frame, is_within_parts}
-use Rattle.zk_transcript.specs.Conversations.{placed_frame}
+use Rattle.zk_transcript.specs.Walks.{placed_frame}
 use Rattle.zt_text.specs.Transcripts.{IsWellFormed}
 use Rattle.zk_jute.proofs.Lists.{both_of}
 use Rattle.zk_transcript.proofs.Histories.{next-above}
