@@ -1,5 +1,5 @@
 -- The text of a script (this project's own format): a line for each thing that is to happen, its words separated by blanks.
-use Rattle.std.specs.Prelude.{◌≡◌, ℕ, ℤ, pos, ◌+◌, ◌*◌, ◌-◌, ◌^◌, Bool, true, false, ◌&&◌, List, [], ◌∷◌, length, nat_lt, nat_le, ◌==◌, bytes_eq, codes, Option, Some, None, option_and_then, take, if◌then◌else◌}
+use Rattle.std.specs.Prelude.{◌++◌, ◌⊎◌, ◌≡◌, ℕ, ℤ, pos, ◌+◌, ◌*◌, ◌-◌, ◌^◌, Bool, true, false, ◌&&◌, List, [], ◌∷◌, length, nat_lt, nat_le, ◌==◌, bytes_eq, codes, Option, Some, None, option_and_then, take, if◌then◌else◌}
 use Rattle.std.specs.List.{All, slice_split}
 use Rattle.zt_text.specs.declared.script.Happening.{Happening}
 use Rattle.zt_text.specs.declared.script.Happening.TheVariants as line
