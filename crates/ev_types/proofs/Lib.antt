@@ -1,0 +1,5 @@
+pub mod Grown
+pub mod Lapsed
+pub mod Transactions
+pub mod Found
+pub mod Allowed
