@@ -9,7 +9,7 @@ use Rattle.ev_types.specs.declared.ask.RangeReq.{RangeReq}
 use Rattle.ev_types.specs.declared.ask.Ask.{Ask}
 use Rattle.ev_types.specs.declared.ask.Ask.TheVariants as ask
 use Rattle.ev_types.specs.Store.{Store, Change, revision, worked}
-use Rattle.ev_types.specs.Denials.{has_lease, lacks_lease, is_future, is_compacted, writes, puts, most_operations, is_full, chosen_acts}
+use Rattle.ev_types.specs.Denials.{has_lease, lacks_lease, is_future, is_compacted, writes, puts, max_operations, is_full, chosen_acts}
 use Rattle.ev_store.specs.declared.fault.Denied.{Denied}
 use Rattle.ev_store.specs.declared.fault.Denied.TheVariants as denied
 use Rattle.ev_store.specs.declared.fault.StoreFault.{StoreFault}
@@ -20,7 +20,7 @@ use Rattle.zx_base.specs.Maps.{Bytes}
 
 -- so many compares or operations are more than an etcd takes
 abbrev pub too_many : ℕ → Option Denied
-too_many count = if nat_lt most_operations count then Some (denied.TooMany count) else None
+too_many count = if nat_lt max_operations count then Some (denied.TooMany count) else None
 
 -- the operation's key, where a later one of its list may not write it too: a put allows no other write, a delete no put
 abbrev pub written_again : Act → List Act → Option Bytes

@@ -3,7 +3,7 @@
 ghost use Rattle.std.specs.Prelude.{◌≡◌, is_some};
 ghost use Rattle.ev_types.specs.declared.ask.Ask.{Ask};
 ghost use Rattle.ev_types.specs.Store as etcd;
-ghost use Rattle.ev_types.specs.Denials.{most_operations, is_denied};
+ghost use Rattle.ev_types.specs.Denials.{max_operations, is_denied};
 ghost use Rattle.ev_store.specs.FirstDenial.{first_denial};
 
 use crate::refusal::MAX_OPERATIONS;
@@ -16,6 +16,6 @@ pub fn a_denial_is_named()
 
 /// The limits of the code are those of the definitions.
 pub fn limits_are_defined()
-    ensures operations { MAX_OPERATIONS ≡ most_operations }
+    ensures operations { MAX_OPERATIONS ≡ max_operations }
     ensures revision { MAX_REVISION ≡ etcd.last_revision }
 {}

@@ -49,7 +49,7 @@ impl Model for Store {
       floor = s.floor;
     } };
 
-    ghost invariant = { λ s. (length s.revisions.items ≤ etcd.most_revisions) × (list_all puts_once s.revisions.items ≡ true) };
+    ghost invariant = { λ s. (length s.revisions.items ≤ etcd.max_revisions) × (list_all puts_once s.revisions.items ≡ true) };
 }
 
 impl Store {
@@ -81,7 +81,7 @@ impl Store {
     /// The changes of each revision, from revision 1 on.
     pub(crate) fn history(&self) -> &[Seq<Change>]
         ensures all { result.now ≡ self.now.revisions }
-        ensures short { length self.now.revisions ≤ etcd.most_revisions }
+        ensures short { length self.now.revisions ≤ etcd.max_revisions }
         ensures once { list_all puts_once self.now.revisions ≡ true }
     {
         self.revisions.as_slice()

@@ -11,7 +11,7 @@ use Rattle.ev_types.specs.declared.ask.RangeReq.{RangeReq}
 use Rattle.ev_types.specs.declared.ask.TxnReq.{TxnReq}
 use Rattle.ev_types.specs.declared.ask.Ask.TheVariants as ask
 use Rattle.ev_types.specs.Store.{Store, succeeds, chosen, worked}
-use Rattle.ev_types.specs.Denials.{is_future, names_missing, writes_twice, most_operations, has_long_list, is_full, chosen_acts, is_denied}
+use Rattle.ev_types.specs.Denials.{is_future, names_missing, writes_twice, max_operations, has_long_list, is_full, chosen_acts, is_denied}
 use Rattle.ev_types.specs.Reads.{are_present_reads}
 use Rattle.ev_types.proofs.Transactions.{unchanged-reads}
 
@@ -38,9 +38,9 @@ reads_once (act.Range q ∷ acts) h = reads_once acts (and_parts _ _ h).1
 
 -- what a transaction owes to be carried out, whichever list is chosen
 pub record IsPlain (s : Store) (t : TxnReq) : Type 0 where
-  pub guards : length t.guards ≤ most_operations
-  pub success : length t.success ≤ most_operations
-  pub failure : length t.failure ≤ most_operations
+  pub guards : length t.guards ≤ max_operations
+  pub success : length t.success ≤ max_operations
+  pub failure : length t.failure ≤ max_operations
   pub success_once : writes_twice t.success ≡ false
   pub failure_once : writes_twice t.failure ≡ false
   pub success_named : list_any (names_missing s) t.success ≡ false
@@ -57,7 +57,7 @@ plain-not_denied s t p =
     let short : has_long_list t ≡ false = both_false _ _ (both_false _ _ (le-ltb _ _ p.guards) (le-ltb _ _ p.success)) (le-ltb _ _ p.failure) in
     both_false _ _ (both_false _ _ (both_false _ _ (both_false _ _ short p.success_once) p.failure_once) (chosen_named s t (succeeds s t) p.success_named p.failure_named)) p.room
 
-pub reads-not_denied : (s : Store) (acts : List Act) → length acts ≤ most_operations → are_present_reads acts ≡ true → is_denied s (ask.Txn (record { guards = []; success = acts; failure = [] })) ≡ false
+pub reads-not_denied : (s : Store) (acts : List Act) → length acts ≤ max_operations → are_present_reads acts ≡ true → is_denied s (ask.Txn (record { guards = []; success = acts; failure = [] })) ≡ false
 reads-not_denied s acts few reads = plain-not_denied s (record { guards = []; success = acts; failure = [] }) (record {
   guards = omega arith;
   success = few;

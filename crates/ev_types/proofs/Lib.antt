@@ -3,3 +3,4 @@ pub mod Lapsed
 pub mod Transactions
 pub mod Found
 pub mod Allowed
+pub mod Bounds

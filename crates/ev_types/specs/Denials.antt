@@ -56,11 +56,11 @@ writes_twice (act.Delete k ∷ acts) = list_any (puts k) acts || writes_twice ac
 writes_twice (act.Range q ∷ acts) = writes_twice acts
 
 -- the most compares, and the most operations of a list
-abbrev pub most_operations : ℕ
-most_operations = 128
+abbrev pub max_operations : ℕ
+max_operations = 128
 
 abbrev pub is_long : {A : Type 0} → List A → Bool
-is_long xs = nat_lt most_operations (length xs)
+is_long xs = nat_lt max_operations (length xs)
 
 abbrev pub has_long_list : TxnReq → Bool
 has_long_list t = is_long t.guards || is_long t.success || is_long t.failure

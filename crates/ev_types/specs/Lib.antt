@@ -3,4 +3,5 @@ pub mod Ranges
 pub mod Denials
 pub mod Lapses
 pub mod Reads
+pub mod Sizes
 pub mod Answers

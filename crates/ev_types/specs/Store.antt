@@ -41,11 +41,11 @@ abbrev pub revision : Store → ℤ
 revision s = pos (length s.revisions)
 
 -- the last revision that there can be
-abbrev pub most_revisions : ℕ
-most_revisions = 4611686018427387903
+abbrev pub max_revisions : ℕ
+max_revisions = 4611686018427387903
 
 abbrev pub last_revision : ℤ
-last_revision = pos most_revisions
+last_revision = pos max_revisions
 
 -- ---- the keys at a revision
 

@@ -1,10 +1,11 @@
 //! What the definitions of a store amount to. Each function does nothing, and its contract is the law.
 
-ghost use Rattle.std.specs.Prelude.{◌≡◌, ℕ, ◌≤◌, ℤ, List, [], pos, ◌+ℤ◌, true, false, if◌then◌else◌, length, Some, None};
+ghost use Rattle.std.specs.Prelude.{◌≤ℤ◌, ◌≡◌, ℕ, ◌≤◌, ℤ, List, [], pos, ◌+ℤ◌, true, false, if◌then◌else◌, length, Some, None};
 ghost use Rattle.std.specs.FinMap.{get, remove};
+ghost use Rattle.ev_types.specs.declared.answer.Kv.{Kv as SomeKv};
 ghost use Rattle.ev_types.specs.declared.ask.Act.{Act as SomeAct};
 ghost use Rattle.ev_types.specs.declared.ask.Ask.TheVariants as ask;
-ghost use Rattle.ev_types.specs.Denials.{has_lease, most_operations, is_denied};
+ghost use Rattle.ev_types.specs.Denials.{has_lease, max_operations, is_denied};
 ghost use Rattle.ev_types.specs.Lapses.{is_leased, lapse, foreign};
 ghost use Rattle.ev_types.specs.Ranges.{Keys, found};
 ghost use Rattle.ev_types.specs.Reads.{are_present_reads, key_range, one_found};
@@ -33,11 +34,17 @@ pub fn foreign_puts_one_key()
 
 /// A transaction that only reads is denied for its length alone, and changes nothing.
 pub fn reads_change_nothing()
-    ensures allowed { (s : Store) (acts : List SomeAct) → length acts ≤ most_operations → are_present_reads acts ≡ true → is_denied s (ask.Txn (record { guards = []; success = acts; failure = [] })) ≡ false }
+    ensures allowed { (s : Store) (acts : List SomeAct) → length acts ≤ max_operations → are_present_reads acts ≡ true → is_denied s (ask.Txn (record { guards = []; success = acts; failure = [] })) ≡ false }
     ensures unchanged { (s : Store) (acts : List SomeAct) → are_present_reads acts ≡ true → (worked s acts).changes ≡ [] }
 {}
 
 /// A range of one key finds what is there.
 pub fn one_key_is_found()
     ensures { (key : Bytes) (keys : Keys) → found (key_range key) keys ≡ one_found (get keys key) }
+{}
+
+/// Each key that is there was put at a revision from 1 to the store's.
+pub fn keys_were_put()
+    ensures least { (s : Store) (k : Bytes) (kv : SomeKv) → get (present s) k ≡ Some kv → pos 1 ≤ℤ kv.mod_revision }
+    ensures most { (s : Store) (k : Bytes) (kv : SomeKv) → get (present s) k ≡ Some kv → kv.mod_revision ≤ℤ revision s }
 {}

@@ -11,5 +11,6 @@ mod laws;
 pub use answer::{ActAns, Answer, Kv, RangeAns};
 pub use ask::{Act, Ask, Guard, RangeReq, TxnReq};
 pub use laws::{
-    foreign_puts_one_key, lapse_takes_its_keys, one_key_is_found, reads_change_nothing,
+    foreign_puts_one_key, keys_were_put, lapse_takes_its_keys, one_key_is_found,
+    reads_change_nothing,
 };

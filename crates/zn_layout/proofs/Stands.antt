@@ -13,7 +13,7 @@ use Rattle.zx_base.proofs.MapLaws.{either, get-insert_same}
 use Rattle.zn_layout.specs.Keys.{Key, HeadKey, key_bytes}
 use Rattle.zn_layout.specs.Records.{head_value, IsHeadRec}
 use Rattle.zn_layout.specs.StandsFor.{Stored, stored_of, at, Means, IsHead, HeadMeans, AreLayout, StandsFor}
-use Rattle.zn_layout.specs.Begin.{read_key}
+use Rattle.ev_types.specs.Reads.{read_key}
 use Rattle.zn_layout.specs.Changes.{Put, Change, head_put, acts_of, act_of, update_acts, last}
 use Rattle.zn_layout.specs.Fits.{left, KeyFits, Fits, IsNext}
 use Rattle.zn_layout.proofs.Fits.{fits_head}
