@@ -7,7 +7,7 @@ use Rattle.std.specs.FinMap.{get}
 use Rattle.std.proofs.lemmas.Bool.{and_parts, and_from}
 use Rattle.std.proofs.lemmas.Bool.Decides.{Decides-int_eq}
 use Rattle.std.proofs.lemmas.Int.{ints}
-use Rattle.std.proofs.lemmas.List.{length-map}
+use Rattle.std.proofs.lemmas.List.Elements.{All-cons}
 use Rattle.ev_types.specs.declared.answer.Kv.{Kv}
 use Rattle.ev_types.specs.declared.answer.ActAns.{ActAns}
 use Rattle.ev_types.specs.declared.answer.ActAns.TheVariants as part
@@ -64,11 +64,7 @@ pub guards-held : (m seen : Keys) (keys : List Bytes) → list_all (holds m) (gu
 guards-held m seen [] h = λ k d low. absurd (omega arith)
 guards-held m seen (q ∷ keys) h =
     let parts = and_parts (holds m (guard_at seen q)) (list_all (holds m) (guards_at seen keys)) h in
-    first_and_rest (IsAsSeen m seen) q keys ((Decides-int_eq (mod_of (get m q)) (mod_of (get seen q))).0 parts.0) (guards-held m seen keys parts.1)
-  where
-    first_and_rest : (P : Bytes → Type 0) (x : Bytes) (xs : List Bytes) → P x → All P xs → All P (x ∷ xs)
-    first_and_rest P x xs here rest zero d low = here
-    first_and_rest P x xs here rest (suc k) d low = rest k d (omega arith)
+    All-cons (IsAsSeen m seen) q keys ((Decides-int_eq (mod_of (get m q)) (mod_of (get seen q))).0 parts.0) (guards-held m seen keys parts.1)
 
 pub guards-hold : (m seen : Keys) (keys : List Bytes) → All (IsAsSeen m seen) keys → list_all (holds m) (guards_at seen keys) ≡ true
 guards-hold m seen [] h = refl

@@ -16,3 +16,5 @@ pub mod Leases
 pub mod Sessions
 pub mod Lists
 pub mod Again
+pub mod ListRecords
+pub mod Rising

@@ -26,7 +26,7 @@ ghost use Rattle.zn_layout.specs.Changes.{Change, head_put, update_acts, last, a
 ghost use Rattle.zn_layout.specs.Commits.{IsCommitted};
 ghost use Rattle.zn_layout.specs.Fits.{Fits, IsNext};
 ghost use Rattle.zn_layout.specs.Keys.{Key, HeadKey, key_bytes};
-ghost use Rattle.zn_layout.specs.Records.{node_value, counts_value, lease_value, head_value, IsNodeRec, IsCountRec, IsLeaseRec, IsHeadRec};
+ghost use Rattle.zn_layout.specs.Records.{node_value, counts_value, session_value, lease_value, head_value, IsNodeRec, IsCountRec, IsSessionRec, IsLeaseRec, IsHeadRec};
 ghost use Rattle.zn_layout.specs.StandsFor.{at, StandsFor};
 ghost use Rattle.zn_layout.specs.Updates.{with_head, guards_at, update_ask, update_txn, IsAsSeen};
 
@@ -48,6 +48,11 @@ pub fn counts_value_is_injective()
 /// A value has one record of a session's life within its bounds.
 pub fn lease_value_is_injective()
     ensures { (r q : LeaseRec) → IsLeaseRec r → IsLeaseRec q → lease_value r ≡ lease_value q → r ≡ q }
+{}
+
+/// A value has one record of a session's nodes within its bounds.
+pub fn session_value_is_injective()
+    ensures { (ps qs : List Bytes) → IsSessionRec ps → IsSessionRec qs → session_value ps ≡ session_value qs → ps ≡ qs }
 {}
 
 /// A value has one head's record within its bounds.
