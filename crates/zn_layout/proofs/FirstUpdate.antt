@@ -1,5 +1,5 @@
 -- The first transaction makes the first state of a new store.
-use Rattle.std.proofs.Common.{◌≡◌, ℕ, ◌<◌, ◌^◌, ℤ, pos, true, false, cond, List, [], ◌∷◌, Option, Some, None, refl, sym, ap, ◌∙◌, subst, arith}
+use Rattle.std.proofs.Common.{◌≡◌, ℕ, ◌<◌, ◌^◌, ℤ, pos, true, false, cond, List, [], ◌∷◌, ◌++◌, Option, Some, None, refl, sym, ap, ◌∙◌, subst, arith}
 use Rattle.std.specs.Prelude.{◌&&◌}
 use Rattle.std.specs.Ordering.{nat_cmp, int_cmp, int_eq}
 use Rattle.std.specs.Cmp.Lexicographic.{slice_cmp}
@@ -23,7 +23,7 @@ use Rattle.zk_model.specs.Znodes.{num_children, owned, new_node}
 use Rattle.zk_transcript.specs.History.{State, Session, nothing_yet, after, IsSound}
 use Rattle.zx_base.specs.Maps.{Bytes, same}
 use Rattle.zx_base.proofs.MapLaws.{same-true, apart-from_same}
-use Rattle.zn_layout.specs.Keys.{Key, HeadKey, DataKey, CountsKey, SessionKey, LeaseKey, key_bytes}
+use Rattle.zn_layout.specs.Keys.{Key, HeadKey, DataKey, CountsKey, SessionKey, LeaseKey, key_bytes, front}
 use Rattle.zn_layout.specs.Records.{node_value, counts_value, head_value, IsLongCount, IsNodeRec}
 use Rattle.zn_layout.specs.StandsFor.{Stored, stored_of, at, Means, IsData, IsCounts, DataMeans, CountsMean, NodesMean, LifeMeans, IsHead, AreLayout, StandsFor}
 use Rattle.zn_layout.specs.Begin.{new_record, no_counts, begin_changes, head_is_absent, first_head, begin_parts, begin_ask, begin_lines, Begins}
@@ -134,7 +134,7 @@ nothing_there key kv e = absurd (none_some (sym (get-empty (slice_cmp nat_cmp) k
 
 empty_layout : AreLayout empty
 empty_layout = record {
-  no_other = λ rest kv e. nothing_there (122 ∷ 107 ∷ 47 ∷ rest) kv e;
+  no_other = λ rest kv e. nothing_there (front ++ rest) kv e;
   least = λ key kv e. nothing_there key kv e;
   most = λ key kv e. nothing_there key kv e;
 }
