@@ -28,7 +28,7 @@ use Rattle.zn_layout.specs.Records.{node_value, counts_value, head_value, IsLong
 use Rattle.zn_layout.specs.StandsFor.{Stored, stored_of, at, Means, IsData, IsCounts, DataMeans, CountsMean, NodesMean, LifeMeans, IsHead, AreLayout, StandsFor}
 use Rattle.zn_layout.specs.Begin.{new_record, no_counts, begin_changes, head_is_absent, first_head, begin_parts, begin_ask, begin_lines, Begins}
 use Rattle.ev_types.specs.Reads.{read_key, one_found}
-use Rattle.zn_layout.specs.Changes.{put_key, acts_of, update_acts, or_else, last}
+use Rattle.zn_layout.specs.Changes.{acts_of, update_acts, or_else, last}
 use Rattle.zn_layout.specs.Updates.{update_txn}
 use Rattle.zn_layout.specs.Fits.{KeyFits}
 use Rattle.zn_layout.proofs.First.{first_tree, first_state, first_there, first_other, first_childless, after-begin, first_sound}

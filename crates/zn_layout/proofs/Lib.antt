@@ -18,3 +18,4 @@ pub mod Lists
 pub mod Again
 pub mod ListRecords
 pub mod Rising
+pub mod Lapses

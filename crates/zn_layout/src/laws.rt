@@ -11,12 +11,13 @@ ghost use Rattle.ev_types.specs.declared.ask.Act.{Act};
 ghost use Rattle.ev_types.specs.declared.ask.Ask.TheVariants as ask;
 ghost use Rattle.ev_types.specs.declared.ask.Guard.{Guard};
 ghost use Rattle.ev_types.specs.Denials.{max_operations, is_denied, carry};
+ghost use Rattle.ev_types.specs.Lapses.{lapse};
 ghost use Rattle.ev_types.specs.Ranges.{Keys};
 ghost use Rattle.ev_types.specs.Reads.{are_present_reads, one_found};
 ghost use Rattle.ev_types.specs.Sizes.{act_size, guard_size, txn_size, max_txn_size, IsSendable};
 ghost use Rattle.ev_types.specs.Store.{Store, revision, last_revision, present, holds, acts_applied};
 ghost use Rattle.zk_model.specs.declared.node.Trigger.{Trigger as AnyTrigger};
-ghost use Rattle.zk_transcript.specs.History.{State};
+ghost use Rattle.zk_transcript.specs.History.{State, session_at, lapsed_in};
 ghost use Rattle.zx_base.specs.Maps.{Bytes};
 ghost use Rattle.zn_layout.specs.declared.record.CountRec.{CountRec};
 ghost use Rattle.zn_layout.specs.declared.record.LeaseRec.{LeaseRec};
@@ -73,6 +74,12 @@ pub fn fits_same()
 /// Whatever keys stand for a state, after the operations of an update whose changes fit they stand for the next state.
 pub fn stands_after()
     ensures { (z : ℤ) (cs : List Change) (ts : List AnyTrigger) (keys : Keys) (old new : State) → pos 1 ≤ℤ z → z ≤ℤ last_revision → IsHeadRec ts → last cs HeadKey ≡ None → IsNext z ts old new → StandsFor keys old → Fits z cs old new → StandsFor (acts_applied z keys (update_acts cs ts)) new }
+{}
+
+/// Where a lease lapses, the keys that are left stand for the state in which the session of that number has lapsed, and all
+/// else is as it was.
+pub fn lapse_stands()
+    ensures { (s new : Store) (id : ℤ) (state : State) → StandsFor (present s) state → lapse s id ≡ Some new → StandsFor (present new) (lapsed_in state id (session_at id state)) }
 {}
 
 /// The first transaction stands: on a new store it isn't denied, succeeds at revision 2, answers the head that it put, and

@@ -32,9 +32,9 @@ pub use fault::RecordFault;
 pub use key::{counts_key, data_key, head_key, lease_key, session_key};
 pub use laws::{
     begin_again_changes_nothing, begin_stands, counts_value_is_injective, fits_append, fits_same,
-    guards_tell_what_was_seen, head_value_is_injective, key_bytes_is_injective,
-    lease_value_is_injective, node_value_is_injective, session_value_is_injective, stands_after, update_commits,
-    update_is_allowed, update_is_sendable, update_looks_again,
+    guards_tell_what_was_seen, head_value_is_injective, key_bytes_is_injective, lapse_stands,
+    lease_value_is_injective, node_value_is_injective, session_value_is_injective, stands_after,
+    update_commits, update_is_allowed, update_is_sendable, update_looks_again,
 };
 pub use list::{read_head, read_session};
 pub use read::{read_counts, read_lease, read_node};

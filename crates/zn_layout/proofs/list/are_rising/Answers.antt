@@ -4,9 +4,11 @@ use Rattle.zn_layout.proofs.Rising.{rising-more, rising-sorted, not_sorted}
 use Rattle.zn_layout.proofs.list.are_rising.Goals as goal
 
 pub returns-then-not-is_before : goal.returns-then-not-is_before
-returns-then-not-is_before c =
-    (λ t. absurd (false≢true t), λ sorted. absurd (not_sorted c.args.paths.now c.loop-i.i c.index-paths-i.result c.index-paths-i-in-loop-i.result c.loop-i.auto.i c.loop-i-test.true c.index-paths-i.is c.index-paths-i-in-loop-i.is
-    (sym c.is_before.ensures ∙ c.if-not-is_before.true) sorted))
+returns-then-not-is_before c = (
+  λ t. absurd (false≢true t),
+  λ sorted. absurd (not_sorted c.args.paths.now c.loop-i.i c.index-paths-i.result c.index-paths-i-in-loop-i.result c.loop-i.auto.i c.loop-i-test.true c.index-paths-i.is c.index-paths-i-in-loop-i.is
+      (sym c.is_before.ensures ∙ c.if-not-is_before.true) sorted),
+)
 
 pub loop-i-preserved : goal.loop-i-preserved
 loop-i-preserved c = rising-more c.args.paths.now c.loop-i.i c.index-paths-i.result c.index-paths-i-in-loop-i.result c.loop-i.auto.i c.loop-i-test.true c.index-paths-i.is c.index-paths-i-in-loop-i.is
