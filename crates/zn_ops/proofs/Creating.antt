@@ -40,7 +40,7 @@ use Rattle.zn_ops.specs.Choices.{Shows, create_choice, create_changes, create_tr
 use Rattle.zn_ops.specs.Steps.{IsStep, IsMade, AnswersCreate}
 use Rattle.zn_ops.specs.declared.requests.Answered.{Answered}
 use Rattle.zn_ops.specs.declared.requests.Answered.TheVariants.{Repeats, Looked, Updated}
-use Rattle.zn_ops.proofs.Bounds.{present-within}
+use Rattle.ev_types.proofs.Bounds.{present-within}
 use Rattle.zn_ops.proofs.Effects.{root-exists, made_under, single-made, chosen-refuses, IsMaking, chosen-makes}
 use Rattle.zn_ops.specs.Basis.{IsZxid, ShowsAt}
 use Rattle.zn_ops.proofs.Fitting.{create_fits}
