@@ -10,7 +10,6 @@ use Rattle.zk_transcript.specs.History.{State, updated, after}
 use Rattle.zx_base.specs.Maps.{Bytes}
 use Rattle.zx_base.proofs.MapLaws.{get-insert_same, get-insert_other, get-retain, retain-insert_out, ext}
 use Rattle.zn_layout.specs.Begin.{begin_lines}
-use Rattle.ev_types.proofs.Found.{entries-empty}
 
 -- ---- the tree
 
