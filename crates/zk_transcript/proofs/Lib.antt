@@ -8,6 +8,7 @@ pub mod Choices
 pub mod Children
 pub mod Owned
 pub mod Histories
+pub mod Begins
 pub mod Prefixes
 pub mod Ordered
 pub mod Zxids
