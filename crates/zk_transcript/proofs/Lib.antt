@@ -9,6 +9,7 @@ pub mod Unarmed
 pub mod Children
 pub mod Owned
 pub mod Histories
+pub mod Begins
 pub mod Prefixes
 pub mod Ordered
 pub mod Zxids

@@ -1,4 +1,4 @@
--- A request is carried out for a session only while it is attached to the request's connection, and lives.
+-- While a session is attached to a connection, no line behind the connection's own one changed it, nor lapsed it where it lives.
 use Rattle.std.proofs.Common.{◌≡◌, ℕ, suc, ◌+◌, ◌<◌, List, [], ◌∷◌, take, drop, Option, Some, None, refl, sym, ap, ◌∙◌, subst, arith, true, false, ℤ}
 use Rattle.std.specs.Prelude.{slice_get}
 use Rattle.std.proofs.lemmas.List.{take-append-drop}

@@ -47,6 +47,7 @@ abbrev pub changes_session : ℤ → TranscriptLine → Bool
 changes_session id (Update u) = changes_in id u.kind
 changes_session id _ = false
 
+-- its lease lapses
 abbrev pub lapses_session : ℤ → TranscriptLine → Bool
 lapses_session id (Lapse revision other) = int_eq id other
 lapses_session id _ = false

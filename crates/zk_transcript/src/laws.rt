@@ -1,11 +1,23 @@
 //! What holds of every legal history.
 
-ghost use Rattle.std.specs.Prelude.{◌≡◌, ◌<◌, ◌≤ℤ◌, ◌<ℤ◌, true, false, ℕ, ℤ, List, Some, length, slice_get};
+ghost use Rattle.std.specs.Prelude.{◌≡◌, ◌<◌, ◌≤ℤ◌, ◌<ℤ◌, true, false, ℕ, ℤ, List, [], ◌∷◌, Some, length, slice_get};
 ghost use Rattle.zk_transcript.specs.declared.transcript.TranscriptLine.{TranscriptLine};
-ghost use Rattle.zk_transcript.specs.declared.transcript.TranscriptLine.TheVariants.{Update};
+ghost use Rattle.zk_transcript.specs.declared.transcript.TranscriptLine.TheVariants.{Update, Open, Lapse};
+ghost use Rattle.zk_transcript.specs.declared.transcript.UpdateKind.TheVariants.{Begin};
+ghost use Rattle.zk_model.specs.Limits.{max_long};
 ghost use Rattle.zk_transcript.specs.declared.transcript.UpdateRec.{UpdateRec};
 ghost use Rattle.zk_transcript.specs.History.{Session, IsSound, IsBounded, after, session_at, attached_session, first_shown, state_at, update_in, updates};
 ghost use Rattle.zk_transcript.specs.Legal.{Attachment, attach_of, index_shown, is_legal, is_ordered, changes_session, lapses_session};
+
+/// Begin may have any zxid, and lines that are no update or lapse may stand before it.
+pub fn begin_comes_behind_an_open_line()
+    ensures { (c proxy : ℕ) (id : ℤ) (passwd : List ℕ) (z : ℤ) (now : ℕ) → z ≤ℤ max_long → is_legal (Open c proxy id passwd ∷ Update (record { zxid = z; kind = Begin now }) ∷ []) ≡ true }
+{}
+
+/// No lapse stands before Begin.
+pub fn begin_comes_before_lapses()
+    ensures { (revision id : ℤ) (lines : List TranscriptLine) → is_legal (Lapse revision id ∷ lines) ≡ false }
+{}
 
 /// The state after each legal history is sound.
 pub fn legal_histories_are_sound()
