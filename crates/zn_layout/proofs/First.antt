@@ -13,6 +13,7 @@ use Rattle.zk_model.specs.Znodes.{Tree, num_children, is_owner, owned, new_node,
 use Rattle.zk_transcript.specs.History.{State, updated, after, IsNodeWithin, IsSound}
 use Rattle.zx_base.specs.Maps.{Bytes}
 use Rattle.zx_base.proofs.MapLaws.{either, get-insert_same, get-insert_other, get-retain, retain-insert_out, ext}
+use Rattle.zn_layout.proofs.Absent.{none_some}
 use Rattle.zn_layout.specs.Begin.{begin_lines}
 use Rattle.ev_types.proofs.Found.{entries-empty}
 
@@ -26,9 +27,6 @@ first_there now = get-insert_same empty root _
 
 pub first_other : (now : ℕ) (p : Bytes) → p ≢ root → get (first_tree now) p ≡ None
 first_other now p n = get-insert_other empty root p _ n ∙ get-empty (slice_cmp nat_cmp) p
-
-none_some : {X : Type 0} {x : X} → None ≡ Some x → ⊥
-none_some e = cc
 
 some_same : {X : Type 0} (x y : X) → ◌≡◌ {A = Option X} (Some x) (Some y) → x ≡ y
 some_same x y e = cc
