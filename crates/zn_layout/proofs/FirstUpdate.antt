@@ -23,6 +23,7 @@ use Rattle.zk_model.specs.Znodes.{num_children, owned, new_node}
 use Rattle.zk_transcript.specs.History.{State, Session, nothing_yet, after}
 use Rattle.zx_base.specs.Maps.{Bytes, same}
 use Rattle.zx_base.proofs.MapLaws.{same-true, apart-from_same}
+use Rattle.zn_layout.proofs.Absent.{none_some}
 use Rattle.zn_layout.specs.Keys.{Key, HeadKey, DataKey, CountsKey, SessionKey, LeaseKey, key_bytes, front}
 use Rattle.zn_layout.specs.Records.{node_value, counts_value, head_value, IsLongCount, IsNodeRec}
 use Rattle.zn_layout.specs.StandsFor.{Stored, stored_of, at, Means, IsData, IsCounts, DataMeans, CountsMean, NodesMean, LifeMeans, IsHead, AreLayout, StandsFor}
@@ -112,9 +113,6 @@ key_fits now h (LeaseKey id) = λ o x. x
 
 no_keys : present new_store ≡ empty
 no_keys = present-is new_store
-
-none_some : {X : Type 0} {x : X} → None ≡ Some x → ⊥
-none_some e = cc
 
 none_there : (k : Key) → at empty k ≡ None
 none_there k = get-empty (slice_cmp nat_cmp) (key_bytes k)

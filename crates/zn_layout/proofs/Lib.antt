@@ -19,3 +19,4 @@ pub mod Again
 pub mod ListRecords
 pub mod Rising
 pub mod Lapses
+pub mod Absent

@@ -14,7 +14,7 @@ use Rattle.zk_jute.specs.JuteWriting.{int_bytes, count_bytes, string_bytes}
 use Rattle.zx_base.specs.Maps.{Bytes}
 use Rattle.zn_layout.specs.Records.{trigger_bytes}
 use Rattle.zn_layout.specs.ReadingSteps.{IsValidPath, IsValidTrigger, IsPathOf, IsCounted, IsNotCounted, TakesItem, TakesItems}
-use Rattle.zn_layout.proofs.Numbers.{length-int}
+use Rattle.zk_jute.proofs.Lengths.{length-int_bytes}
 use Rattle.zn_layout.proofs.Nodes.{int_same}
 use Rattle.zn_layout.proofs.Paths.{path_short}
 
@@ -46,7 +46,7 @@ paths_same p q r s vp vq e = strings_same p q r s (omega (arith, path_short p vp
 
 -- too few bytes for a count
 pub uncounted-short : (old : Bytes) → length old < 4 → IsNotCounted old
-uncounted-short old short n rest lt e = omega (arith, length-append (count_bytes n) rest, length-int (pos n), ap (λ (l : Bytes). length l) e)
+uncounted-short old short n rest lt e = omega (arith, length-append (count_bytes n) rest, length-int_bytes (pos n), ap (λ (l : Bytes). length l) e)
 
 -- a number that is no count
 pub uncounted-number : (old rest : Bytes) (z : ℤ) → FitsSigned w32 z → old ≡ int_bytes z ++ rest → (FitsUnsignedBits 64 (to_z w32 (of_z w32 z)) → ⊥) → IsNotCounted old

@@ -10,6 +10,7 @@ use Rattle.zk_model.specs.declared.node.Trigger.{Trigger}
 use Rattle.zk_transcript.specs.History.{State}
 use Rattle.zx_base.specs.Maps.{Bytes}
 use Rattle.zx_base.proofs.MapLaws.{either, get-insert_same}
+use Rattle.zn_layout.proofs.Absent.{none_some}
 use Rattle.zn_layout.specs.Keys.{Key, HeadKey, key_bytes, front}
 use Rattle.zn_layout.specs.Records.{head_value, IsHeadRec}
 use Rattle.zn_layout.specs.StandsFor.{Stored, stored_of, at, Means, IsHead, HeadMeans, AreLayout, StandsFor}
@@ -20,9 +21,6 @@ use Rattle.zn_layout.proofs.Fits.{fits_head}
 use Rattle.zn_layout.proofs.Applied.{acts_applied-append, over, one_more, write, write-is, write_other, write_same, stored-changes, at-unwritten}
 
 -- ---- the layout is kept
-
-none_some : {X : Type 0} {x : X} → None ≡ Some x → ⊥
-none_some e = cc
 
 revision_in : ℤ → Option Stored → ℤ
 revision_in z None = z
