@@ -1,5 +1,5 @@
 -- Which connection a session is attached to, by the lines: the connection whose own line attached it last.
-use Rattle.std.proofs.Common.{◌≡◌, ◌≢◌, ℕ, zero, suc, ◌+◌, ◌<◌, ◌≤◌, List, [], ◌∷◌, ◌++◌, length, Option, Some, None, refl, sym, ap, ◌∙◌, subst, ◌⊎◌, inl, inr, ⊎_elim, arith, Bool, true, false, cond, ℤ, append_assoc, append-nil}
+use Rattle.std.proofs.Common.{◌≡◌, ◌≢◌, ℕ, zero, suc, ◌+◌, ◌<◌, ◌≤◌, List, [], ◌∷◌, ◌++◌, length, Option, Some, None, refl, sym, ap, ◌∙◌, subst, ◌⊎◌, inl, inr, ⊎_elim, arith, Bool, true, false, cond, ℤ}
 use Rattle.std.specs.Prelude.{◌≤ℤ◌, ◌<ℤ◌, ◌==◌, ◌&&◌, if◌then◌else◌, option_map, is_none, int_lt, slice_get}
 use Rattle.std.specs.List.{list_all}
 use Rattle.std.specs.Ordering.{int_cmp, int_eq, is_eq}
@@ -13,12 +13,12 @@ use Rattle.zk_transcript.specs.declared.transcript.UpdateKind.{UpdateKind}
 use Rattle.zk_transcript.specs.declared.transcript.UpdateKind.TheVariants.{Begin, Session as NewSession, Attach, Asked, Closed, Reaped}
 use Rattle.zk_transcript.specs.declared.transcript.TranscriptLine.{TranscriptLine}
 use Rattle.zk_transcript.specs.declared.transcript.TranscriptLine.TheVariants.{Update, Open, Frame as FrameLine, Send, Lapse, Close}
-use Rattle.zk_transcript.specs.History.{State, Session, Sessions, Commit, first_place, when, nothing_yet, session_at, is_attached_to, attached_in, attached_session, frame, opening, connect, asked_commit, committed, new_session, attached_anew, session_ended, lapsed_in, updated, change, after, after_from}
-use Rattle.zk_transcript.specs.Legal.{Attachment, moves, lapses, attach_of, attach_shown, may_attach, is_small_frame, is_resumed_by, may_update, is_next_zxid, is_legal, is_legal_from, is_legal_line, begins}
+use Rattle.zk_transcript.specs.History.{State, Session, Sessions, Commit, when, nothing_yet, session_at, is_attached_to, attached_in, attached_session, frame, opening, connect, asked_commit, committed, new_session, attached_anew, session_ended, lapsed_in, updated, change, after}
+use Rattle.zk_transcript.specs.Legal.{Attachment, changes_session, lapses_session, attach_of, attach_shown, may_attach, is_small_frame, is_resumed_by, may_update, is_next_zxid, is_legal, is_legal_line}
 use Rattle.zk_transcript.proofs.Appending.{first_place-push}
 use Rattle.zk_transcript.proofs.Lookups.{first_place-skip, first_place-new, Within, front, back, within, slice_get-front, slice_get-back}
 use Rattle.zk_transcript.proofs.Histories.{above-next, not-begin, is_still, begin_line, first_place-still, legal-induct}
-use Rattle.zk_transcript.proofs.SessionMaps.{EachSession, each_session-put, each_session-put_apart, each_session-gone, still_open, attached_session-open}
+use Rattle.zk_transcript.proofs.SessionMaps.{EachSession, each_session-put_apart, still_open, attached_session-open}
 
 -- ---- the session that is attached to a connection
 
@@ -131,17 +131,17 @@ pub record IsListed (lines : List TranscriptLine) (id : ℤ) (x : Session) : Typ
   pub own : attach_of x.connection lines ≡ Some (place, own_line x.attached id)
   pub latest : (c k : ℕ) (z : ℤ) → attach_of c lines ≡ Some (k, own_line z id) → z ≤ℤ x.attached
   pub one : (c k : ℕ) (z : ℤ) → attach_of c lines ≡ Some (k, own_line z id) → x.attached ≡ z → x.connection ≡ c
-  pub unmoved : NoneBehind (moves id) place lines
-  pub alive : x.lapsed ≡ false → NoneBehind (lapses id) place lines
+  pub unmoved : NoneBehind (changes_session id) place lines
+  pub alive : x.lapsed ≡ false → NoneBehind (lapses_session id) place lines
 
 pub record Lined (lines : List TranscriptLine) (s : State) : Type 0 where
   pub all : EachSession (IsListed lines) s.sessions
   -- own lines have zxids of the past
   pub past : (c k : ℕ) (z id : ℤ) → attach_of c lines ≡ Some (k, own_line z id) → z ≤ℤ s.zxid
 
--- an open session that the line neither moves nor lapses
+-- an open session that the line neither changes nor lapses
 abbrev Leaves : TranscriptLine → ℤ → Session → Type 0
-Leaves l id x = (moves id l ≡ false) × (x.lapsed ≡ false → lapses id l ≡ false)
+Leaves l id x = (changes_session id l ≡ false) × (x.lapsed ≡ false → lapses_session id l ≡ false)
 
 listed-skip : (lines : List TranscriptLine) (l : TranscriptLine) (id : ℤ) (x : Session) → ((c : ℕ) → attach_shown c l ≡ None) → Leaves l id x → IsListed lines id x → IsListed (lines ++ l ∷ []) id x
 listed-skip lines l id x nobody leaves p = record {
@@ -149,8 +149,8 @@ listed-skip lines l id x nobody leaves p = record {
   own = attach_of-skip lines l x.connection (nobody x.connection) ∙ p.own;
   latest = λ c k z h. p.latest c k z (sym (attach_of-skip lines l c (nobody c)) ∙ h);
   one = λ c k z h at. p.one c k z (sym (attach_of-skip lines l c (nobody c)) ∙ h) at;
-  unmoved = none_behind-push (moves id) p.place lines l p.unmoved leaves.0;
-  alive = λ lives. none_behind-push (lapses id) p.place lines l (p.alive lives) (leaves.1 lives);
+  unmoved = none_behind-push (changes_session id) p.place lines l p.unmoved leaves.0;
+  alive = λ lives. none_behind-push (lapses_session id) p.place lines l (p.alive lives) (leaves.1 lives);
 }
 
 past-skip : (lines : List TranscriptLine) (l : TranscriptLine) (s : State) (new : ℤ) → ((c : ℕ) → attach_shown c l ≡ None) → s.zxid ≤ℤ new → Lined lines s
@@ -166,7 +166,7 @@ lined-skip lines l s new nobody all up was = record {
 }
 
 -- a line that attaches d
-lined-put : (lines : List TranscriptLine) (l : TranscriptLine) (s new : State) (d : ℕ) (z id : ℤ) (x : Session) → Attaches l d z id → ((other : ℤ) → other ≢ id → (moves other l ≡ false) × (lapses other l ≡ false))
+lined-put : (lines : List TranscriptLine) (l : TranscriptLine) (s new : State) (d : ℕ) (z id : ℤ) (x : Session) → Attaches l d z id → ((other : ℤ) → other ≢ id → (changes_session other l ≡ false) × (lapses_session other l ≡ false))
     → attach_of d lines ≡ None → s.zxid <ℤ z → x.connection ≡ d → x.attached ≡ z → new.sessions ≡ insert s.sessions id x → new.zxid ≡ z → Lined lines s → Lined (lines ++ l ∷ []) new
 lined-put lines l s new d z id x attaches others free above at_d at_z sessions zxid was = record {
   all = subst (EachSession (IsListed (lines ++ l ∷ []))) (sym sessions) (each_session-put_apart (IsListed (lines ++ l ∷ [])) s.sessions id x (λ other y far is. kept other y far (was.all other y is)) here);
@@ -182,8 +182,8 @@ lined-put lines l s new d z id x attaches others free above at_d at_z sessions z
       own = attach_of-push lines (l ∷ []) y.connection (p.place, own_line y.attached other) p.own;
       latest = λ c k w h. ⊎_elim (λ e. p.latest c k w e) (λ e. absurd (far e.2)) (old_or_new lines l c d k z id w other attaches h);
       one = λ c k w h at. ⊎_elim (λ e. p.one c k w e at) (λ e. absurd (far e.2)) (old_or_new lines l c d k z id w other attaches h);
-      unmoved = none_behind-push (moves other) p.place lines l p.unmoved (others other far).0;
-      alive = λ lives. none_behind-push (lapses other) p.place lines l (p.alive lives) (others other far).1;
+      unmoved = none_behind-push (changes_session other) p.place lines l p.unmoved (others other far).0;
+      alive = λ lives. none_behind-push (lapses_session other) p.place lines l (p.alive lives) (others other far).1;
     }
 
     own_d : attach_of d (lines ++ l ∷ []) ≡ Some (length lines, own_line z id)
@@ -203,8 +203,8 @@ lined-put lines l s new d z id x attaches others free above at_d at_z sessions z
           (λ e. let old = was.past c k w id e in absurd (omega (arith, ints, at_z, at)))
           (λ e. at_d ∙ sym e.0)
           (old_or_new lines l c d k z id w id attaches h);
-      unmoved = none_behind-last (moves id) lines l;
-      alive = λ lives. none_behind-last (lapses id) lines l;
+      unmoved = none_behind-last (changes_session id) lines l;
+      alive = λ lives. none_behind-last (lapses_session id) lines l;
     }
 
 -- ---- by the kinds of lines
@@ -232,16 +232,16 @@ apart other id far = by_test (int_eq other id) refl
     by_test false e = refl
 
 -- a line that concerns no session
-all_left : (lines : List TranscriptLine) (l : TranscriptLine) (m : Sessions) → ((id : ℤ) → moves id l ≡ false) → ((id : ℤ) → lapses id l ≡ false) → EachSession (IsListed lines) m → EachSession (λ id x. Leaves l id x × IsListed lines id x) m
+all_left : (lines : List TranscriptLine) (l : TranscriptLine) (m : Sessions) → ((id : ℤ) → changes_session id l ≡ false) → ((id : ℤ) → lapses_session id l ≡ false) → EachSession (IsListed lines) m → EachSession (λ id x. Leaves l id x × IsListed lines id x) m
 all_left lines l m unmoved alive all id x is = ((unmoved id, λ lives. alive id), all id x is)
 
-lined-committed : (lines : List TranscriptLine) (l : TranscriptLine) (s : State) (z : ℤ) (o : Option Commit) → ((c : ℕ) → attach_shown c l ≡ None) → ((id : ℤ) → moves id l ≡ false) → ((id : ℤ) → lapses id l ≡ false)
+lined-committed : (lines : List TranscriptLine) (l : TranscriptLine) (s : State) (z : ℤ) (o : Option Commit) → ((c : ℕ) → attach_shown c l ≡ None) → ((id : ℤ) → changes_session id l ≡ false) → ((id : ℤ) → lapses_session id l ≡ false)
     → s.zxid <ℤ z → Lined lines s → Lined (lines ++ l ∷ []) (committed s z o)
 lined-committed lines l s z None nobody unmoved alive above was = lined-skip lines l s s nobody (all_left lines l s.sessions unmoved alive was.all) (omega (arith, ints)) was
 lined-committed lines l s z (Some x) nobody unmoved alive above was = lined-skip lines l s (committed s z (Some x)) nobody (all_left lines l s.sessions unmoved alive was.all) (omega (arith, ints)) was
 
 -- a session ends by this line
-lined-ended : (lines : List TranscriptLine) (l : TranscriptLine) (s : State) (z id : ℤ) → ((c : ℕ) → attach_shown c l ≡ None) → ((other : ℤ) → moves other l ≡ int_eq other id) → ((other : ℤ) → lapses other l ≡ false)
+lined-ended : (lines : List TranscriptLine) (l : TranscriptLine) (s : State) (z id : ℤ) → ((c : ℕ) → attach_shown c l ≡ None) → ((other : ℤ) → changes_session other l ≡ int_eq other id) → ((other : ℤ) → lapses_session other l ≡ false)
     → s.zxid <ℤ z → Lined lines s → Lined (lines ++ l ∷ []) (session_ended s z id)
 lined-ended lines l s z id nobody ends alive above was =
     lined-skip lines l s (session_ended s z id) nobody
@@ -286,7 +286,7 @@ lined-lapsed lines s revision id was = by_session (session_at id s) refl
         ((refl, λ lives. cc), record { place = p.place; own = p.own; latest = p.latest; one = p.one; unmoved = p.unmoved; alive = λ lives. cc }))
         (omega (arith, ints)) was
 
-lined-same : (lines : List TranscriptLine) (l : TranscriptLine) (s : State) → ((c : ℕ) → attach_shown c l ≡ None) → ((id : ℤ) → moves id l ≡ false) → ((id : ℤ) → lapses id l ≡ false) → Lined lines s → Lined (lines ++ l ∷ []) s
+lined-same : (lines : List TranscriptLine) (l : TranscriptLine) (s : State) → ((c : ℕ) → attach_shown c l ≡ None) → ((id : ℤ) → changes_session id l ≡ false) → ((id : ℤ) → lapses_session id l ≡ false) → Lined lines s → Lined (lines ++ l ∷ []) s
 lined-same lines l s nobody unmoved alive was = lined-skip lines l s s nobody (all_left lines l s.sessions unmoved alive was.all) (omega (arith, ints)) was
 
 lined-change : (lines : List TranscriptLine) (s : State) (l : TranscriptLine) → Lined lines s → 1 ≤ s.updates → is_legal_line lines s l ≡ true → Lined (lines ++ l ∷ []) (change lines s l)
@@ -360,14 +360,14 @@ own_line-place lines c id x k a at own p =
 
 -- behind the own line no other line opened, attached or ended the session
 pub attached-unmoved : (lines : List TranscriptLine) (c : ℕ) (id : ℤ) (x : Session) (k : ℕ) (a : Attachment) → is_legal lines ≡ true → attached_session c (after lines) ≡ Some (id, x) → attach_of c lines ≡ Some (k, a)
-    → NoneBehind (moves id) k lines
+    → NoneBehind (changes_session id) k lines
 attached-unmoved lines c id x k a legal at own =
     let p = (legal-lined lines legal).all id x (attached_session-open c (after lines) (id, x) at) in
-    subst (λ (n : ℕ). NoneBehind (moves id) n lines) (own_line-place lines c id x k a at own p) p.unmoved
+    subst (λ (n : ℕ). NoneBehind (changes_session id) n lines) (own_line-place lines c id x k a at own p) p.unmoved
 
 -- and none lapsed it, where it lives
 pub attached-alive : (lines : List TranscriptLine) (c : ℕ) (id : ℤ) (x : Session) (k : ℕ) (a : Attachment) → is_legal lines ≡ true → attached_session c (after lines) ≡ Some (id, x) → attach_of c lines ≡ Some (k, a)
-    → x.lapsed ≡ false → NoneBehind (lapses id) k lines
+    → x.lapsed ≡ false → NoneBehind (lapses_session id) k lines
 attached-alive lines c id x k a legal at own lives =
     let p = (legal-lined lines legal).all id x (attached_session-open c (after lines) (id, x) at) in
-    subst (λ (n : ℕ). NoneBehind (lapses id) n lines) (own_line-place lines c id x k a at own p) (p.alive lives)
+    subst (λ (n : ℕ). NoneBehind (lapses_session id) n lines) (own_line-place lines c id x k a at own p) (p.alive lives)

@@ -1,6 +1,6 @@
 -- What holds right after Begin, and is kept by each legal line behind it, holds after each legal history.
 use Rattle.std.proofs.Common.{◌≡◌, ℕ, ◌+◌, ◌≤◌, List, [], ◌∷◌, ◌++◌, Option, Some, None, refl, sym, subst, arith, Bool, true, false, ℤ, append_assoc, append-nil}
-use Rattle.std.specs.Prelude.{◌≤ℤ◌, ◌<ℤ◌, ◌||◌, ◌==◌, is_some, int_lt, int_le}
+use Rattle.std.specs.Prelude.{◌≤ℤ◌, ◌<ℤ◌, ◌||◌, ◌==◌, int_lt, int_le}
 use Rattle.std.specs.List.{list_all}
 use Rattle.std.proofs.lemmas.Bool.{and_parts}
 use Rattle.std.proofs.lemmas.Bool.Decides.{nat_tests}
@@ -10,7 +10,7 @@ use Rattle.zk_transcript.specs.declared.transcript.UpdateKind.{UpdateKind}
 use Rattle.zk_transcript.specs.declared.transcript.UpdateKind.TheVariants.{Begin, Session as NewSession, Attach, Asked, Closed, Reaped}
 use Rattle.zk_transcript.specs.declared.transcript.TranscriptLine.{TranscriptLine}
 use Rattle.zk_transcript.specs.declared.transcript.TranscriptLine.TheVariants.{Update, Open, Frame as FrameLine, Send, Lapse, Close}
-use Rattle.zk_transcript.specs.History.{State, Session, Commit, nothing_yet, session_at, asked_commit, committed, lapsed_in, updated, change, after, after_from, first_place, first_shown, zxid_shown, first_zxid}
+use Rattle.zk_transcript.specs.History.{State, Session, Commit, nothing_yet, session_at, asked_commit, committed, lapsed_in, updated, change, after, after_from, first_place, first_shown, update_in}
 use Rattle.zk_transcript.specs.Legal.{may_update, is_next_zxid, is_legal, is_legal_from, is_legal_line, begins}
 use Rattle.zk_transcript.proofs.Lookups.{first_shown-new}
 
@@ -168,14 +168,14 @@ first_shown-push {A} show (l ∷ ls) more x h =
       | None ↦ λ e. first_shown-push show ls more x e
     ] h
 
-zxid-unshown : (l : TranscriptLine) → is_still l ≡ true → zxid_shown l ≡ None
-zxid-unshown (Update u) h = absurd (cc)
-zxid-unshown (Lapse revision id) h = refl
-zxid-unshown (Open c proxy id passwd) h = refl
-zxid-unshown (FrameLine c i z bytes) h = refl
-zxid-unshown (Send c bytes) h = refl
-zxid-unshown (Close c end) h = refl
+no_update : (l : TranscriptLine) → is_still l ≡ true → update_in l ≡ None
+no_update (Update u) h = absurd (cc)
+no_update (Lapse revision id) h = refl
+no_update (Open c proxy id passwd) h = refl
+no_update (FrameLine c i z bytes) h = refl
+no_update (Send c bytes) h = refl
+no_update (Close c end) h = refl
 
 -- the first update is Begin
-pub first_zxid-begins : (before : List TranscriptLine) (z : ℤ) (now : ℕ) → list_all is_still before ≡ true → first_zxid (before ++ begin_line z now ∷ []) ≡ Some z
-first_zxid-begins before z now still = first_shown-new zxid_shown before (begin_line z now) (first_shown-still zxid_shown zxid-unshown before still)
+pub first_update-begins : (before : List TranscriptLine) (z : ℤ) (now : ℕ) → list_all is_still before ≡ true → first_shown update_in (before ++ begin_line z now ∷ []) ≡ Some (record { zxid = z; kind = Begin now })
+first_update-begins before z now still = first_shown-new update_in before (begin_line z now) (first_shown-still update_in no_update before still)

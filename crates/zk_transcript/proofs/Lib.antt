@@ -9,12 +9,15 @@ pub mod Unarmed
 pub mod Children
 pub mod Owned
 pub mod Histories
+pub mod Begins
 pub mod Prefixes
 pub mod Ordered
 pub mod Zxids
+pub mod UpdateCounts
 pub mod SessionMaps
 pub mod SoundTrees
 pub mod SoundEffects
 pub mod SoundSessions
 pub mod SoundHistories
 pub mod Attachments
+pub mod Requests

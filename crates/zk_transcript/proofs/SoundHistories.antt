@@ -18,6 +18,7 @@ use Rattle.zk_model.specs.declared.node.Trigger.{Trigger}
 use Rattle.zk_model.specs.declared.request.Request.{Request}
 use Rattle.zk_model.specs.declared.request.Request.TheVariants as req
 use Rattle.zk_model.specs.declared.request.Part.TheVariants as part
+use Rattle.zk_transcript.specs.declared.transcript.UpdateRec.{UpdateRec}
 use Rattle.zk_transcript.specs.declared.transcript.UpdateKind.{UpdateKind}
 use Rattle.zk_transcript.specs.declared.transcript.UpdateKind.TheVariants.{Begin, Session as NewSession, Attach, Asked, Closed, Reaped}
 use Rattle.zk_transcript.specs.declared.transcript.TranscriptLine.{TranscriptLine}
@@ -28,12 +29,12 @@ use Rattle.zk_jute.specs.Requests.{Frame, NoHeader, Unreadable, Unknown, Asks, r
 use Rattle.zk_model.specs.Znodes.{Tree, num_children, owned, new_node, root_alone}
 use Rattle.zk_model.specs.Single.{Outcome, Refused, Done}
 use Rattle.zk_model.specs.Multi.{Several, Denied, Codes, All as AllDone}
-use Rattle.zk_transcript.specs.History.{State, Session, Sessions, Commit, IsSoundTree, IsSound, IsPast, IsBoundedNode, IsBoundedSession, IsBounded, IsCounted, HasParent, limit_of, session_at, attached, attached_session, frame, request, asked_in, commit, commit_single, commit_several, asked_commit, committed, advanced, new_session, opening, connect, with_session, attached_anew, session_ended, removed_all, updated, lapsed_in, change, after, nothing_yet, zxid_shown, first_zxid, granted_timeout, or_nothing}
+use Rattle.zk_transcript.specs.History.{State, Session, Sessions, Commit, IsSoundTree, IsSound, IsPast, IsBoundedNode, IsBoundedSession, IsBounded, IsCounted, HasParent, limit_of, session_at, attached, attached_session, frame, request, asked_in, commit, commit_single, commit_several, asked_commit, committed, advanced, new_session, opening, connect, with_session, attached_anew, session_ended, removed_all, updated, lapsed_in, change, after, nothing_yet, first_shown, update_in, granted_timeout, or_nothing}
 use Rattle.zk_transcript.specs.Legal.{may_update, is_id, is_next_zxid, is_legal_line, is_legal, is_small_frame, is_within_parts, is_live_as, is_close, is_lapsed, offers, asks_anew, may_attach}
 use Rattle.zk_model.proofs.Paths.{parent-root}
 use Rattle.zk_model.proofs.ValidPaths.{root-valid}
 use Rattle.zk_jute.proofs.Contents.{contents_within}
-use Rattle.zk_transcript.proofs.Histories.{above-next, long-next, not-begin, is_still, begin_line, legal-induct, first_shown-push, first_zxid-begins}
+use Rattle.zk_transcript.proofs.Histories.{above-next, long-next, not-begin, is_still, begin_line, legal-induct, first_shown-push, first_update-begins}
 use Rattle.zk_transcript.proofs.Children.{no_children, num_children-new_other}
 use Rattle.zk_transcript.proofs.SessionMaps.{EachSession, each_session-put, each_session-gone, attached_session-open}
 use Rattle.zk_transcript.proofs.SoundTrees.{Each, each-put, some_is, some_none}
@@ -340,13 +341,13 @@ fine-change first before s (Close c end) fine some h = fine
 -- ---- histories, by the zxid of their first update
 
 abbrev FineAfter : List TranscriptLine → State → Type 0
-FineAfter lines s = (first : ℤ) × (first_zxid lines ≡ Some first) × Fine first s
+FineAfter lines s = (u : UpdateRec) × (first_shown update_in lines ≡ Some u) × Fine u.zxid s
 
 fine-first : (before : List TranscriptLine) (z : ℤ) (now : ℕ) → list_all is_still before ≡ true → z ≤ℤ max_long → FineAfter (before ++ begin_line z now ∷ []) (updated before nothing_yet z (Begin now))
-fine-first before z now still most = (z, first_zxid-begins before z now still, fine-begin z z now before nothing_yet (omega (arith, ints)) most)
+fine-first before z now still most = (record { zxid = z; kind = Begin now }, first_update-begins before z now still, fine-begin z z now before nothing_yet (omega (arith, ints)) most)
 
 fine-next : (before : List TranscriptLine) (s : State) (l : TranscriptLine) → FineAfter before s → 1 ≤ s.updates → is_legal_line before s l ≡ true → FineAfter (before ++ l ∷ []) (change before s l)
-fine-next before s l was some h = (was.0, first_shown-push zxid_shown before (l ∷ []) was.0 was.1, fine-change was.0 before s l was.2 some h)
+fine-next before s l was some h = (was.0, first_shown-push update_in before (l ∷ []) was.0 was.1, fine-change was.0.zxid before s l was.2 some h)
 
 legal-fine : (lines : List TranscriptLine) → is_legal lines ≡ true → FineAfter lines (after lines)
 legal-fine lines h = legal-induct FineAfter fine-first fine-next lines h
@@ -356,8 +357,8 @@ legal-fine lines h = legal-induct FineAfter fine-first fine-next lines h
 pub legal-sound : (lines : List TranscriptLine) → is_legal lines ≡ true → IsSound (after lines)
 legal-sound lines h = (legal-fine lines h).2.sound
 
-pub legal-bounded : (lines : List TranscriptLine) (first : ℤ) → is_legal lines ≡ true → first_zxid lines ≡ Some first → IsBounded first (after lines)
-legal-bounded lines first h is =
+pub legal-bounded : (lines : List TranscriptLine) (u : UpdateRec) → is_legal lines ≡ true → first_shown update_in lines ≡ Some u → IsBounded u.zxid (after lines)
+legal-bounded lines u h is =
     let all = legal-fine lines h in
-    let same : all.0 ≡ first = some_is (sym all.1 ∙ is) in
-    subst (λ (z : ℤ). IsBounded z (after lines)) same all.2.bounded
+    let same : all.0 ≡ u = some_is (sym all.1 ∙ is) in
+    subst (λ (v : UpdateRec). IsBounded v.zxid (after lines)) same all.2.bounded

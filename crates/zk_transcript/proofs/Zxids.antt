@@ -1,6 +1,6 @@
 -- The zxids of a legal history's updates rise, and its last one is the state's.
-use Rattle.std.proofs.Common.{◌≡◌, ℕ, zero, suc, ◌<◌, ◌≤◌, List, [], ◌∷◌, ◌++◌, take, Option, Some, None, refl, sym, ap, ◌∙◌, subst, arith, true, ℤ, append_assoc, append-nil}
-use Rattle.std.specs.Prelude.{◌≤ℤ◌, ◌<ℤ◌, slice_get, is_some, int_lt, int_le}
+use Rattle.std.proofs.Common.{◌≡◌, ℕ, zero, suc, ◌<◌, ◌≤◌, List, [], ◌∷◌, ◌++◌, take, Option, Some, None, refl, sym, ap, ◌∙◌, subst, arith, true, ℤ}
+use Rattle.std.specs.Prelude.{◌≤ℤ◌, ◌<ℤ◌, slice_get, is_some}
 use Rattle.std.specs.List.{list_all}
 use Rattle.std.proofs.lemmas.Bool.{and_parts}
 use Rattle.std.proofs.lemmas.Int.{ints}
@@ -10,8 +10,8 @@ use Rattle.zk_transcript.specs.declared.transcript.UpdateKind.TheVariants.{Begin
 use Rattle.zk_transcript.specs.declared.transcript.UpdateRec.{UpdateRec}
 use Rattle.zk_transcript.specs.declared.transcript.TranscriptLine.{TranscriptLine}
 use Rattle.zk_transcript.specs.declared.transcript.TranscriptLine.TheVariants.{Update, Open, Frame as FrameLine, Send, Lapse, Close}
-use Rattle.zk_transcript.specs.History.{State, Session, Commit, nothing_yet, session_at, asked_commit, committed, lapsed_in, updated, change, after, after_from, state_at}
-use Rattle.zk_transcript.specs.Legal.{may_update, is_next_zxid, is_legal, is_legal_from, is_legal_line, begins}
+use Rattle.zk_transcript.specs.History.{State, Session, Commit, nothing_yet, session_at, asked_commit, committed, lapsed_in, updated, change, after, state_at}
+use Rattle.zk_transcript.specs.Legal.{may_update, is_next_zxid, is_legal, is_legal_line}
 use Rattle.zk_transcript.proofs.Lookups.{Within, front, back, within, slice_get-front, slice_get-back}
 use Rattle.zk_transcript.proofs.Placed.{is_legal-at}
 use Rattle.zk_transcript.proofs.Ordered.{slice_get-take, all-at}

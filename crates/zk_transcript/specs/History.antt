@@ -2,6 +2,7 @@
 -- "Consistency Guarantees": updates stand in one order, that of their zxids).
 -- A moment is a place between two lines: the number of lines before it.
 use Rattle.std.specs.Prelude.{◌≡◌, ℕ, ℤ, pos, ◌+◌, ◌≤◌, ◌≤ℤ◌, Bool, true, false, ◌&&◌, List, [], ◌∷◌, ◌++◌, length, take, fold, flat_map, Option, Some, None, option_map, option_and_then, if◌then◌else◌, ◌==◌, IsTrue}
+use Rattle.std.specs.List.{filter_map}
 use Rattle.std.specs.Int.{int_max, int_min}
 use Rattle.std.specs.Ordering.{int_cmp}
 use Rattle.zk_model.specs.declared.node.Node.{Node}
@@ -14,6 +15,7 @@ use Rattle.zk_model.specs.declared.request.Request.TheVariants as req
 use Rattle.zk_model.specs.declared.request.Part.TheVariants as part
 use Rattle.zk_model.specs.declared.node.Trigger.{Trigger}
 use Rattle.zk_model.specs.declared.connect.ConnectRequest.{ConnectRequest}
+use Rattle.zk_transcript.specs.declared.transcript.UpdateRec.{UpdateRec}
 use Rattle.zk_transcript.specs.declared.transcript.UpdateKind.{UpdateKind}
 use Rattle.zk_transcript.specs.declared.transcript.UpdateKind.TheVariants.{Begin, Session as NewSession, Attach, Asked, Closed, Reaped}
 use Rattle.zk_transcript.specs.declared.transcript.TranscriptLine.{TranscriptLine}
@@ -231,6 +233,14 @@ after_from before s (l ∷ ls) = after_from (before ++ l ∷ []) (change before 
 unfoldable pub after : List TranscriptLine → State
 after lines = after_from [] nothing_yet lines
 
+-- the updates among these lines
+abbrev pub update_in : TranscriptLine → Option UpdateRec
+update_in (Update u) = Some u
+update_in _ = None
+
+abbrev pub updates : List TranscriptLine → List UpdateRec
+updates lines = filter_map update_in lines
+
 -- the state at a moment
 abbrev pub state_at : List TranscriptLine → ℕ → State
 state_at lines moment = after (take moment lines)
@@ -267,14 +277,6 @@ abbrev pub IsSound : State → Type 0
 IsSound s = IsSoundTree s.sessions s.tree
 
 -- ---- the ranges of a state's numbers, which a stored layout needs besides: those of the state after each legal history
-
--- the zxid of the first update
-abbrev pub zxid_shown : TranscriptLine → Option ℤ
-zxid_shown (Update u) = Some u.zxid
-zxid_shown _ = None
-
-abbrev pub first_zxid : List TranscriptLine → Option ℤ
-first_zxid lines = first_shown zxid_shown lines
 
 -- a zxid of the updates from the first to the last
 pub record IsPast (first last zxid : ℤ) : Type 0 where

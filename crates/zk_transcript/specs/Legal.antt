@@ -36,20 +36,21 @@ attach_of c lines = first_place (attach_shown c) 0 lines
 -- ---- lines that concern a session
 
 -- the update opens, attaches or ends it
-abbrev pub is_of_session : ℤ → UpdateKind → Bool
-is_of_session id (NewSession other c) = int_eq id other
-is_of_session id (Attach other c) = int_eq id other
-is_of_session id (Closed other c i) = int_eq id other
-is_of_session id (Reaped other) = int_eq id other
-is_of_session id _ = false
+abbrev pub changes_in : ℤ → UpdateKind → Bool
+changes_in id (NewSession other c) = int_eq id other
+changes_in id (Attach other c) = int_eq id other
+changes_in id (Closed other c i) = int_eq id other
+changes_in id (Reaped other) = int_eq id other
+changes_in id _ = false
 
-abbrev pub moves : ℤ → TranscriptLine → Bool
-moves id (Update u) = is_of_session id u.kind
-moves id _ = false
+abbrev pub changes_session : ℤ → TranscriptLine → Bool
+changes_session id (Update u) = changes_in id u.kind
+changes_session id _ = false
 
-abbrev pub lapses : ℤ → TranscriptLine → Bool
-lapses id (Lapse revision other) = int_eq id other
-lapses id _ = false
+-- its lease lapses
+abbrev pub lapses_session : ℤ → TranscriptLine → Bool
+lapses_session id (Lapse revision other) = int_eq id other
+lapses_session id _ = false
 
 -- ---- the conditions of the kinds of updates
 

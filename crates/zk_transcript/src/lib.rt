@@ -10,7 +10,9 @@ mod laws;
 mod transcript;
 
 pub use laws::{
-    attached_by_own_line, attached_last, attached_to_own_line, legal_histories_are_bounded,
-    legal_histories_are_sound, requests_are_carried_out_in_order, zxids_rise,
+    alive_since_own_line, attached_by_own_line, attached_last, attached_since_own_line,
+    attached_to_own_line, begin_comes_before_lapses, begin_comes_behind_an_open_line,
+    legal_histories_are_bounded, legal_histories_are_sound, requests_are_carried_out_in_order,
+    updates_are_counted, zxids_rise,
 };
 pub use transcript::{Cause, Conversation, Ended, TranscriptLine, UpdateKind, UpdateRec};
