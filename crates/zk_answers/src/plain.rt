@@ -61,11 +61,7 @@ fn delete_refusal(alloc: Global, text: &[u8]) -> Result<Option<i32>, Memory>
     }
 }
 
-fn told_refusal(
-    alloc: Global,
-    watches: &Watches,
-    code: Option<i32>,
-) -> Result<Option<Told>, Memory>
+fn told_refusal(alloc: Global, watches: &Watches, code: Option<i32>) -> Result<Option<Told>, Memory>
     ensures { IfOk result (λ o. option_map told_of o ≡ told_refusal watches.now code) }
 {
     match code {

@@ -316,4 +316,3 @@ pub record IsWalk (lines : List TranscriptLine) (c : ℕ) (id zxid : ℤ) (since
   pub lawful : IsTrue (is_walked (walk lines c id (at_start zxid since) choices) ps)
   pub fresh : IsTrue (are_fresh lines c 1 choices)
   pub in_turn : IsTrue (are_in_turn lines c 1 choices)
-

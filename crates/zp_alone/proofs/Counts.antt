@@ -9,6 +9,7 @@ use Rattle.zk_transcript.specs.History.{first_place}
 use Rattle.zk_transcript.specs.Conversations.{is_before, close_shown, are_before_close}
 use Rattle.zk_transcript.specs.Walks.{Due, packets, packets_from, are_sent}
 use Rattle.zp_alone.specs.Runs.{frames_of, one_more_if, sends_of}
+
 one_more_if-add : (b : Bool) (m n : ℕ) → one_more_if b (m + n) ≡ one_more_if b m + n
 one_more_if-add true m n = omega arith
 one_more_if-add false m n = refl
