@@ -1,8 +1,14 @@
 -- What contracts see of a writer.
-use Rattle.std.specs.Prelude.{Bool}
+use Rattle.std.specs.Prelude.{ℕ, ℤ, Bool, false}
 use Rattle.zw_hub.specs.declared.published.Published.{Published}
+use Rattle.zw_hub.specs.Lists.{empty}
 
--- the list that readers see, and whether no change can be published any more
+-- the list that readers see, how often it was published to or closed, and whether no change can be published any more
 pub record Publishing : Type 0 where
   pub list : Published
+  pub steps : ℕ
   pub is_stuck : Bool
+
+-- a writer that has published nothing
+abbrev pub opened : ℤ → Publishing
+opened first = record { list = empty first; steps = 0; is_stuck = false }

@@ -6,8 +6,8 @@ use Rattle.zw_hub.specs.Readings.{Reading}
 
 abbrev pub reading : Inside → Reading
 reading r = record {
-  list = (view r.place.place).list;
-  reads = (view r.place.place).steps;
+  list = (view r.reader.place).list;
+  reads = (view r.reader.place).steps;
   lags = length r.lags.items;
   closings = length r.closings.items;
 }

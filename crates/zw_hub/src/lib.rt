@@ -16,7 +16,7 @@
 
 mod change;
 mod feed;
-mod making;
+mod opening;
 mod published;
 mod reader;
 mod rule;
@@ -24,7 +24,7 @@ mod window;
 mod writer;
 
 pub use feed::{Fed, Feed, FeedEnd};
-pub use making::hub;
+pub use opening::hub;
 pub use published::{MAX_KEPT, Published};
 pub use reader::HubReader;
 pub use writer::Hub;

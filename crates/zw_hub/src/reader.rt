@@ -14,12 +14,12 @@ use std::marker::Model;
 use zx_history::GhostHistory;
 
 /// A place from which the list is read.
-pub type Place = Reader<Window, View, Growing>;
+pub type ListReader = Reader<Window, View, Growing>;
 
 /// A reader of the list, for one connection at a time. Its place is given back when it is dropped.
 #[derive(Drop)]
 pub struct HubReader {
-    place: Place,
+    reader: ListReader,
     lags: GhostHistory<()>,
     closings: GhostHistory<()>,
 }
@@ -35,20 +35,20 @@ impl Model for HubReader {
 }
 
 /// One read. Where the writer is gone it is answered `Memory`.
-fn read_at(place: Place, cursor: i64) -> (Place, Fed)
+fn read_at(reader: ListReader, cursor: i64) -> (ListReader, Fed)
     ensures once { IsRead result.1
-        (view place.place).steps (view result.0.place).steps
-        (view place.place).list (view result.0.place).list }
-    ensures extends { 0 < (view place.place).steps → Extends (view result.0.place).list (view place.place).list }
+        (view reader.place).steps (view result.0.place).steps
+        (view reader.place).list (view result.0.place).list }
+    ensures extends { 0 < (view reader.place).steps → Extends (view result.0.place).list (view reader.place).list }
     ensures answer { IsAnswer (view result.0.place).list cursor result.1 }
     ensures below { cursor <ℤ floor (view result.0.place).list → result.1 ≢ Fed.Memory → IsLagged result.1 }
 {
-    match place.enter_as::<Sees>() {
+    match reader.enter_as::<Sees>() {
         Ok(reading) => {
             let fed = reading.get().look(cursor);
             (reading.leave(), fed)
         }
-        Err(place) => (place, Fed::Memory),
+        Err(reader) => (reader, Fed::Memory),
     }
 }
 
@@ -58,12 +58,12 @@ impl HubReader {
     ghost use Rattle.zw_hub.specs.Readings.{fresh};
     ghost use Rattle.zw_hub.specs.Steps.{nothing_seen};
 
-    pub(crate) fn over(place: Place) -> HubReader
-        requires { view place.place ≡ nothing_seen }
+    pub(crate) fn over(reader: ListReader) -> HubReader
+        requires { view reader.place ≡ nothing_seen }
         ensures { result ≡ fresh }
     {
         HubReader {
-            place,
+            reader,
             lags: GhostHistory::new(),
             closings: GhostHistory::new(),
         }
@@ -82,11 +82,9 @@ impl Feed for HubReader {
     ghost closings = { λ r. r.closings };
 
     fn next(&mut self, cursor: i64) -> Fed {
-        let fed = replace_with(
-            &mut self.place,
-            cursor,
-            |place, cursor| read_at(place, cursor),
-        );
+        let fed = replace_with(&mut self.reader, cursor, |reader, cursor| {
+            read_at(reader, cursor)
+        });
         match &fed {
             Fed::Lagged { .. } => self.lags = self.lags.and(&()),
             Fed::Closed(_) => self.closings = self.closings.and(&()),

@@ -19,69 +19,75 @@ use zn_layout::Entry;
 use zx_base::Memory;
 
 /// The two copies of the list, and what one of them lacks.
-pub type Desk = Writer<Window, Change, View, Growing>;
+pub type ListWriter = Writer<Window, Change, View, Growing>;
 
 /// The writer of a list, which readers of other threads read. Contracts see the list, and whether the hub is stuck: one
 /// that could not bring a change into its second copy answers `Memory` from then on. It waits for readers that are inside
 /// a read, also where it is dropped; after that its readers are answered `Memory`.
 pub struct Hub<R: Wait + Drop> {
-    desk: Desk,
+    writer: ListWriter,
     is_stuck: bool,
     alloc: Global,
     rt: R,
 }
 
 impl<R: Wait + Drop> Model for Hub<R> {
+    ghost use Rattle.std.specs.Prelude.{◌≡◌, ◌<◌, [], drop, false};
+    ghost use Rattle.left_right.specs.Sides as sides;
     ghost use Rattle.zw_hub.specs.Hubs.{Publishing};
-    ghost use Rattle.std.specs.Prelude.{◌≡◌, [], drop, false};
 
     ghost Value = { Publishing };
 
-    ghost view = { λ h. record { list = h.desk.desk.shown.value; is_stuck = h.is_stuck } };
+    ghost view = { λ h. record { list = h.writer.desk.shown.value; steps = (sides.view h.writer.desk.place).steps; is_stuck = h.is_stuck } };
 
-    ghost invariant = { λ h. h.is_stuck ≡ false → drop h.desk.behind h.desk.log.items ≡ [] };
+    // No change waits where it is not stuck, and its own view is the list that it published.
+    ghost invariant = { λ h. (h.is_stuck ≡ false → drop h.writer.behind h.writer.log.items ≡ [])
+        × (0 < (sides.view h.writer.desk.place).steps → (sides.view h.writer.desk.place).list ≡ h.writer.desk.shown.value) };
 }
 
 impl<R: Wait + Drop> Drop for Hub<R> {
     fn drop(self) {
         let Hub {
-            desk,
+            writer,
             is_stuck: _,
             alloc: _,
             rt,
         } = self;
-        drop(desk.take(&rt));
+        drop(writer.take(&rt));
     }
 }
 
 /// Shows readers the list with the changes that it lacks.
-fn shown<R: Wait>(desk: Desk, rt: &R) -> (Desk, Result<(), AllocError>)
+fn shown<R: Wait>(writer: ListWriter, rt: &R) -> (ListWriter, Result<(), AllocError>)
     ensures list { MatchResult result.1
-        (λ _. result.0.desk.shown.value ≡ fold changed desk.desk.shown.value (drop desk.behind desk.log.items))
-        (λ _. result.0.desk.shown.value ≡ desk.desk.shown.value) }
+        (λ _. result.0.desk.shown.value ≡ fold changed writer.desk.shown.value (drop writer.behind writer.log.items))
+        (λ _. result.0.desk.shown.value ≡ writer.desk.shown.value) }
     ensures none_waits { MatchResult result.1 (λ _. drop result.0.behind result.0.log.items ≡ []) (λ _. Unit {0}) }
     ensures once { MatchResult result.1
-        (λ _. SeesOnce (view desk.desk.place) desk.desk.shown.value result.0.desk.shown.value (view result.0.desk.place))
-        (λ _. view result.0.desk.place ≡ view desk.desk.place) }
+        (λ _. SeesOnce (view writer.desk.place) writer.desk.shown.value result.0.desk.shown.value (view result.0.desk.place))
+        (λ _. view result.0.desk.place ≡ view writer.desk.place) }
 {
-    desk.publish_as::<Sees, R>(rt)
+    writer.publish_as::<Sees, R>(rt)
 }
 
 impl<R: Wait + Drop> Hub<R> {
-    ghost use Rattle.std.specs.Prelude.{◌≡◌, [], drop, true, false, OnOk, OnErr, IsErr, IsTrue, None, Some, ◌+ℤ◌, pos};
+    ghost use Rattle.std.specs.Prelude.{◌≡◌, ◌+◌, [], drop, false, OnOk, OnErr, IsTrue, None, ◌+ℤ◌, pos};
     ghost use Rattle.std.specs.Arc.{arc_value};
     ghost use Rattle.left_right.specs.Sides.{view};
     ghost use Rattle.zw_hub.specs.Changes.{changed};
     ghost use Rattle.zw_hub.specs.Ends.{IsProper};
     ghost use Rattle.zw_hub.specs.Lists.{last, with_entry, with_end};
+    ghost use Rattle.zw_hub.specs.Steps.{nothing_seen};
 
-    pub(crate) fn over(desk: Desk, alloc: Global, rt: R) -> Hub<R>
-        requires { drop desk.behind desk.log.items ≡ [] }
-        ensures list { result.list ≡ desk.desk.shown.value }
+    pub(crate) fn over(writer: ListWriter, alloc: Global, rt: R) -> Hub<R>
+        requires none_waits { drop writer.behind writer.log.items ≡ [] }
+        requires nothing { view writer.desk.place ≡ nothing_seen }
+        ensures list { result.list ≡ writer.desk.shown.value }
+        ensures steps { result.steps ≡ 0 }
         ensures works { result.is_stuck ≡ false }
     {
         Hub {
-            desk,
+            writer,
             is_stuck: false,
             alloc,
             rt,
@@ -89,7 +95,7 @@ impl<R: Wait + Drop> Hub<R> {
     }
 
     pub(crate) fn factory(&self) -> &Factory<Window, View, Growing> {
-        self.desk.factory()
+        self.writer.factory()
     }
 
     /// Publishes the next entry. Where memory was refused, readers see the list as it was.
@@ -97,7 +103,8 @@ impl<R: Wait + Drop> Hub<R> {
         requires next { (arc_value entry).number ≡ last self.old.list +ℤ pos 1 }
         requires is_open { self.old.list.end ≡ None }
         ensures ok { OnOk result (self.new.list ≡ with_entry self.old.list (arc_value entry)) }
-        ensures err { OnErr result (self.new.list ≡ self.old.list) }
+        ensures err { OnErr result ((self.new.list ≡ self.old.list) × (self.new.steps ≡ self.old.steps)) }
+        ensures once { OnOk result (self.new.steps ≡ self.old.steps + 1) }
         ensures works { OnOk result ((self.old.is_stuck ≡ false) × (self.new.is_stuck ≡ false)) }
         ensures stuck { IsTrue self.old.is_stuck → IsTrue self.new.is_stuck }
     {
@@ -109,7 +116,8 @@ impl<R: Wait + Drop> Hub<R> {
         requires is_open { self.old.list.end ≡ None }
         requires proper { IsProper end }
         ensures ok { OnOk result (self.new.list ≡ with_end self.old.list end) }
-        ensures err { OnErr result (self.new.list ≡ self.old.list) }
+        ensures err { OnErr result ((self.new.list ≡ self.old.list) × (self.new.steps ≡ self.old.steps)) }
+        ensures once { OnOk result (self.new.steps ≡ self.old.steps + 1) }
         ensures works { OnOk result ((self.old.is_stuck ≡ false) × (self.new.is_stuck ≡ false)) }
         ensures stuck { IsTrue self.old.is_stuck → IsTrue self.new.is_stuck }
     {
@@ -119,14 +127,15 @@ impl<R: Wait + Drop> Hub<R> {
 
     fn show(&mut self, change: Change) -> Result<(), Memory>
         ensures ok { OnOk result (self.new.list ≡ changed self.old.list change) }
-        ensures err { OnErr result (self.new.list ≡ self.old.list) }
+        ensures err { OnErr result ((self.new.list ≡ self.old.list) × (self.new.steps ≡ self.old.steps)) }
+        ensures once { OnOk result (self.new.steps ≡ self.old.steps + 1) }
         ensures works { OnOk result ((self.old.is_stuck ≡ false) × (self.new.is_stuck ≡ false)) }
         ensures stuck { IsTrue self.old.is_stuck → IsTrue self.new.is_stuck }
     {
-        if self.is_stuck || self.desk.append(change).is_err() {
+        if self.is_stuck || self.writer.append(change).is_err() {
             return Err(Memory);
         }
-        if replace_with(&mut self.desk, &self.rt, |desk, rt| shown(desk, rt)).is_err() {
+        if replace_with(&mut self.writer, &self.rt, |writer, rt| shown(writer, rt)).is_err() {
             self.is_stuck = true;
             return Err(Memory);
         }

@@ -1,7 +1,7 @@
 //! A hub with its readers.
 
-ghost use Rattle.std.specs.Prelude.{◌≡◌, false, All, IfOk, vec_len};
-ghost use Rattle.zw_hub.specs.Lists.{empty};
+ghost use Rattle.std.specs.Prelude.{◌≡◌, All, IfOk, vec_len};
+ghost use Rattle.zw_hub.specs.Hubs.{opened};
 ghost use Rattle.zw_hub.specs.Readings.{fresh};
 
 use crate::reader::HubReader;
@@ -24,8 +24,7 @@ pub fn hub<R: Wait + Drop>(
     first: i64,
     readers: usize,
 ) -> Result<(Hub<R>, Vec<HubReader>), Memory>
-    ensures list { IfOk result (λ made. made.0.list ≡ empty first) }
-    ensures works { IfOk result (λ made. made.0.is_stuck ≡ false) }
+    ensures hub { IfOk result (λ made. made.0 ≡ opened first) }
     ensures count { IfOk result (λ made. vec_len made.1 ≡ readers) }
     ensures fresh { IfOk result (λ made. All (λ reader. reader ≡ fresh) made.1.items) }
 {
