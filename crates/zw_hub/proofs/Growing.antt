@@ -1,6 +1,5 @@
 -- A list that changes extends what it was, and so the rule is kept.
-use Rattle.std.proofs.Common.{◌≡◌, ℕ, ◌<◌, ◌≢◌, ◌+◌, Bool, true, false, List, [], ◌∷◌, ◌++◌, Some, None, is_none, fold, refl, sym, ◌∙◌, ap, subst, ⊎_elim, append_assoc, append-nil, arith}
-use Rattle.std.proofs.lemmas.Option.{none-some}
+use Rattle.std.proofs.Common.{◌≡◌, ℕ, ◌≢◌, ◌+◌, Bool, true, false, List, [], ◌∷◌, ◌++◌, Some, is_none, fold, refl, sym, ◌∙◌, ap, subst, ⊎_elim, append_assoc, append-nil, arith}
 use mathlib.Core.Option.{some}
 use lib.ListN.{get_elem?}
 use Rattle.std.specs.Arc.{arc_value}
@@ -12,7 +11,7 @@ use Rattle.zw_hub.specs.declared.change.Change.TheVariants as changes
 use Rattle.zw_hub.specs.declared.feed.FeedEnd.{FeedEnd}
 use Rattle.zw_hub.specs.declared.published.Published.{Published}
 use Rattle.zw_hub.specs.declared.rule.View.{View}
-use Rattle.zw_hub.specs.Lists.{Extends, added, ended, is_next, with_entry, with_end}
+use Rattle.zw_hub.specs.Lists.{Extends, added, ended, is_next}
 use Rattle.zw_hub.specs.Changes.{changed}
 use Rattle.zw_hub.specs.Steps.{ExtendsSeen, Keeps, SeesOnce, nothing_seen}
 

@@ -1,5 +1,5 @@
 -- The newest items of a list that grows.
-use Rattle.std.proofs.Common.{◌≡◌, ℕ, ◌+◌, ◌-◌, ◌<◌, ◌≤◌, List, [], ◌∷◌, ◌++◌, length, map, drop, Some, slice_get, option_map, refl, sym, ◌∙◌, ap, arith, length-append, length-drop}
+use Rattle.std.proofs.Common.{◌≡◌, ℕ, ◌+◌, ◌-◌, List, [], ◌∷◌, ◌++◌, length, map, drop, Some, slice_get, option_map, refl, sym, ◌∙◌, ap, arith, length-append, length-drop}
 use Rattle.std.proofs.lemmas.List.{drop-append-le, drop-drop, drop-map, length-map, map-append}
 use Rattle.std.proofs.lemmas.Option.{slice_get-map}
 use Rattle.circular_buffer.specs.Buffer.{keep_last}

@@ -1,5 +1,5 @@
 -- What a read of a feed answers.
-use Rattle.std.specs.Prelude.{◌≡◌, ◌≢◌, ◌⊎◌, ℕ, ◌+◌, ℤ, pos, ◌+ℤ◌, ◌≤ℤ◌, ◌<ℤ◌, Some, None, ⊤}
+use Rattle.std.specs.Prelude.{◌≡◌, ◌⊎◌, ℕ, ◌+◌, ℤ, pos, ◌+ℤ◌, ◌≤ℤ◌, ◌<ℤ◌, Some, None, ⊤}
 use Rattle.std.specs.Arc.{arc_value}
 use Rattle.zw_hub.specs.declared.feed.Fed.{Fed}
 use Rattle.zw_hub.specs.declared.feed.Fed.TheVariants as fed

@@ -1,5 +1,5 @@
 -- The newest entries as they are kept, and the list that they are the end of.
-use Rattle.std.specs.Prelude.{◌≡◌, ℤ, pos, ◌+ℤ◌, List, map, length}
+use Rattle.std.specs.Prelude.{◌≡◌, map}
 use Rattle.std.specs.Arc.{arc_value}
 use Rattle.circular_buffer.specs.Buffer.{keep_last}
 use Rattle.zw_hub.specs.declared.published.Published.{Published}

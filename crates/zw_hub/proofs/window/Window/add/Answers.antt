@@ -1,4 +1,4 @@
-use Rattle.std.proofs.Common.{rules, ◌≡◌, ℤ, true, refl, sym, ◌∙◌, ap, to_z, of_z, w64, to_z-of_z}
+use Rattle.std.proofs.Common.{rules, ◌≡◌, true, sym, ◌∙◌, ap, w64, to_z-of_z}
 use mir.Val.{SFits}
 use Rattle.zn_layout.specs.declared.entry.Entry.{Entry}
 use Rattle.zw_hub.specs.declared.published.Published.{Published}
