@@ -11,8 +11,8 @@ use Rattle.zw_hub.specs.declared.change.Change.TheVariants as changes
 use Rattle.zw_hub.specs.declared.feed.FeedEnd.{FeedEnd}
 use Rattle.zw_hub.specs.declared.published.Published.{Published}
 use Rattle.zw_hub.specs.declared.rule.View.{View}
-use Rattle.zw_hub.specs.Lists.{Extends, added, ended, is_next}
-use Rattle.zw_hub.specs.Changes.{changed}
+use Rattle.zw_hub.specs.Lists.{Extends, added, closed_by, is_next}
+use Rattle.zw_hub.specs.ListChanges.{list_after}
 use Rattle.zw_hub.specs.Steps.{ExtendsSeen, Keeps, SeesOnce, nothing_seen}
 
 pub extends-same : (list : Published) → Extends list list
@@ -42,20 +42,20 @@ extends-added list entry = added_by list entry (is_next list entry) refl
 none_open : (list : Published) (end : FeedEnd) → is_none list.end ≡ true → list.end ≡ Some end → ⊥
 none_open list end open_is is = grind arith
 
-ended_by : (list : Published) (end : FeedEnd) (b : Bool) → is_none list.end ≡ b → Extends (ended list end) list
+ended_by : (list : Published) (end : FeedEnd) (b : Bool) → is_none list.end ≡ b → Extends (closed_by list end) list
 ended_by list end true is = rw is (record { first = refl; entries = ([], append-nil list.entries); closed = λ other closed. absurd (none_open list other is closed) })
 ended_by list end false is = rw is (extends-same list)
 
-pub extends-ended : (list : Published) (end : FeedEnd) → Extends (ended list end) list
-extends-ended list end = ended_by list end (is_none list.end) refl
+pub extends-closed : (list : Published) (end : FeedEnd) → Extends (closed_by list end) list
+extends-closed list end = ended_by list end (is_none list.end) refl
 
-pub extends-changed : (list : Published) (change : Change) → Extends (changed list change) list
+pub extends-changed : (list : Published) (change : Change) → Extends (list_after list change) list
 extends-changed list (changes.Entry entry) = extends-added list (arc_value entry)
-extends-changed list (changes.End end) = extends-ended list end
+extends-changed list (changes.End end) = extends-closed list end
 
-pub extends-fold : (list : Published) (log : List Change) → Extends (fold changed list log) list
+pub extends-fold : (list : Published) (log : List Change) → Extends (fold list_after list log) list
 extends-fold list [] = extends-same list
-extends-fold list (change ∷ log) = extends-later (fold changed (changed list change) log) (changed list change) list (extends-fold (changed list change) log) (extends-changed list change)
+extends-fold list (change ∷ log) = extends-later (fold list_after (list_after list change) log) (list_after list change) list (extends-fold (list_after list change) log) (extends-changed list change)
 
 -- a step at which the list grows, or stays
 pub sees : (seat : ℕ) (v : View) (x y : Published) → Extends y x → TurnsAt Keeps seat v x y SeesOnce
@@ -69,7 +69,7 @@ sees seat v x y up views kept at =
     )
 
 -- the same, where the list took the changes of the log
-pub shows : (seat : ℕ) (v : View) (list next : Published) (log : List Change) → next ≡ fold changed list log → TurnsAt Keeps seat v list next SeesOnce
+pub shows : (seat : ℕ) (v : View) (list next : Published) (log : List Change) → next ≡ fold list_after list log → TurnsAt Keeps seat v list next SeesOnce
 shows seat v list next log is = sees seat v list next (subst (λ (l : Published). Extends l list) (sym is) (extends-fold list log))
 
 -- a new reader has seen nothing

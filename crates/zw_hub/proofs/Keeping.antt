@@ -13,7 +13,7 @@ use Rattle.zx_history.specs.declared.ghost_history.GhostHistory.{GhostHistory}
 use Rattle.zw_hub.specs.declared.published.Published.{Published}
 use Rattle.zw_hub.specs.declared.published.TheConstants.{MAX_KEPT}
 use Rattle.zw_hub.specs.declared.window.Window.TheInside.{Inside}
-use Rattle.zw_hub.specs.Lists.{last, floor, IsAt, IsNumbered, is_next, with_entry}
+use Rattle.zw_hub.specs.Lists.{last_number, floor, IsAt, IsNumbered, is_next, with_entry}
 use Rattle.zw_hub.specs.Windows.{published, IsWindow}
 use Rattle.zw_hub.proofs.Newest.{newest-push, newest-get}
 
@@ -30,7 +30,7 @@ only x y zero at = (refl, same_Some x y at)
 only x y (suc k) at = absurd (none-some y at)
 
 -- numbers stay consecutive where the next is added
-pub numbered-next : (list : Published) (entry : Entry) → IsNumbered list → entry.number ≡ last list +ℤ pos 1 → IsNumbered (with_entry list entry)
+pub numbered-next : (list : Published) (entry : Entry) → IsNumbered list → entry.number ≡ last_number list +ℤ pos 1 → IsNumbered (with_entry list entry)
 numbered-next list entry numbered next k e at =
     let n = length list.entries in
     ⊎_elim (λ (below : k < n). numbered k e (sym (slice_get-append_left list.entries (entry ∷ []) k below) ∙ at))
@@ -41,12 +41,12 @@ numbered-next list entry numbered next k e at =
     ap (λ (x : Entry). x.number) (sym t.1) ∙ next ∙ omega (arith, ints, k_is))
     (cases_lt k n)
 
-pub next-number : (list : Published) (entry : Entry) → is_next list entry ≡ true → entry.number ≡ last list +ℤ pos 1
+pub next-number : (list : Published) (entry : Entry) → is_next list entry ≡ true → entry.number ≡ last_number list +ℤ pos 1
 next-number list entry is = grind arith
 
 -- the window with one more entry
 pub pushed : (w : Inside) → IsWindow w → (ring : Buffer (Arc Entry Global)) (number : ℤ) (all : GhostHistory Entry) (entry : Entry) (mine : Arc Entry Global)
-    → entry.number ≡ last (published w) +ℤ pos 1 → number ≡ entry.number → arc_value mine ≡ entry
+    → entry.number ≡ last_number (published w) +ℤ pos 1 → number ≡ entry.number → arc_value mine ≡ entry
     → ring ≡ buffer (keep_last w.ring.capacity (w.ring.items ++ mine ∷ [])) w.ring.capacity → all.items ≡ w.all.items ++ entry ∷ []
     → IsWindow (record { ring = ring; first = w.first; last = number; end = w.end; all = all })
 pushed w kept ring number all entry mine next number_is mine_is ring_is all_is =

@@ -10,6 +10,6 @@ pub record IsProper (end : FeedEnd) : Type 0 where
   pub gap : (expected found : ℤ) → end ≡ ends.Gap expected found → expected ≢ found
   pub damaged : (key value : Bytes) → end ≡ ends.Damaged key value → IsNoValue head_bytes IsHeadWithin value
 
--- an end that is told: a list that was closed for want of memory answers that memory is wanted
-abbrev pub IsEnd : FeedEnd → Type 0
-IsEnd end = IsProper end × (end ≢ ends.Memory)
+-- an end that readers are told. A list that was closed for want of memory answers `Memory` instead
+abbrev pub MayBeTold : FeedEnd → Type 0
+MayBeTold end = IsProper end × (end ≢ ends.Memory)

@@ -2,8 +2,8 @@ pub mod Lists
 pub mod Ends
 pub mod Feeds
 pub mod Windows
-pub mod Changes
+pub mod ListChanges
 pub mod Steps
-pub mod Readings
+pub mod Readers
 pub mod ReaderViews
 pub mod Hubs

@@ -12,14 +12,14 @@ abbrev pub empty : ℤ → Published
 empty first = record { first = first; entries = []; end = None }
 
 -- the number of its last entry, or the number before the first where there is none
-abbrev pub last : Published → ℤ
-last list = list.first +ℤ pos (length list.entries)
+abbrev pub last_number : Published → ℤ
+last_number list = list.first +ℤ pos (length list.entries)
 
--- the number before that of the oldest entry that is kept: the entries but for the newest 4,096 are not
+-- the number before that of the oldest entry that is kept: those are the newest 4,096
 abbrev pub floor : Published → ℤ
 floor list = list.first +ℤ pos (length list.entries - MAX_KEPT)
 
--- the entry has this number, and stands in the list in its place
+-- this entry of the list has this number, and stands in its place
 abbrev pub IsAt : Published → ℤ → Entry → Type 0
 IsAt list number entry = (k : ℕ) × (slice_get list.entries k ≡ Some entry) × (number ≡ list.first +ℤ pos (k + 1)) × (entry.number ≡ number)
 
@@ -27,7 +27,7 @@ IsAt list number entry = (k : ℕ) × (slice_get list.entries k ≡ Some entry) 
 abbrev pub IsNumbered : Published → Type 0
 IsNumbered list = (k : ℕ) (entry : Entry) → slice_get list.entries k ≡ Some entry → entry.number ≡ list.first +ℤ pos (k + 1)
 
--- a later list has all that was in the earlier one, and the same where that was closed
+-- the later list begins with all of the earlier one, and is the same where that was closed
 pub record Extends (later earlier : Published) : Type 0 where
   pub first : later.first ≡ earlier.first
   pub entries : IsPrefix earlier.entries later.entries
@@ -43,12 +43,12 @@ with_end list end = record list { end = Some end }
 
 -- whether the entry may be published: the list is not closed, and the number is the next
 abbrev pub is_next : Published → Entry → Bool
-is_next list entry = is_none list.end && int_eq entry.number (last list +ℤ pos 1)
+is_next list entry = is_none list.end && int_eq entry.number (last_number list +ℤ pos 1)
 
--- the list after an entry was published: it stays where the entry is not the next
+-- the list after an entry was published. Where that is not the next, the list stays as it is
 abbrev pub added : Published → Entry → Published
 added list entry = if is_next list entry then with_entry list entry else list
 
--- the list after it was closed: one that is closed stays
-abbrev pub ended : Published → FeedEnd → Published
-ended list end = if is_none list.end then with_end list end else list
+-- the list after it was closed. One that is closed stays as it is
+abbrev pub closed_by : Published → FeedEnd → Published
+closed_by list end = if is_none list.end then with_end list end else list

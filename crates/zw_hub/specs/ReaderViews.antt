@@ -2,9 +2,9 @@
 use Rattle.std.specs.Prelude.{length}
 use Rattle.left_right.specs.Sides.{view}
 use Rattle.zw_hub.specs.declared.reader.HubReader.TheInside.{Inside}
-use Rattle.zw_hub.specs.Readings.{Reading}
+use Rattle.zw_hub.specs.Readers.{ReaderState}
 
-abbrev pub reading : Inside → Reading
+abbrev pub reading : Inside → ReaderState
 reading r = record {
   list = (view r.reader.place).list;
   reads = (view r.reader.place).steps;

@@ -5,7 +5,7 @@ use Rattle.circular_buffer.specs.Buffer.{keep_last}
 use Rattle.zw_hub.specs.declared.published.Published.{Published}
 use Rattle.zw_hub.specs.declared.published.TheConstants.{MAX_KEPT}
 use Rattle.zw_hub.specs.declared.window.Window.TheInside.{Inside}
-use Rattle.zw_hub.specs.Lists.{last, IsNumbered}
+use Rattle.zw_hub.specs.Lists.{last_number, IsNumbered}
 
 -- the list that was published
 abbrev pub published : Inside → Published
@@ -15,5 +15,5 @@ published w = record { first = w.first; entries = w.all.items; end = w.end }
 pub record IsWindow (w : Inside) : Type 0 where
   pub newest : map arc_value w.ring.items ≡ keep_last MAX_KEPT w.all.items
   pub room : w.ring.capacity ≡ MAX_KEPT
-  pub last : w.last ≡ last (published w)
+  pub last : w.last ≡ last_number (published w)
   pub numbered : IsNumbered (published w)

@@ -35,7 +35,7 @@ impl Ending {
     ghost use Rattle.std.specs.Prelude.{◌≡◌, IfOk};
     ghost use Rattle.std.specs.Arc.{arc_value};
     ghost use Rattle.zw_hub.specs.Ends.{IsProper};
-    ghost use Rattle.zw_hub.specs.Feeds.{IsEndTold};
+    ghost use Rattle.zw_hub.specs.Feeds.{IsFedEnd};
 
     pub fn of(end: Arc<FeedEnd, Global>) -> Ending
         requires { IsProper (arc_value end) }
@@ -55,7 +55,7 @@ impl Ending {
 
     /// What readers are answered who have taken every entry.
     pub fn answer(&self) -> Fed
-        ensures { IsEndTold self.now result }
+        ensures { IsFedEnd self.now result }
     {
         if let FeedEnd::Memory = *self.end {
             return Fed::Memory;

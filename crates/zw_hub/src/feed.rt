@@ -40,7 +40,7 @@ pub trait Feed {
     ghost use Rattle.std.specs.Prelude.{◌≡◌, ◌≢◌, ℕ, ◌+◌, ◌<◌, ◌<ℤ◌};
     ghost use Rattle.zw_hub.specs.declared.published.Published.{Published};
     ghost use Rattle.zw_hub.specs.Lists.{floor, Extends};
-    ghost use Rattle.zw_hub.specs.Feeds.{IsAnswer, IsLagged, IsRead, if_lagged, if_closed};
+    ghost use Rattle.zw_hub.specs.Feeds.{IsFed, IsLagged, IsOneRead, if_lagged, if_closed};
 
     // The list that it found at its last read. Before the first it means nothing.
     ghost list: { Self → Published };
@@ -56,10 +56,10 @@ pub trait Feed {
 
     /// Reads the list, and gives the entry whose number is `cursor + 1`.
     fn next(&mut self, cursor: i64) -> Fed
-        ensures once { IsRead result
+        ensures once { IsOneRead result
             (reads self.old) (reads self.new) (list self.old) (list self.new) }
         ensures extends { 0 < reads self.old → Extends (list self.new) (list self.old) }
-        ensures answer { IsAnswer (list self.new) cursor result }
+        ensures answer { IsFed (list self.new) cursor result }
         ensures below { cursor <ℤ floor (list self.new) → result ≢ Fed.Memory → IsLagged result }
         ensures lags { lags self.new ≡ lags self.old + if_lagged result }
         ensures closings { closings self.new ≡ closings self.old + if_closed result };

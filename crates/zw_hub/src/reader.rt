@@ -3,7 +3,7 @@
 ghost use Rattle.std.specs.Prelude.{◌≡◌, ◌≢◌, ℕ, ◌+◌, ◌<◌, ◌<ℤ◌};
 ghost use Rattle.left_right.specs.Sides.{view};
 ghost use Rattle.zw_hub.specs.Lists.{floor, Extends};
-ghost use Rattle.zw_hub.specs.Feeds.{IsAnswer, IsLagged, IsRead};
+ghost use Rattle.zw_hub.specs.Feeds.{IsFed, IsLagged, IsOneRead};
 
 use crate::feed::{Fed, Feed};
 use crate::rule::{Growing, Sees, View};
@@ -25,9 +25,9 @@ pub struct HubReader {
 }
 
 impl Model for HubReader {
-    ghost use Rattle.zw_hub.specs.Readings.{Reading};
+    ghost use Rattle.zw_hub.specs.Readers.{ReaderState};
 
-    ghost Value = { Reading };
+    ghost Value = { ReaderState };
 
     ghost use Rattle.zw_hub.specs.ReaderViews.{reading};
 
@@ -36,11 +36,11 @@ impl Model for HubReader {
 
 /// One read. Where the writer is gone it is answered `Memory`.
 fn read_at(reader: ListReader, cursor: i64) -> (ListReader, Fed)
-    ensures once { IsRead result.1
+    ensures once { IsOneRead result.1
         (view reader.place).steps (view result.0.place).steps
         (view reader.place).list (view result.0.place).list }
     ensures extends { 0 < (view reader.place).steps → Extends (view result.0.place).list (view reader.place).list }
-    ensures answer { IsAnswer (view result.0.place).list cursor result.1 }
+    ensures answer { IsFed (view result.0.place).list cursor result.1 }
     ensures below { cursor <ℤ floor (view result.0.place).list → result.1 ≢ Fed.Memory → IsLagged result.1 }
 {
     match reader.enter_as::<Sees>() {
@@ -55,12 +55,12 @@ fn read_at(reader: ListReader, cursor: i64) -> (ListReader, Fed)
 impl HubReader {
     ghost use Rattle.std.specs.Prelude.{◌≡◌};
     ghost use Rattle.left_right.specs.Sides.{view};
-    ghost use Rattle.zw_hub.specs.Readings.{fresh};
+    ghost use Rattle.zw_hub.specs.Readers.{new_reader};
     ghost use Rattle.zw_hub.specs.Steps.{nothing_seen};
 
     pub(crate) fn over(reader: ListReader) -> HubReader
         requires { view reader.place ≡ nothing_seen }
-        ensures { result ≡ fresh }
+        ensures { result ≡ new_reader }
     {
         HubReader {
             reader,
@@ -71,7 +71,7 @@ impl HubReader {
 }
 
 impl Feed for HubReader {
-    ghost use Rattle.zw_hub.specs.Readings.{Reading};
+    ghost use Rattle.zw_hub.specs.Readers.{ReaderState};
 
     ghost list = { λ r. r.list };
 

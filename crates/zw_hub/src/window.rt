@@ -39,8 +39,8 @@ impl Model for Window {
 impl Window {
     ghost use Rattle.std.specs.Prelude.{◌≡◌, ◌≢◌, ◌↔◌, ◌<◌, ℕ, ◌+◌, ◌-◌, ◌+ℤ◌, ◌-ℤ◌, ◌≤ℤ◌, ◌<ℤ◌, ℤ, pos, length, Some, None, IfOk, OnOk, OnErr, IsTrue, slice_get};
     ghost use Rattle.std.specs.Arc.{arc_value};
-    ghost use Rattle.zw_hub.specs.Lists.{empty, last, floor, IsAt, is_next, added, ended};
-    ghost use Rattle.zw_hub.specs.Feeds.{IsAnswer, IsLagged};
+    ghost use Rattle.zw_hub.specs.Lists.{empty, last_number, floor, IsAt, is_next, added, closed_by};
+    ghost use Rattle.zw_hub.specs.Feeds.{IsFed, IsLagged};
 
     pub fn new(alloc: Global, first: i64) -> Result<Window, AllocError>
         ensures { IfOk result (λ w. w ≡ empty first) }
@@ -70,7 +70,7 @@ impl Window {
 
     /// What a reader with this cursor is answered.
     pub fn look(&self, cursor: i64) -> Fed
-        ensures answer { IsAnswer self.now cursor result }
+        ensures answer { IsFed self.now cursor result }
         ensures below { cursor <ℤ floor self.now → IsLagged result }
     {
         let floor = self.floor();
@@ -86,8 +86,8 @@ impl Window {
     /// The entry behind the cursor, which is kept.
     fn kept(&self, cursor: i64) -> Fed
         requires least { floor self.now ≤ℤ cursor }
-        requires most { cursor <ℤ last self.now }
-        ensures { IsAnswer self.now cursor result }
+        requires most { cursor <ℤ last_number self.now }
+        ensures { IsFed self.now cursor result }
     {
         let place = (cursor - self.floor()) as usize;
         let entry = self.ring.get(place).unwrap();
@@ -99,7 +99,7 @@ impl Window {
 
     /// What is above the last entry.
     fn above(&self) -> Fed
-        ensures { (cursor : ℤ) → last self.now ≤ℤ cursor → IsAnswer self.now cursor result }
+        ensures { (cursor : ℤ) → last_number self.now ≤ℤ cursor → IsFed self.now cursor result }
     {
         match &self.end {
             None => Fed::None,
@@ -124,7 +124,7 @@ impl Window {
 
     /// Closes the list, if it is open.
     fn close(&mut self, end: &Ending) -> Result<(), AllocError>
-        ensures ok { OnOk result (self.new ≡ ended self.old end.now) }
+        ensures ok { OnOk result (self.new ≡ closed_by self.old end.now) }
         ensures err { OnErr result (self.new ≡ self.old) }
     {
         if self.end.is_none() {
@@ -137,11 +137,11 @@ impl Window {
 impl Absorb<Change> for Window {
     type State = Published;
 
-    ghost use Rattle.zw_hub.specs.Changes.{changed};
+    ghost use Rattle.zw_hub.specs.ListChanges.{list_after};
 
     ghost state = { λ list. list };
 
-    ghost applied = { changed };
+    ghost applied = { list_after };
 
     fn absorb_first(&mut self, change: &Change, _other: &Window) -> Result<(), AllocError> {
         match change {

@@ -2,7 +2,7 @@
 
 ghost use Rattle.std.specs.Prelude.{◌≡◌, [], drop, fold, MatchResult};
 ghost use Rattle.left_right.specs.Sides.{view};
-ghost use Rattle.zw_hub.specs.Changes.{changed};
+ghost use Rattle.zw_hub.specs.ListChanges.{list_after};
 ghost use Rattle.zw_hub.specs.Steps.{SeesOnce};
 
 use crate::change::{Change, Ending};
@@ -34,9 +34,9 @@ pub struct Hub<R: Wait + Drop> {
 impl<R: Wait + Drop> Model for Hub<R> {
     ghost use Rattle.std.specs.Prelude.{◌≡◌, ◌<◌, [], drop, false};
     ghost use Rattle.left_right.specs.Sides as sides;
-    ghost use Rattle.zw_hub.specs.Hubs.{Publishing};
+    ghost use Rattle.zw_hub.specs.Hubs.{HubState};
 
-    ghost Value = { Publishing };
+    ghost Value = { HubState };
 
     ghost view = { λ h. record { list = h.writer.desk.shown.value; steps = (sides.view h.writer.desk.place).steps; is_stuck = h.is_stuck } };
 
@@ -60,7 +60,7 @@ impl<R: Wait + Drop> Drop for Hub<R> {
 /// Shows readers the list with the changes that it lacks.
 fn shown<R: Wait>(writer: ListWriter, rt: &R) -> (ListWriter, Result<(), AllocError>)
     ensures list { MatchResult result.1
-        (λ _. result.0.desk.shown.value ≡ fold changed writer.desk.shown.value (drop writer.behind writer.log.items))
+        (λ _. result.0.desk.shown.value ≡ fold list_after writer.desk.shown.value (drop writer.behind writer.log.items))
         (λ _. result.0.desk.shown.value ≡ writer.desk.shown.value) }
     ensures none_waits { MatchResult result.1 (λ _. drop result.0.behind result.0.log.items ≡ []) (λ _. Unit {0}) }
     ensures once { MatchResult result.1
@@ -74,9 +74,9 @@ impl<R: Wait + Drop> Hub<R> {
     ghost use Rattle.std.specs.Prelude.{◌≡◌, ◌+◌, [], drop, false, OnOk, OnErr, IsTrue, None, ◌+ℤ◌, pos};
     ghost use Rattle.std.specs.Arc.{arc_value};
     ghost use Rattle.left_right.specs.Sides.{view};
-    ghost use Rattle.zw_hub.specs.Changes.{changed};
+    ghost use Rattle.zw_hub.specs.ListChanges.{list_after};
     ghost use Rattle.zw_hub.specs.Ends.{IsProper};
-    ghost use Rattle.zw_hub.specs.Lists.{last, with_entry, with_end};
+    ghost use Rattle.zw_hub.specs.Lists.{last_number, with_entry, with_end};
     ghost use Rattle.zw_hub.specs.Steps.{nothing_seen};
 
     pub(crate) fn over(writer: ListWriter, alloc: Global, rt: R) -> Hub<R>
@@ -100,7 +100,7 @@ impl<R: Wait + Drop> Hub<R> {
 
     /// Publishes the next entry. Where memory was refused, readers see the list as it was.
     pub fn publish(&mut self, entry: Arc<Entry, Global>) -> Result<(), Memory>
-        requires next { (arc_value entry).number ≡ last self.old.list +ℤ pos 1 }
+        requires next { (arc_value entry).number ≡ last_number self.old.list +ℤ pos 1 }
         requires is_open { self.old.list.end ≡ None }
         ensures ok { OnOk result (self.new.list ≡ with_entry self.old.list (arc_value entry)) }
         ensures err { OnErr result ((self.new.list ≡ self.old.list) × (self.new.steps ≡ self.old.steps)) }
@@ -126,7 +126,7 @@ impl<R: Wait + Drop> Hub<R> {
     }
 
     fn show(&mut self, change: Change) -> Result<(), Memory>
-        ensures ok { OnOk result (self.new.list ≡ changed self.old.list change) }
+        ensures ok { OnOk result (self.new.list ≡ list_after self.old.list change) }
         ensures err { OnErr result ((self.new.list ≡ self.old.list) × (self.new.steps ≡ self.old.steps)) }
         ensures once { OnOk result (self.new.steps ≡ self.old.steps + 1) }
         ensures works { OnOk result ((self.old.is_stuck ≡ false) × (self.new.is_stuck ≡ false)) }
