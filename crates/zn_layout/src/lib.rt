@@ -17,6 +17,7 @@
 
 mod act;
 mod begin;
+mod entry;
 mod fault;
 mod key;
 mod laws;
@@ -28,6 +29,7 @@ mod writer;
 
 pub use act::{delete_counts, delete_node, get_head, get_key, put_counts, put_head, put_node};
 pub use begin::begin_ask;
+pub use entry::Entry;
 pub use fault::RecordFault;
 pub use key::{counts_key, data_key, head_key, lease_key, session_key};
 pub use laws::{
