@@ -1,0 +1,6 @@
+pub mod Tokens
+pub mod Digits
+pub mod Loop
+pub mod Pairs
+pub mod Faults
+pub mod Lines
