@@ -10,11 +10,11 @@ use Rattle.std.proofs.lemmas.Str.Parse.{IsNumeralModel, numerals_by_value, tells
 use Rattle.std.proofs.lemmas.Bool.{ltb-true, ltb-false, le-ltb, lt-ltb, cases_lt}
 use Rattle.ev_json.specs.Kinds.{digits, fits64, digits64}
 
-all_digits : (s : List ℕ) → all_ascii_digits s ≡ list_all is_ascii_digit s
+pub all_digits : (s : List ℕ) → all_ascii_digits s ≡ list_all is_ascii_digit s
 all_digits [] = refl
 all_digits (c ∷ cs) = ap (λ b. is_ascii_digit c && b) (all_digits cs)
 
-own : IsNumeralModel (λ ds. all_ascii_digits ds ≡ true) (digits_value 10)
+pub own : IsNumeralModel (λ ds. all_ascii_digits ds ≡ true) (digits_value 10)
 own = numerals_by_value _ tells_all_ascii_digits
 
 pub digits64-nil : (s : List ℕ) → length s ≡ 0 → digits64 s ≡ None
@@ -32,7 +32,7 @@ digits64-other s e = refused (nat_lt 0 (length s)) (list_all is_ascii_digit s) (
 taken : (a b : Bool) (v : ℕ) → a ≡ true → b ≡ true → fits64 (cond (a && b) (Some v) None) ≡ cond (nat_lt v (2 ^ 64)) (Some v) None
 taken a b v ea eb = rw (ea, eb) refl
 
-digits64-some : (s : List ℕ) → 0 < length s → list_all is_ascii_digit s ≡ true → digits64 s ≡ cond (nat_lt (digits_value 10 s) (2 ^ 64)) (Some (digits_value 10 s)) None
+pub digits64-some : (s : List ℕ) → 0 < length s → list_all is_ascii_digit s ≡ true → digits64 s ≡ cond (nat_lt (digits_value 10 s) (2 ^ 64)) (Some (digits_value 10 s)) None
 unfolding digits64
 digits64-some s lt e = taken (nat_lt 0 (length s)) (list_all is_ascii_digit s) (digits_value 10 s) (lt-ltb _ _ lt) e
 

@@ -4,3 +4,9 @@ pub mod Loop
 pub mod Pairs
 pub mod Faults
 pub mod Lines
+pub mod Rising
+pub mod Backs
+pub mod KvBack
+pub mod AskBack
+pub mod AnswerBack
+pub mod LineBack

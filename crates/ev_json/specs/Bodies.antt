@@ -1,5 +1,6 @@
 -- What a body reads as, and when it does not.
-use Rattle.std.specs.Prelude.{◌≡◌, ℕ, ℤ, ◌==◌, List, [], ◌∷◌, Some, None, Result, Ok, Err, if◌then◌else◌, IsUtf8, ⊤}
+use Rattle.std.specs.Prelude.{◌≡◌, ℕ, ℤ, ◌==◌, List, [], ◌∷◌, Some, None, Result, Ok, Err, if◌then◌else◌, IsUtf8, true, not, ⊤}
+use Rattle.std.specs.List.{list_all}
 use Rattle.serde_json.specs.Data.{Data}
 use Rattle.serde_json.specs.Read.{read}
 use Rattle.ev_types.specs.declared.answer.Answer.{Answer}
@@ -38,6 +39,10 @@ reads_line bytes said = ReadsAs line_in bytes said
 unfoldable pub first_line : List ℕ → List ℕ
 first_line [] = []
 first_line (b ∷ bs) = if b == 10 then [] else b ∷ first_line bs
+
+-- the bytes have no line feed
+abbrev pub IsOneLine : List ℕ → Type 0
+IsOneLine bytes = list_all (λ b. not (b == 10)) bytes ≡ true
 
 -- the answer to a keepalive is the first line of a stream
 unfoldable pub message_body : Ask → List ℕ → List ℕ

@@ -6,3 +6,4 @@ pub mod Asks
 pub mod Answers
 pub mod Bodies
 pub mod Open
+pub mod Ranges

@@ -7,6 +7,7 @@ mod ask_text;
 mod ask_value;
 mod fault;
 mod field;
+mod laws;
 mod line;
 mod line_text;
 mod line_value;
@@ -19,6 +20,7 @@ mod writing;
 
 pub use fault::JsonFault;
 pub use field::Field;
+pub use laws::{messages_come_back, texts_are_json, texts_are_lines};
 pub use line::Line;
 pub use reading::{read_answer, read_ask, read_line, read_watch};
 pub use writing::{write_answer, write_ask, write_line, write_watch};
