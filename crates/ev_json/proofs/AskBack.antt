@@ -1,5 +1,5 @@
 -- Asks come back.
-use Rattle.std.proofs.Common.{◌≡◌, ℕ, suc, true, List, [], ◌∷◌, ◌++◌, map, Option, Some, Ok, refl, sym, ap, ◌∙◌}
+use Rattle.std.proofs.Common.{◌≡◌, ℕ, suc, List, [], ◌∷◌, map, Option, Some, Ok, refl, ap, ◌∙◌}
 use Rattle.std.specs.Prelude.{ℤ, codes}
 use Rattle.serde_json.specs.Data.{Data, string}
 use Rattle.ev_types.specs.declared.ask.RangeReq.{RangeReq}
@@ -14,11 +14,11 @@ use Rattle.ev_json.specs.declared.field.Field.TheVariants as field
 use Rattle.ev_json.specs.Names.{snake, camel}
 use Rattle.ev_json.specs.Members.{none, object_of}
 use Rattle.ev_json.specs.Messages.{guard_data, range_data, put_data, delete_data, act_data, txn_data, ask_data, route_of, create_data, watch_data}
-use Rattle.ev_json.specs.Kinds.{has, known, message_of, is_object, without, word_in, word_or_none, word_of}
+use Rattle.ev_json.specs.Kinds.{without, word_in, word_or_none, word_of}
 use Rattle.ev_json.specs.Asks.{guard_in, range_in, put_in, delete_in, range_act_in, act_in, txn_in, txn_ask_in, range_ask_in, grant_in, alive_in, ask_in, watch_in}
 use Rattle.ev_json.specs.Ranges.{IsKey, IsPositiveCount, IsPositiveLease, GuardFits, RangeFits, ActFits, TxnFits, AskFits}
 use Rattle.ev_json.proofs.Backs.{in_digits, coded, unless_zero, unless_empty, if_true, if_some, given-piece, number-piece, number_if-piece, bytes-piece, bytes_if-piece, true_if-piece, text-piece, list_if-piece, more, count_in-back, count_in-written, lease_in-back, bytes_in-back, bytes_in-written, key_in-back, flag_in-back, positive_count-back, positive_lease-back, message_in-back, object_of-is_object, list_in-back, plain-digits, plain-coded, plain-flag, plain-list}
-use Rattle.ev_json.proofs.Rising.{piece, pieces, one_piece, gathered-pieces, member_one, member_two, Plain, plain-string, plain-object}
+use Rattle.ev_json.proofs.Rising.{pieces, one_piece, gathered-pieces, member_one, member_two, Plain, plain-string, plain-object}
 
 -- ---- compares
 

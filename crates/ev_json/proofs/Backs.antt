@@ -1,6 +1,6 @@
 -- Members as they are written, and what they read back as.
-use Rattle.std.proofs.Common.{◌≡◌, ◌≢◌, ℕ, suc, ◌^◌, ◌<◌, ◌==◌, Bool, true, false, cond, List, [], ◌∷◌, ◌++◌, length, map, Option, Some, None, Result, Ok, Err, decimal, refl, sym, ap, ap₂, subst, ◌∙◌, arith}
-use Rattle.std.specs.Prelude.{◌&&◌, ℤ, pos, nat_lt, int_lt, ⊤}
+use Rattle.std.proofs.Common.{◌≡◌, ℕ, suc, ◌^◌, ◌<◌, ◌==◌, Bool, true, false, cond, List, [], ◌∷◌, ◌++◌, length, map, Option, Some, None, Result, Ok, decimal, refl, sym, ap, ap₂, ◌∙◌, arith}
+use Rattle.std.specs.Prelude.{ℤ, pos}
 use Rattle.std.specs.Fmt.{signed_decimal}
 use Rattle.std.specs.List.{list_all, AllByRecursion}
 use Rattle.std.specs.Char.{is_ascii_digit}
@@ -11,16 +11,16 @@ use Rattle.std.proofs.lemmas.Bool.{lt-ltb, eqb-true, ne_eqb}
 use Rattle.std.proofs.lemmas.List.{nil_from_length}
 use Rattle.std.proofs.lemmas.Bool.Decides.{Decides-int_eq}
 use Rattle.std.proofs.lemmas.Fmt.{digits_decimal, digits_value-decimal, decimal_is_IsNumeral}
-use Rattle.serde_json.specs.Data.{Data, boolean, string, array, object, Items, no_items, item}
+use Rattle.serde_json.specs.Data.{Data, boolean, string, array, no_items}
 use Rattle.serde_json.specs.Find.{as_bool, as_array}
 use Rattle.serde_json.specs.View.{items_of}
 use Rattle.base64.specs.Engines.{standard}
-use Rattle.base64.specs.GeneralPurpose.{IsBytes, encode_of, decode_of}
+use Rattle.base64.specs.GeneralPurpose.{IsBytes, encode_of}
 use Rattle.base64.proofs.EngineFacts.{decode_of-encode_of}
 use Rattle.ev_json.specs.declared.field.Field.{Field}
 use Rattle.ev_json.specs.declared.field.Field.TheVariants as fields
-use Rattle.ev_json.specs.Members.{none, object_of, given, number, number_if, bytes, bytes_if, true_if, text, list_if}
-use Rattle.ev_json.specs.Kinds.{◌>>=◌, member_of, digits, digits64, number_of, count_of, lease_of, from_one, bytes_of, some_byte, known, known_or, count_in, lease_in, flag_in, bytes_in, needed_bytes, needed_count, positive_count, positive_lease, key_in, message_in, is_object, items_in, each, list_in}
+use Rattle.ev_json.specs.Members.{object_of, given, number, number_if, bytes, bytes_if, true_if, text, list_if}
+use Rattle.ev_json.specs.Kinds.{member_of, digits64, number_of, count_of, lease_of, from_one, bytes_of, some_byte, known, known_or, count_in, lease_in, flag_in, bytes_in, needed_bytes, needed_count, positive_count, positive_lease, key_in, message_in, is_object, items_in, each, list_in}
 use Rattle.ev_json.specs.Ranges.{IsCount, IsLease, IsPositiveCount, IsPositiveLease, IsKey}
 use Rattle.ev_json.proofs.Digits.{own, all_digits, digits64-some}
 use Rattle.ev_json.proofs.Rising.{piece, Plain, PlainIf, plain-string, plain-boolean, plain-array}

@@ -1,5 +1,5 @@
 -- A key and its value come back.
-use Rattle.std.proofs.Common.{◌≡◌, ℕ, suc, List, [], ◌∷◌, ◌++◌, Option, Some, Ok, refl, sym, ap, ◌∙◌}
+use Rattle.std.proofs.Common.{◌≡◌, ℕ, suc, List, [], ◌∷◌, Option, Some, Ok, refl, ap, ◌∙◌}
 use Rattle.serde_json.specs.Data.{Data}
 use Rattle.ev_types.specs.declared.answer.Kv.{Kv}
 use Rattle.ev_json.specs.declared.field.Field.{Field}
@@ -9,8 +9,8 @@ use Rattle.ev_json.specs.Members.{none, object_of}
 use Rattle.ev_json.specs.Messages.{kv_data}
 use Rattle.ev_json.specs.Answers.{kv_in}
 use Rattle.ev_json.specs.Ranges.{KvFits}
-use Rattle.ev_json.proofs.Backs.{in_digits, coded, unless_zero, unless_empty, number_if-piece, bytes-piece, bytes_if-piece, more, count_in-back, lease_in-back, needed_bytes-back, bytes_in-back, plain-digits, plain-coded}
-use Rattle.ev_json.proofs.Rising.{piece, pieces, gathered, gathered-pieces, member_one, member_two, Plain, plain-string, plain-object}
+use Rattle.ev_json.proofs.Backs.{coded, unless_zero, unless_empty, number_if-piece, bytes-piece, bytes_if-piece, more, count_in-back, lease_in-back, needed_bytes-back, bytes_in-back, plain-digits, plain-coded}
+use Rattle.ev_json.proofs.Rising.{pieces, gathered-pieces, member_one, member_two, Plain, plain-string, plain-object}
 
 abbrev kv_pieces : Kv → List (Field × Option Data)
 kv_pieces kv =

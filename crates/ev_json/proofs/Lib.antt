@@ -10,3 +10,4 @@ pub mod KvBack
 pub mod AskBack
 pub mod AnswerBack
 pub mod LineBack
+pub mod Returns

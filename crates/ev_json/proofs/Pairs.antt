@@ -1,7 +1,7 @@
 -- Reading the answers of a list of operations one after another, as a loop does.
-use Rattle.std.proofs.Common.{◌≡◌, ℕ, suc, ◌+◌, ◌≤◌, ◌<◌, List, [], ◌∷◌, ◌++◌, length, map, drop, get_or, Result, Ok, Err, refl, sym, ap, ◌∙◌, append_assoc, arith}
+use Rattle.std.proofs.Common.{◌≡◌, ℕ, ◌+◌, ◌≤◌, ◌<◌, List, [], ◌∷◌, ◌++◌, length, drop, get_or, Result, Ok, Err, refl, sym, ap, ◌∙◌, arith}
 use Rattle.std.proofs.lemmas.List.{append-nil, drop_all, drop_more}
-use Rattle.serde_json.specs.View.{view, items_of, items_view}
+use Rattle.serde_json.specs.View.{view, items_view}
 use Rattle.serde_json.specs.declared.value.Value.{Value}
 use Rattle.ev_types.specs.declared.ask.Act.{Act}
 use Rattle.ev_types.specs.declared.answer.ActAns.{ActAns}
@@ -9,7 +9,6 @@ use Rattle.ev_json.specs.declared.field.Field.{Field}
 use Rattle.ev_json.specs.declared.field.Field.TheVariants as field
 use Rattle.ev_json.specs.declared.fault.JsonFault.{JsonFault}
 use Rattle.ev_json.specs.declared.fault.JsonFault.TheVariants as fault
-use Rattle.ev_json.specs.Kinds.{◌>>=◌}
 use Rattle.ev_json.specs.Answers.{part_in, parts_in}
 use Rattle.ev_json.specs.Bodies.{Fails}
 use Rattle.ev_json.proofs.Loop.{with_front, regroup}

@@ -1,5 +1,5 @@
 -- Objects whose members' names rise, as a parser keeps them: their texts read back, and each member is found.
-use Rattle.std.proofs.Common.{◌≡◌, ℕ, zero, suc, ◌<◌, ◌==◌, inl, inr, ◌+◌, ◌≤◌, max, Bool, true, false, cond, List, [], ◌∷◌, ◌++◌, map, Option, Some, None, option_and_then, option_map, refl, sym, ap, ap₂, subst, ◌∙◌, append_assoc, append-nil, arith}
+use Rattle.std.proofs.Common.{◌≡◌, ℕ, zero, suc, ◌<◌, ◌==◌, inl, inr, ◌≤◌, Bool, true, false, cond, List, [], ◌∷◌, ◌++◌, map, Option, Some, None, option_and_then, option_map, refl, sym, ap, ap₂, subst, ◌∙◌, append_assoc, append-nil, arith}
 use Rattle.std.specs.Prelude.{◌&&◌, not, ⊤}
 use Rattle.std.specs.List.{list_all}
 use Rattle.std.specs.declared.cmp.Ordering.{Ordering}
@@ -17,8 +17,8 @@ use Rattle.json.specs.Tree.{json_tokens}
 use Rattle.json.proofs.Printed.Strings.{escape_byte_plain}
 use Rattle.json.proofs.Printed.Tokens.{tokens-print}
 use Rattle.json.proofs.Printed.Trees.{value-json_tokens, ArePrintable-json_tokens}
-use Rattle.serde_json.specs.Data.{Data, boolean, string, array, object, Items, no_items, item, Members, no_members, member, put}
-use Rattle.serde_json.specs.Find.{get, get_member}
+use Rattle.serde_json.specs.Data.{Data, boolean, string, array, object, member, put}
+use Rattle.serde_json.specs.Find.{get_member}
 use Rattle.serde_json.specs.Read.{read, of_json, of_items, of_members}
 use Rattle.serde_json.specs.View.{items_of}
 use Rattle.serde_json.specs.Written.{compact_text, items_text, members_text, comma_if, outline, items_outline, members_outline}
@@ -215,7 +215,7 @@ items-all n shape h (x ∷ xs) =
       numbers = (first.numbers, others.numbers);
       shallow = omega (arith, first.shallow, others.shallow);
       inside = λ later. inside-append (comma_if later) (compact_text (shape x) ++ items_text true (items_of (map shape xs))) (inside-comma later)
-      (inside-append (compact_text (shape x)) (items_text true (items_of (map shape xs))) first.inside (others.inside true));
+          (inside-append (compact_text (shape x)) (items_text true (items_of (map shape xs))) first.inside (others.inside true));
     }
 
 pub plain-array : {A : Type 0} (n : ℕ) (shape : A → Data) → ((x : A) → Plain n (shape x)) → (xs : List A) → Plain (suc n) (array (items_of (map shape xs)))

@@ -1,5 +1,5 @@
 -- How asks are read, a line for each member (etcd API reference: "KV", "Lease", "Watch").
-use Rattle.std.specs.Prelude.{ℕ, ℤ, List, Bool, Result, Ok, Err, if◌then◌else◌, codes, ⊤}
+use Rattle.std.specs.Prelude.{ℕ, ℤ, List, Result, Ok, Err, if◌then◌else◌, codes}
 use Rattle.serde_json.specs.Data.{Data}
 use Rattle.ev_types.specs.declared.ask.RangeReq.{RangeReq}
 use Rattle.ev_types.specs.declared.ask.Guard.{Guard}

@@ -1,6 +1,6 @@
 -- Members of a message that is read: their names, their kinds, and whether they must be there (protobuf's JSON mapping; the
 -- numbers' ranges are this project's). A reading gives a value, or the member that cannot be read.
-use Rattle.std.specs.Prelude.{ℕ, ℤ, pos, ◌^◌, ◌&&◌, ◌==◌, List, [], ◌∷◌, length, Bool, true, false, nat_lt, int_lt, is_some, Option, Some, None, option_and_then, Result, Ok, Err, if◌then◌else◌, bytes_eq, ⊤}
+use Rattle.std.specs.Prelude.{ℕ, ℤ, pos, ◌^◌, ◌&&◌, ◌==◌, List, [], ◌∷◌, length, Bool, true, false, nat_lt, int_lt, is_some, Option, Some, None, option_and_then, Result, Ok, Err, if◌then◌else◌, bytes_eq}
 use Rattle.std.specs.List.{list_all}
 use Rattle.std.specs.Char.{is_ascii_digit}
 use Rattle.std.specs.Str.Parse.{digits_value}

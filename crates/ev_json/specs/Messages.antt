@@ -1,6 +1,6 @@
 -- The messages of etcd's JSON gateway as they are written, member by member in the order of their names (etcd API reference:
 -- "KV", "Lease", "Watch"). Each message has one text: compact, without blanks.
-use Rattle.std.specs.Prelude.{ℕ, ℤ, List, [], ◌++◌, ◌==◌, length, map, Bool, codes}
+use Rattle.std.specs.Prelude.{ℕ, ℤ, List, ◌++◌, ◌==◌, length, map, Bool, codes}
 use Rattle.serde_json.specs.Data.{Data}
 use Rattle.serde_json.specs.Written.{compact_text}
 use Rattle.ev_types.specs.declared.answer.Kv.{Kv}

@@ -1,6 +1,6 @@
 -- The ranges within which a message that was written reads back as itself. They are etcd's, but for the upper ends, which
 -- are this project's.
-use Rattle.std.specs.Prelude.{◌≡◌, ◌<◌, ◌^◌, ◌==◌, ℕ, ℤ, pos, List, [], ◌∷◌, length, Bool, if◌then◌else◌, ⊤}
+use Rattle.std.specs.Prelude.{◌≡◌, ◌<◌, ◌^◌, ℕ, ℤ, pos, List, [], ◌∷◌, length, if◌then◌else◌, ⊤}
 use Rattle.std.specs.List.{AllByRecursion}
 use Rattle.base64.specs.GeneralPurpose.{IsBytes}
 use Rattle.ev_types.specs.declared.answer.Kv.{Kv}

@@ -1,13 +1,10 @@
-use Rattle.std.proofs.Common.{rules, ◌≡◌, ◌∷◌, List, [], Err, length, refl, sym, ap, subst, ◌∙◌, arith}
+use Rattle.std.proofs.Common.{rules, ◌≡◌, ◌∷◌, List, [], sym, subst, ◌∙◌, arith}
 use Rattle.std.proofs.lemmas.Result.{err_from_is_err_and}
 use Rattle.std.proofs.lemmas.List.{nil_from_length}
 use Rattle.serde_json.specs.declared.value.Value.{Value}
 use Rattle.std.proofs.lemmas.Bool.{eqb-true, eqb-false}
 use Rattle.serde_json.specs.View.{items_view}
-use Rattle.ev_json.specs.declared.fault.JsonFault.TheVariants.{Unreadable}
-use Rattle.ev_json.specs.declared.field.Field.TheVariants.{Responses}
 use Rattle.ev_json.specs.Answers.{parts_in}
-use Rattle.ev_json.specs.Bodies.{Fails}
 use Rattle.ev_json.proofs.Loop.{with_front}
 use Rattle.ev_json.proofs.Pairs.{rest_of, part_goes_on, part_ends, part_missing, part_too_many, part_done}
 use Rattle.ev_json.proofs.answer_value.parts.Goals as goal

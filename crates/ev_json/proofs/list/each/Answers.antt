@@ -1,8 +1,7 @@
-use Rattle.std.proofs.Common.{◌≡◌, ◌++◌, ◌∷◌, []}
 use Rattle.std.proofs.lemmas.Result.{err_from_is_err_and}
 use Rattle.serde_json.specs.View.{items_view}
 use Rattle.ev_json.specs.Kinds.{each}
-use Rattle.ev_json.proofs.Loop.{with_front, rest_of, goes_on, ends, is_done}
+use Rattle.ev_json.proofs.Loop.{goes_on, ends, is_done}
 use Rattle.ev_json.proofs.list.each.Goals as goal
 
 pub returns-in_err-read : goal.returns-in_err-read
