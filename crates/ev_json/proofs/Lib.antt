@@ -11,3 +11,4 @@ pub mod AskBack
 pub mod AnswerBack
 pub mod LineBack
 pub mod Returns
+pub mod Broken

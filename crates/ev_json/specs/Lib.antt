@@ -5,5 +5,6 @@ pub mod Kinds
 pub mod Asks
 pub mod Answers
 pub mod Bodies
+pub mod Breaks
 pub mod Open
 pub mod Ranges

@@ -44,7 +44,7 @@ mod writing;
 
 pub use fault::JsonFault;
 pub use field::Field;
-pub use laws::{messages_come_back, texts_are_json, texts_are_lines};
+pub use laws::{messages_come_back, named_members_break_rules, texts_are_json, texts_are_lines};
 pub use line::Line;
 pub use reading::{read_answer, read_ask, read_line, read_watch};
 pub use writing::{write_answer, write_ask, write_line, write_watch};
