@@ -6,8 +6,8 @@
 
 mod answer;
 mod ask;
-<<<<<<< HEAD
 mod laws;
+mod route;
 
 pub use answer::{ActAns, Answer, Kv, RangeAns};
 pub use ask::{Act, Ask, Guard, RangeReq, TxnReq};
@@ -15,13 +15,4 @@ pub use laws::{
     foreign_puts_one_key, keys_were_put, lapse_takes_its_keys, one_key_is_found,
     reads_change_nothing,
 };
-=======
-mod route;
-
-pub use answer::{ActAns, Answer, Kv, RangeAns};
-pub use ask::{Act, Ask, Guard, RangeReq, TxnReq};
 pub use route::Route;
-
-#[cfg(test)]
-mod tests;
->>>>>>> 2862fcf274cac0f16ccf04d825e1cdb329196774
