@@ -15,7 +15,7 @@ use Rattle.zk_jute.specs.Packets.{reply_packet}
 use Rattle.zk_model.specs.Watches.{no_watches}
 use Rattle.zk_transcript.specs.Answers.{only, plain_request, tree_reply}
 use Rattle.zk_transcript.specs.History.{State, Commit, after, updated, asked_commit}
-use Rattle.zk_transcript.specs.Walks.{Walker, Choice, Plain, Answer, at_start, walk, move, later_of, response_at, own_update, own_update_shown, all_choices, are_fresh, are_in_turn, is_not_overtaken}
+use Rattle.zk_transcript.specs.Walks.{Walker, Choice, Plain, Answer, at_start, walk, move, later_of, response_at, own_update, own_update_shown, all_choices, are_fresh, are_in_turn}
 use Rattle.zp_alone.specs.Runs.{frames_of, begin_line}
 use Rattle.zn_ops.specs.Built.{is_built_request}
 use Rattle.zk_transcript.proofs.Quiet.{frame_quiet, send_quiet, after-quiet}

@@ -1,9 +1,8 @@
 -- An update that the oldest request asked: what its line does to the history, and the reply behind it.
 use Rattle.std.proofs.Common.{◌≡◌, ℕ, ◌≤◌, List, [], ◌∷◌, ◌++◌, refl, sym, ap, ◌∙◌, subst, arith, true, ℤ, pos, ◌<ℤ◌, ◌≤ℤ◌}
-use Rattle.std.specs.Prelude.{Some, nat_lt, int_lt, int_le, option_and_then}
+use Rattle.std.specs.Prelude.{Some, nat_lt, option_and_then}
 use Rattle.std.proofs.lemmas.Bool.{eq-eqb}
 use Rattle.std.proofs.lemmas.Bool.Decides.{nat_tests}
-use Rattle.std.proofs.lemmas.Int.{ints}
 use Rattle.ev_types.specs.Store.{Store, present, revision}
 use Rattle.zk_model.specs.declared.request.Request.{Request}
 use Rattle.zk_transcript.specs.declared.transcript.TranscriptLine.{TranscriptLine}

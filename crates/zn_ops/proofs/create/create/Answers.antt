@@ -1,6 +1,6 @@
 -- The form was tested, and the tree answers the rest.
 use Rattle.std.proofs.Common.{◌≡◌, ap, sym, ◌∙◌, subst, w32, rules, pos}
-use Rattle.std.specs.Prelude.{ℤ, Some}
+use Rattle.std.specs.Prelude.{ℤ}
 use Rattle.std.proofs.lemmas.Int.{to_z-of_z}
 use Rattle.std.proofs.lemmas.Result.{IfOk-weaker, IfErr-weaker}
 use mir.Val.{SFits}
