@@ -7,7 +7,7 @@ use Rattle.zk_transcript.specs.declared.transcript.TranscriptLine.{TranscriptLin
 use Rattle.zk_transcript.specs.declared.transcript.TranscriptLine.TheVariants.{Update, Open, Frame, Send}
 use Rattle.zk_transcript.specs.declared.transcript.UpdateKind.TheVariants.{Asked}
 use Rattle.zk_jute.specs.Packets.{reply_packet}
-use Rattle.zk_transcript.specs.History.{IsSound, after}
+use Rattle.zk_transcript.specs.History.{after}
 use Rattle.zt_text.specs.Transcripts.{IsWellFormed}
 use Rattle.zp_alone.specs.Runs.{IsAnswerLine, AreNumbered, begin_line}
 use Rattle.zn_layout.specs.StandsFor.{StandsFor}
@@ -21,7 +21,6 @@ use Rattle.zp_alone.specs.Reached.{IsKept}
 -- the store holds the root alone, made at moment 0 by its revision 2
 pub record IsBegun (store : Store) : Type 0 where
   pub stands : StandsFor (present store) (after (begin_line ∷ []))
-  pub sound : IsSound (after (begin_line ∷ []))
   pub revision : revision store ≡ pos 2
 
 -- the world over it, before anything happened

@@ -1,8 +1,7 @@
 -- A run of the service with one connection and no session: which lines each happening adds, and when it isn't possible.
 -- NOT BUILT yet are the other happenings and requests; they are refused with a cause of their own.
-use Rattle.std.specs.Prelude.{◌≡◌, ℕ, ℤ, pos, ◌+◌, ◌+ℤ◌, ◌⊎◌, Bool, true, false, not, List, [], ◌∷◌, ◌++◌, length, nat_lt, ◌==◌, if◌then◌else◌, Option, Some, None, is_some, IsTrue, All, Contains, codes, decimal, ⊤}
+use Rattle.std.specs.Prelude.{◌≡◌, ℕ, ℤ, pos, ◌+◌, ◌+ℤ◌, Bool, true, false, not, List, [], ◌∷◌, ◌++◌, length, nat_lt, ◌==◌, if◌then◌else◌, Option, Some, None, is_some, IsTrue, All, ⊤}
 use Rattle.std.specs.List.{AllByRecursion, list_any}
-use Rattle.std.specs.Ordering.{int_eq}
 use Rattle.zt_text.specs.declared.script.Happening.{Happening}
 use Rattle.zt_text.specs.declared.script.Happening.TheVariants as line
 use Rattle.zt_text.specs.declared.script.Why.{Why}
@@ -14,7 +13,7 @@ use Rattle.zk_transcript.specs.declared.transcript.UpdateKind.TheVariants.{Begin
 use Rattle.zk_jute.specs.Requests.{Frame, Asks, read_request}
 use Rattle.zk_transcript.specs.History.{after, opening}
 use Rattle.zk_transcript.specs.Legal.{Tick, is_id, is_legal, is_ordered, IsPunctual}
-use Rattle.zk_transcript.specs.Conversations.{IsLawfulAlone, IsShownFresh}
+use Rattle.zk_transcript.specs.Conversations.{IsServedAlone, IsShownFresh}
 use Rattle.zt_text.specs.Transcripts.{IsWellFormed}
 use Rattle.zk_model.specs.Limits.{max_frame, max_moment}
 use Rattle.zn_ops.specs.Built.{is_built_request}
@@ -28,18 +27,18 @@ abbrev pub is_opening : TranscriptLine → Bool
 is_opening (Open c p id pw) = true
 is_opening _ = false
 
-abbrev pub counted : Bool → ℕ → ℕ
-counted b n = if b then n + 1 else n
+abbrev pub one_more_if : Bool → ℕ → ℕ
+one_more_if b n = if b then n + 1 else n
 
 -- how many frames of c came, and how many packets it was sent
 abbrev pub frames_of : ℕ → List TranscriptLine → ℕ
 frames_of c [] = 0
-frames_of c (FrameLine d i zxid bytes ∷ lines) = counted (c == d) (frames_of c lines)
+frames_of c (FrameLine d i zxid bytes ∷ lines) = one_more_if (c == d) (frames_of c lines)
 frames_of c (_ ∷ lines) = frames_of c lines
 
 abbrev pub sends_of : ℕ → List TranscriptLine → ℕ
 sends_of c [] = 0
-sends_of c (Send d bytes ∷ lines) = counted (c == d) (sends_of c lines)
+sends_of c (Send d bytes ∷ lines) = one_more_if (c == d) (sends_of c lines)
 sends_of c (_ ∷ lines) = sends_of c lines
 
 -- ---- what isn't possible, by the first test that fails
@@ -83,17 +82,17 @@ AreNumbered last (Update u ∷ lines) = (u.zxid ≡ last +ℤ pos 1) × AreNumbe
 AreNumbered last (_ ∷ lines) = AreNumbered last lines
 
 -- all frames of c are answered
-pub record Settles (c clock : ℕ) (lines added : List TranscriptLine) : Type 0 where
+pub record AnswersAllFrames (c clock : ℕ) (lines added : List TranscriptLine) : Type 0 where
   pub each : All (IsAnswerLine c clock) added
   pub numbered : AreNumbered (after lines).zxid added
   pub answered : sends_of c (lines ++ added) ≡ frames_of c lines
 
-abbrev pub Adds : Happening → ℕ → List TranscriptLine → List TranscriptLine → Type 0
-Adds (line.Open c p id pw) clock lines added = added ≡ Open c p id pw ∷ []
-Adds (line.Frame c bytes) clock lines added = added ≡ FrameLine c (frames_of c lines + 1) (after lines).zxid bytes ∷ []
-Adds (line.Tick millis) clock lines added = added ≡ []
-Adds (line.Settle c) clock lines added = Settles c clock lines added
-Adds _ clock lines added = ⊥
+abbrev pub IsAddedBy : Happening → ℕ → List TranscriptLine → List TranscriptLine → Type 0
+IsAddedBy (line.Open c p id pw) clock lines added = added ≡ Open c p id pw ∷ []
+IsAddedBy (line.Frame c bytes) clock lines added = added ≡ FrameLine c (frames_of c lines + 1) (after lines).zxid bytes ∷ []
+IsAddedBy (line.Tick millis) clock lines added = added ≡ []
+IsAddedBy (line.Settle c) clock lines added = AnswersAllFrames c clock lines added
+IsAddedBy _ clock lines added = ⊥
 
 abbrev pub clock_after : ℕ → Happening → ℕ
 clock_after clock (line.Tick millis) = clock + millis
@@ -125,7 +124,7 @@ run_after r h added = record {
 pub record Happens (r : Run) (h : Happening) (r' : Run) : Type 0 where
   pub possible : why_not r.lines r.clock h ≡ None
   pub added : List TranscriptLine
-  pub adds : Adds h r.clock r.lines added
+  pub adds : IsAddedBy h r.clock r.lines added
   pub leaves : r' ≡ run_after r h added
 
 -- several, in order
@@ -143,8 +142,8 @@ pub record IsOneRun (r : Run) : Type 0 where
   pub legal : IsTrue (is_legal r.lines)
   pub ordered : IsTrue (is_ordered r.lines)
   pub punctual : IsPunctual r.ticks r.lines
-  -- what each connection was sent is what the machine gives it, never going back and never stale
-  pub lawful : (c : ℕ) → is_open c r.lines ≡ true → IsLawfulAlone r.lines c
+  -- what each number was sent is what the machine gives its connection, never going back and never stale, in the order of the requests
+  pub served : (c : ℕ) → IsServedAlone r.lines c
   pub shown : IsShownFresh r.lines
   -- the text of its lines has one reading
   pub formed : AllByRecursion IsWellFormed r.lines

@@ -1,0 +1,162 @@
+//! Runs zetcd's commands on worked examples, and compares what they write, and their status, with what each example says.
+//!
+//! The examples are files of `data/examples`, so a new one needs no proof:
+//!
+//! - `replay/NAME.script` with `NAME.transcript`, and `show/NAME.stream` with `NAME.lines`: an input and all that is written
+//!   of it, with `NAME.status` where the status is not 0. The input is handed over whole and in pieces of several sizes.
+//! - `runs/NAME.run`: a run of its own, with other words, faults, idle turns, or an input that is too long for a file
+//!   ([`Run`](crate::run::Run) has its lines).
+//! - `count`: how many examples there are, so that none gets lost.
+//!
+//! Nothing is written to standard output. What differs is told on standard error, and the status is then 1.
+#![tactic(auto)]
+
+mod compare;
+mod files;
+mod run;
+
+use crate::compare::first_difference;
+use crate::files::{bytes_of, exists, names_in, number_of};
+use crate::run::Run;
+use anyhow::Result;
+use std::env;
+use std::process::ExitCode;
+use std::rt::Files;
+use zetcd_cmd::zetcd;
+use zx_outside::{MemSink, MemSource};
+
+/// Sizes of the pieces in which an input is handed over: a byte, a prime, and all at once.
+const SIZES: [u32; 3] = [1, 7, 65_536];
+
+/// What the runs of one folder came to.
+#[derive(Drop)]
+struct Tally {
+    passed: u64,
+    failed: u64,
+}
+
+/// Looks in the folder that its first argument names, and without one in `examples`.
+fn main(rt: HostRuntime) -> Result<ExitCode> {
+    let given = env::args(&rt)?.nth(1);
+    let root = match &given {
+        Some(folder) => folder.as_str(),
+        None => "examples",
+    };
+    let mut tally = Tally { passed: 0, failed: 0 };
+    files_of(&rt, root, "replay", "script", "transcript", &mut tally)?;
+    files_of(&rt, root, "show", "stream", "lines", &mut tally)?;
+    runs_of(&rt, root, &mut tally)?;
+    let wanted = number_of(&rt, format!(in rt.alloc(); "{root}/count")?.as_str())?;
+    let (passed, failed) = (tally.passed, tally.failed);
+    eprintln!(rt; "{passed} passed, {failed} failed, {wanted} wanted")?;
+    Ok(if failed == 0 && passed == wanted {
+        ExitCode::SUCCESS
+    } else {
+        ExitCode::FAILURE
+    })
+}
+
+/// Runs a command on each input of its folder.
+fn files_of(
+    rt: &HostRuntime,
+    root: &str,
+    word: &str,
+    from: &str,
+    to: &str,
+    tally: &mut Tally,
+) -> Result<()> {
+    let folder = format!(in rt.alloc(); "{root}/{word}")?;
+    for name in &names_in(rt, folder.as_str())? {
+        let path = format!(in rt.alloc(); "{folder}/{name}")?;
+        match problem_of(rt, word, path.as_str(), from, to) {
+            Ok(None) => tally.passed = tally.passed.saturating_add(1),
+            Ok(Some(problem)) => {
+                eprintln!(rt; "{word}/{name} differs {problem}")?;
+                tally.failed = tally.failed.saturating_add(1);
+            }
+            Err(error) => {
+                eprintln!(rt; "{word}/{name}: {error}")?;
+                tally.failed = tally.failed.saturating_add(1);
+            }
+        }
+    }
+    Ok(())
+}
+
+/// Runs a command on one input, in pieces of each size, and says where the output differs.
+fn problem_of<R: Files + AllocGlobal>(
+    rt: &R,
+    word: &str,
+    path: &str,
+    from: &str,
+    to: &str,
+) -> Result<Option<String>> {
+    let alloc = rt.alloc();
+    let input = bytes_of(rt, format!(in alloc; "{path}.{from}")?.as_str())?;
+    let wanted = bytes_of(rt, format!(in alloc; "{path}.{to}")?.as_str())?;
+    let status_file = format!(in alloc; "{path}.status")?;
+    let wanted_status = if exists(rt, status_file.as_str())? {
+        number_of(rt, status_file.as_str())?
+    } else {
+        0
+    };
+    for size in SIZES {
+        let pieces = vec![in alloc; size; input.len()]?;
+        let mut source = MemSource::new(
+            Vec::from_slice(alloc, input.as_slice())?,
+            pieces,
+            Vec::new(alloc),
+        );
+        let mut out = MemSink::new(alloc, Vec::new(alloc));
+        let status = zetcd(alloc, &[word], &mut source, &mut out).number();
+        if let Some(at) = first_difference(out.bytes(), wanted.as_slice()) {
+            return Ok(Some(format!(in alloc; "at byte {at}, in pieces of {size}")?));
+        }
+        if u64::from(status) != wanted_status {
+            return Ok(Some(format!(in alloc; "in its status, {status} for {wanted_status}")?));
+        }
+    }
+    Ok(None)
+}
+
+/// Carries out each run of the folder `runs`.
+fn runs_of(rt: &HostRuntime, root: &str, tally: &mut Tally) -> Result<()> {
+    let folder = format!(in rt.alloc(); "{root}/runs")?;
+    for name in &names_in(rt, folder.as_str())? {
+        let path = format!(in rt.alloc(); "{folder}/{name}.run")?;
+        match outcome_of(rt, path.as_str()) {
+            Ok(None) => tally.passed = tally.passed.saturating_add(1),
+            Ok(Some(problem)) => {
+                eprintln!(rt; "runs/{name} differs {problem}")?;
+                tally.failed = tally.failed.saturating_add(1);
+            }
+            Err(error) => {
+                eprintln!(rt; "runs/{name}: {error}")?;
+                tally.failed = tally.failed.saturating_add(1);
+            }
+        }
+    }
+    Ok(())
+}
+
+/// Carries out one run, and says where its outcome differs.
+fn outcome_of<R: Files + AllocGlobal>(rt: &R, path: &str) -> Result<Option<String>> {
+    let alloc = rt.alloc();
+    let text = bytes_of(rt, path)?;
+    let run = Run::read(alloc, text.as_slice())?;
+    let mut words = Vec::new(alloc);
+    for word in &run.words {
+        words.push(word.as_str())?;
+    }
+    let mut source = MemSource::new(run.input, run.pieces, run.failing);
+    let mut out = MemSink::new(alloc, run.sink_failing);
+    let status = zetcd(alloc, words.as_slice(), &mut source, &mut out).number();
+    if let Some(at) = first_difference(out.bytes(), run.output.as_slice()) {
+        return Ok(Some(format!(in alloc; "at byte {at}")?));
+    }
+    let wanted = run.status;
+    if u64::from(status) != wanted {
+        return Ok(Some(format!(in alloc; "in its status, {status} for {wanted}")?));
+    }
+    Ok(None)
+}

@@ -1,0 +1,135 @@
+//! A run that is described line by line.
+
+use anyhow::{Result, bail};
+use std::alloc::Global;
+
+/// A run of the program, and what has to come of it. Each line of its description is a word and what belongs to it:
+///
+/// - `# TEXT` says what the run shows.
+/// - `words W ..`: the words of the command line.
+/// - `input TEXT`: TEXT and a line feed are added to the input; `input- TEXT`: TEXT alone; `input-hex HEX`: these bytes;
+///   `repeat N TEXT`: TEXT N times, a line feed where it has `@`.
+/// - `pieces N SIZE`: N more reads give SIZE bytes each, or are idle turns where SIZE is 0.
+/// - `fails N`: read number N, from 1, fails. `sink-fails N`: so does write number N.
+/// - `status N`: the status that is wanted.
+/// - `output TEXT`, `output- TEXT`, `output-repeat N TEXT`: what has to be written, as for the input.
+#[derive(Drop)]
+pub struct Run {
+    pub words: Vec<String>,
+    pub input: Vec<u8>,
+    pub pieces: Vec<u32>,
+    pub failing: Vec<u64>,
+    pub sink_failing: Vec<u64>,
+    pub status: u64,
+    pub output: Vec<u8>,
+}
+
+impl Run {
+    /// Reads a description.
+    pub fn read(alloc: Global, text: &[u8]) -> Result<Run> {
+        let mut run = Run {
+            words: Vec::new(alloc),
+            input: Vec::new(alloc),
+            pieces: Vec::new(alloc),
+            failing: Vec::new(alloc),
+            sink_failing: Vec::new(alloc),
+            status: 0,
+            output: Vec::new(alloc),
+        };
+        let Ok(text) = str::from_utf8(text) else {
+            bail!("the description is no text");
+        };
+        for line in text.lines() {
+            match line.split_once(' ') {
+                Some((word, rest)) => run.take(alloc, word, rest)?,
+                None => run.take(alloc, line, "")?,
+            }
+        }
+        Ok(run)
+    }
+
+    /// Takes one line.
+    fn take(&mut self, alloc: Global, word: &str, rest: &str) -> Result<()> {
+        match word {
+            "#" => Ok(()),
+            "words" => {
+                for one in rest.split(' ') {
+                    self.words.push(String::from_str(alloc, one)?)?;
+                }
+                Ok(())
+            }
+            "status" => {
+                self.status = number(rest)?;
+                Ok(())
+            }
+            "fails" => {
+                self.failing.push(number(rest)?)?;
+                Ok(())
+            }
+            "sink-fails" => {
+                self.sink_failing.push(number(rest)?)?;
+                Ok(())
+            }
+            "pieces" => self.take_pieces(rest),
+            "input" => add_line(&mut self.input, rest),
+            "input-" => add(&mut self.input, 1, rest),
+            "input-hex" => {
+                let bytes = hex::decode(alloc, rest)?;
+                self.input.extend_from_slice(bytes.as_slice())?;
+                Ok(())
+            }
+            "repeat" => add_repeated(&mut self.input, rest),
+            "output" => add_line(&mut self.output, rest),
+            "output-" => add(&mut self.output, 1, rest),
+            "output-repeat" => add_repeated(&mut self.output, rest),
+            _ => bail!("no such line: {word}"),
+        }
+    }
+
+    /// Adds reads of one size.
+    fn take_pieces(&mut self, rest: &str) -> Result<()> {
+        let Some((count, size)) = rest.split_once(' ') else {
+            bail!("pieces want a count and a size");
+        };
+        let Ok(size) = size.parse::<u32>() else {
+            bail!("no size: {size}");
+        };
+        for _read in 0..number(count)? {
+            self.pieces.push(size)?;
+        }
+        Ok(())
+    }
+}
+
+/// The number that a text spells.
+fn number(text: &str) -> Result<u64> {
+    match text.parse::<u64>() {
+        Ok(number) => Ok(number),
+        Err(_) => bail!("no number: {text}"),
+    }
+}
+
+/// Adds a text so many times.
+fn add(bytes: &mut Vec<u8>, times: u64, text: &str) -> Result<()> {
+    for _time in 0..times {
+        for byte in text.as_bytes() {
+            bytes.push(if *byte == b'@' { b'\n' } else { *byte })?;
+        }
+    }
+    Ok(())
+}
+
+/// Adds a text and a line feed.
+fn add_line(bytes: &mut Vec<u8>, text: &str) -> Result<()> {
+    add(bytes, 1, text)?;
+    bytes.push(b'\n')?;
+    Ok(())
+}
+
+/// Adds the text behind a count, so many times.
+fn add_repeated(bytes: &mut Vec<u8>, rest: &str) -> Result<()> {
+    let Some((count, text)) = rest.split_once(' ') else {
+        bail!("a count and a text are wanted");
+    };
+    add(bytes, number(count)?, text)
+}

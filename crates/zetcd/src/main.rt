@@ -1,0 +1,48 @@
+//! zetcd: a ZooKeeper service over an etcd.
+//!
+//! `main` hands the command line, standard input and standard output to [`zetcd_cmd::zetcd`], and ends the process with the
+//! status's number.
+#![tactic(auto)]
+
+use std::alloc::{AllocError, Global};
+use std::env::{self, Args};
+use std::io::ErrorKind;
+use std::process::ExitCode;
+use zetcd_cmd::{Status, zetcd};
+use zx_outside::{Sink, Source, StdSink, StdSource};
+
+fn main(rt: HostRuntime) -> ExitCode {
+    let alloc = rt.alloc();
+    let mut input = StdSource::new(rt.stdin());
+    let mut out = StdSink::new(rt.stdout());
+    let status = match env::args(&rt) {
+        Ok(args) => with_words(alloc, args, &mut input, &mut out).unwrap_or(Status::Memory),
+        // A word that is no text is in no command, and neither is a list without words.
+        Err(error) if error.kind() == ErrorKind::InvalidData => zetcd(
+            alloc,
+            &[],
+            &mut input,
+            &mut out,
+        ),
+        Err(_) => Status::Memory,
+    };
+    ExitCode::from(status.number())
+}
+
+/// Runs the command of these words, of which the first is the program's name.
+fn with_words<I: Source, O: Sink>(
+    alloc: Global,
+    args: Args,
+    input: &mut I,
+    out: &mut O,
+) -> Result<Status, AllocError> {
+    let mut owned = Vec::new(alloc);
+    for word in args.skip(1) {
+        owned.push(word)?;
+    }
+    let mut words = Vec::new(alloc);
+    for word in &owned {
+        words.push(word.as_str())?;
+    }
+    Ok(zetcd(alloc, words.as_slice(), input, out))
+}

@@ -1,0 +1,16 @@
+//! The top call: [`zetcd`] is the whole program over values, the words of the command line, a source, a sink and a status.
+//!
+//! The program `zetcd` hands it the real ones, and ends the process with the status's number. Nothing is written to standard
+//! error. `specs/Outcomes.antt` says what each status means; the other files of `specs/` are what the parts say to each other.
+#![tactic(auto)]
+
+mod replay;
+mod report;
+mod script;
+mod show;
+mod status;
+mod streams;
+mod zetcd;
+
+pub use status::Status;
+pub use zetcd::zetcd;
