@@ -33,9 +33,10 @@ fn said_of(alloc: Global, connect: &ConnectRequest) -> Result<String, Memory> {
     let last_zxid = connect.last_zxid;
     let timeout = connect.timeout;
     let session = connect.session;
-    Ok(
-        format!(in alloc; "protocolVersion {protocol} lastZxidSeen {last_zxid} timeOut {timeout} sessionId {session} passwd {} readOnly {read_only}", passwd.as_str())?,
-    )
+    Ok(format!(in alloc;
+        "protocolVersion {protocol} lastZxidSeen {last_zxid} timeOut {timeout} sessionId {session} passwd {} readOnly {read_only}",
+        passwd.as_str()
+    )?)
 }
 
 /// The packet of a notification. On the left stand its type and its path.

@@ -8,8 +8,10 @@ use zx_base::Memory;
 pub fn problem(alloc: Global) -> Result<bool, Memory> {
     let longest = line_of(alloc, b"bytes 1 ", MAX_LINE)?;
     let longer = line_of(alloc, b"bytes 10 ", MAX_LINE + 1)?;
-    Ok(read_line(alloc, longest.as_slice())?.is_none()
-        || read_line(alloc, longer.as_slice())?.is_some())
+    Ok(
+        read_line(alloc, longest.as_slice())?.is_none()
+            || read_line(alloc, longer.as_slice())?.is_some(),
+    )
 }
 
 /// A line that begins so, and then has zeros, up to this length.

@@ -123,6 +123,13 @@ fn stat_of(alloc: Global, stat: &Stat) -> Result<String, Memory> {
     } = *stat;
     let times = format!(in alloc; "czxid {czxid} mzxid {mzxid} ctime {ctime} mtime {mtime}")?;
     let versions = format!(in alloc; "version {version} cversion {cversion} aversion {aversion}")?;
-    let sizes = format!(in alloc; "ephemeralOwner {ephemeral_owner} dataLength {data_length} numChildren {num_children} pzxid {pzxid}")?;
-    Ok(format!(in alloc; "{} {} {}", times.as_str(), versions.as_str(), sizes.as_str())?)
+    let sizes = format!(in alloc;
+        "ephemeralOwner {ephemeral_owner} dataLength {data_length} numChildren {num_children} pzxid {pzxid}"
+    )?;
+    Ok(format!(in alloc;
+        "{} {} {}",
+        times.as_str(),
+        versions.as_str(),
+        sizes.as_str()
+    )?)
 }

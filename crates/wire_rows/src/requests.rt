@@ -74,9 +74,20 @@ fn said_of(alloc: Global, request: &Request) -> Result<String, Memory> {
             let path = text_of(alloc, path)?;
             let content = hex_of(alloc, content.as_slice())?;
             let acl = acls_of(alloc, acl.as_slice())?;
-            Ok(format!(in alloc; "create path {} data {} acl{} flags {flags}", path.as_str(), content.as_str(), acl.as_str())?)
+            Ok(format!(in alloc;
+                "create path {} data {} acl{} flags {flags}",
+                path.as_str(),
+                content.as_str(),
+                acl.as_str()
+            )?)
         }
-        Request::Delete { path, version } => numbered(alloc, "delete path", path, "version", *version),
+        Request::Delete { path, version } => numbered(
+            alloc,
+            "delete path",
+            path,
+            "version",
+            *version,
+        ),
         Request::Exists { path, watch } => watched(alloc, "exists path", path, *watch),
         Request::GetData { path, watch } => watched(alloc, "getData path", path, *watch),
         Request::SetData {
@@ -86,19 +97,33 @@ fn said_of(alloc: Global, request: &Request) -> Result<String, Memory> {
         } => {
             let path = text_of(alloc, path)?;
             let content = hex_of(alloc, content.as_slice())?;
-            Ok(format!(in alloc; "setData path {} data {} version {version}", path.as_str(), content.as_str())?)
+            Ok(format!(in alloc;
+                "setData path {} data {} version {version}",
+                path.as_str(),
+                content.as_str()
+            )?)
         }
         Request::GetAcl { path } => named(alloc, "getACL path", path),
         Request::GetChildren { path, watch } => watched(alloc, "getChildren path", path, *watch),
         Request::GetChildren2 { path, watch } => watched(alloc, "getChildren2 path", path, *watch),
         Request::Sync { path } => named(alloc, "sync path", path),
         Request::Ping => Ok(String::from_str(alloc, "ping")?),
-        Request::Check { path, version } => numbered(alloc, "check path", path, "version", *version),
+        Request::Check { path, version } => numbered(
+            alloc,
+            "check path",
+            path,
+            "version",
+            *version,
+        ),
         Request::Multi { parts } => parts_of(alloc, parts.as_slice()),
         Request::Auth { kind, scheme, auth } => {
             let scheme = text_of(alloc, scheme)?;
             let auth = hex_of(alloc, auth.as_slice())?;
-            Ok(format!(in alloc; "auth type {kind} scheme {} auth {}", scheme.as_str(), auth.as_str())?)
+            Ok(format!(in alloc;
+                "auth type {kind} scheme {} auth {}",
+                scheme.as_str(),
+                auth.as_str()
+            )?)
         }
         Request::SetWatches {
             relative,
@@ -109,7 +134,12 @@ fn said_of(alloc: Global, request: &Request) -> Result<String, Memory> {
             let datas = texts_of(alloc, datas.as_slice())?;
             let exists = texts_of(alloc, exists.as_slice())?;
             let children = texts_of(alloc, children.as_slice())?;
-            Ok(format!(in alloc; "setWatches relativeZxid {relative} dataWatches{} existWatches{} childWatches{}", datas.as_str(), exists.as_str(), children.as_str())?)
+            Ok(format!(in alloc;
+                "setWatches relativeZxid {relative} dataWatches{} existWatches{} childWatches{}",
+                datas.as_str(),
+                exists.as_str(),
+                children.as_str()
+            )?)
         }
         Request::Close => Ok(String::from_str(alloc, "closeSession")?),
     }
@@ -172,7 +202,12 @@ fn part_of(alloc: Global, part: &Part) -> Result<String, Memory> {
             let path = text_of(alloc, path)?;
             let content = hex_of(alloc, content.as_slice())?;
             let acl = acls_of(alloc, acl.as_slice())?;
-            Ok(format!(in alloc; "create path {} data {} acl{} flags {flags}", path.as_str(), content.as_str(), acl.as_str())?)
+            Ok(format!(in alloc;
+                "create path {} data {} acl{} flags {flags}",
+                path.as_str(),
+                content.as_str(),
+                acl.as_str()
+            )?)
         }
         Part::Delete { path, version } => numbered(alloc, "delete path", path, "version", *version),
         Part::SetData {
@@ -182,7 +217,11 @@ fn part_of(alloc: Global, part: &Part) -> Result<String, Memory> {
         } => {
             let path = text_of(alloc, path)?;
             let content = hex_of(alloc, content.as_slice())?;
-            Ok(format!(in alloc; "setData path {} data {} version {version}", path.as_str(), content.as_str())?)
+            Ok(format!(in alloc;
+                "setData path {} data {} version {version}",
+                path.as_str(),
+                content.as_str()
+            )?)
         }
         Part::Check { path, version } => numbered(alloc, "check path", path, "version", *version),
     }
