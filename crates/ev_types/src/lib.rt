@@ -6,9 +6,11 @@
 
 mod answer;
 mod ask;
+mod route;
 
 pub use answer::{ActAns, Answer, Kv, RangeAns};
 pub use ask::{Act, Ask, Guard, RangeReq, TxnReq};
+pub use route::Route;
 
 #[cfg(test)]
 mod tests;

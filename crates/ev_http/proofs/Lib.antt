@@ -1,0 +1,3 @@
+pub mod Framings
+pub mod Heads
+pub mod Takings

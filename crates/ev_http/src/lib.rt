@@ -1,0 +1,9 @@
+//! HTTP/1.1 messages over a source and a sink.
+#![tactic(auto)]
+
+mod fault;
+mod framing;
+mod head;
+mod taking;
+
+pub use fault::HttpFault;
