@@ -1,3 +1,6 @@
+pub mod Bodies
+pub mod Chunks
 pub mod Framings
 pub mod Heads
+pub mod Lines
 pub mod Takings

@@ -1,3 +1,4 @@
+pub mod Body
 pub mod Framing
 pub mod Heads
 pub mod Taking

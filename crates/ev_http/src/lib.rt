@@ -1,6 +1,7 @@
 //! HTTP/1.1 messages over a source and a sink.
 #![tactic(auto)]
 
+mod body;
 mod fault;
 mod framing;
 mod head;
