@@ -150,26 +150,21 @@ no_chunk-gap size content line is has some none = record {
       absurd (omega (arith, some, ap chunk_size same.0, last.none));
 }
 
+gap_joined : (size : ChunkLine) (content line added new : List ℕ) → new ≡ line ++ added → (print_chunk_line size ++ (content ++ line)) ++ added ≡ print_chunk_line size ++ (content ++ new)
+gap_joined size content line added new grown = append_assoc (print_chunk_line size) (content ++ line) added ∙ ap (λ (x : List ℕ). print_chunk_line size ++ x) (append_assoc content line added ∙ ap (λ (x : List ℕ). content ++ x) (sym grown))
+
 pub gap_grows : (place limit : ℕ) (line added new body : List ℕ) (start : ℕ) (f : Framing) (bytes : List ℕ) → AtGap start place f line bytes body → Grows line added new limit → AtGap start place f new (bytes ++ added) body
 gap_grows place limit line added new body start f bytes at grows = record {
   chunks = at.chunks;
   size = at.size;
   is_size = at.is_size;
   content = at.content;
-  behind = gap_behind start place f at.chunks at.size at.content line added new bytes at.behind grows.grown;
+  behind = behind_more _ _ _ _ _ _ _ _ at.behind (gap_joined at.size at.content line added new grows.grown);
   body_is = at.body_is;
   size_is = at.size_is;
   some = at.some;
   no_feed = grown_no_feed line added new limit at.no_feed grows;
 }
-  where
-    gap_behind : (start place : ℕ) (f : Framing) (chunks : List Chunk) (size : ChunkLine) (content line added new bytes : List ℕ) → Behind start place f chunks (print_chunk_line size ++ (content ++ line)) bytes → new ≡ line ++ added
-        → Behind start place f chunks (print_chunk_line size ++ (content ++ new)) (bytes ++ added)
-    gap_behind start place f chunks size content line added new bytes behind grown =
-        behind_more _ _ _ _ _ _ _ _ behind (append_assoc (print_chunk_line size) (content ++ line) added ∙ ap (λ (x : List ℕ). print_chunk_line size ++ x) (append_assoc content line added ∙ ap (λ (x : List ℕ). content ++ x) (sym grown)))
-
-gap_joined : (size : ChunkLine) (content line added new : List ℕ) → new ≡ line ++ added → (print_chunk_line size ++ (content ++ line)) ++ added ≡ print_chunk_line size ++ (content ++ new)
-gap_joined size content line added new grown = append_assoc (print_chunk_line size) (content ++ line) added ∙ ap (λ (x : List ℕ). print_chunk_line size ++ x) (append_assoc content line added ∙ ap (λ (x : List ℕ). content ++ x) (sym grown))
 
 gap_broken : (place : ℕ) (line added new body : List ℕ) (source : Told) (tally : Tally) → new ≡ line ++ added → (HasNoFeed line → (more rest : List ℕ) → new ++ more ≡ 13 ∷ 10 ∷ rest → ⊥)
     → TakesPart (Err (fault.Body place)) (part.Gap place) line body added new body source tally
@@ -224,3 +219,185 @@ gap_whole place limit line added new body source tally got same start f bytes ca
       },
       chunk_goes f (part.Size tally.taken) source came.behind.chunked,
     )
+
+-- ---- trailers
+
+end_text : (end : LineEnd) → (text : List ℕ) × HasNoFeed text × (print_end end ≡ text ++ 10 ∷ []) × (length text ≤ 1)
+end_text crlf = (13 ∷ [], no_feed-cons 13 [] (λ e. cc) no_feed-nil, refl, omega arith)
+end_text lf = ([], no_feed-nil, refl, omega arith)
+
+not_end : (line : List ℕ) (end : LineEnd) → IsFieldLine line → line ≡ print_end end → ⊥
+not_end line crlf is e = is.not_crlf e
+not_end line lf is e = is.not_lf e
+
+first_line : (l m x y : List ℕ) → IsLine l → IsLine m → l ++ x ≡ m ++ y → l ≡ m
+first_line l m x y a b e =
+    a.2 ∙ ap (λ (t : List ℕ). t ++ 10 ∷ []) (same_line a.0 b.0 x y a.1 b.1 (ap (λ (t : List ℕ). t ++ x) (sym a.2) ∙ e ∙ ap (λ (t : List ℕ). t ++ y) b.2)) ∙ sym b.2
+
+-- field lines in front are the first of the field lines of a trailer
+peel : (ls ms : List (List ℕ)) (end : LineEnd) (x rest : List ℕ) → All IsFieldLine ls → All IsFieldLine ms
+    → flat_map (λ (line : List ℕ). line) ls ++ x ≡ flat_map (λ (line : List ℕ). line) ms ++ (print_end end ++ rest)
+    → (ns : List (List ℕ)) × All IsFieldLine ns × (length (flat_map (λ (line : List ℕ). line) ls) + length (flat_map (λ (line : List ℕ). line) ns) ≡ length (flat_map (λ (line : List ℕ). line) ms))
+      × (x ≡ flat_map (λ (line : List ℕ). line) ns ++ (print_end end ++ rest))
+peel [] ms end x rest a b e = (ms, b, omega arith, e)
+peel (l ∷ ls) [] end x rest a b e =
+    let is = All-head IsFieldLine l ls a in
+    let t = end_text end in
+    absurd (not_end l end is (first_line l (print_end end) (flat_map (λ (line : List ℕ). line) ls ++ x) rest is.is_line (t.0, t.1, t.2) (sym (append_assoc l (flat_map (λ (line : List ℕ). line) ls) x) ∙ e)))
+peel (l ∷ ls) (m ∷ ms) end x rest a b e =
+    let is = All-head IsFieldLine l ls a in
+    let has = All-head IsFieldLine m ms b in
+    let whole : l ++ (flat_map (λ (line : List ℕ). line) ls ++ x) ≡ m ++ (flat_map (λ (line : List ℕ). line) ms ++ (print_end end ++ rest)) =
+      sym (append_assoc l (flat_map (λ (line : List ℕ). line) ls) x) ∙ e ∙ append_assoc m (flat_map (λ (line : List ℕ). line) ms) (print_end end ++ rest) in
+    let same = first_line l m _ _ is.is_line has.is_line whole in
+    let more = same_front l m _ _ (ap length same) whole in
+    let later = peel ls ms end x rest (All-tail IsFieldLine l ls a) (All-tail IsFieldLine m ms b) more in (
+      later.0,
+      later.1,
+      omega (arith, ap length same, later.2, length-append l (flat_map (λ (line : List ℕ). line) ls), length-append m (flat_map (λ (line : List ℕ). line) ms)),
+      later.3,
+    )
+
+-- field lines that are too long together
+long_fields : (text : List ℕ) → AreFields text → 16384 < length text → IsNoTrailer text
+long_fields text are long fields end more rest has few e =
+    let got = peel are.0 has.0 end more rest are.1 has.1 (ap (λ (x : List ℕ). x ++ more) (sym are.2) ∙ e ∙ ap (λ (x : List ℕ). x ++ (print_end end ++ rest)) has.2) in
+    omega (arith, got.2, long, few, ap length are.2, ap length has.2)
+
+-- bytes of a line do not end a trailer
+cut_short : (ns : List (List ℕ)) (end : LineEnd) (cut more rest : List ℕ) → All IsFieldLine ns → HasNoFeed cut → cut ++ more ≡ flat_map (λ (line : List ℕ). line) ns ++ (print_end end ++ rest) → length cut ≤ length (flat_map (λ (line : List ℕ). line) ns) + 1
+cut_short [] end cut more rest all none e =
+    let t = end_text end in
+    let le : length cut ≤ length t.0 = text_short cut more t.0 rest none (e ∙ ap (λ (x : List ℕ). x ++ rest) t.2) in
+    omega (arith, le, t.3)
+cut_short (m ∷ ms) end cut more rest all none e =
+    let is = (All-head IsFieldLine m ms all).is_line in
+    let le : length cut ≤ length is.0 = text_short cut more is.0 (flat_map (λ (line : List ℕ). line) ms ++ (print_end end ++ rest)) none
+      (e ∙ append_assoc m (flat_map (λ (line : List ℕ). line) ms) (print_end end ++ rest) ∙ ap (λ (x : List ℕ). x ++ (flat_map (λ (line : List ℕ). line) ms ++ (print_end end ++ rest))) is.2) in
+    omega (arith, le, ap length is.2, length-append is.0 (10 ∷ []), length-append m (flat_map (λ (line : List ℕ). line) ms))
+
+long_trailer : (text cut : List ℕ) → AreFields text → HasNoFeed cut → 16386 ≤ length (text ++ cut) → IsNoTrailer (text ++ cut)
+long_trailer text cut are none long fields end more rest has few e =
+    let got = peel are.0 has.0 end (cut ++ more) rest are.1 has.1 (ap (λ (x : List ℕ). x ++ (cut ++ more)) (sym are.2) ∙ sym (append_assoc text cut more) ∙ e ∙ ap (λ (x : List ℕ). x ++ (print_end end ++ rest)) has.2) in
+    let le = cut_short got.0 end cut more rest got.1 none got.3 in
+    omega (arith, le, got.2, long, few, ap length are.2, ap length has.2, length-append text cut)
+
+trailer_bytes : (chunks : List Chunk) (last : ChunkLine) (line added new bytes : List ℕ) → bytes ≡ print_chunks chunks ++ (print_chunk_line last ++ line) → new ≡ line ++ added → bytes ++ added ≡ print_chunks chunks ++ (print_chunk_line last ++ new)
+trailer_bytes chunks last line added new bytes are grown =
+    ap (λ (x : List ℕ). x ++ added) are ∙ append_assoc (print_chunks chunks) (print_chunk_line last ++ line) added
+    ∙ ap (λ (x : List ℕ). print_chunks chunks ++ x) (append_assoc (print_chunk_line last) line added ∙ ap (λ (x : List ℕ). print_chunk_line last ++ x) (sym grown))
+
+pub trailer_grows : (place fields limit : ℕ) (line added new body : List ℕ) (start : ℕ) (f : Framing) (bytes : List ℕ) → AtTrailer start place fields f line bytes body → Grows line added new limit → AtTrailer start place fields f new (bytes ++ added) body
+trailer_grows place fields limit line added new body start f bytes at grows = record {
+  chunks = at.chunks;
+  last = at.last;
+  is_last = at.is_last;
+  text = at.text;
+  are_fields = at.are_fields;
+  few = at.few;
+  cut = at.cut ++ added;
+  no_feed = no_feed-append at.cut added at.no_feed grows.no_feed;
+  line_is = grows.grown ∙ ap (λ (x : List ℕ). x ++ added) at.line_is ∙ append_assoc at.text at.cut added;
+  fields_is = at.fields_is;
+  chunked = at.chunked;
+  are_chunks = at.are_chunks;
+  bytes_are = trailer_bytes at.chunks at.last line added new bytes at.bytes_are grows.grown;
+  place_is = at.place_is;
+  body_is = at.body_is;
+}
+
+trailer_broken : (place fields : ℕ) (line added new body : List ℕ) (source : Told) (tally : Tally) → new ≡ line ++ added → ((start : ℕ) (f : Framing) (bytes : List ℕ) → AtTrailer start place fields f line bytes body → IsNoTrailer new)
+    → TakesPart (Err (fault.Body place)) (part.Trailer place fields) line body added new body source tally
+trailer_broken place fields line added new body source tally grown none start f bytes came taken =
+    inr (came.chunks, came.last, new, came.chunked, came.are_chunks, came.is_last, trailer_bytes came.chunks came.last line added new bytes came.bytes_are grown, came.place_is, none start f bytes came)
+
+pub trailer_full : (place fields limit : ℕ) (line added new body : List ℕ) (source : Told) (tally : Tally) → Grows line added new limit → 16386 ≤ length new
+    → TakesPart (Err (fault.Body place)) (part.Trailer place fields) line body added new body source tally
+trailer_full place fields limit line added new body source tally grows long =
+    trailer_broken place fields line added new body source tally grows.grown (λ start f bytes at.
+      let same : new ≡ at.text ++ (at.cut ++ added) = grows.grown ∙ ap (λ (x : List ℕ). x ++ added) at.line_is ∙ append_assoc at.text at.cut added in
+      subst IsNoTrailer (sym same) (long_trailer at.text (at.cut ++ added) at.are_fields (no_feed-append at.cut added at.no_feed grows.no_feed) (subst (λ (x : List ℕ). 16386 ≤ length x) same long)))
+
+-- the last line of a trailer, behind its field lines
+last_line : (start place fields : ℕ) (f : Framing) (line added new bytes body : List ℕ) → AtTrailer start place fields f line bytes body → new ≡ line ++ added → IsLine added
+    → (text last : List ℕ) × AreFields text × (length text ≤ 16384) × IsLine last × (new ≡ text ++ last) × (fields ≡ length text) × (drop fields new ≡ last)
+last_line start place fields f line added new bytes body at grown is =
+    let last = at.cut ++ added in
+    let same : new ≡ at.text ++ last = grown ∙ ap (λ (x : List ℕ). x ++ added) at.line_is ∙ append_assoc at.text at.cut added in (
+      at.text,
+      last,
+      at.are_fields,
+      at.few,
+      line_grown at.cut added last at.no_feed is refl,
+      same,
+      at.fields_is,
+      ap (λ n. drop n new) at.fields_is ∙ ap (drop (length at.text)) same ∙ drop-append_seam at.text last,
+    )
+
+fields_more : (text last new : List ℕ) → AreFields text → IsLine last → new ≡ text ++ last → last ≢ 10 ∷ [] → last ≢ 13 ∷ 10 ∷ [] → AreFields new
+fields_more text last new are is same lf_not crlf_not = (
+  are.0 ++ last ∷ [],
+  All-append IsFieldLine are.0 (last ∷ []) are.1 (All-cons IsFieldLine last [] (record { is_line = is; not_lf = lf_not; not_crlf = crlf_not }) (All-nil IsFieldLine)),
+  same ∙ ap (λ (x : List ℕ). x ++ last) are.2 ∙ ap (λ (x : List ℕ). flat_map (λ (line : List ℕ). line) are.0 ++ x) (sym (append-nil last)) ∙ sym (flat_map-append (λ (line : List ℕ). line) are.0 (last ∷ [])),
+)
+
+inside : (start place fields : ℕ) (f : Framing) (line added new bytes body : List ℕ) → AtTrailer start place fields f line bytes body → new ≡ line ++ added → fields ≤ length new
+inside start place fields f line added new bytes body at grown =
+    omega (arith, at.fields_is, ap length grown, length-append line added, ap length at.line_is, length-append at.text at.cut)
+
+trailer_goes : (p : Part) (place fields start : ℕ) (f : Framing) (line added new bytes body : List ℕ) → AtTrailer start place fields f line bytes body → IsLine added → new ≡ line ++ added
+    → TrailerAnswer (Some p) place fields new → Came start f p new (bytes ++ added) body
+trailer_goes part.Whole place fields start f line added new bytes body at is grown answer =
+    let last = last_line start place fields f line added new bytes body at grown is in
+    let end : last.1 ≡ print_end answer.0 = sym last.7 ∙ answer.1 in
+    let held : InChunks body (bytes ++ added) = record {
+      chunks = at.chunks;
+      are_chunks = at.are_chunks;
+      last = at.last;
+      is_last = at.is_last;
+      fields = last.0;
+      are_fields = last.2;
+      few = last.3;
+      end = answer.0;
+      body_is = at.body_is;
+      bytes_are = trailer_bytes at.chunks at.last line added new bytes at.bytes_are grown ∙ ap (λ (x : List ℕ). print_chunks at.chunks ++ (print_chunk_line at.last ++ x)) (last.5 ∙ ap (λ (x : List ℕ). last.0 ++ x) end);
+    } in
+    subst (λ (x : Framing). Framed x body (bytes ++ added)) (sym at.chunked) held
+trailer_goes (part.Trailer q n) place fields start f line added new bytes body at is grown answer =
+    let last = last_line start place fields f line added new bytes body at grown is in record {
+      chunks = at.chunks;
+      last = at.last;
+      is_last = at.is_last;
+      text = new;
+      are_fields = fields_more last.0 last.1 new last.2 last.4 last.5 (λ e. answer.3 (last.7 ∙ e)) (λ e. answer.4 (last.7 ∙ e));
+      few = answer.2;
+      cut = [];
+      no_feed = no_feed-nil;
+      line_is = sym (append-nil new);
+      fields_is = answer.1;
+      chunked = at.chunked;
+      are_chunks = at.are_chunks;
+      bytes_are = trailer_bytes at.chunks at.last line added new bytes at.bytes_are grown;
+      place_is = answer.0 ∙ at.place_is;
+      body_is = at.body_is;
+    }
+trailer_goes (part.Counted left) place fields start f line added new bytes body at is grown answer = absurd answer
+trailer_goes part.ToEnd place fields start f line added new bytes body at is grown answer = absurd answer
+trailer_goes (part.Size q) place fields start f line added new bytes body at is grown answer = absurd answer
+trailer_goes (part.Content q left) place fields start f line added new bytes body at is grown answer = absurd answer
+trailer_goes (part.Gap q) place fields start f line added new bytes body at is grown answer = absurd answer
+
+pub trailer_next : (p : Part) (place fields limit : ℕ) (line added new body : List ℕ) (source : Told) (tally : Tally) → IsLine added × (new ≡ line ++ added) × (length new ≤ limit)
+    → (fields ≤ length new → TrailerAnswer (Some p) place fields new) → TakesPart (Ok p) (part.Trailer place fields) line body added new body source tally
+trailer_next p place fields limit line added new body source tally got answer start f bytes came taken = (
+  trailer_goes p place fields start f line added new bytes body came got.0 got.1 (answer (inside start place fields f line added new bytes body came got.1)),
+  chunk_goes f p source came.chunked,
+)
+
+pub trailer_fails : (place fields limit : ℕ) (line added new body : List ℕ) (source : Told) (tally : Tally) → IsLine added × (new ≡ line ++ added) × (length new ≤ limit)
+    → (fields ≤ length new → TrailerAnswer None place fields new) → TakesPart (Err (fault.Body place)) (part.Trailer place fields) line body added new body source tally
+trailer_fails place fields limit line added new body source tally got answer =
+    trailer_broken place fields line added new body source tally got.1 (λ start f bytes at.
+      let says = answer (inside start place fields f line added new bytes body at got.1) in
+      let last = last_line start place fields f line added new bytes body at got.1 got.0 in
+      long_fields new (fields_more last.0 last.1 new last.2 last.4 last.5 (λ e. says.1 (last.7 ∙ e)) (λ e. says.2 (last.7 ∙ e))) says.0)
