@@ -158,6 +158,16 @@ first_part (framing.Counted n) head = part.Counted n
 first_part framing.ToEnd head = part.ToEnd
 first_part framing.Chunked head = part.Size head
 
+-- More bytes of a message come in this part.
+abbrev pub IsOpen : Part → Type 0
+IsOpen part.Whole = ⊥
+IsOpen (part.Content place left) = 0 < left
+IsOpen (part.Counted left) = ⊤
+IsOpen part.ToEnd = ⊤
+IsOpen (part.Size place) = ⊤
+IsOpen (part.Gap place) = ⊤
+IsOpen (part.Trailer place fields) = ⊤
+
 -- What comes next, where so many bytes are left of a chunk.
 abbrev pub after_content : ℕ → ℕ → Part
 after_content place zero = part.Gap place

@@ -1,7 +1,7 @@
 //! The body of a message, taken piece by piece.
 
 ghost use Rattle.std.specs.Prelude.{◌≡◌, ◌≢◌, ◌<◌, ◌≤◌, ◌++◌, [], ◌∷◌, false, List, ℕ, length, IsTrue};
-ghost use Rattle.ev_http.specs.Body.{TakesBytes, TakesPart, PartAnswer, first_part, after_content, HasSize, SizeAnswer, TrailerAnswer};
+ghost use Rattle.ev_http.specs.Body.{TakesBytes, TakesPart, PartAnswer, first_part, after_content, IsOpen, HasSize, SizeAnswer, TrailerAnswer};
 ghost use Rattle.ev_http.specs.Taking.{Took, told, failed, IsLine};
 ghost use Rattle.httparse.specs.Grammar.{LineEnd, print_end, NeverHasChunkLine};
 
@@ -348,6 +348,7 @@ pub fn take_part<S: Source>(
     line: &mut Vec<u8>,
     body: &mut Vec<u8>,
 ) -> Result<Part, HttpFault>
+    requires more { IsOpen part }
     requires within { tally.old.turns ≤ 6000 }
     ensures part { (added : List ℕ)
         × Took added (failed result) tally.old tally.new
