@@ -341,9 +341,9 @@ fields_more text last new are is same lf_not crlf_not = (
   same ∙ ap (λ (x : List ℕ). x ++ last) are.2 ∙ ap (λ (x : List ℕ). flat_map (λ (line : List ℕ). line) are.0 ++ x) (sym (append-nil last)) ∙ sym (flat_map-append (λ (line : List ℕ). line) are.0 (last ∷ [])),
 )
 
-inside : (start place fields : ℕ) (f : Framing) (line added new bytes body : List ℕ) → AtTrailer start place fields f line bytes body → new ≡ line ++ added → fields ≤ length new
-inside start place fields f line added new bytes body at grown =
-    omega (arith, at.fields_is, ap length grown, length-append line added, ap length at.line_is, length-append at.text at.cut)
+inside : (start place fields : ℕ) (f : Framing) (line added new bytes body : List ℕ) → AtTrailer start place fields f line bytes body → new ≡ line ++ added → IsLine added → fields < length new
+inside start place fields f line added new bytes body at grown is =
+    omega (arith, at.fields_is, ap length grown, length-append line added, ap length at.line_is, length-append at.text at.cut, ap length is.2, length-append is.0 (10 ∷ []))
 
 trailer_goes : (p : Part) (place fields start : ℕ) (f : Framing) (line added new bytes body : List ℕ) → AtTrailer start place fields f line bytes body → IsLine added → new ≡ line ++ added
     → TrailerAnswer (Some p) place fields new → Came start f p new (bytes ++ added) body
@@ -388,16 +388,16 @@ trailer_goes (part.Content q left) place fields start f line added new bytes bod
 trailer_goes (part.Gap q) place fields start f line added new bytes body at is grown answer = absurd answer
 
 pub trailer_next : (p : Part) (place fields limit : ℕ) (line added new body : List ℕ) (source : Told) (tally : Tally) → IsLine added × (new ≡ line ++ added) × (length new ≤ limit)
-    → (fields ≤ length new → TrailerAnswer (Some p) place fields new) → TakesPart (Ok p) (part.Trailer place fields) line body added new body source tally
+    → (fields < length new → TrailerAnswer (Some p) place fields new) → TakesPart (Ok p) (part.Trailer place fields) line body added new body source tally
 trailer_next p place fields limit line added new body source tally got answer start f bytes came taken = (
-  trailer_goes p place fields start f line added new bytes body came got.0 got.1 (answer (inside start place fields f line added new bytes body came got.1)),
+  trailer_goes p place fields start f line added new bytes body came got.0 got.1 (answer (inside start place fields f line added new bytes body came got.1 got.0)),
   chunk_goes f p source came.chunked,
 )
 
 pub trailer_fails : (place fields limit : ℕ) (line added new body : List ℕ) (source : Told) (tally : Tally) → IsLine added × (new ≡ line ++ added) × (length new ≤ limit)
-    → (fields ≤ length new → TrailerAnswer None place fields new) → TakesPart (Err (fault.Body place)) (part.Trailer place fields) line body added new body source tally
+    → (fields < length new → TrailerAnswer None place fields new) → TakesPart (Err (fault.Body place)) (part.Trailer place fields) line body added new body source tally
 trailer_fails place fields limit line added new body source tally got answer =
     trailer_broken place fields line added new body source tally got.1 (λ start f bytes at.
-      let says = answer (inside start place fields f line added new bytes body at got.1) in
+      let says = answer (inside start place fields f line added new bytes body at got.1 got.0) in
       let last = last_line start place fields f line added new bytes body at got.1 got.0 in
       long_fields new (fields_more last.0 last.1 new last.2 last.4 last.5 (λ e. says.1 (last.7 ∙ e)) (λ e. says.2 (last.7 ∙ e))) says.0)

@@ -1,5 +1,5 @@
 -- The body of a message (RFC 9112, sections 6 and 7), whole and as far as it came.
-use Rattle.std.specs.Prelude.{◌≡◌, ◌≢◌, ℕ, ◌+◌, ◌<◌, ◌≤◌, ◌⊎◌, List, [], ◌∷◌, ◌++◌, length, drop, All, ⊤, Option, Some, None, Result, Ok, Err, zero, suc}
+use Rattle.std.specs.Prelude.{◌≡◌, ◌≢◌, ℕ, ◌+◌, ◌-◌, ◌*◌, ◌<◌, ◌≤◌, ◌⊎◌, List, [], ◌∷◌, ◌++◌, length, drop, All, ⊤, Option, Some, None, Result, Ok, Err, zero, suc}
 use Rattle.std.specs.List.{flat_map}
 use Rattle.httparse.specs.Grammar.{LineEnd, print_end, ChunkLine, IsChunkLine, print_chunk_line, chunk_size}
 use Rattle.ev_http.specs.declared.fault.HttpFault.{HttpFault}
@@ -173,6 +173,19 @@ abbrev pub after_content : ℕ → ℕ → Part
 after_content place zero = part.Gap place
 after_content place (suc left) = part.Content place (suc left)
 
+-- How much is to be done in a part before another takes its place, and in all of a body of which so many bytes came.
+abbrev pub rank : Part → ℕ
+rank part.Whole = 0
+rank (part.Counted left) = 1
+rank part.ToEnd = 1
+rank (part.Trailer place fields) = 1 + (16400 - fields)
+rank (part.Content place left) = 20000
+rank (part.Size place) = 30000
+rank (part.Gap place) = 40000
+
+abbrev pub work : Part → ℕ → ℕ
+work p held = (8400000 - held) * 100000 + rank p
+
 -- The size that a whole line before a chunk says.
 abbrev pub HasSize : Option ℕ → List ℕ → Type 0
 HasSize (Some n) line = (l : ChunkLine) × IsChunkLine l × (line ≡ print_chunk_line l) × (chunk_size l ≡ n)
@@ -245,3 +258,43 @@ TakesBytes (Err fault.WriteFault) old added new most source tally = ⊥
 abbrev pub TakesPart : Result Part HttpFault → Part → List ℕ → List ℕ → List ℕ → List ℕ → List ℕ → Told → Tally → Type 0
 TakesPart result p line body added line' body' source tally =
     (start : ℕ) (f : Framing) (bytes : List ℕ) → Came start f p line bytes body → tally.taken ≡ counted (start + length (bytes ++ added)) → PartAnswer result start f p line' (bytes ++ added) body' source tally
+
+-- How many bytes more of a body its head or its chunk line announces.
+abbrev pub announced : Part → ℕ
+announced (part.Counted left) = left
+announced (part.Content place left) = left
+announced part.Whole = 0
+announced part.ToEnd = 0
+announced (part.Size place) = 0
+announced (part.Gap place) = 0
+announced (part.Trailer place fields) = 0
+
+-- The bytes behind a head are the front of a body that has more than 8,388,608 bytes, with those that are announced.
+pub record IsTooMuch (start : ℕ) (f : Framing) (bytes : List ℕ) : Type 0 where
+  pub part : Part
+  pub line : List ℕ
+  pub body : List ℕ
+  pub came : Came start f part line bytes body
+  pub more : 8388608 < length body + announced part
+
+-- The bytes behind a head are the front of a body, of which more is to come.
+pub record IsCut (start : ℕ) (f : Framing) (bytes : List ℕ) : Type 0 where
+  pub part : Part
+  pub line : List ℕ
+  pub body : List ℕ
+  pub came : Came start f part line bytes body
+  pub more : IsOpen part
+
+-- What the reading of a body behind a head of so many bytes came to, by its answer.
+abbrev pub BodyAnswer : Result (Vec ℕ Global) HttpFault → ℕ → Framing → List ℕ → Told → Tally → Type 0
+BodyAnswer (Ok body) start f bytes source tally = Framed f body.items bytes × EndsWhole f part.Whole source × (length body.items ≤ 8388608)
+BodyAnswer (Err (fault.Body place)) start f bytes source tally = BreaksAt start place f bytes
+BodyAnswer (Err (fault.TooLong limit)) start f bytes source tally = (limit ≡ 8388608) × IsTooMuch start f bytes
+BodyAnswer (Err (fault.Ended n)) start f bytes source tally = IsCut start f bytes × Ends source × (n ≡ tally.taken)
+BodyAnswer (Err fault.Idle) start f bytes source tally = tally.turns ≡ 6000
+BodyAnswer (Err fault.ReadFault) start f bytes source tally = ⊤
+BodyAnswer (Err fault.Memory) start f bytes source tally = ⊤
+BodyAnswer (Err fault.Head) start f bytes source tally = ⊥
+BodyAnswer (Err (fault.Status n)) start f bytes source tally = ⊥
+BodyAnswer (Err fault.Route) start f bytes source tally = ⊥
+BodyAnswer (Err fault.WriteFault) start f bytes source tally = ⊥

@@ -1,7 +1,7 @@
 //! The body of a message, taken piece by piece.
 
-ghost use Rattle.std.specs.Prelude.{◌≡◌, ◌≢◌, ◌<◌, ◌≤◌, ◌++◌, [], ◌∷◌, false, List, ℕ, length, IsTrue};
-ghost use Rattle.ev_http.specs.Body.{TakesBytes, TakesPart, PartAnswer, first_part, after_content, IsOpen, HasSize, SizeAnswer, TrailerAnswer};
+ghost use Rattle.std.specs.Prelude.{◌≡◌, ◌≢◌, ◌<◌, ◌≤◌, ◌++◌, [], ◌∷◌, false, List, ℕ, length, IsTrue, IfOk, IfSome};
+ghost use Rattle.ev_http.specs.Body.{TakesBytes, TakesPart, PartAnswer, first_part, after_content, IsOpen, rank, work, HasSize, SizeAnswer, TrailerAnswer, BodyAnswer, announced};
 ghost use Rattle.ev_http.specs.Taking.{Took, told, failed, IsLine};
 ghost use Rattle.httparse.specs.Grammar.{LineEnd, print_end, NeverHasChunkLine};
 
@@ -9,6 +9,7 @@ use crate::fault::HttpFault;
 use crate::framing::Framing;
 use crate::taking::{Cut, Tally, take_line, take_piece};
 use httparse::{Status, parse_chunk_size};
+use std::alloc::Global;
 use zx_outside::Source;
 
 /// How many bytes a body, or a line of a stream, has at most.
@@ -96,6 +97,7 @@ fn take_counted<S: Source>(
             (told S.given S.left S.counts S.ended S.name source.new)
         × ((line : List ℕ) → TakesPart result (Part.Counted left) line body.old.items added line body.new.items
             (told S.given S.left S.counts S.ended S.name source.new) tally.new) }
+    ensures on { length body.old.items ≤ 8388608 → IfOk result (λ next. work next (length body.new.items) < work (Part.Counted left) (length body.old.items)) }
 {
     if left == 0 {
         return Ok(Part::Whole);
@@ -121,6 +123,7 @@ fn take_to_end<S: Source>(
             (told S.given S.left S.counts S.ended S.name source.new)
         × ((line : List ℕ) → TakesPart result Part.ToEnd line body.old.items added line body.new.items
             (told S.given S.left S.counts S.ended S.name source.new) tally.new) }
+    ensures on { length body.old.items ≤ 8388608 → IfOk result (λ next. work next (length body.new.items) < work Part.ToEnd (length body.old.items)) }
 {
     match take_bytes(source, tally, body, PIECE as u64) {
         Ok(Some(_)) => Ok(Part::ToEnd),
@@ -155,6 +158,7 @@ fn take_content<S: Source>(
             (told S.given S.left S.counts S.ended S.name source.new)
         × ((line : List ℕ) → TakesPart result (Part.Content place left) line body.old.items added line body.new.items
             (told S.given S.left S.counts S.ended S.name source.new) tally.new) }
+    ensures on { length body.old.items ≤ 8388608 → IfOk result (λ next. work next (length body.new.items) < work (Part.Content place left) (length body.old.items)) }
 {
     match take_bytes(source, tally, body, left) {
         Ok(Some(count)) => Ok(after_content(place, left - count)),
@@ -179,7 +183,8 @@ fn read_size(line: &[u8]) -> Option<u64>
 /// What comes behind a whole line before a chunk, or None where it is no such line. The bytes behind it begin at
 /// `next`.
 fn after_size(line: &[u8], place: u64, next: u64) -> Option<Part>
-    ensures { IsLine line.now → SizeAnswer result place next line.now }
+    ensures on { IfSome result (λ later. rank later < rank (Part.Size place)) }
+    ensures answer { IsLine line.now → SizeAnswer result place next line.now }
 {
     match read_size(line) {
         Some(size) if size > 0 => Some(Part::Content { place, left: size }),
@@ -211,6 +216,7 @@ fn take_size<S: Source>(
             (told S.given S.left S.counts S.ended S.name source.new)
         × ((body : List ℕ) → TakesPart result (Part.Size place) line.old.items body added line.new.items body
             (told S.given S.left S.counts S.ended S.name source.new) tally.new) }
+    ensures on { IfOk result (λ next. rank next < rank (Part.Size place)) }
 {
     match take_line(source, tally, line, MAX_CHUNK_LINE) {
         Ok(Cut::LineFeed) => match after_size(line.as_slice(), place, tally.taken) {
@@ -269,6 +275,7 @@ fn take_gap<S: Source>(
             (told S.given S.left S.counts S.ended S.name source.new)
         × ((body : List ℕ) → TakesPart result (Part.Gap place) line.old.items body added line.new.items body
             (told S.given S.left S.counts S.ended S.name source.new) tally.new) }
+    ensures on { IfOk result (λ next. rank next < rank (Part.Gap place)) }
 {
     match take_line(source, tally, line, 2) {
         Ok(Cut::LineFeed) => {
@@ -296,9 +303,13 @@ fn take_gap<S: Source>(
 /// What comes behind a line of a trailer, of which so many bytes are whole lines in front of it; None where its fields
 /// are too long.
 fn after_trailer_line(line: &[u8], place: u64, fields: usize) -> Option<Part>
-    ensures { fields ≤ length line.now → TrailerAnswer result place fields line.now }
+    ensures answer { fields < length line.now → TrailerAnswer result place fields line.now }
+    ensures on { IfSome result (λ next. rank next < rank (Part.Trailer place fields)) }
 {
-    let last = line.get(fields..)?;
+    if line.len() <= fields {
+        return None;
+    }
+    let last = &line[fields..];
     if is_empty_line(last) {
         return Some(Part::Whole);
     }
@@ -325,6 +336,7 @@ fn take_trailer<S: Source>(
             (told S.given S.left S.counts S.ended S.name source.new)
         × ((body : List ℕ) → TakesPart result (Part.Trailer place fields) line.old.items body added line.new.items body
             (told S.given S.left S.counts S.ended S.name source.new) tally.new) }
+    ensures on { IfOk result (λ next. rank next < rank (Part.Trailer place fields)) }
 {
     match take_line(source, tally, line, MAX_TRAILER + 2) {
         Ok(Cut::LineFeed) => match after_trailer_line(line.as_slice(), place, fields) {
@@ -356,6 +368,7 @@ pub fn take_part<S: Source>(
             (told S.given S.left S.counts S.ended S.name source.new)
         × TakesPart result part line.old.items body.old.items added line.new.items body.new.items
             (told S.given S.left S.counts S.ended S.name source.new) tally.new }
+    ensures on { length body.old.items ≤ 8388608 → IfOk result (λ next. work next (length body.new.items) < work part (length body.old.items)) }
 {
     match part {
         Part::Counted { left } => take_counted(source, tally, left, body),
@@ -365,5 +378,50 @@ pub fn take_part<S: Source>(
         Part::Gap { place } => take_gap(source, tally, place, line),
         Part::Trailer { place, fields } => take_trailer(source, tally, place, fields, line),
         Part::Whole => Ok(Part::Whole),
+    }
+}
+
+/// Whether a body would have more than its limit, with what its next line or chunk announces.
+fn is_too_long(part: Part, held: usize) -> bool
+    ensures yes { IsTrue result → 8388608 < held + announced part }
+    ensures no { result ≡ false → held + announced part ≤ 8388608 }
+{
+    let announced = match part {
+        Part::Counted { left } => left,
+        Part::Content { left, .. } => left,
+        _ => 0,
+    };
+    announced.saturating_add(held as u64) > MAX_BODY
+}
+
+/// Takes a whole body, framed so.
+pub fn read_body<S: Source>(
+    alloc: Global,
+    source: &mut S,
+    tally: &mut Tally,
+    framing: Framing,
+) -> Result<Vec<u8>, HttpFault>
+    requires within { tally.old.turns ≤ 6000 }
+    ensures body { (bytes : List ℕ)
+        × Took bytes (failed result) tally.old tally.new
+            (told S.given S.left S.counts S.ended S.name source.old)
+            (told S.given S.left S.counts S.ended S.name source.new)
+        × BodyAnswer result tally.old.taken framing bytes
+            (told S.given S.left S.counts S.ended S.name source.new) tally.new }
+{
+    let mut part = first_part(framing, tally.taken);
+    let mut line = Vec::new(alloc);
+    let mut body = Vec::new(alloc);
+    'parts: loop {
+        if is_too_long(part, body.len()) {
+            return Err(HttpFault::TooLong { limit: MAX_BODY });
+        }
+        if matches!(part, Part::Whole) {
+            return Ok(body);
+        }
+        match take_part(source, tally, part, &mut line, &mut body) {
+            Ok(next) => part = next,
+            Err(fault) => return Err(fault),
+        }
     }
 }
