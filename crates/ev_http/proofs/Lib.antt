@@ -3,4 +3,5 @@ pub mod Chunks
 pub mod Framings
 pub mod Heads
 pub mod Lines
+pub mod Reading
 pub mod Takings

@@ -1,5 +1,6 @@
 -- The body of a message (RFC 9112, sections 6 and 7), whole and as far as it came.
 use Rattle.std.specs.Prelude.{◌≡◌, ◌≢◌, ℕ, ◌+◌, ◌-◌, ◌*◌, ◌<◌, ◌≤◌, ◌⊎◌, List, [], ◌∷◌, ◌++◌, length, drop, All, ⊤, Option, Some, None, Result, Ok, Err, zero, suc}
+use Rattle.std.specs.Global.{Vec}
 use Rattle.std.specs.List.{flat_map}
 use Rattle.httparse.specs.Grammar.{LineEnd, print_end, ChunkLine, IsChunkLine, print_chunk_line, chunk_size}
 use Rattle.ev_http.specs.declared.fault.HttpFault.{HttpFault}
@@ -286,7 +287,7 @@ pub record IsCut (start : ℕ) (f : Framing) (bytes : List ℕ) : Type 0 where
   pub more : IsOpen part
 
 -- What the reading of a body behind a head of so many bytes came to, by its answer.
-abbrev pub BodyAnswer : Result (Vec ℕ Global) HttpFault → ℕ → Framing → List ℕ → Told → Tally → Type 0
+abbrev pub BodyAnswer : Result (Vec ℕ) HttpFault → ℕ → Framing → List ℕ → Told → Tally → Type 0
 BodyAnswer (Ok body) start f bytes source tally = Framed f body.items bytes × EndsWhole f part.Whole source × (length body.items ≤ 8388608)
 BodyAnswer (Err (fault.Body place)) start f bytes source tally = BreaksAt start place f bytes
 BodyAnswer (Err (fault.TooLong limit)) start f bytes source tally = (limit ≡ 8388608) × IsTooMuch start f bytes

@@ -1,5 +1,5 @@
 -- How the body of a message is framed (RFC 9112, section 6), by the fields of its head.
-use Rattle.std.specs.Prelude.{◌≡◌, ℕ, ◌+◌, ◌<◌, ◌≤◌, List, [], ◌∷◌, ◌++◌, length, map, drop, Bool, true, false, ◌&&◌, ◌==◌, if◌then◌else◌, Option, Some, None, Result, Ok, Err, codes, bytes_eq, nat_lt, suc}
+use Rattle.std.specs.Prelude.{◌≡◌, ℕ, ◌+◌, ◌<◌, ◌≤◌, ◌⊎◌, List, [], ◌∷◌, ◌++◌, length, map, drop, Bool, true, false, ◌&&◌, ◌==◌, if◌then◌else◌, Option, Some, None, Result, Ok, Err, codes, bytes_eq, nat_lt, suc}
 use Rattle.std.specs.List.{list_all, flat_map}
 use Rattle.std.specs.Char.{is_ascii_digit, to_ascii_lowercase}
 use Rattle.std.specs.Str.Parse.{digits_value}
@@ -77,3 +77,7 @@ framing_of kind fields = whole_framing kind (length fields) (framing_after kind 
 -- The line of this number, among the field lines and the empty line behind them, stands at this place of the head.
 abbrev pub StandsAt : List Field → ℕ → ℕ → List ℕ → Type 0
 StandsAt fields number place head = (before : List ℕ) × (last : LineEnd) × (head ≡ before ++ print_section (drop number fields) last) × (place ≡ length before)
+
+-- Nothing, or whole lines.
+abbrev pub EndsInFeed : List ℕ → Type 0
+EndsInFeed bytes = (bytes ≡ []) ⊎ ((front : List ℕ) × (bytes ≡ front ++ 10 ∷ []))

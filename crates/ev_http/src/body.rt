@@ -1,6 +1,6 @@
 //! The body of a message, taken piece by piece.
 
-ghost use Rattle.std.specs.Prelude.{◌≡◌, ◌≢◌, ◌<◌, ◌≤◌, ◌++◌, [], ◌∷◌, false, List, ℕ, length, IsTrue, IfOk, IfSome};
+ghost use Rattle.std.specs.Prelude.{◌+◌, ◌≡◌, ◌≢◌, ◌<◌, ◌≤◌, ◌++◌, [], ◌∷◌, false, List, ℕ, length, IsTrue, IfOk, IfSome};
 ghost use Rattle.ev_http.specs.Body.{TakesBytes, TakesPart, PartAnswer, first_part, after_content, IsOpen, rank, work, HasSize, SizeAnswer, TrailerAnswer, BodyAnswer, announced};
 ghost use Rattle.ev_http.specs.Taking.{Took, told, failed, IsLine};
 ghost use Rattle.httparse.specs.Grammar.{LineEnd, print_end, NeverHasChunkLine};
@@ -381,6 +381,14 @@ pub fn take_part<S: Source>(
     }
 }
 
+/// Whether nothing more of the message comes.
+pub fn is_whole(part: Part) -> bool
+    ensures yes { IsTrue result → part ≡ Part.Whole }
+    ensures no { result ≡ false → part ≢ Part.Whole }
+{
+    matches!(part, Part::Whole)
+}
+
 /// Whether a body would have more than its limit, with what its next line or chunk announces.
 fn is_too_long(part: Part, held: usize) -> bool
     ensures yes { IsTrue result → 8388608 < held + announced part }
@@ -416,7 +424,7 @@ pub fn read_body<S: Source>(
         if is_too_long(part, body.len()) {
             return Err(HttpFault::TooLong { limit: MAX_BODY });
         }
-        if matches!(part, Part::Whole) {
+        if is_whole(part) {
             return Ok(body);
         }
         match take_part(source, tally, part, &mut line, &mut body) {

@@ -1,8 +1,10 @@
 //! How the body of a message is framed, by the fields of its head.
 
-ghost use Rattle.std.specs.Prelude.{◌≡◌, ◌≤◌, List, ℕ, length, map, All};
+ghost use Rattle.ev_http.specs.Taking.{HasNoFeed, IsLine};
+ghost use Rattle.std.specs.List.{flat_map};
+ghost use Rattle.std.specs.Prelude.{◌≡◌, ◌≤◌, ◌++◌, ◌∷◌, [], List, ℕ, length, map, All};
 ghost use Rattle.httparse.specs.Spans.{IsHeaderWithin, header_bytes};
-ghost use Rattle.ev_http.specs.Framing.{is_word, count_of, after_count, after_coding, after_field, framing_after};
+ghost use Rattle.ev_http.specs.Framing.{is_word, count_of, after_count, after_coding, after_field, framing_after, EndsInFeed};
 
 use crate::head::Kind;
 use httparse::spans::HeaderSpan;
@@ -102,4 +104,27 @@ pub fn read_framing(kind: Kind, head: &[u8], fields: &[HeaderSpan]) -> Result<Fr
         }
     }
     Ok(framing)
+}
+
+/// Where the last line of the bytes begins. They end with its line feed.
+fn last_line(bytes: &[u8]) -> usize
+    ensures bound { result ≤ length bytes.now }
+    ensures begins { (before text : List ℕ) → bytes.now ≡ before ++ (text ++ 10 ∷ []) → HasNoFeed text → EndsInFeed before → result ≡ length before }
+{
+    let mut at = bytes.len().saturating_sub(1);
+    'bytes: while at > 0 && bytes[at - 1] != b'\n' {
+        at -= 1;
+    }
+    at
+}
+
+/// Where the last so many lines of the bytes begin.
+fn last_lines(bytes: &[u8], count: usize) -> usize
+    ensures begins { (before : List ℕ) (lines : List (List ℕ)) → bytes.now ≡ before ++ flat_map (λ (line : List ℕ). line) lines → All IsLine lines → length lines ≡ count → EndsInFeed before → result ≡ length before }
+{
+    let mut end = bytes.len();
+    'lines: for _ in 0..count {
+        end = last_line(&bytes[..end]);
+    }
+    end
 }
