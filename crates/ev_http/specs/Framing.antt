@@ -66,9 +66,14 @@ framing_after kind f (x ∷ xs) = next_or (after_field kind f x) (λ g. framing_
 abbrev pub whole_framing : Kind → ℕ → Result Framing ℕ → Result Framing ℕ
 whole_framing kind.Request count (Ok framing.ToEnd) = Err count
 whole_framing kind.Request count (Ok (framing.Counted n)) = Ok (framing.Counted n)
-whole_framing kind.Request count (Ok framing.Chunked) = Ok framing.Chunked
+whole_framing kind.Request count (Ok framing.Chunked) = Err count
 whole_framing kind.Request count (Err number) = Err number
 whole_framing kind.Response count read = read
+
+-- The framing of a body of so many bytes.
+abbrev pub counted_framing : Result ℕ ℕ → Result Framing ℕ
+counted_framing (Ok n) = Ok (framing.Counted n)
+counted_framing (Err number) = Err number
 
 -- How the body behind a head with these fields is framed, or the number of the line that is at fault.
 abbrev pub framing_of : Kind → List Field → Result Framing ℕ

@@ -1,4 +1,5 @@
 pub mod Body
 pub mod Framing
 pub mod Heads
+pub mod Messages
 pub mod Taking

@@ -4,7 +4,9 @@ ghost use Rattle.ev_http.specs.Taking.{HasNoFeed, IsLine};
 ghost use Rattle.std.specs.List.{flat_map};
 ghost use Rattle.std.specs.Prelude.{◌≡◌, ◌≤◌, ◌++◌, ◌∷◌, [], List, ℕ, length, map, All};
 ghost use Rattle.httparse.specs.Spans.{IsHeaderWithin, header_bytes};
-ghost use Rattle.ev_http.specs.Framing.{is_word, count_of, after_count, after_coding, after_field, framing_after, EndsInFeed};
+ghost use Rattle.ev_http.specs.Framing.{is_word, count_of, after_count, after_coding, after_field, framing_after, EndsInFeed, StandsAt};
+ghost use Rattle.ev_http.specs.Heads.{IsHead};
+ghost use Rattle.httparse.specs.Grammar.{Field};
 
 use crate::head::Kind;
 use httparse::spans::HeaderSpan;
@@ -127,4 +129,11 @@ fn last_lines(bytes: &[u8], count: usize) -> usize
         end = last_line(&bytes[..end]);
     }
     end
+}
+
+/// Where the field line of this number stands in a head with so many fields, or the empty line behind them.
+pub fn place_of(head: &[u8], fields: usize, number: usize) -> u64
+    ensures { (kind : Kind) (all : List Field) → IsHead kind all head.now → length all ≡ fields → number ≤ fields → StandsAt all number result head.now }
+{
+    last_lines(head, fields.saturating_sub(number).saturating_add(1)) as u64
 }

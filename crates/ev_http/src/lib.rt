@@ -5,6 +5,8 @@ mod body;
 mod fault;
 mod framing;
 mod head;
+mod request;
+mod response;
 mod taking;
 
 pub use fault::HttpFault;
