@@ -3,7 +3,7 @@ use Rattle.std.proofs.Common.{◌≡◌, ◌≢◌, ℕ, ◌+◌, ◌-◌, ◌<�
 use Rattle.std.specs.Prelude.{All, ◌⊎◌}
 use Rattle.std.specs.List.{flat_map}
 use Rattle.std.proofs.Math.Seq.{take-append_seam}
-use Rattle.std.proofs.lemmas.List.{take-append-drop, length-map}
+use Rattle.std.proofs.lemmas.List.{take-append-drop}
 use Rattle.std.proofs.Common.{Bool, true, false, length-drop}
 use Rattle.std.proofs.lemmas.List.Elements.{All-head, All-tail, All-nil, All-cons, All-append, All-take, All-drop}
 use Rattle.httparse.specs.Grammar.{LineEnd, crlf, lf, Field, IsField, is_token_byte, is_value_byte, print_end, print_blank, print_version, print_reason, print_field, print_section, print_response, print_request}
@@ -73,6 +73,10 @@ field_line f is =
 abbrev lines_of : List Field → List (List ℕ)
 lines_of fields = map print_field fields
 
+lines_count : (fields : List Field) → length (lines_of fields) ≡ length fields
+lines_count [] = refl
+lines_count (f ∷ fields) = ap suc (lines_count fields)
+
 field_lines : (fields : List Field) → All IsField fields → All IsLine (lines_of fields)
 field_lines [] all = All-nil IsLine
 field_lines (f ∷ fields) all = All-cons IsLine (print_field f) (lines_of fields) (field_line f (All-head IsField f fields all)) (field_lines fields (All-tail IsField f fields all))
@@ -119,7 +123,7 @@ stands k fields head number lines place is le count begins =
     let cut = head_cut k fields head number is in
     let rest = drop number fields in
     let ls = lines_of rest ++ print_end cut.1 ∷ [] in
-    let size : length ls ≡ lines = omega (arith, count, length-append (lines_of rest) (print_end cut.1 ∷ []), length-map print_field rest, length-drop number fields) in (
+    let size : length ls ≡ lines = omega (arith, count, length-append (lines_of rest) (print_end cut.1 ∷ []), lines_count rest, length-drop number fields) in (
       cut.0,
       cut.1,
       cut.4,

@@ -133,7 +133,7 @@ fn last_lines(bytes: &[u8], count: usize) -> usize
 
 /// Where the field line of this number stands in a head with so many fields, or the empty line behind them.
 pub fn place_of(head: &[u8], fields: usize, number: usize) -> u64
-    ensures { (kind : Kind) (all : List Field) → IsHead kind all head.now → length all ≡ fields → number ≤ fields → StandsAt all number result head.now }
+    ensures { (kind : Kind) (all : List Field) → IsHead kind all head.now → length all ≡ fields → fields ≤ 64 → number ≤ fields → StandsAt all number result head.now }
 {
     last_lines(head, fields.saturating_sub(number).saturating_add(1)) as u64
 }
