@@ -121,3 +121,6 @@ head_stops (fault.Body p) k old first mid second new source tally early begun li
 head_stops (fault.TooLong n) k old first mid second new source tally early begun line = absurd line
 head_stops (fault.Ended n) k old first mid second new source tally early begun line = absurd line
 head_stops fault.WriteFault k old first mid second new source tally early begun line = absurd line
+
+pub IsOpenHead-nil : (k : Kind) → IsOpenHead k []
+IsOpenHead-nil k = record { none = no_head-nil k; short = omega arith }

@@ -3,6 +3,7 @@ pub mod Chunks
 pub mod Framings
 pub mod Heads
 pub mod Lines
+pub mod Messages
 pub mod Places
 pub mod Reading
 pub mod Takings

@@ -1,12 +1,13 @@
 -- Heads of HTTP/1.1 messages (RFC 9112, sections 2 to 5), as the kit's parser reads them.
 use Rattle.std.specs.Prelude.{◌≡◌, ℕ, ◌<◌, ◌≤◌, ◌⊎◌, List, [], ◌++◌, length, ⊤, Option, Result, Ok, Err}
+use Rattle.std.specs.Global.{Vec}
 use Rattle.httparse.specs.Grammar.{Field, RequestHead, IsRequestHead, print_request, ResponseHead, IsResponseHead, print_response}
 use Rattle.ev_http.specs.declared.fault.HttpFault.{HttpFault}
 use Rattle.ev_http.specs.declared.fault.HttpFault.TheVariants as fault
 use Rattle.ev_http.specs.declared.head.Kind.{Kind}
 use Rattle.ev_http.specs.declared.head.Kind.TheVariants as kind
 use Rattle.ev_http.specs.declared.taking.Tally.{Tally}
-use Rattle.ev_http.specs.Taking.{Told, Ends}
+use Rattle.ev_http.specs.Taking.{Told, Ends, counted}
 
 -- These bytes are a head with these fields.
 abbrev pub IsHead : Kind → List Field → List ℕ → Type 0
@@ -50,3 +51,22 @@ TakesHead (Err fault.Route) kind old added new source tally = ⊥
 TakesHead (Err (fault.Body p)) kind old added new source tally = ⊥
 TakesHead (Err (fault.TooLong n)) kind old added new source tally = ⊥
 TakesHead (Err fault.WriteFault) kind old added new source tally = ⊥
+
+-- The reading of a message stopped in its head.
+abbrev pub StopsInHead : {A : Type 0} → Result A HttpFault → Kind → List ℕ → Told → Tally → Type 0
+StopsInHead (Ok message) k bytes source tally = ⊥
+StopsInHead (Err fault.Head) k bytes source tally = NeverFits k bytes
+StopsInHead (Err (fault.Ended n)) k bytes source tally = IsOpenHead k bytes × Ends source × (n ≡ counted (length bytes))
+StopsInHead (Err fault.Idle) k bytes source tally = IsOpenHead k bytes × (tally.turns ≡ 6000)
+StopsInHead (Err fault.ReadFault) k bytes source tally = IsOpenHead k bytes
+StopsInHead (Err fault.Memory) k bytes source tally = ⊤
+StopsInHead (Err (fault.Status n)) k bytes source tally = ⊥
+StopsInHead (Err fault.Route) k bytes source tally = ⊥
+StopsInHead (Err (fault.Body place)) k bytes source tally = ⊥
+StopsInHead (Err (fault.TooLong n)) k bytes source tally = ⊥
+StopsInHead (Err fault.WriteFault) k bytes source tally = ⊥
+
+-- What the reading of a head came to, by its answer.
+abbrev pub HeadAnswer : Result (Vec ℕ) HttpFault → Kind → List ℕ → Told → Tally → Type 0
+HeadAnswer (Ok head) k bytes source tally = (head.items ≡ bytes) × (fields : List Field) × FitsHead k fields bytes
+HeadAnswer (Err why) k bytes source tally = StopsInHead {A = Vec ℕ} (Err why) k bytes source tally

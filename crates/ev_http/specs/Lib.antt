@@ -2,4 +2,5 @@ pub mod Body
 pub mod Framing
 pub mod Heads
 pub mod Messages
+pub mod Sending
 pub mod Taking

@@ -12,7 +12,13 @@ use Rattle.ev_http.specs.declared.fault.HttpFault.TheVariants as fault
 use Rattle.ev_http.specs.declared.framing.Framing.{Framing}
 use Rattle.ev_http.specs.declared.framing.Framing.TheVariants as framing
 use Rattle.ev_http.specs.declared.head.Kind.TheVariants as kind
+use Rattle.std.specs.Global.{Vec}
+use Rattle.ev_http.specs.declared.head.Kind.{Kind}
+use Rattle.ev_http.specs.declared.taking.Tally.{Tally}
+use Rattle.ev_http.specs.Taking.{Told}
+use Rattle.ev_http.specs.Heads.{StopsInHead}
 use Rattle.ev_http.specs.Framing.{framing_of, StandsAt}
+use Rattle.ev_http.specs.Body.{BodyAnswer}
 
 -- The path of a route.
 unfoldable pub path_of : Route → List ℕ
@@ -66,3 +72,70 @@ JudgesRequest (Err fault.Idle) h head = ⊥
 JudgesRequest (Err fault.ReadFault) h head = ⊥
 JudgesRequest (Err fault.WriteFault) h head = ⊥
 JudgesRequest (Err fault.Memory) h head = ⊥
+
+-- The bytes are one head of a response that fits.
+pub record IsWholeResponse (h : ResponseHead) (bytes : List ℕ) : Type 0 where
+  pub is_head : IsResponseHead h
+  pub printed : bytes ≡ print_response h
+  pub few : length h.fields ≤ 64
+  pub short : length bytes ≤ 16384
+
+pub record IsWholeRequest (h : RequestHead) (bytes : List ℕ) : Type 0 where
+  pub is_head : IsRequestHead h
+  pub printed : bytes ≡ print_request h
+  pub few : length h.fields ≤ 64
+  pub short : length bytes ≤ 16384
+
+-- The reading of a response went on behind a head of status 200 that says how the body is framed.
+pub record GoesOn (answer : Result (Vec ℕ) HttpFault) (bytes : List ℕ) (source : Told) (tally : Tally) : Type 0 where
+  pub h : ResponseHead
+  pub head : List ℕ
+  pub whole : IsWholeResponse h head
+  pub framed : Framing
+  pub says : JudgesResponse (Ok framed) h head
+  pub after : List ℕ
+  pub bytes_are : bytes ≡ head ++ after
+  pub body : BodyAnswer answer (length head) framed after source tally
+
+-- The head of a response is at fault.
+pub record RefusesResponse (answer : Result (Vec ℕ) HttpFault) (bytes : List ℕ) : Type 0 where
+  pub h : ResponseHead
+  pub whole : IsWholeResponse h bytes
+  pub why : HttpFault
+  pub answered : answer ≡ Err why
+  pub says : JudgesResponse (Err why) h bytes
+
+-- What the reading of a response came to, by its answer: it stopped in the head, or the head is at fault, or it went on to the body.
+abbrev pub ResponseAnswer : Result (Vec ℕ) HttpFault → List ℕ → Told → Tally → Type 0
+ResponseAnswer answer bytes source tally = StopsInHead answer kind.Response bytes source tally ⊎ (RefusesResponse answer bytes ⊎ GoesOn answer bytes source tally)
+
+-- A body, behind the route of its request.
+abbrev pub with_route : Route → Result (Vec ℕ) HttpFault → Result (Route × Vec ℕ) HttpFault
+with_route r (Ok body) = Ok (r, body)
+with_route r (Err why) = Err why
+
+-- The reading of a request went on behind a head with a route and a count of bytes.
+pub record GoesOnRequest (answer : Result (Route × Vec ℕ) HttpFault) (bytes : List ℕ) (source : Told) (tally : Tally) : Type 0 where
+  pub h : RequestHead
+  pub head : List ℕ
+  pub whole : IsWholeRequest h head
+  pub goes : Route
+  pub count : ℕ
+  pub says : JudgesRequest (Ok (goes, count)) h head
+  pub after : List ℕ
+  pub bytes_are : bytes ≡ head ++ after
+  pub read : Result (Vec ℕ) HttpFault
+  pub answered : answer ≡ with_route goes read
+  pub body : BodyAnswer read (length head) (framing.Counted count) after source tally
+
+-- The head of a request is at fault.
+pub record RefusesRequest (answer : Result (Route × Vec ℕ) HttpFault) (bytes : List ℕ) : Type 0 where
+  pub h : RequestHead
+  pub whole : IsWholeRequest h bytes
+  pub why : HttpFault
+  pub answered : answer ≡ Err why
+  pub says : JudgesRequest (Err why) h bytes
+
+-- What the reading of a request came to, by its answer.
+abbrev pub RequestAnswer : Result (Route × Vec ℕ) HttpFault → List ℕ → Told → Tally → Type 0
+RequestAnswer answer bytes source tally = StopsInHead answer kind.Request bytes source tally ⊎ (RefusesRequest answer bytes ⊎ GoesOnRequest answer bytes source tally)

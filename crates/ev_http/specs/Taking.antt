@@ -20,6 +20,10 @@ pub record Told : Type 0 where
 abbrev pub told : {S : Type 0} → (S → Option (List ℕ)) → (S → Option (List ℕ)) → (S → InputCounts) → (S → Bool) → (S → ℕ) → S → Told
 told given left counts ended name source = record { given = given source; left = left source; counts = counts source; ended = ended source; name = name source }
 
+-- At the first byte of a message, in a call that has waited for nothing yet.
+abbrev pub fresh : Tally
+fresh = record { turns = 0; taken = 0 }
+
 -- A count of bytes. It stays at the end of its 64 bits once it is there.
 abbrev pub counted : ℕ → ℕ
 counted n = min n (2 ^ 64 - 1)

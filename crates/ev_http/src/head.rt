@@ -1,13 +1,14 @@
 //! The head of a message.
 
 ghost use Rattle.std.specs.Prelude.{◌≡◌, ◌<◌, ◌≤◌, ◌++◌, List, ℕ, length};
-ghost use Rattle.ev_http.specs.Heads.{HasNoHead, NeverFits, BeginsWithHead, TakesHead};
+ghost use Rattle.ev_http.specs.Heads.{HasNoHead, NeverFits, BeginsWithHead, TakesHead, HeadAnswer};
 ghost use Rattle.ev_http.specs.Taking.{Took, told, failed};
 
 use crate::fault::HttpFault;
 use crate::taking::{Cut, Tally, take_line};
 use httparse::Status;
 use httparse::spans::{EMPTY_HEADER_SPAN, parse_request, parse_response};
+use std::alloc::Global;
 use zx_outside::Source;
 
 /// How many fields a head has at most.
@@ -107,5 +108,28 @@ pub fn take_head<S: Source>(
             },
             Err(fault) => return Err(fault),
         }
+    }
+}
+
+/// Reads a whole head at the first byte of a message.
+pub fn read_head<S: Source>(
+    alloc: Global,
+    source: &mut S,
+    tally: &mut Tally,
+    kind: Kind,
+) -> Result<Vec<u8>, HttpFault>
+    requires within { tally.old.turns ≤ 6000 }
+    requires first { tally.old.taken ≡ 0 }
+    ensures head { (bytes : List ℕ)
+        × Took bytes (failed result) tally.old tally.new
+            (told S.given S.left S.counts S.ended S.name source.old)
+            (told S.given S.left S.counts S.ended S.name source.new)
+        × HeadAnswer result kind bytes
+            (told S.given S.left S.counts S.ended S.name source.new) tally.new }
+{
+    let mut head = Vec::new(alloc);
+    match take_head(source, tally, kind, &mut head) {
+        Ok(()) => Ok(head),
+        Err(fault) => Err(fault),
     }
 }

@@ -7,6 +7,10 @@ mod framing;
 mod head;
 mod request;
 mod response;
+mod send;
 mod taking;
 
 pub use fault::HttpFault;
+pub use request::read_request;
+pub use response::read_response;
+pub use send::{send_request, send_response};

@@ -1,18 +1,24 @@
-//! Requests.
+//! Reading of requests.
 
 ghost use Rattle.std.specs.Prelude.{◌≡◌, ◌≢◌, ◌≤◌, List, ℕ, length, map, All, IsTrue, false, IfSome};
 ghost use Rattle.httparse.specs.Spans.{IsRequestWithin, IsHeaderWithin, header_bytes};
 ghost use Rattle.ev_http.specs.Framing.{framing_after, whole_framing, counted_framing};
 ghost use Rattle.httparse.specs.Grammar.{RequestHead, IsRequestHead, print_request};
 ghost use Rattle.ev_types.specs.declared.route.Route.{Route};
-ghost use Rattle.ev_http.specs.Messages.{FoundRequest, JudgesRequest, path_of, is_post, Routed};
+ghost use Rattle.ev_http.specs.Messages.{FoundRequest, JudgesRequest, path_of, is_post, Routed, RequestAnswer, with_route};
+ghost use Rattle.ev_http.specs.Taking.{Took, told, failed, fresh};
+ghost use Rattle.ev_http.specs.declared.taking.Tally.{Tally};
 
+use crate::body::read_body;
 use crate::fault::HttpFault;
 use crate::framing::{Framing, place_of, read_framing};
-use crate::head::{Kind, MAX_FIELDS};
+use crate::head::{Kind, MAX_FIELDS, read_head};
+use crate::taking::Tally;
 use ev_types::Route;
 use httparse::Status;
 use httparse::spans::{EMPTY_HEADER_SPAN, HeaderSpan, RequestSpans, parse_request};
+use std::alloc::Global;
+use zx_outside::Source;
 
 /// The path of a route (etcd API reference, "gRPC gateway").
 #[tactic(auto, unfolding(crate::specs::Messages::path_of))]
@@ -109,5 +115,39 @@ fn read_counted(head: &[u8], fields: &[HeaderSpan]) -> Result<u64, usize>
         Ok(Framing::ToEnd) => Err(fields.len()),
         Ok(Framing::Chunked) => Err(fields.len()),
         Err(number) => Err(number),
+    }
+}
+
+/// Reads one request to the gateway, and takes no byte behind it (RFC 9112): where it goes, and its body.
+pub fn read_request<S: Source>(
+    alloc: Global,
+    source: &mut S,
+) -> Result<(Route, Vec<u8>), HttpFault>
+    ensures { (bytes : List ℕ) × (tally : Tally)
+        × Took bytes (failed result) fresh tally
+            (told S.given S.left S.counts S.ended S.name source.old)
+            (told S.given S.left S.counts S.ended S.name source.new)
+        × RequestAnswer result bytes
+            (told S.given S.left S.counts S.ended S.name source.new) tally }
+{
+    let mut tally = Tally::new();
+    match read_head(alloc, source, &mut tally, Kind::Request) {
+        Ok(head) => match request_framing(head.as_slice()) {
+            Ok((route, count)) => {
+                with_route(route, read_body(alloc, source, &mut tally, Framing::Counted(count)))
+            }
+            Err(fault) => Err(fault),
+        },
+        Err(fault) => Err(fault),
+    }
+}
+
+/// A body behind the route of its request.
+fn with_route(route: Route, body: Result<Vec<u8>, HttpFault>) -> Result<(Route, Vec<u8>), HttpFault>
+    ensures { result ≡ with_route route body }
+{
+    match body {
+        Ok(body) => Ok((route, body)),
+        Err(fault) => Err(fault),
     }
 }
