@@ -6,4 +6,5 @@ pub mod Lines
 pub mod Messages
 pub mod Places
 pub mod Reading
+pub mod Sending
 pub mod Takings

@@ -3,7 +3,7 @@
 ghost use Rattle.std.specs.Prelude.{◌≡◌, ◌++◌, List, ℕ, length, IfOk, IfSome, string_bytes};
 ghost use Rattle.http.specs.StatusCode.{reason_phrase};
 ghost use Rattle.zx_outside.specs.Counts.{OutputCounts};
-ghost use Rattle.ev_http.specs.Sending.{request_head, response_head, Wrote, Sends, phrase_of};
+ghost use Rattle.ev_http.specs.Sending.{request_head, response_head, Wrote, Sends, phrase_of, text_of};
 
 use crate::fault::HttpFault;
 use crate::request::path_of;
@@ -36,11 +36,40 @@ fn write_message<K: Sink>(sink: &mut K, head: &[u8], body: &[u8]) -> Result<(), 
     }
 }
 
+/// The fixed texts of heads.
+#[derive(Clone, Copy)]
+enum Fixed {
+    Post,
+    Host,
+    Version,
+    Blank,
+    Fields,
+    End,
+}
+
+#[tactic(auto, unfolding(crate::specs::Sending::text_of))]
+fn text_of(fixed: Fixed) -> &'static str
+    ensures { result.now ≡ text_of fixed }
+{
+    match fixed {
+        Fixed::Post => "POST ",
+        Fixed::Host => " HTTP/1.1\r\nhost: ",
+        Fixed::Version => "HTTP/1.1 ",
+        Fixed::Blank => " ",
+        Fixed::Fields => "\r\ncontent-type: application/json\r\ncontent-length: ",
+        Fixed::End => "\r\n\r\n",
+    }
+}
+
 fn request_head(alloc: Global, host: &str, route: Route, length: usize) -> Result<String, AllocError>
     ensures { IfOk result (λ text. string_bytes text ≡ request_head host.now route length) }
 {
+    let post = text_of(Fixed::Post);
     let path = path_of(route);
-    format!(in alloc; "POST {path} HTTP/1.1\r\nhost: {host}\r\ncontent-type: application/json\r\ncontent-length: {length}\r\n\r\n")
+    let to_host = text_of(Fixed::Host);
+    let fields = text_of(Fixed::Fields);
+    let end = text_of(Fixed::End);
+    format!(in alloc; "{post}{path}{to_host}{host}{fields}{length}{end}")
 }
 
 /// The reason phrase of a status (RFC 9110, section 15), empty where it has none.
@@ -48,7 +77,10 @@ fn phrase_of(status: u16) -> &'static str
     ensures { result.now ≡ phrase_of status }
 {
     match StatusCode::from_u16(status) {
-        Ok(code) => code.canonical_reason().unwrap_or(""),
+        Ok(code) => match code.canonical_reason() {
+            Some(phrase) => phrase,
+            None => "",
+        },
         Err(_) => "",
     }
 }
@@ -56,8 +88,12 @@ fn phrase_of(status: u16) -> &'static str
 fn response_head(alloc: Global, status: u16, length: usize) -> Result<String, AllocError>
     ensures { IfOk result (λ text. string_bytes text ≡ response_head status length) }
 {
+    let version = text_of(Fixed::Version);
+    let blank = text_of(Fixed::Blank);
     let phrase = phrase_of(status);
-    format!(in alloc; "HTTP/1.1 {status} {phrase}\r\ncontent-type: application/json\r\ncontent-length: {length}\r\n\r\n")
+    let fields = text_of(Fixed::Fields);
+    let end = text_of(Fixed::End);
+    format!(in alloc; "{version}{status}{blank}{phrase}{fields}{length}{end}")
 }
 
 /// Sends a request to a gateway: its head in one write where the sink takes it whole, and its body. After a fault some
