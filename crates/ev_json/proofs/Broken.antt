@@ -143,37 +143,53 @@ range_err f d e =
     (λ n is e. step (bytes_in field.RangeEnd d) _ f e (bytes_err field.RangeEnd f d)
     (λ bs is e. count_err field.Revision f d (last (count_in field.Revision d) _ f e)))))
 
-put_err : (f : Field) (d : Data) → put_in d ≡ Err f → ActBreaks f d
+put_err : (f : Field) (d : Data) → has field.RequestPut d ≡ true → put_in d ≡ Err f → ActBreaks f d
 unfolding put_in ActBreaks PutBreaks
-put_err f d e =
-    pass (message_in field.RequestPut d) _ f e (λ e. inl (inl (message_err field.RequestPut f d e)))
-    (λ put there e. pass (key_in put) _ f e (λ e. inl (inr (put, message_found field.RequestPut d put there, inl (key_err f put e))))
-    (λ key is e. pass (lease_in field.Lease put) _ f e (λ e. inl (inr (put, message_found field.RequestPut d put there, inr (inl (lease_err field.Lease f put e)))))
-    (λ n is e. pass (bytes_in field.Value put) _ f e (λ e. inl (inr (put, message_found field.RequestPut d put there, inr (inr (bytes_err field.Value f put e)))))
-    (λ bs is e. pass (without field.RequestDeleteRange d) _ f e (λ e. inr (inr (inr (inl (excess field.RequestDeleteRange f d e)))))
-    (λ b is e. inr (inr (inr (inr (excess field.RequestRange f d (last (without field.RequestRange d) _ f e))))))))))
+put_err f d here e =
+    pass (message_in field.RequestPut d) _ f e (λ e. inl (here, inl (message_err field.RequestPut f d e)))
+    (λ put there e. pass (key_in put) _ f e (λ e. inl (here, inr (put, message_found field.RequestPut d put there, inl (key_err f put e))))
+    (λ key is e. pass (lease_in field.Lease put) _ f e (λ e. inl (here, inr (put, message_found field.RequestPut d put there, inr (inl (lease_err field.Lease f put e)))))
+    (λ n is e. pass (bytes_in field.Value put) _ f e (λ e. inl (here, inr (put, message_found field.RequestPut d put there, inr (inr (bytes_err field.Value f put e)))))
+    (λ bs is e. pass (without field.RequestDeleteRange d) _ f e (λ e. let x = excess field.RequestDeleteRange f d e in inr (inr (inr (inr (inl (x.0, here, x.1))))))
+    (λ b is e. let x = excess field.RequestRange f d (last (without field.RequestRange d) _ f e) in inr (inr (inr (inr (inr (inl (x.0, here, x.1)))))))))))
 
-delete_err : (f : Field) (d : Data) → delete_in d ≡ Err f → ActBreaks f d
+delete_err : (f : Field) (d : Data) → has field.RequestDeleteRange d ≡ true → delete_in d ≡ Err f → ActBreaks f d
 unfolding delete_in ActBreaks
-delete_err f d e =
-    pass (message_in field.RequestDeleteRange d) _ f e (λ e. inr (inl (inl (message_err field.RequestDeleteRange f d e))))
-    (λ delete there e. pass (key_in delete) _ f e (λ e. inr (inl (inr (delete, message_found field.RequestDeleteRange d delete there, key_err f delete e))))
-    (λ key is e. inr (inr (inr (inr (excess field.RequestRange f d (last (without field.RequestRange d) _ f e)))))))
+delete_err f d here e =
+    pass (message_in field.RequestDeleteRange d) _ f e (λ e. inr (inl (here, inl (message_err field.RequestDeleteRange f d e))))
+    (λ delete there e. pass (key_in delete) _ f e (λ e. inr (inl (here, inr (delete, message_found field.RequestDeleteRange d delete there, key_err f delete e))))
+    (λ key is e. let x = excess field.RequestRange f d (last (without field.RequestRange d) _ f e) in inr (inr (inr (inr (inr (inr (x.0, here, x.1))))))))
 
-range_act_err : (f : Field) (d : Data) → range_act_in d ≡ Err f → ActBreaks f d
+range_act_err : (f : Field) (d : Data) → has field.RequestRange d ≡ true → range_act_in d ≡ Err f → ActBreaks f d
 unfolding range_act_in ActBreaks
-range_act_err f d e =
-    pass (message_in field.RequestRange d) _ f e (λ e. inr (inr (inl (inl (message_err field.RequestRange f d e)))))
-    (λ range there e. inr (inr (inl (inr (range, message_found field.RequestRange d range there, range_err f range (last (range_in range) _ f e))))))
+range_act_err f d here e =
+    pass (message_in field.RequestRange d) _ f e (λ e. inr (inr (inl (here, inl (message_err field.RequestRange f d e)))))
+    (λ range there e. inr (inr (inl (here, inr (range, message_found field.RequestRange d range there, range_err f range (last (range_in range) _ f e))))))
 
-either_act : (a b : Bool) (f : Field) (d : Data) → (if a then put_in d else if b then delete_in d else range_act_in d) ≡ Err f → ActBreaks f d
-either_act true b f d e = put_err f d e
-either_act false true f d e = delete_err f d e
-either_act false false f d e = range_act_err f d e
+by_bool : {P : Type 0} (b : Bool) → (b ≡ true → P) → (b ≡ false → P) → P
+by_bool true if_true if_false = if_true refl
+by_bool false if_true if_false = if_false refl
+
+absent : (o : Option Data) → is_some o ≡ false → o ≡ None
+absent None h = refl
+absent (Some v) h = absurd cc
+
+none_err : (f : Field) (d : Data) → has field.RequestRange d ≡ false → range_act_in d ≡ Err f → f ≡ field.RequestRange
+unfolding range_act_in message_in
+none_err f d h e =
+    let none : member_of field.RequestRange d ≡ None = absent (member_of field.RequestRange d) h in
+    pass (message_in field.RequestRange d) _ f e (λ e. (message_err field.RequestRange f d e).0)
+    (λ range there e. let found : Some range ≡ None = sym (message_found field.RequestRange d range there) ∙ none in absurd cc)
 
 act_err : (f : Field) (d : Data) → act_in d ≡ Err f → ActBreaks f d
-unfolding act_in
-act_err f d e = either_act (has field.RequestPut d) (has field.RequestDeleteRange d) f d e
+unfolding act_in ActBreaks
+act_err f d e = by_bool (has field.RequestPut d)
+    (λ put. put_err f d put (rw put at e))
+    (λ no_put. by_bool (has field.RequestDeleteRange d)
+    (λ delete. delete_err f d delete (rw (no_put, delete) at e))
+    (λ no_delete. by_bool (has field.RequestRange d)
+    (λ range. range_act_err f d range (rw (no_put, no_delete) at e))
+    (λ no_range. inr (inr (inr (inl (none_err f d no_range (rw (no_put, no_delete) at e), no_put, no_delete, no_range)))))))
 
 txn_err : (f : Field) (d : Data) → txn_in d ≡ Err f → TxnBreaks f d
 unfolding txn_in TxnBreaks

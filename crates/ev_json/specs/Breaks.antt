@@ -54,9 +54,25 @@ RangeBreaks f d = KeyBreaks f d ⊎ (Wrong as_bool field.KeysOnly f d ⊎ (Wrong
 unfoldable pub PutBreaks : Field → Data → Type 0
 PutBreaks f d = KeyBreaks f d ⊎ (Wrong lease_of field.Lease f d ⊎ Wrong bytes_of field.Value f d)
 
--- an operation with a second member, or whose one member is missing or breaks its rules
+-- both members are there, where only one may be
+abbrev pub Beside : Field → Field → Field → Data → Type 0
+Beside h g f d = (f ≡ g) × (has h d ≡ true) × (has g d ≡ true)
+
+-- the member g is there, and its message breaks its rules
+abbrev pub InGiven : (Field → Data → Type 0) → Field → Field → Data → Type 0
+InGiven breaks g f d = (has g d ≡ true) × InMessage breaks g f d
+
+-- an operation has none of its three members
+abbrev pub NoneOfThree : Field → Data → Type 0
+NoneOfThree f d = (f ≡ field.RequestRange) × (has field.RequestPut d ≡ false) × (has field.RequestDeleteRange d ≡ false) × (has field.RequestRange d ≡ false)
+
+-- an operation has two of its three members
+abbrev pub TwoOfThree : Field → Data → Type 0
+TwoOfThree f d = Beside field.RequestPut field.RequestDeleteRange f d ⊎ (Beside field.RequestPut field.RequestRange f d ⊎ Beside field.RequestDeleteRange field.RequestRange f d)
+
+-- an operation has none or two of its three members, or the one that it has breaks its rules
 unfoldable pub ActBreaks : Field → Data → Type 0
-ActBreaks f d = InMessage PutBreaks field.RequestPut f d ⊎ (InMessage KeyBreaks field.RequestDeleteRange f d ⊎ (InMessage RangeBreaks field.RequestRange f d ⊎ (Excess field.RequestDeleteRange f d ⊎ Excess field.RequestRange f d)))
+ActBreaks f d = InGiven PutBreaks field.RequestPut f d ⊎ (InGiven KeyBreaks field.RequestDeleteRange f d ⊎ (InGiven RangeBreaks field.RequestRange f d ⊎ (NoneOfThree f d ⊎ TwoOfThree f d)))
 
 -- a body that is no object has no success list
 unfoldable pub TxnBreaks : Field → Data → Type 0
