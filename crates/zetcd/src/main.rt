@@ -4,6 +4,10 @@
 //! status's number.
 #![tactic(auto)]
 
+ghost use Rattle.std.specs.Prelude.{◌≡◌};
+ghost use Rattle.std.specs.Process.{exit_status};
+ghost use Rattle.zetcd_cmd.specs.Outcomes.{number_of};
+
 use std::alloc::{AllocError, Global};
 use std::env::{self, Args};
 use std::io::ErrorKind;
@@ -26,6 +30,13 @@ fn main(rt: HostRuntime) -> ExitCode {
         ),
         Err(_) => Status::Memory,
     };
+    exit(status)
+}
+
+/// What the process ends with.
+fn exit(status: Status) -> ExitCode
+    ensures { exit_status result ≡ number_of status }
+{
     ExitCode::from(status.number())
 }
 

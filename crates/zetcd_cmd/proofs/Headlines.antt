@@ -1,16 +1,17 @@
--- What a replay did, from how its script ended and what was written.
-use Rattle.std.proofs.Common.{◌≡◌, ℕ, ◌==◌, ◌⊎◌, ⊎_elim, false, true≢false, List, [], ◌∷◌, ◌++◌, refl, sym, ap, ◌∙◌, subst, append-nil, inl, inr}
-use Rattle.std.specs.Prelude.{Option, Some, None}
-use Rattle.std.specs.Io.KnownBytes.{IsAtEnd}
+-- What a replay did, from how its script ended.
+use Rattle.std.proofs.Common.{◌≡◌, ℕ, ◌==◌, ◌⊎◌, ⊎_elim, false, true≢false, List, [], ◌∷◌, ◌++◌, refl, sym, ap, ◌∙◌, subst, arith, append-nil, inl, inr}
+use Rattle.std.specs.Prelude.{Bool, Option}
 use Rattle.std.specs.List.{Contains}
 use Rattle.std.proofs.lemmas.List.Elements.{All-contains}
 use Rattle.zt_text.specs.declared.script.Happening.{Happening}
 use Rattle.zt_text.specs.declared.script.Unread.{Unread}
 use Rattle.zt_text.specs.declared.script.Why.{Why}
 use Rattle.zp_alone.specs.Runs.{Run, why_not}
-use Rattle.zetcd_cmd.specs.Replayed.{IsReplayed, IsStopped, IsCutShort, StandsAgainst}
+use Rattle.zetcd_cmd.specs.Replayed.{IsReplayed, IsStopped, IsCutShort, IsOver, StandsAgainst}
 use Rattle.zt_text.specs.Faults.{done_text, fault_text, unread_text, why_text}
 use Rattle.zt_text.specs.Transcripts.{transcript_text}
+use Rattle.zx_outside.specs.Counts.{InputCounts}
+use Rattle.zx_outside.specs.Reading.{Gives}
 use Rattle.zx_outside.specs.Writing.{Takes}
 use Rattle.zp_alone.specs.World.{World}
 use Rattle.zetcd_cmd.specs.declared.report.End.{End}
@@ -19,21 +20,16 @@ use Rattle.zetcd_cmd.specs.declared.script.Script.{Script}
 use Rattle.zetcd_cmd.specs.declared.script.Stop.TheVariants as stop
 use Rattle.zetcd_cmd.specs.declared.status.Status.{Status}
 use Rattle.zetcd_cmd.specs.declared.status.Status.TheVariants as status
-use Rattle.zetcd_cmd.specs.Ending.{EndsReading, EndsRead}
-use Rattle.zetcd_cmd.specs.Outcomes.{Wrote, Replays, Stops, IsSettled, Settles, CutsShort}
+use Rattle.zetcd_cmd.specs.Ending.{EndsAt, EndsReading}
+use Rattle.zetcd_cmd.specs.Outcomes.{Did, IsAtItsEnd, IsFront, StopsAt, ReplayWrites, Replays, TakesSome, IsUnharmed, Failed}
 use Rattle.zetcd_cmd.specs.Reporting.{ending_text, status_after}
-use Rattle.zetcd_cmd.specs.Scripting.{HasNoLineFeed, Stands, IsApplied, IsHalted, IsAgainst}
+use Rattle.zetcd_cmd.specs.Scripting.{HasNoLineFeed, Stands, IsApplied, IsHalted, IsAgainst, EndsEarly}
+use Rattle.zx_outside.proofs.Streams.{append_known-nil}
 use Rattle.zetcd_cmd.proofs.Progress.{script-lines}
-
-pub Wrote-output : (P : List ℕ → Type 0) (output : List ℕ) (taken taken' : Option (List ℕ)) → Takes output taken taken' → P output → Wrote P taken taken'
-Wrote-output P output None taken' takes p = takes
-Wrote-output P output (Some taken) taken' takes p = (output, takes, p)
 
 -- the lines of the run are those of the world
 lines_written : (run : Run) (w : World) (last : List ℕ) → run.lines ≡ w.lines → transcript_text w.lines ++ last ≡ transcript_text run.lines ++ last
 lines_written run w last same = ap (λ ls. transcript_text ls ++ last) (sym same)
-
--- ---- done
 
 replayed : (input : List ℕ) (s : Script) → IsApplied input s → IsReplayed input (transcript_text s.world.lines ++ done_text)
 replayed input s a = record {
@@ -44,16 +40,6 @@ replayed input s a = record {
   one_run = a.reached.one_run;
   written = lines_written a.reached.run s.world done_text a.reached.lines;
 }
-
-pub Replays-done : (how : End) (n : ℕ) (s : Script) (given given' left left' taken taken' : Option (List ℕ)) → EndsReading how s given given' left left' →
-    Takes (transcript_text s.world.lines ++ ending_text how n) taken taken' → status_after how n ≡ status.Done → Replays left left' taken taken'
-Replays-done end.Whole n s given given' None left' taken taken' ends takes is = tt {0}
-Replays-done end.Whole n s given given' (Some input) left' taken taken' ends takes is =
-    (ends.0, Wrote-output (IsReplayed input) (transcript_text s.world.lines ++ done_text) taken taken' takes (replayed input s ends.1))
-Replays-done (end.Stopped (stop.Unread why)) n s given given' left left' taken taken' ends takes is = absurd (cc)
-Replays-done (end.Stopped (stop.Refused why)) n s given given' left left' taken taken' ends takes is = absurd (cc)
-Replays-done (end.Stopped stop.Memory) n s given given' left left' taken taken' ends takes is = absurd (cc)
-Replays-done end.ReadFault n s given given' left left' taken taken' ends takes is = absurd (cc)
 
 -- ---- stopped
 
@@ -97,57 +83,28 @@ stopped_refused input s n why is halted = record {
   written = lines_written halted.reached.run s.world (fault_text n (why_text why)) halted.reached.lines;
 }
 
-stops_at : (n line : ℕ) (last : List ℕ) (s : Script) (input : List ℕ) (taken taken' : Option (List ℕ)) → n ≡ line → IsStopped input (transcript_text s.world.lines ++ last) n →
-    Takes (transcript_text s.world.lines ++ last) taken taken' → Wrote (λ output. IsStopped input output line) taken taken'
-stops_at n line last s input taken taken' same stopped takes =
-    Wrote-output (λ output. IsStopped input output line) (transcript_text s.world.lines ++ last) taken taken' takes
-    (subst (λ (m : ℕ). IsStopped input (transcript_text s.world.lines ++ last) m) same stopped)
+-- from what holds of the bytes that were read, and of these with any behind them
+stops_unread : (read : List ℕ) (s : Script) (n : ℕ) (ended : Bool) (left : Option (List ℕ)) (why : Unread) → n ≡ s.line →
+    (IsAtItsEnd ended left × IsHalted read s (stop.Unread why)) ⊎ EndsEarly read s (stop.Unread why) → StopsAt n ended left read (transcript_text s.world.lines ++ fault_text n (unread_text why))
+stops_unread read s n ended left why at ends =
+    ⊎_elim
+    (λ (whole : IsAtItsEnd ended left × IsHalted read s (stop.Unread why)). record { stopped = stopped_unread read s n why at whole.1; settled = inl whole.0 })
+    (λ (early : EndsEarly read s (stop.Unread why)). record {
+      stopped = subst (λ (t : List ℕ). IsStopped t (transcript_text s.world.lines ++ fault_text n (unread_text why)) n) (append-nil read) (stopped_unread (read ++ []) s n why at (early.0 []));
+      settled = inr (record { over = subst (λ (m : ℕ). IsOver read m) (sym at) early.1; for_good = λ rest. stopped_unread (read ++ rest) s n why at (early.0 rest) });
+    })
+    ends
 
-pub Stops-script : (how : End) (n line : ℕ) (s : Script) (given given' left left' taken taken' : Option (List ℕ)) → n ≡ s.line → EndsReading how s given given' left left' →
-    Takes (transcript_text s.world.lines ++ ending_text how n) taken taken' → status_after how n ≡ status.Script line → Stops line left taken taken'
-Stops-script end.Whole n line s given given' left left' taken taken' at ends takes is = absurd (cc)
-Stops-script (end.Stopped (stop.Unread why)) n line s given given' None left' taken taken' at ends takes is = tt {0}
-Stops-script (end.Stopped (stop.Unread why)) n line s given given' (Some input) left' taken taken' at ends takes is =
-    stops_at n line (fault_text n (unread_text why)) s input taken taken' (cc) (stopped_unread input s n why at ends) takes
-Stops-script (end.Stopped (stop.Refused why)) n line s given given' None left' taken taken' at ends takes is = tt {0}
-Stops-script (end.Stopped (stop.Refused why)) n line s given given' (Some input) left' taken taken' at ends takes is =
-    stops_at n line (fault_text n (why_text why)) s input taken taken' (cc) (stopped_refused input s n why at ends) takes
-Stops-script (end.Stopped stop.Memory) n line s given given' left left' taken taken' at ends takes is = absurd (cc)
-Stops-script end.ReadFault n line s given given' left left' taken taken' at ends takes is = absurd (cc)
-
--- ---- settled by the bytes that were read
-
-settled_unread : (read : List ℕ) (s : Script) (n : ℕ) (why : Unread) (left' : Option (List ℕ)) → n ≡ s.line → IsHalted read s (stop.Unread why) →
-    IsAtEnd left' ⊎ ((rest : List ℕ) → IsHalted (read ++ rest) s (stop.Unread why)) → IsSettled read (transcript_text s.world.lines ++ fault_text n (unread_text why)) n left'
-settled_unread read s n why left' at halted good = record {
-  stopped = stopped_unread read s n why at halted;
-  for_good = ⊎_elim (λ (end : IsAtEnd left'). inl end) (λ (any : (rest : List ℕ) → IsHalted (read ++ rest) s (stop.Unread why)). inr (λ rest. stopped_unread (read ++ rest) s n why at (any rest))) good;
-}
-
-settled_refused : (read : List ℕ) (s : Script) (n : ℕ) (why : Why) (left' : Option (List ℕ)) → n ≡ s.line → IsHalted read s (stop.Refused why) →
-    IsAtEnd left' ⊎ ((rest : List ℕ) → IsHalted (read ++ rest) s (stop.Refused why)) → IsSettled read (transcript_text s.world.lines ++ fault_text n (why_text why)) n left'
-settled_refused read s n why left' at halted good = record {
-  stopped = stopped_refused read s n why at halted;
-  for_good = ⊎_elim (λ (end : IsAtEnd left'). inl end) (λ (any : (rest : List ℕ) → IsHalted (read ++ rest) s (stop.Refused why)). inr (λ rest. stopped_refused (read ++ rest) s n why at (any rest))) good;
-}
-
-settles_at : (n line : ℕ) (last : List ℕ) (s : Script) (read : List ℕ) (left' taken taken' : Option (List ℕ)) → n ≡ line → IsSettled read (transcript_text s.world.lines ++ last) n left' →
-    Takes (transcript_text s.world.lines ++ last) taken taken' → Wrote (λ output. IsSettled read output line left') taken taken'
-settles_at n line last s read left' taken taken' same settled takes =
-    Wrote-output (λ output. IsSettled read output line left') (transcript_text s.world.lines ++ last) taken taken' takes
-    (subst (λ (m : ℕ). IsSettled read (transcript_text s.world.lines ++ last) m left') same settled)
-
-pub Settles-script : (how : End) (n line : ℕ) (s : Script) (given given' left' taken taken' : Option (List ℕ)) → n ≡ s.line → EndsRead how s given given' left' →
-    Takes (transcript_text s.world.lines ++ ending_text how n) taken taken' → status_after how n ≡ status.Script line → Settles line given given' left' taken taken'
-Settles-script end.Whole n line s given given' left' taken taken' at ends takes is = absurd (cc)
-Settles-script (end.Stopped (stop.Unread why)) n line s None given' left' taken taken' at ends takes is = tt {0}
-Settles-script (end.Stopped (stop.Unread why)) n line s (Some before) given' left' taken taken' at ends takes is =
-    (ends.0, ends.1, settles_at n line (fault_text n (unread_text why)) s ends.0 left' taken taken' (cc) (settled_unread ends.0 s n why left' at ends.2 ends.3) takes)
-Settles-script (end.Stopped (stop.Refused why)) n line s None given' left' taken taken' at ends takes is = tt {0}
-Settles-script (end.Stopped (stop.Refused why)) n line s (Some before) given' left' taken taken' at ends takes is =
-    (ends.0, ends.1, settles_at n line (fault_text n (why_text why)) s ends.0 left' taken taken' (cc) (settled_refused ends.0 s n why left' at ends.2 ends.3) takes)
-Settles-script (end.Stopped stop.Memory) n line s given given' left' taken taken' at ends takes is = absurd (cc)
-Settles-script end.ReadFault n line s given given' left' taken taken' at ends takes is = absurd (cc)
+stops_refused : (read : List ℕ) (s : Script) (n : ℕ) (ended : Bool) (left : Option (List ℕ)) (why : Why) → n ≡ s.line →
+    (IsAtItsEnd ended left × IsHalted read s (stop.Refused why)) ⊎ EndsEarly read s (stop.Refused why) → StopsAt n ended left read (transcript_text s.world.lines ++ fault_text n (why_text why))
+stops_refused read s n ended left why at ends =
+    ⊎_elim
+    (λ (whole : IsAtItsEnd ended left × IsHalted read s (stop.Refused why)). record { stopped = stopped_refused read s n why at whole.1; settled = inl whole.0 })
+    (λ (early : EndsEarly read s (stop.Refused why)). record {
+      stopped = subst (λ (t : List ℕ). IsStopped t (transcript_text s.world.lines ++ fault_text n (why_text why)) n) (append-nil read) (stopped_refused (read ++ []) s n why at (early.0 []));
+      settled = inr (record { over = subst (λ (m : ℕ). IsOver read m) (sym at) early.1; for_good = λ rest. stopped_refused (read ++ rest) s n why at (early.0 rest) });
+    })
+    ends
 
 -- ---- cut short
 
@@ -155,29 +112,75 @@ lacks : (bytes : List ℕ) → HasNoLineFeed bytes → Contains bytes 10 → ⊥
 lacks bytes none some = true≢false (All-contains (λ b. (b == 10) ≡ false) bytes 10 none some)
 
 cut_short : (input : List ℕ) (s : Script) → Stands input s → IsCutShort input (transcript_text s.world.lines ++ [])
-cut_short input s st = record {
-  lines = st.read.lines;
-  rest = s.pending.items;
-  parts = st.read.parts;
-  whole = st.read.says.whole;
-  begun = lacks s.pending.items st.read.begun;
-  happenings = st.read.happenings;
-  run = st.read.reached.run;
-  read = script-lines input s st;
-  runs = st.read.reached.runs;
-  one_run = st.read.reached.one_run;
-  written = lines_written st.read.reached.run s.world [] st.read.reached.lines ∙ append-nil (transcript_text st.read.reached.run.lines);
+cut_short input s st =
+    let left = st.room in
+    record {
+      lines = st.read.lines;
+      rest = s.pending.items;
+      parts = st.read.parts;
+      whole = st.read.says.whole;
+      begun = lacks s.pending.items st.read.begun;
+      short = st.read.short;
+      room = omega arith;
+      happenings = st.read.happenings;
+      run = st.read.reached.run;
+      read = script-lines input s st;
+      runs = st.read.reached.runs;
+      one_run = st.read.reached.one_run;
+      written = lines_written st.read.reached.run s.world [] st.read.reached.lines ∙ append-nil (transcript_text st.read.reached.run.lines);
+    }
+
+-- ---- all that there is to write
+
+pub writes : (how : End) (n : ℕ) (s : Script) (ended : Bool) (left : Option (List ℕ)) (read : List ℕ) → n ≡ s.line → (how ≡ end.Stopped stop.Memory → ⊥) → EndsAt how ended left read s →
+    ReplayWrites (status_after how n) ended left read (transcript_text s.world.lines ++ ending_text how n)
+writes end.Whole n s ended left read at not ends = (ends.0, replayed read s ends.1)
+writes (end.Stopped (stop.Unread why)) n s ended left read at not ends = stops_unread read s n ended left why at ends
+writes (end.Stopped (stop.Refused why)) n s ended left read at not ends = stops_refused read s n ended left why at ends
+writes (end.Stopped stop.Memory) n s ended left read at not ends = absurd (not refl)
+writes end.ReadFault n s ended left read at not ends = cut_short read s ends
+
+replays : (how : End) (n : ℕ) (ended : Bool) (left : Option (List ℕ)) (read output : List ℕ) → (how ≡ end.Stopped stop.Memory → ⊥) →
+    ReplayWrites (status_after how n) ended left read output → Replays (status_after how n) ended left read output
+replays end.Whole n ended left read output not w = w
+replays (end.Stopped (stop.Unread why)) n ended left read output not w = w
+replays (end.Stopped (stop.Refused why)) n ended left read output not w = w
+replays (end.Stopped stop.Memory) n ended left read output not w = absurd (not refl)
+replays end.ReadFault n ended left read output not w = w
+
+-- all of it was written
+pub Did-all : (how : End) (n : ℕ) (s : Script) (ended : Bool) (given given' left left' taken taken' : Option (List ℕ)) → n ≡ s.line → (how ≡ end.Stopped stop.Memory → ⊥) →
+    EndsReading how ended s given given' left left' → Takes (transcript_text s.world.lines ++ ending_text how n) taken taken' →
+    Did (Replays (status_after how n) ended left') given given' left left' taken taken'
+Did-all how n s ended given given' left left' taken taken' at not ends takes = record {
+  read = ends.0;
+  output = transcript_text s.world.lines ++ ending_text how n;
+  gives = ends.1;
+  takes = takes;
+  holds = replays how n ended left' ends.0 (transcript_text s.world.lines ++ ending_text how n) not (writes how n s ended left' ends.0 at not ends.2);
 }
 
-pub CutsShort-fault : (how : End) (n : ℕ) (s : Script) (given given' left left' taken taken' : Option (List ℕ)) → EndsReading how s given given' left left' →
-    Takes (transcript_text s.world.lines ++ ending_text how n) taken taken' → status_after how n ≡ status.ReadFault → CutsShort given given' taken taken'
-CutsShort-fault end.Whole n s given given' left left' taken taken' ends takes is = absurd (cc)
-CutsShort-fault (end.Stopped (stop.Unread why)) n s given given' left left' taken taken' ends takes is = absurd (cc)
-CutsShort-fault (end.Stopped (stop.Refused why)) n s given given' left left' taken taken' ends takes is = absurd (cc)
-CutsShort-fault (end.Stopped stop.Memory) n s given given' left left' taken taken' ends takes is = absurd (cc)
-CutsShort-fault end.ReadFault n s None given' left left' taken taken' ends takes is = tt {0}
-CutsShort-fault end.ReadFault n s (Some before) given' left left' taken taken' ends takes is =
-    (ends.0, ends.1, Wrote-output (IsCutShort ends.0) (transcript_text s.world.lines ++ []) taken taken' takes (cut_short ends.0 s ends.2))
+-- a front of it was written
+pub Did-front : (how : End) (n : ℕ) (s : Script) (ended : Bool) (given given' left left' taken taken' : Option (List ℕ)) → n ≡ s.line → (how ≡ end.Stopped stop.Memory → ⊥) →
+    EndsReading how ended s given given' left left' → TakesSome (transcript_text s.world.lines ++ ending_text how n) taken taken' →
+    Did (λ read output. IsFront (λ other whole. ReplayWrites other ended left' read whole) output) given given' left left' taken taken'
+Did-front how n s ended given given' left left' taken taken' at not ends some = record {
+  read = ends.0;
+  output = some.0;
+  gives = ends.1;
+  takes = some.3;
+  holds = (status_after how n, transcript_text s.world.lines ++ ending_text how n, some.1, writes how n s ended left' ends.0 at not ends.2, some.2);
+}
+
+-- want of memory, with a front written or nothing
+pub Did-memory : (ended : Bool) (given given' left left' taken taken' : Option (List ℕ)) →
+    Did (λ read output. IsFront (λ other whole. ReplayWrites other ended left' read whole) output) given given' left left' taken taken' →
+    Did (Replays status.Memory ended left') given given' left left' taken taken'
+Did-memory ended given given' left left' taken taken' did = record { read = did.read; output = did.output; gives = did.gives; takes = did.takes; holds = inr did.holds }
+
+pub Did-nothing : (ended : Bool) (read : List ℕ) (given given' left left' taken : Option (List ℕ)) → Gives read given given' left left' →
+    Did (Replays status.Memory ended left') given given' left left' taken taken
+Did-nothing ended read given given' left left' taken gives = record { read = read; output = []; gives = gives; takes = sym (append_known-nil taken); holds = inl refl }
 
 -- ---- which status comes of which end
 
@@ -198,9 +201,8 @@ never_write_fault (end.Stopped (stop.Refused why)) n is = cc
 never_write_fault (end.Stopped stop.Memory) n is = cc
 never_write_fault end.ReadFault n is = cc
 
-pub never_usage : (how : End) (n : ℕ) → status_after how n ≡ status.Usage → ⊥
-never_usage end.Whole n is = cc
-never_usage (end.Stopped (stop.Unread why)) n is = cc
-never_usage (end.Stopped (stop.Refused why)) n is = cc
-never_usage (end.Stopped stop.Memory) n is = cc
-never_usage end.ReadFault n is = cc
+-- whether the input failed
+pub once : (how : End) (before now : InputCounts) → ((how ≡ end.ReadFault → ⊥) → IsUnharmed before now) → (how ≡ end.ReadFault → Failed before now) → IsUnharmed before now ⊎ Failed before now
+once end.Whole before now unharmed failed = inl (unharmed (λ no. cc))
+once (end.Stopped why) before now unharmed failed = inl (unharmed (λ no. cc))
+once end.ReadFault before now unharmed failed = inr (failed refl)

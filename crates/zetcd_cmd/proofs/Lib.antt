@@ -1,6 +1,8 @@
-pub mod ScriptLaws
-pub mod Progress
 pub mod Endings
-pub mod Reports
+pub mod Fronts
 pub mod Headlines
+pub mod Progress
+pub mod Reports
+pub mod ScriptLaws
 pub mod Showings
+pub mod Waits

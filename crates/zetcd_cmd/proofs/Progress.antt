@@ -1,5 +1,5 @@
 -- From piece to piece of a script.
-use Rattle.std.proofs.Common.{◌≡◌, ℕ, ◌+◌, ◌-◌, ◌^◌, ◌<◌, ◌≤◌, ◌==◌, min, false, List, [], ◌∷◌, ◌++◌, length, take, drop, suc, refl, sym, ap, ◌∙◌, subst, arith, append_assoc, append-nil, length-append}
+use Rattle.std.proofs.Common.{◌≡◌, ℕ, ◌+◌, ◌-◌, ◌^◌, ◌<◌, ◌≤◌, ◌==◌, ◌⊎◌, ⊎_elim, min, false, List, [], ◌∷◌, ◌++◌, length, take, drop, suc, refl, sym, ap, ◌∙◌, subst, arith, append_assoc, append-nil, length-append, inl, inr}
 use Rattle.std.specs.Prelude.{Some, None}
 use Rattle.std.proofs.lemmas.List.{take-append-drop}
 use Rattle.std.proofs.lemmas.List.Elements.{All-append, All-nil}
@@ -13,7 +13,8 @@ use Rattle.zp_alone.specs.Reached.{Reached}
 use Rattle.zetcd_cmd.specs.declared.script.Script.{Script}
 use Rattle.zetcd_cmd.specs.declared.script.Stop.{Stop}
 use Rattle.zetcd_cmd.specs.declared.script.Stop.TheVariants as stop
-use Rattle.zetcd_cmd.specs.Scripting.{HasNoLineFeed, Plays, Halts, IsKeptOut, behind, HasRead, Stands, IsApplied, Ends}
+use Rattle.zetcd_cmd.specs.Replayed.{IsOver}
+use Rattle.zetcd_cmd.specs.Scripting.{HasNoLineFeed, Plays, Halts, IsKeptOut, Says, behind, HasRead, Stands, IsApplied, Ends, EndsEarly, IsOverAt}
 use Rattle.zetcd_cmd.proofs.ScriptLaws.{Says-nil, Says-line, script_from-line, line_read-long, script_from-long, script_from-last, script_from-cut}
 
 abbrev no_line_feed : ℕ → Type 0
@@ -22,6 +23,13 @@ no_line_feed b = (b == 10) ≡ false
 script-from : (bytes : List ℕ) → script bytes ≡ script_from 1 max_script bytes
 unfolding script
 script-from bytes = refl
+
+-- what whole lines say alone
+script-says : (lines : List ℕ) (happenings : List Happening) → Says lines happenings → length lines ≤ max_script → script lines ≡ (happenings, None)
+script-says lines happenings says fits =
+    script-from lines ∙ ap (script_from 1 max_script) (sym (append-nil lines))
+    ∙ script_from-last max_script lines [] happenings says (All-nil no_line_feed) (omega arith)
+    ∙ ap (λ (all : List Happening). (all, None)) (append-nil happenings)
 
 -- ---- why a line is not applied
 
@@ -295,12 +303,144 @@ Ends-last seen old new why some halts same st =
     Ends-at seen old.pending.items hs ([], None) old.world new why st.read.reached (same ∙ st.read.number)
     (script-seen seen old st.read (omega arith) ∙ ap (behind hs) (last_line-some (length hs + 1) old.pending.items some)) halts
 
--- what whole lines say alone
+-- what the lines say that were applied
 pub script-lines : (seen : List ℕ) (s : Script) (st : Stands seen s) → script st.read.lines ≡ (st.read.happenings, None)
 script-lines seen s st =
     let r = st.read in
     let left = st.room in
     let size : length seen ≡ length r.lines + length s.pending.items = ap length r.parts ∙ length-append r.lines s.pending.items in
-    script-from r.lines ∙ ap (script_from 1 max_script) (sym (append-nil r.lines))
-    ∙ script_from-last max_script r.lines [] r.happenings r.says (All-nil no_line_feed) (omega arith)
-    ∙ ap (λ (all : List Happening). (all, None)) (append-nil r.happenings)
+    script-says r.lines r.happenings r.says (omega arith)
+
+-- ---- a line that is over
+
+-- with its line feed
+pub IsOver-line : (seen bytes rest : List ℕ) (old : Script) (n : ℕ) → n ≡ old.line → HasRead seen old → length (seen ++ bytes) < max_script → IsOver (seen ++ (bytes ++ 10 ∷ rest)) n
+IsOver-line seen bytes rest old n same r fits =
+    let size = length-behind seen r.lines old.pending.items bytes r.parts in
+    record {
+      lines = r.lines;
+      rest = (old.pending.items ++ bytes) ++ 10 ∷ rest;
+      parts = line_behind seen r.lines old.pending.items bytes rest r.parts;
+      whole = r.says.whole;
+      happenings = r.happenings;
+      says = script-says r.lines r.happenings r.says (omega arith);
+      number = same ∙ r.number;
+      over = inl (old.pending.items ++ bytes, rest, refl);
+    }
+
+-- longer than a line may be
+IsOver-long : (seen bytes : List ℕ) (old : Script) (n : ℕ) → n ≡ old.line → HasRead seen old → length (seen ++ bytes) ≤ max_script → max_line < length (old.pending.items ++ bytes) → IsOver (seen ++ bytes) n
+IsOver-long seen bytes old n same r fits long =
+    let size = length-behind seen r.lines old.pending.items bytes r.parts in
+    record {
+      lines = r.lines;
+      rest = old.pending.items ++ bytes;
+      parts = behind_pending seen r.lines old.pending.items bytes r.parts;
+      whole = r.says.whole;
+      happenings = r.happenings;
+      says = script-says r.lines r.happenings r.says (omega arith);
+      number = same ∙ r.number;
+      over = inr (inl long);
+    }
+
+-- in a script that has more bytes than it may have
+IsOver-script : (seen rest : List ℕ) (s : Script) → HasRead seen s → length seen ≡ max_script → 0 < length rest → IsOver (seen ++ rest) s.line
+IsOver-script seen rest s r full more =
+    let size : length seen ≡ length r.lines + length s.pending.items = ap length r.parts ∙ length-append r.lines s.pending.items in
+    record {
+      lines = r.lines;
+      rest = s.pending.items ++ rest;
+      parts = behind_pending seen r.lines s.pending.items rest r.parts;
+      whole = r.says.whole;
+      happenings = r.happenings;
+      says = script-says r.lines r.happenings r.says (omega arith);
+      number = r.number;
+      over = inr (inr (rw (length-append seen rest) (omega arith)));
+    }
+
+over_at : (read : List ℕ) (s : Script) (why : Stop) → IsOver read s.line → IsOverAt read s why
+over_at read s (stop.Unread why) over = over
+over_at read s (stop.Refused why) over = over
+over_at read s stop.Memory over = tt {0}
+
+pub Over-halts : (old now new : Script) (bytes rest line later : List ℕ) (why : Stop) → rest ≡ line ++ 10 ∷ later →
+    ((seen behind : List ℕ) → HasRead seen now → length (seen ++ line) < max_script → IsOver (seen ++ (line ++ 10 ∷ behind)) new.line) → Goes old bytes now rest →
+    (seen : List ℕ) → HasRead seen old → length (seen ++ bytes) ≤ max_script → IsOverAt (seen ++ bytes) new why
+Over-halts old now new bytes rest line later why parts one goes seen r fits =
+    let far = goes seen r fits in
+    let whole : seen ++ bytes ≡ far.0 ++ (line ++ 10 ∷ later) = far.2 ∙ ap (λ t. far.0 ++ t) parts in
+    over_at (seen ++ bytes) new why (subst (λ (t : List ℕ). IsOver t new.line) (sym whole) (one far.0 later far.1 (line_fits (seen ++ bytes) far.0 line later whole fits)))
+
+kept_out_over : (seen rest : List ℕ) (now new : Script) (why : Stop) → IsKeptOut (now.pending.items ++ rest) why → new.line ≡ now.line → HasRead seen now → length (seen ++ rest) ≤ max_script →
+    IsOverAt (seen ++ rest) new why
+kept_out_over seen rest now new (stop.Unread why) out line r fits = IsOver-long seen rest now new.line line r fits out.1
+kept_out_over seen rest now new (stop.Refused why) out line r fits = absurd out
+kept_out_over seen rest now new stop.Memory out line r fits = tt {0}
+
+pub Over-kept_out : (old now new : Script) (bytes rest : List ℕ) (why : Stop) → IsKeptOut (now.pending.items ++ rest) why → new.line ≡ now.line →
+    Goes old bytes now rest → (seen : List ℕ) → HasRead seen old → length (seen ++ bytes) ≤ max_script → IsOverAt (seen ++ bytes) new why
+Over-kept_out old now new bytes rest why out line goes seen r fits =
+    let far = goes seen r fits in
+    subst (λ (t : List ℕ). IsOverAt t new why) (sym far.2)
+    (kept_out_over far.0 rest now new why out line far.1 (subst (λ (t : List ℕ). length t ≤ max_script) far.2 fits))
+
+-- ---- a piece that ends a script
+
+ends_early : (read : List ℕ) (s : Script) (why : Stop) → ((rest : List ℕ) → Ends (read ++ rest) s why) → IsOverAt read s why → EndsEarly read s why
+ends_early read s (stop.Unread why) ends over = (ends, over)
+ends_early read s (stop.Refused why) ends over = (ends, over)
+ends_early read s stop.Memory ends over = tt {0}
+
+pub EndsEarly-piece : (seen piece : List ℕ) (old new : Script) (why : Stop) → length piece ≤ old.room →
+    ((seen behind : List ℕ) → HasRead seen old → length (seen ++ piece) ≤ max_script → Ends ((seen ++ piece) ++ behind) new why) →
+    ((seen : List ℕ) → HasRead seen old → length (seen ++ piece) ≤ max_script → IsOverAt (seen ++ piece) new why) → Stands seen old → EndsEarly (seen ++ piece) new why
+EndsEarly-piece seen piece old new why fits ends over s =
+    let short = piece_fits seen piece old.room s.room fits in
+    ends_early (seen ++ piece) new why (λ rest. ends seen rest s.read short) (over seen s.read short)
+
+-- more bytes leave a line over
+IsOver-more : (read rest : List ℕ) (n : ℕ) → IsOver read n → IsOver (read ++ rest) n
+IsOver-more read rest n o = record {
+  lines = o.lines;
+  rest = o.rest ++ rest;
+  parts = ap (λ t. t ++ rest) o.parts ∙ append_assoc o.lines o.rest rest;
+  whole = o.whole;
+  happenings = o.happenings;
+  says = o.says;
+  number = o.number;
+  over = ⊎_elim
+      (λ (fed : (line : List ℕ) × (later : List ℕ) × (o.rest ≡ line ++ 10 ∷ later)). inl (fed.0, fed.1 ++ rest, ap (λ t. t ++ rest) fed.2 ∙ append_assoc fed.0 (10 ∷ fed.1) rest))
+      (λ (long : (max_line < length o.rest) ⊎ (max_script < length read)). inr (⊎_elim
+      (λ (line : max_line < length o.rest). inl (rw (length-append o.rest rest) (omega arith)))
+      (λ (script : max_script < length read). inr (rw (length-append read rest) (omega arith)))
+      long))
+      o.over;
+}
+
+over_more : (read rest : List ℕ) (s : Script) (why : Stop) → IsOverAt read s why → IsOverAt (read ++ rest) s why
+over_more read rest s (stop.Unread why) over = IsOver-more read rest s.line over
+over_more read rest s (stop.Refused why) over = IsOver-more read rest s.line over
+over_more read rest s stop.Memory over = tt {0}
+
+pub EndsEarly-front : (seen piece front : List ℕ) (old new : Script) (why : Stop) → front ≡ take old.room piece → length front ≤ old.room →
+    ((seen behind : List ℕ) → HasRead seen old → length (seen ++ front) ≤ max_script → Ends ((seen ++ front) ++ behind) new why) →
+    ((seen : List ℕ) → HasRead seen old → length (seen ++ front) ≤ max_script → IsOverAt (seen ++ front) new why) → Stands seen old → EndsEarly (seen ++ piece) new why
+EndsEarly-front seen piece front old new why front_is fits ends over s =
+    let short = piece_fits seen front old.room s.room fits in
+    let parts : seen ++ piece ≡ (seen ++ front) ++ drop old.room piece =
+    ap (λ t. seen ++ t) (sym (take-append-drop old.room piece) ∙ ap (λ t. t ++ drop old.room piece) (sym front_is)) ∙ sym (append_assoc seen front (drop old.room piece)) in
+    ends_early (seen ++ piece) new why (λ rest. Ends-front seen piece front rest old new why front_is fits ends s)
+    (subst (λ (t : List ℕ). IsOverAt t new why) (sym parts) (over_more (seen ++ front) (drop old.room piece) new why (over seen s.read short)))
+
+pub EndsEarly-over : (seen piece front : List ℕ) (old new : Script) → front ≡ take old.room piece → length front ≡ old.room → old.room < length piece →
+    ((seen : List ℕ) → HasRead seen old → length (seen ++ front) ≤ max_script → HasRead (seen ++ front) new) → Stands seen old → EndsEarly (seen ++ piece) new (stop.Unread TooLong)
+EndsEarly-over seen piece front old new front_is full more one s =
+    let left = s.room in
+    let size : length (seen ++ front) ≡ max_script = rw (length-append seen front) (omega arith) in
+    let parts : length piece ≡ length front + length (drop old.room piece) =
+    ap length (sym (take-append-drop old.room piece) ∙ ap (λ t. t ++ drop old.room piece) (sym front_is)) ∙ length-append front (drop old.room piece) in
+    let place : seen ++ piece ≡ (seen ++ front) ++ drop old.room piece =
+    ap (λ t. seen ++ t) (sym (take-append-drop old.room piece) ∙ ap (λ t. t ++ drop old.room piece) (sym front_is)) ∙ sym (append_assoc seen front (drop old.room piece)) in (
+      λ rest. Ends-over seen piece front rest old new front_is full more one s,
+      subst (λ (t : List ℕ). IsOver t new.line) (sym place) (IsOver-script (seen ++ front) (drop old.room piece) new (one seen s.read (omega arith)) size (omega arith)),
+    )

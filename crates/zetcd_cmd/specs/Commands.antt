@@ -1,8 +1,8 @@
 -- Which command the words name.
 use Rattle.std.specs.Prelude.{ℕ, List, Option, Some, None}
 use denote.Ref.{Bor}
-use Rattle.zetcd_cmd.specs.declared.zetcd.Command.{Command}
-use Rattle.zetcd_cmd.specs.declared.zetcd.Command.TheVariants as command
+use Rattle.zetcd_cmd.specs.declared.command.Command.{Command}
+use Rattle.zetcd_cmd.specs.declared.command.Command.TheVariants as command
 use Rattle.zetcd_cmd.specs.Outcomes.{IsReplay, IsShow}
 
 abbrev pub IsCommand : Option Command → List (Bor (List ℕ)) → Type 0

@@ -1,12 +1,14 @@
--- What the program did, by the status that it ends with. What is said of bytes holds where the input and the output tell them.
-use Rattle.std.specs.Prelude.{◌≡◌, ◌⊎◌, ⊤, ℕ, ◌+◌, ◌-◌, ◌^◌, ◌≤◌, min, List, [], ◌∷◌, ◌++◌, codes, Option, Some, None}
+-- What the program read and wrote, by the status that it ends with.
+use Rattle.std.specs.Prelude.{◌≡◌, ◌⊎◌, ⊤, ℕ, ◌+◌, ◌-◌, ◌^◌, ◌<◌, ◌≤◌, min, Bool, true, List, [], ◌∷◌, ◌++◌, codes, Option}
 use denote.Ref.{Bor}
 use Rattle.std.specs.Io.KnownBytes.{IsAtEnd}
-use Rattle.zetcd_cmd.specs.Replayed.{IsReplayed, IsStopped, IsCutShort}
+use Rattle.zetcd_cmd.specs.Replayed.{IsReplayed, IsStopped, IsCutShort, IsOver}
 use Rattle.zt_show.specs.declared.ending.Ending.{Ending}
 use Rattle.zt_show.specs.declared.ending.Ending.TheVariants as ending
 use Rattle.zt_show.specs.Shown.{Shown, IsShown, joined, shown_text, count_of_lines}
-use Rattle.zx_outside.specs.Counts.{Rose}
+use Rattle.zx_outside.specs.Counts.{InputCounts, one_more}
+use Rattle.zx_outside.specs.Reading.{Gives}
+use Rattle.zx_outside.specs.Writing.{Takes}
 use Rattle.zetcd_cmd.specs.declared.status.Status.{Status}
 use Rattle.zetcd_cmd.specs.declared.status.Status.TheVariants as status
 
@@ -26,37 +28,54 @@ IsShow words = IsWord (codes "show") words
 abbrev pub usage_text : List ℕ
 usage_text = codes "usage: zetcd replay | show | stress NUMBER CONNECTIONS STEPS | serve LISTEN ENDPOINT LIMIT | etcd LISTEN LIMIT\n"
 
--- what was written is some output of which this holds
-abbrev pub Wrote : (List ℕ → Type 0) → Option (List ℕ) → Option (List ℕ) → Type 0
-Wrote P None taken' = taken' ≡ None
-Wrote P (Some taken) taken' = (output : List ℕ) × (taken' ≡ Some (taken ++ output)) × P output
+-- What one call did: the input gave it these bytes and the output took those, each as far as they are told, and this holds of
+-- the two. In each pair, what was told before the call comes first.
+pub record Did (Holds : List ℕ → List ℕ → Type 0) (given given' left left' taken taken' : Option (List ℕ)) : Type 0 where
+  pub read : List ℕ
+  pub output : List ℕ
+  pub gives : Gives read given given' left left'
+  pub takes : Takes output taken taken'
+  pub holds : Holds read output
+
+-- the input has come to its end, and nothing of it is left
+pub record IsAtItsEnd (has_ended : Bool) (unread : Option (List ℕ)) : Type 0 where
+  pub ended : has_ended ≡ true
+  pub left : IsAtEnd unread
+
+-- the output is a front of what the command writes with some status
+abbrev pub IsFront : (Status → List ℕ → Type 0) → List ℕ → Type 0
+IsFront Writes output = (other : Status) × (whole : List ℕ) × (later : List ℕ) × Writes other whole × (whole ≡ output ++ later)
 
 -- ---- replay
 
--- the whole input was read, and its replay was written
-abbrev pub Replays : Option (List ℕ) → Option (List ℕ) → Option (List ℕ) → Option (List ℕ) → Type 0
-Replays None left' taken taken' = ⊤
-Replays (Some input) left' taken taken' = (left' ≡ Some []) × Wrote (IsReplayed input) taken taken'
+-- the bytes that were read settle a stop at this line: its end was read, and no later byte changes what is written
+pub record IsSettled (line : ℕ) (read output : List ℕ) : Type 0 where
+  pub over : IsOver read line
+  pub for_good : (rest : List ℕ) → IsStopped (read ++ rest) output line
 
--- the replay of the lines before this one was written, and why this one ended it
-abbrev pub Stops : ℕ → Option (List ℕ) → Option (List ℕ) → Option (List ℕ) → Type 0
-Stops line None taken taken' = ⊤
-Stops line (Some input) taken taken' = Wrote (λ output. IsStopped input output line) taken taken'
-
--- the bytes that were read settle it: no later byte is needed, and where there could be one, none changes it
-pub record IsSettled (read output : List ℕ) (line : ℕ) (left' : Option (List ℕ)) : Type 0 where
+-- the replay of the lines before this one, and why this one ended it; the whole input was read, or what was read settles it
+pub record StopsAt (line : ℕ) (ended : Bool) (left : Option (List ℕ)) (read output : List ℕ) : Type 0 where
   pub stopped : IsStopped read output line
-  pub for_good : IsAtEnd left' ⊎ ((rest : List ℕ) → IsStopped (read ++ rest) output line)
+  pub settled : IsAtItsEnd ended left ⊎ IsSettled line read output
 
--- the same of the bytes that this call read; `given` is what the input had given before it
-abbrev pub Settles : ℕ → Option (List ℕ) → Option (List ℕ) → Option (List ℕ) → Option (List ℕ) → Option (List ℕ) → Type 0
-Settles line None given' left' taken taken' = ⊤
-Settles line (Some given) given' left' taken taken' = (read : List ℕ) × (given' ≡ Some (given ++ read)) × Wrote (λ output. IsSettled read output line left') taken taken'
+-- what a replay writes that is not disturbed
+abbrev pub ReplayWrites : Status → Bool → Option (List ℕ) → List ℕ → List ℕ → Type 0
+ReplayWrites status.Done ended left read output = IsAtItsEnd ended left × IsReplayed read output
+ReplayWrites (status.Script line) ended left read output = StopsAt line ended left read output
+ReplayWrites status.ReadFault ended left read output = IsCutShort read output
+ReplayWrites status.Usage ended left read output = ⊥
+ReplayWrites status.WriteFault ended left read output = ⊥
+ReplayWrites status.Memory ended left read output = ⊥
 
--- the replay of the whole lines that came was written; `given` is what the input had given before this call
-abbrev pub CutsShort : Option (List ℕ) → Option (List ℕ) → Option (List ℕ) → Option (List ℕ) → Type 0
-CutsShort None given' taken taken' = ⊤
-CutsShort (Some given) given' taken taken' = (input : List ℕ) × (given' ≡ Some (given ++ input)) × Wrote (IsCutShort input) taken taken'
+-- A replay with this status read and wrote these bytes. With a fault of the output a front was written, and with want of memory
+-- a front or nothing.
+abbrev pub Replays : Status → Bool → Option (List ℕ) → List ℕ → List ℕ → Type 0
+Replays status.Done ended left read output = ReplayWrites status.Done ended left read output
+Replays (status.Script line) ended left read output = ReplayWrites (status.Script line) ended left read output
+Replays status.ReadFault ended left read output = ReplayWrites status.ReadFault ended left read output
+Replays status.Usage ended left read output = ⊥
+Replays status.WriteFault ended left read output = IsFront (λ other whole. ReplayWrites other ended left read whole) output
+Replays status.Memory ended left read output = (output ≡ []) ⊎ IsFront (λ other whole. ReplayWrites other ended left read whole) output
 
 -- ---- show
 
@@ -70,32 +89,59 @@ abbrev pub IsCut : Ending → Type 0
 IsCut (ending.Cut place) = ⊤
 IsCut _ = ⊥
 
--- the whole stream was read, and what is shown of it was written, which ends at a frame's end
-abbrev pub Shows : Option (List ℕ) → Option (List ℕ) → Option (List ℕ) → Option (List ℕ) → Type 0
-Shows None left' taken taken' = ⊤
-Shows (Some stream) left' taken taken' = (left' ≡ Some []) × Wrote (λ output. (shown : Shown) × IsShown stream shown × (output ≡ shown_text shown) × IsEnd shown.ending) taken taken'
+-- what is shown of the whole stream, which ends at a frame's end
+pub record IsWhole (stream output : List ℕ) : Type 0 where
+  pub shown : Shown
+  pub is_shown : IsShown stream shown
+  pub written : output ≡ shown_text shown
+  pub end : IsEnd shown.ending
 
--- what is shown of the stream was written, which ends otherwise and has so many lines; where it ends inside a frame, the whole
--- stream was read
-pub record IsBroken (stream output : List ℕ) (line : ℕ) (left' : Option (List ℕ)) : Type 0 where
+-- what is shown of the stream, in so many lines, and it ends otherwise; all of it was read, or no later byte changes that
+pub record IsBroken (line : ℕ) (ended : Bool) (left : Option (List ℕ)) (stream output : List ℕ) : Type 0 where
   pub shown : Shown
   pub is_shown : IsShown stream shown
   pub written : output ≡ shown_text shown
   pub number : line ≡ count_of_lines shown
   pub otherwise : ¬ IsEnd shown.ending
-  pub whole : IsCut shown.ending → left' ≡ Some []
+  pub settled : IsAtItsEnd ended left ⊎ ((rest : List ℕ) → IsShown (stream ++ rest) shown)
 
-abbrev pub Breaks : ℕ → Option (List ℕ) → Option (List ℕ) → Option (List ℕ) → Option (List ℕ) → Type 0
-Breaks line None left' taken taken' = ⊤
-Breaks line (Some stream) left' taken taken' = Wrote (λ output. IsBroken stream output line left') taken taken'
+-- the lines of the whole frames of the stream, of which nothing ends it
+pub record IsBegun (stream output : List ℕ) : Type 0 where
+  pub shown : Shown
+  pub is_shown : IsShown stream shown
+  pub written : output ≡ joined shown.lines
+  pub goes_on : IsEnd shown.ending ⊎ IsCut shown.ending
 
--- the lines of the whole frames that came were written, and nothing of what came ends the stream; `given` is what the input
--- had given before this call
-abbrev pub ShowsFront : Option (List ℕ) → Option (List ℕ) → Option (List ℕ) → Option (List ℕ) → Type 0
-ShowsFront None given' taken taken' = ⊤
-ShowsFront (Some given) given' taken taken' =
-    (stream : List ℕ) × (given' ≡ Some (given ++ stream))
-    × Wrote (λ output. (shown : Shown) × IsShown stream shown × (output ≡ joined shown.lines) × (IsEnd shown.ending ⊎ IsCut shown.ending)) taken taken'
+-- what a show writes that is not disturbed
+abbrev pub ShowWrites : Status → Bool → Option (List ℕ) → List ℕ → List ℕ → Type 0
+ShowWrites status.Done ended left read output = IsAtItsEnd ended left × IsWhole read output
+ShowWrites (status.Script line) ended left read output = IsBroken line ended left read output
+ShowWrites status.ReadFault ended left read output = IsBegun read output
+ShowWrites status.Usage ended left read output = ⊥
+ShowWrites status.WriteFault ended left read output = ⊥
+ShowWrites status.Memory ended left read output = ⊥
+
+-- A show with this status read and wrote these bytes. With a fault of the output a front was written, and with want of memory
+-- the lines of a front of what was read.
+abbrev pub Shows : Status → Bool → Option (List ℕ) → List ℕ → List ℕ → Type 0
+Shows status.Done ended left read output = ShowWrites status.Done ended left read output
+Shows (status.Script line) ended left read output = ShowWrites (status.Script line) ended left read output
+Shows status.ReadFault ended left read output = ShowWrites status.ReadFault ended left read output
+Shows status.Usage ended left read output = ⊥
+Shows status.WriteFault ended left read output = IsFront (λ other whole. ShowWrites other ended left read whole) output
+Shows status.Memory ended left read output = (front : List ℕ) × (later : List ℕ) × (read ≡ front ++ later) × IsBegun front output
+
+-- ---- other words
+
+-- some front of these bytes was written, perhaps nothing or all
+abbrev pub TakesSome : List ℕ → Option (List ℕ) → Option (List ℕ) → Type 0
+TakesSome whole taken taken' = (output : List ℕ) × (later : List ℕ) × (whole ≡ output ++ later) × Takes output taken taken'
+
+-- the usage was written, or a front of it
+abbrev pub Refuses : Status → Option (List ℕ) → Option (List ℕ) → Type 0
+Refuses status.Usage taken taken' = Takes usage_text taken taken'
+Refuses status.WriteFault taken taken' = TakesSome usage_text taken taken'
+Refuses _ taken taken' = ⊥
 
 -- ---- faults
 
@@ -103,18 +149,25 @@ ShowsFront (Some given) given' taken taken' =
 abbrev pub patience : ℕ
 patience = 1000
 
--- the input had a fault, or was idle for so many turns
-abbrev pub Failed : ℕ → ℕ → ℕ → ℕ → Type 0
-Failed faults faults' idles idles' = Rose faults faults' ⊎ (min (idles + patience) (2 ^ 64 - 1) ≤ idles')
+-- the input had no fault, and fewer idle turns
+pub record IsUnharmed (before now : InputCounts) : Type 0 where
+  pub faults : now.faults ≡ before.faults
+  pub idles : now.idles < before.idles + patience
 
--- neither a wrong command line, nor a fault of the input or the output
-abbrev pub IsFaultless : Status → Type 0
-IsFaultless status.Done = ⊤
-IsFaultless status.Usage = ⊥
-IsFaultless (status.Script line) = ⊤
-IsFaultless status.ReadFault = ⊥
-IsFaultless status.WriteFault = ⊥
-IsFaultless status.Memory = ⊤
+-- the input had one fault, and fewer idle turns
+pub record HadFault (before now : InputCounts) : Type 0 where
+  pub faults : now.faults ≡ one_more before.faults
+  pub idles : now.idles < before.idles + patience
+
+-- the input had no fault, and as many idle turns: no fewer, unless its count came to its end, and no more
+pub record WasIdle (before now : InputCounts) : Type 0 where
+  pub faults : now.faults ≡ before.faults
+  pub least : min (before.idles + patience) (2 ^ 64 - 1) ≤ now.idles
+  pub most : now.idles ≤ before.idles + patience
+
+-- the input had a fault
+abbrev pub Failed : InputCounts → InputCounts → Type 0
+Failed before now = HadFault before now ⊎ WasIdle before now
 
 -- what the process ends with
 abbrev pub number_of : Status → ℕ

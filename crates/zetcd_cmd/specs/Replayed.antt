@@ -1,9 +1,9 @@
 -- What a replay of an input writes.
-use Rattle.std.specs.Prelude.{◌≡◌, ℕ, ◌+◌, List, [], ◌∷◌, ◌++◌, length, Option, Some, None, Contains}
+use Rattle.std.specs.Prelude.{◌≡◌, ◌⊎◌, ℕ, ◌+◌, ◌<◌, ◌≤◌, List, [], ◌∷◌, ◌++◌, length, Option, Some, None, Contains}
 use Rattle.zt_text.specs.declared.script.Happening.{Happening}
 use Rattle.zt_text.specs.declared.script.Why.{Why}
 use Rattle.zt_text.specs.declared.script.Unread.{Unread}
-use Rattle.zt_text.specs.Scripts.{script, IsWholeLines}
+use Rattle.zt_text.specs.Scripts.{script, IsWholeLines, max_line, max_script}
 use Rattle.zt_text.specs.Transcripts.{transcript_text}
 use Rattle.zt_text.specs.Faults.{why_text, unread_text, done_text, fault_text}
 use Rattle.zp_alone.specs.Runs.{Run, Runs, IsOneRun, why_not}
@@ -37,13 +37,28 @@ pub record IsStopped (input output : List ℕ) (n : ℕ) : Type 0 where
   pub because : StandsAgainst run n later end why
   pub written : output ≡ transcript_text run.lines ++ fault_text n why
 
--- The input couldn't be read further: the output is the transcript of the whole lines that were.
+-- What was read of line n and of the input tells that this line is over: it has its line feed, or more bytes than a line may
+-- have, or the input has more than a script may have.
+pub record IsOver (read : List ℕ) (n : ℕ) : Type 0 where
+  pub lines : List ℕ
+  pub rest : List ℕ
+  pub parts : read ≡ lines ++ rest
+  pub whole : IsWholeLines lines
+  pub happenings : List Happening
+  pub says : script lines ≡ (happenings, None)
+  pub number : n ≡ length happenings + 1
+  pub over : ((line : List ℕ) × (later : List ℕ) × (rest ≡ line ++ 10 ∷ later)) ⊎ (max_line < length rest) ⊎ (max_script < length read)
+
+-- The input couldn't be read further: the output is the transcript of the whole lines that were. What was read of the next line
+-- and of the input is within the limits.
 pub record IsCutShort (input output : List ℕ) : Type 0 where
   pub lines : List ℕ
   pub rest : List ℕ
   pub parts : input ≡ lines ++ rest
   pub whole : IsWholeLines lines
   pub begun : Contains rest 10 → ⊥
+  pub short : length rest ≤ max_line
+  pub room : length input ≤ max_script
   pub happenings : List Happening
   pub run : Run
   pub read : script lines ≡ (happenings, None)

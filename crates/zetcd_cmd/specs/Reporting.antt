@@ -1,7 +1,11 @@
 -- What is written of a replay, and the status that goes with it.
 use Rattle.std.specs.Prelude.{◌≡◌, ℕ, List, [], ◌++◌, Option}
 use Rattle.zt_text.specs.Faults.{done_text, fault_text, unread_text, why_text}
-use Rattle.zx_outside.specs.Writing.{Takes}
+use Rattle.zx_outside.specs.Counts.{OutputCounts}
+use Rattle.zx_outside.specs.Writing.{Takes, counts_after_write}
+use Rattle.zx_outside.specs.declared.sink.Took.TheVariants as took
+use Rattle.zetcd_cmd.specs.declared.report.Unwritten.{Unwritten}
+use Rattle.zetcd_cmd.specs.declared.report.Unwritten.TheVariants as unwritten
 use Rattle.zetcd_cmd.specs.declared.script.Stop.TheVariants as stop
 use Rattle.zetcd_cmd.specs.declared.report.End.{End}
 use Rattle.zetcd_cmd.specs.declared.report.End.TheVariants as end
@@ -26,3 +30,8 @@ status_after end.ReadFault n = status.ReadFault
 -- bytes went through a buffer: some were written, and the buffer has the rest
 abbrev pub Passes : List ℕ → List ℕ → List ℕ → Option (List ℕ) → Option (List ℕ) → Type 0
 Passes bytes buffer buffer' taken taken' = (written : List ℕ) × (written ++ buffer' ≡ buffer ++ bytes) × Takes written taken taken'
+
+-- the count of a sink, by why not all was written to it
+abbrev pub counts_after : Unwritten → OutputCounts → OutputCounts
+counts_after unwritten.Sink counts = counts_after_write took.Failed counts
+counts_after unwritten.Memory counts = counts

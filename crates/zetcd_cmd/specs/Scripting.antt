@@ -8,6 +8,7 @@ use Rattle.zt_text.specs.Scripts.{IsWholeLines}
 use Rattle.zp_alone.specs.Runs.{why_not}
 use Rattle.zp_alone.specs.World.{World}
 use Rattle.zp_alone.specs.Reached.{Reached}
+use Rattle.zetcd_cmd.specs.Replayed.{IsOver}
 use Rattle.zetcd_cmd.specs.declared.script.Script.{Script}
 use Rattle.zetcd_cmd.specs.declared.script.Stop.{Stop}
 use Rattle.zetcd_cmd.specs.declared.script.Stop.TheVariants as stop
@@ -97,3 +98,15 @@ abbrev pub Ends : List ℕ → Script → Stop → Type 0
 Ends input s (stop.Unread why) = IsHalted input s (stop.Unread why)
 Ends input s (stop.Refused why) = IsHalted input s (stop.Refused why)
 Ends input s stop.Memory = Unit {0}
+
+-- it ends so whatever comes behind these bytes, and they have all of the line, unless memory was refused
+abbrev pub EndsEarly : List ℕ → Script → Stop → Type 0
+EndsEarly read s (stop.Unread why) = ((rest : List ℕ) → Ends (read ++ rest) s (stop.Unread why)) × IsOver read s.line
+EndsEarly read s (stop.Refused why) = ((rest : List ℕ) → Ends (read ++ rest) s (stop.Refused why)) × IsOver read s.line
+EndsEarly read s stop.Memory = Unit {0}
+
+-- these bytes have all of the line that wasn't applied, unless memory was refused
+abbrev pub IsOverAt : List ℕ → Script → Stop → Type 0
+IsOverAt read s (stop.Unread why) = IsOver read s.line
+IsOverAt read s (stop.Refused why) = IsOver read s.line
+IsOverAt read s stop.Memory = Unit {0}

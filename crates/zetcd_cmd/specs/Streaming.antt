@@ -1,15 +1,16 @@
 -- A stream that is shown piece by piece: what was written, and what ended it. In each pair, what was told before comes first.
-use Rattle.std.specs.Prelude.{◌≡◌, ⊤, ◌⊎◌, ℕ, List, [], ◌++◌, Option, Some, IfSome}
+use Rattle.std.specs.Prelude.{◌≡◌, ◌⊎◌, ℕ, List, [], Option, Some, None}
 use Rattle.zt_show.specs.declared.ending.Ending.{Ending}
 use Rattle.zt_show.specs.declared.ending.Ending.TheVariants as ending
-use Rattle.zt_show.specs.Shown.{joined, ending_line, ending_before_more}
-use Rattle.zt_show.specs.Showing.{Showing, Follows, Ends, IsShownAs}
-use Rattle.zx_outside.specs.Writing.{Takes}
+use Rattle.zt_show.specs.Showing.{Showing, Adds, Finishes as FinishesText}
+use Rattle.zx_outside.specs.Counts.{OutputCounts}
+use Rattle.zx_outside.specs.Writing.{Takes, counts_after_write}
+use Rattle.zx_outside.specs.declared.sink.Took.TheVariants as took
 use Rattle.zetcd_cmd.specs.declared.show.Close.{Close}
 use Rattle.zetcd_cmd.specs.declared.show.Close.TheVariants as close
 use Rattle.zetcd_cmd.specs.declared.status.Status.{Status}
 use Rattle.zetcd_cmd.specs.declared.status.Status.TheVariants as status
-use Rattle.zetcd_cmd.specs.Outcomes.{IsEnd, IsCut}
+use Rattle.zetcd_cmd.specs.Outcomes.{IsEnd, IsCut, TakesSome}
 
 abbrev pub status_at : Close → ℕ → Status
 status_at (close.Ended (ending.End place)) lines = status.Done
@@ -20,35 +21,27 @@ status_at close.Memory lines = status.Memory
 
 -- the lines that a piece adds were written
 abbrev pub Passes : Showing → List ℕ → Option (List ℕ) → Option (List ℕ) → Showing → Type 0
-Passes old piece taken taken' new =
-    (added : List (List ℕ)) × Takes (joined added) taken taken' × ((seen : List ℕ) (lines : List (List ℕ)) → Follows seen lines old → Follows (seen ++ piece) (lines ++ added) new)
+Passes old piece taken taken' new = (text : List ℕ) × Adds None old piece [] text new × Takes text taken taken'
 
--- the stream ended in a piece, whatever comes behind it
-abbrev pub Closes : Close → Showing → List ℕ → Option (List ℕ) → Option (List ℕ) → ℕ → Type 0
-Closes (close.Ended end) old piece taken taken' count =
-    (added : List (List ℕ)) × Takes (joined added ++ ending_line end) taken taken'
-    × ((seen more : List ℕ) (lines : List (List ℕ)) → Follows seen lines old → Ends ((seen ++ piece) ++ more) (lines ++ added) end count × (ending_before_more end ≡ end))
-Closes close.ReadFault old piece taken taken' count = ⊥
-Closes close.WriteFault old piece taken taken' count = ⊤
-Closes close.Memory old piece taken taken' count = ⊤
+-- the stream ended in a piece, or not all that the piece adds was written
+abbrev pub Closes : Close → Showing → List ℕ → Option (List ℕ) → Option (List ℕ) → Showing → Type 0
+Closes (close.Ended end) old piece taken taken' new = (text : List ℕ) × Adds (Some end) old piece [] text new × Takes text taken taken'
+Closes close.ReadFault old piece taken taken' new = ⊥
+Closes close.WriteFault old piece taken taken' new = (found : Option Ending) × (text : List ℕ) × Adds found old piece [] text new × TakesSome text taken taken'
+Closes close.Memory old piece taken taken' new = taken' ≡ taken
 
--- the stream ended behind what came
-abbrev pub Finishes : Close → Showing → Option (List ℕ) → Option (List ℕ) → ℕ → Type 0
-Finishes (close.Ended end) old taken taken' count =
-    Takes (ending_line end) taken taken' × ((seen : List ℕ) (lines : List (List ℕ)) → Follows seen lines old → Ends seen lines end count)
-Finishes close.ReadFault old taken taken' count = ⊥
-Finishes close.WriteFault old taken taken' count = ⊤
-Finishes close.Memory old taken taken' count = ⊤
+-- the stream ended behind what came, or not all of the last line was written
+abbrev pub Finishes : Close → Showing → Option (List ℕ) → Option (List ℕ) → Showing → Type 0
+Finishes (close.Ended end) old taken taken' new = (text : List ℕ) × FinishesText end old [] text new × Takes text taken taken'
+Finishes close.ReadFault old taken taken' new = ⊥
+Finishes close.WriteFault old taken taken' new = (end : Ending) × (text : List ℕ) × FinishesText end old [] text new × TakesSome text taken taken'
+Finishes close.Memory old taken taken' new = taken' ≡ taken
+
+-- the count of a sink, by how a stream ended
+abbrev pub counts_at : Close → OutputCounts → OutputCounts
+counts_at close.WriteFault counts = counts_after_write took.Failed counts
+counts_at _ counts = counts
 
 -- at a frame's end or inside one
 abbrev pub IsOpen : Ending → Type 0
 IsOpen end = IsEnd end ⊎ IsCut end
-
--- the stream and what was written of it
-abbrev pub Told : Close → Option (List ℕ) → Option (List ℕ) → Option (List ℕ) → Option (List ℕ) → Option (List ℕ) → Option (List ℕ) → ℕ → Type 0
-Told (close.Ended end) given given' left left' taken taken' count =
-    IfSome left (λ stream. (lines : List (List ℕ)) × Takes (joined lines ++ ending_line end) taken taken' × Ends stream lines end count × (IsOpen end → left' ≡ Some []))
-Told close.ReadFault given given' left left' taken taken' count =
-    IfSome given (λ before. (stream : List ℕ) × (given' ≡ Some (before ++ stream)) × (lines : List (List ℕ)) × Takes (joined lines) taken taken' × (end : Ending) × IsShownAs stream lines end × IsOpen end)
-Told close.WriteFault given given' left left' taken taken' count = ⊤
-Told close.Memory given given' left left' taken taken' count = ⊤

@@ -1,9 +1,11 @@
 -- What the next piece of a source is, over reads and idle turns.
-use Rattle.std.specs.Prelude.{ℕ, ◌+◌, ◌-◌, ◌^◌, ◌<◌, ◌≤◌, min, List, take, Option}
+use Rattle.std.specs.Prelude.{◌≡◌, ℕ, ◌+◌, ◌-◌, ◌^◌, ◌<◌, ◌≤◌, min, List, take, Option}
 use Rattle.std.specs.Io.KnownBytes.{IsAtEnd}
+use Rattle.zx_outside.specs.Counts.{InputCounts}
 use Rattle.zx_outside.specs.Reading.{Gives, GivesNone}
 use Rattle.zetcd_cmd.specs.declared.streams.Piece.{Piece}
 use Rattle.zetcd_cmd.specs.declared.streams.Piece.TheVariants as piece
+use Rattle.zetcd_cmd.specs.Outcomes.{patience}
 
 -- at least one byte, and no more than the buffer holds
 abbrev pub Fits : Piece → ℕ → Type 0
@@ -17,6 +19,13 @@ Comes (piece.Bytes n) buffer given given' left left' = Gives (take n buffer) giv
 Comes piece.End buffer given given' left left' = IsAtEnd left × GivesNone given given' left left'
 Comes piece.Fault buffer given given' left left' = GivesNone given given' left left'
 
--- there were so many idle turns since the count stood at the start
-abbrev pub Waited : ℕ → ℕ → ℕ → Type 0
-Waited start turns now = min (start + turns) (2 ^ 64 - 1) ≤ now
+-- there were so many idle turns and no fault since the counts stood so
+pub record Waited (start : InputCounts) (turns : ℕ) (now : InputCounts) : Type 0 where
+  pub faults : now.faults ≡ start.faults
+  pub least : min (start.idles + turns) (2 ^ 64 - 1) ≤ now.idles
+  pub most : now.idles ≤ start.idles + turns
+  pub within : turns ≤ patience
+
+-- the same, and there may be more
+abbrev pub MayWait : InputCounts → ℕ → InputCounts → Type 0
+MayWait start turns now = Waited start turns now × (turns < patience)

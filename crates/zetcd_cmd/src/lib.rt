@@ -4,13 +4,13 @@
 //! error. `specs/Outcomes.antt` says what each status means; the other files of `specs/` are what the parts say to each other.
 #![tactic(auto)]
 
+mod command;
 mod replay;
 mod report;
 mod script;
 mod show;
 mod status;
 mod streams;
-mod zetcd;
 
+pub use command::zetcd;
 pub use status::Status;
-pub use zetcd::zetcd;

@@ -1,10 +1,11 @@
 //! The command `replay`: a script in, the transcript of its run out.
 
-ghost use Rattle.std.specs.Prelude.{◌≡◌, ◌≢◌, ◌≤◌, ℕ, List, []};
-ghost use Rattle.zx_outside.specs.Counts.{Rose};
-ghost use Rattle.zetcd_cmd.specs.Outcomes.{Replays, Stops, Settles, CutsShort, Failed};
+ghost use Rattle.std.specs.Prelude.{◌≡◌, ◌≢◌, ◌⊎◌, [], ℕ, List, false};
+ghost use Rattle.zx_outside.specs.Writing.{counts_after_write};
+ghost use Rattle.zx_outside.specs.declared.sink.Took.TheVariants.{Failed as TookFailed};
+ghost use Rattle.zetcd_cmd.specs.Outcomes.{Did, Replays, Failed, IsUnharmed};
 ghost use Rattle.zetcd_cmd.specs.Scripting.{Stands};
-ghost use Rattle.zetcd_cmd.specs.Ending.{EndsReading, EndsRead, EndsAll};
+ghost use Rattle.zetcd_cmd.specs.Ending.{EndsReading, EndsAll};
 
 use crate::report::{End, Unwritten, report, status_of};
 use crate::script::{Script, Stop};
@@ -20,23 +21,21 @@ pub const ROOM: usize = 65_536;
 ///
 /// The time is linear in the script and the transcript; one unfinished line, the world and its transcript are kept.
 pub fn replay<I: Source, O: Sink>(alloc: Global, input: &mut I, out: &mut O) -> Status
-    ensures done { result ≡ Status.Done → Replays (I.left input.old) (I.left input.new) (O.taken out.old) (O.taken out.new) }
-    ensures script { (line : ℕ) → result ≡ Status.Script line → Stops line (I.left input.old) (O.taken out.old) (O.taken out.new) }
-    ensures settled { (line : ℕ) → result ≡ Status.Script line → Settles line (I.given input.old) (I.given input.new) (I.left input.new) (O.taken out.old) (O.taken out.new) }
-    ensures read { result ≡ Status.ReadFault → Failed (I.faults input.old) (I.faults input.new) (I.idles input.old) (I.idles input.new) }
-    ensures cut { result ≡ Status.ReadFault → CutsShort (I.given input.old) (I.given input.new) (O.taken out.old) (O.taken out.new) }
-    ensures write { result ≡ Status.WriteFault → Rose (O.faults out.old) (O.faults out.new) }
-    ensures output_unharmed { result ≢ Status.WriteFault → O.faults out.new ≡ O.faults out.old }
-    ensures done_unharmed { result ≡ Status.Done → I.faults input.new ≡ I.faults input.old }
-    ensures script_unharmed { (line : ℕ) → result ≡ Status.Script line → I.faults input.new ≡ I.faults input.old }
-    ensures never_usage { result ≢ Status.Usage }
-    ensures input_stays { (I.faults input.old ≤ I.faults input.new) × (I.idles input.old ≤ I.idles input.new) }
-    ensures output_stays { O.faults out.old ≤ O.faults out.new }
+    ensures told { Did (Replays result (I.ended input.new) (I.left input.new)) (I.given input.old) (I.given input.new) (I.left input.old) (I.left input.new) (O.taken out.old) (O.taken out.new) }
+    ensures read { result ≡ Status.ReadFault → Failed (I.counts input.old) (I.counts input.new) }
+    ensures unless_fault { result ≢ Status.ReadFault → result ≢ Status.WriteFault → result ≢ Status.Memory → IsUnharmed (I.counts input.old) (I.counts input.new) }
+    ensures once { IsUnharmed (I.counts input.old) (I.counts input.new) ⊎ Failed (I.counts input.old) (I.counts input.new) }
+    ensures write { result ≡ Status.WriteFault → O.counts out.new ≡ counts_after_write TookFailed (O.counts out.old) }
+    ensures unless_write_fault { result ≢ Status.WriteFault → O.counts out.new ≡ O.counts out.old }
 {
     let Ok(mut script) = Script::new(alloc) else {
         return Status::Memory;
     };
     let end = read_script(alloc, input, &mut script);
+    // What such a script says is not known to the end, so nothing is written of it.
+    if wants_memory(end) {
+        return Status::Memory;
+    }
     let line = script.line();
     match report(alloc, script.transcript(), end, line, out) {
         Ok(()) => status_of(end, line),
@@ -45,15 +44,22 @@ pub fn replay<I: Source, O: Sink>(alloc: Global, input: &mut I, out: &mut O) -> 
     }
 }
 
+/// Whether reading ended for want of memory.
+fn wants_memory(end: End) -> bool
+    ensures { result ≡ false → end ≢ End.Stopped Stop.Memory }
+{
+    match end {
+        End::Stopped(Stop::Memory) => true,
+        End::Whole | End::Stopped(_) | End::ReadFault => false,
+    }
+}
+
 /// Reads a script of which nothing came yet to its end, and applies its lines.
 fn read_script<I: Source>(alloc: Global, input: &mut I, script: &mut Script) -> End
     requires { Stands [] script.old }
-    ensures end { EndsReading result script.new (I.given input.old) (I.given input.new) (I.left input.old) (I.left input.new) }
-    ensures settled { EndsRead result script.new (I.given input.old) (I.given input.new) (I.left input.new) }
-    ensures fault { result ≡ End.ReadFault → Failed (I.faults input.old) (I.faults input.new) (I.idles input.old) (I.idles input.new) }
-    ensures unharmed { result ≢ End.ReadFault → I.faults input.new ≡ I.faults input.old }
-    ensures faults_stay { I.faults input.old ≤ I.faults input.new }
-    ensures idles_stay { I.idles input.old ≤ I.idles input.new }
+    ensures end { EndsReading result (I.ended input.new) script.new (I.given input.old) (I.given input.new) (I.left input.old) (I.left input.new) }
+    ensures fault { result ≡ End.ReadFault → Failed (I.counts input.old) (I.counts input.new) }
+    ensures unharmed { result ≢ End.ReadFault → IsUnharmed (I.counts input.old) (I.counts input.new) }
 {
     let Ok(mut buffer) = vec![in alloc; 0u8; ROOM] else {
         return End::Stopped(Stop::Memory);

@@ -1,10 +1,10 @@
 //! What a replay writes: its transcript, and how the script ended.
 
-ghost use Rattle.std.specs.Prelude.{◌≡◌, ◌++◌, ◌≤◌, [], OnOk, OnErr, IfErr};
+ghost use Rattle.std.specs.Prelude.{◌≡◌, ◌++◌, [], OnOk, OnErr, IfErr};
 ghost use Rattle.zt_text.specs.Transcripts.{line_text, transcript_text};
-ghost use Rattle.zx_outside.specs.Counts.{Rose};
 ghost use Rattle.zx_outside.specs.Writing.{Takes};
-ghost use Rattle.zetcd_cmd.specs.Reporting.{Passes, ending_text, status_after};
+ghost use Rattle.zetcd_cmd.specs.Outcomes.{TakesSome};
+ghost use Rattle.zetcd_cmd.specs.Reporting.{Passes, ending_text, status_after, counts_after};
 
 use crate::script::Stop;
 use crate::status::Status;
@@ -69,10 +69,9 @@ pub fn report<O: Sink>(
     out: &mut O,
 ) -> Result<(), Unwritten>
     ensures ok { OnOk result (Takes (transcript_text lines.now ++ ending_text end line) (O.taken out.old) (O.taken out.new)) }
-    ensures err { IfErr result (λ e. e ≡ Unwritten.Sink → Rose (O.faults out.old) (O.faults out.new)) }
-    ensures unharmed { OnOk result (O.faults out.new ≡ O.faults out.old) }
-    ensures err_unharmed { IfErr result (λ e. e ≡ Unwritten.Memory → O.faults out.new ≡ O.faults out.old) }
-    ensures faults_stay { O.faults out.old ≤ O.faults out.new }
+    ensures front { IfErr result (λ e. TakesSome (transcript_text lines.now ++ ending_text end line) (O.taken out.old) (O.taken out.new)) }
+    ensures unharmed { OnOk result (O.counts out.new ≡ O.counts out.old) }
+    ensures err { IfErr result (λ e. O.counts out.new ≡ counts_after e (O.counts out.old)) }
 {
     let mut text = Vec::new(alloc);
     write_lines(lines, &mut text, out)?;
@@ -87,10 +86,9 @@ fn write_lines<O: Sink>(
     out: &mut O,
 ) -> Result<(), Unwritten>
     ensures ok { OnOk result (Passes (transcript_text lines.now) text.old.items text.new.items (O.taken out.old) (O.taken out.new)) }
-    ensures err { IfErr result (λ e. e ≡ Unwritten.Sink → Rose (O.faults out.old) (O.faults out.new)) }
-    ensures unharmed { OnOk result (O.faults out.new ≡ O.faults out.old) }
-    ensures err_unharmed { IfErr result (λ e. e ≡ Unwritten.Memory → O.faults out.new ≡ O.faults out.old) }
-    ensures faults_stay { O.faults out.old ≤ O.faults out.new }
+    ensures front { IfErr result (λ e. TakesSome (text.old.items ++ transcript_text lines.now) (O.taken out.old) (O.taken out.new)) }
+    ensures unharmed { OnOk result (O.counts out.new ≡ O.counts out.old) }
+    ensures err { IfErr result (λ e. O.counts out.new ≡ counts_after e (O.counts out.old)) }
 {
     for line in lines {
         write_line(line, text, out)?;
@@ -105,10 +103,9 @@ fn write_line<O: Sink>(
     out: &mut O,
 ) -> Result<(), Unwritten>
     ensures ok { OnOk result (Passes (line_text line.now) text.old.items text.new.items (O.taken out.old) (O.taken out.new)) }
-    ensures err { IfErr result (λ e. e ≡ Unwritten.Sink → Rose (O.faults out.old) (O.faults out.new)) }
-    ensures unharmed { OnOk result (O.faults out.new ≡ O.faults out.old) }
-    ensures err_unharmed { IfErr result (λ e. e ≡ Unwritten.Memory → O.faults out.new ≡ O.faults out.old) }
-    ensures faults_stay { O.faults out.old ≤ O.faults out.new }
+    ensures front { IfErr result (λ e. TakesSome (text.old.items ++ line_text line.now) (O.taken out.old) (O.taken out.new)) }
+    ensures unharmed { OnOk result (O.counts out.new ≡ O.counts out.old) }
+    ensures err { IfErr result (λ e. O.counts out.new ≡ counts_after e (O.counts out.old)) }
 {
     push_line(text, line)?;
     if text.len() < MAX_KEPT {
@@ -121,9 +118,9 @@ fn write_line<O: Sink>(
 fn write_out<O: Sink>(text: &mut Vec<u8>, out: &mut O) -> Result<(), Unwritten>
     ensures ok { OnOk result (Takes text.old.items (O.taken out.old) (O.taken out.new)) }
     ensures empty { OnOk result (text.new.items ≡ []) }
-    ensures err { IfErr result (λ e. (e ≡ Unwritten.Sink) × Rose (O.faults out.old) (O.faults out.new)) }
-    ensures unharmed { OnOk result (O.faults out.new ≡ O.faults out.old) }
-    ensures faults_stay { O.faults out.old ≤ O.faults out.new }
+    ensures front { IfErr result (λ e. TakesSome text.old.items (O.taken out.old) (O.taken out.new)) }
+    ensures unharmed { OnOk result (O.counts out.new ≡ O.counts out.old) }
+    ensures err { IfErr result (λ e. O.counts out.new ≡ counts_after e (O.counts out.old)) }
 {
     if !write_all(out, text.as_slice()) {
         return Err(Unwritten::Sink);

@@ -2,13 +2,13 @@
 
 ghost use Rattle.std.specs.Prelude.{◌≡◌, ◌+◌, ◌<◌, ◌≤◌, ◌++◌, ◌∷◌, [], ℕ, List, length, IfOk, OnOk, IfErr, MatchOption};
 ghost use Rattle.zt_text.specs.Scripts.{max_line, max_script};
-ghost use Rattle.zetcd_cmd.specs.Scripting.{HasNoLineFeed, IsFirstLine, Plays, Halts, HasRead, Stands, IsApplied, Ends, IsKeptOut};
+ghost use Rattle.zetcd_cmd.specs.Replayed.{IsOver};
+ghost use Rattle.zetcd_cmd.specs.Scripting.{HasNoLineFeed, IsFirstLine, Plays, Halts, HasRead, Stands, IsApplied, Ends, EndsEarly, IsOverAt, IsKeptOut};
 
 use std::alloc::Global;
 use zk_transcript::TranscriptLine;
-use zt_text::{Unread, Why};
 use zp_alone::{Alone, ApplyFault};
-use zt_text::{MAX_LINE, MAX_SCRIPT, read_line};
+use zt_text::{MAX_LINE, MAX_SCRIPT, Unread, Why, read_line};
 use zx_base::Memory;
 
 const LINE_FEED: u8 = b'\n';
@@ -70,7 +70,7 @@ impl Script {
     /// a script may have are taken, and then the line is refused that goes on.
     pub fn take(&mut self, piece: &[u8]) -> Result<(), Stop>
         ensures ok { OnOk result ((seen : List ℕ) → Stands seen self.old → Stands (seen ++ piece.now) self.new) }
-        ensures err { IfErr result (λ stop. (seen rest : List ℕ) → Stands seen self.old → Ends ((seen ++ piece.now) ++ rest) self.new stop) }
+        ensures err { IfErr result (λ stop. (seen : List ℕ) → Stands seen self.old → EndsEarly (seen ++ piece.now) self.new stop) }
         ensures room { OnOk result (self.new.room + length piece.now ≡ self.old.room) }
     {
         if piece.len() > self.room {
@@ -86,6 +86,7 @@ impl Script {
     fn take_lines(&mut self, bytes: &[u8]) -> Result<(), Stop>
         ensures ok { OnOk result ((seen : List ℕ) → HasRead seen self.old → length (seen ++ bytes.now) ≤ max_script → HasRead (seen ++ bytes.now) self.new) }
         ensures err { IfErr result (λ stop. (seen rest : List ℕ) → HasRead seen self.old → length (seen ++ bytes.now) ≤ max_script → Ends ((seen ++ bytes.now) ++ rest) self.new stop) }
+        ensures over { IfErr result (λ stop. (seen : List ℕ) → HasRead seen self.old → length (seen ++ bytes.now) ≤ max_script → IsOverAt (seen ++ bytes.now) self.new stop) }
         ensures room { self.new.room ≡ self.old.room }
     {
         let mut rest = bytes;
@@ -101,6 +102,7 @@ impl Script {
         requires { HasNoLineFeed bytes.now }
         ensures ok { OnOk result ((seen : List ℕ) → HasRead seen self.old → length (seen ++ bytes.now) < max_script → HasRead (seen ++ (bytes.now ++ 10 ∷ [])) self.new) }
         ensures err { IfErr result (λ stop. (seen rest : List ℕ) → HasRead seen self.old → length (seen ++ bytes.now) < max_script → Ends (seen ++ (bytes.now ++ 10 ∷ rest)) self.new stop) }
+        ensures over { IfErr result (λ stop. (seen rest : List ℕ) → HasRead seen self.old → length (seen ++ bytes.now) < max_script → IsOver (seen ++ (bytes.now ++ 10 ∷ rest)) self.new.line) }
         ensures room { self.new.room ≡ self.old.room }
     {
         self.apply_with(bytes)?;

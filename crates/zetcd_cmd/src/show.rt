@@ -1,10 +1,11 @@
 //! The command `show`: a client's stream in, a line for each of its frames out.
 
-ghost use Rattle.std.specs.Prelude.{◌≡◌, ◌≢◌, ◌+◌, ◌≤◌, ℕ, [], length, OnOk, IfErr};
-ghost use Rattle.zx_outside.specs.Counts.{Rose};
+ghost use Rattle.std.specs.Prelude.{◌≡◌, ◌≢◌, ◌+◌, ◌⊎◌, [], length, OnOk, IfErr};
+ghost use Rattle.zx_outside.specs.Writing.{counts_after_write};
+ghost use Rattle.zx_outside.specs.declared.sink.Took.TheVariants.{Failed as TookFailed};
 ghost use Rattle.zt_show.specs.Showing.{unshown};
-ghost use Rattle.zetcd_cmd.specs.Outcomes.{Shows, Breaks, ShowsFront, Failed};
-ghost use Rattle.zetcd_cmd.specs.Streaming.{status_at, Passes, Closes, Finishes, Told};
+ghost use Rattle.zetcd_cmd.specs.Outcomes.{Did, Shows, Failed, IsUnharmed};
+ghost use Rattle.zetcd_cmd.specs.Streaming.{status_at, Passes, Closes, Finishes, counts_at};
 
 use crate::replay::ROOM;
 use crate::status::Status;
@@ -30,16 +31,12 @@ pub enum Close {
 ///
 /// The time is linear in the stream and its text; one frame, one piece and the text of that piece are kept.
 pub fn show<I: Source, O: Sink>(alloc: Global, input: &mut I, out: &mut O) -> Status
-    ensures shown { result ≡ Status.Done → Shows (I.left input.old) (I.left input.new) (O.taken out.old) (O.taken out.new) }
-    ensures broken { (line : ℕ) → result ≡ Status.Script line → Breaks line (I.left input.old) (I.left input.new) (O.taken out.old) (O.taken out.new) }
-    ensures read { result ≡ Status.ReadFault → Failed (I.faults input.old) (I.faults input.new) (I.idles input.old) (I.idles input.new) }
-    ensures cut { result ≡ Status.ReadFault → ShowsFront (I.given input.old) (I.given input.new) (O.taken out.old) (O.taken out.new) }
-    ensures write { result ≡ Status.WriteFault → Rose (O.faults out.old) (O.faults out.new) }
-    ensures input_unharmed { result ≢ Status.ReadFault → I.faults input.new ≡ I.faults input.old }
-    ensures output_unharmed { result ≢ Status.WriteFault → O.faults out.new ≡ O.faults out.old }
-    ensures never_usage { result ≢ Status.Usage }
-    ensures input_stays { (I.faults input.old ≤ I.faults input.new) × (I.idles input.old ≤ I.idles input.new) }
-    ensures output_stays { O.faults out.old ≤ O.faults out.new }
+    ensures told { Did (Shows result (I.ended input.new) (I.left input.new)) (I.given input.old) (I.given input.new) (I.left input.old) (I.left input.new) (O.taken out.old) (O.taken out.new) }
+    ensures read { result ≡ Status.ReadFault → Failed (I.counts input.old) (I.counts input.new) }
+    ensures unless_read_fault { result ≢ Status.ReadFault → result ≢ Status.WriteFault → IsUnharmed (I.counts input.old) (I.counts input.new) }
+    ensures once { IsUnharmed (I.counts input.old) (I.counts input.new) ⊎ Failed (I.counts input.old) (I.counts input.new) }
+    ensures write { result ≡ Status.WriteFault → O.counts out.new ≡ counts_after_write TookFailed (O.counts out.old) }
+    ensures unless_write_fault { result ≢ Status.WriteFault → O.counts out.new ≡ O.counts out.old }
 {
     let mut show = Show::new(alloc);
     let close = show_pieces(alloc, input, out, &mut show);
@@ -67,14 +64,10 @@ fn show_pieces<I: Source, O: Sink>(
     show: &mut Show,
 ) -> Close
     requires { show.old ≡ unshown }
-    ensures told { Told result (I.given input.old) (I.given input.new) (I.left input.old) (I.left input.new) (O.taken out.old) (O.taken out.new) show.new.progress.lines }
-    ensures read { result ≡ Close.ReadFault → Failed (I.faults input.old) (I.faults input.new) (I.idles input.old) (I.idles input.new) }
-    ensures write { result ≡ Close.WriteFault → Rose (O.faults out.old) (O.faults out.new) }
-    ensures input_unharmed { result ≢ Close.ReadFault → I.faults input.new ≡ I.faults input.old }
-    ensures output_unharmed { result ≢ Close.WriteFault → O.faults out.new ≡ O.faults out.old }
-    ensures faults_stay { I.faults input.old ≤ I.faults input.new }
-    ensures idles_stay { I.idles input.old ≤ I.idles input.new }
-    ensures output_stays { O.faults out.old ≤ O.faults out.new }
+    ensures told { Did (Shows (status_at result show.new.progress.lines) (I.ended input.new) (I.left input.new)) (I.given input.old) (I.given input.new) (I.left input.old) (I.left input.new) (O.taken out.old) (O.taken out.new) }
+    ensures fault { result ≡ Close.ReadFault → Failed (I.counts input.old) (I.counts input.new) }
+    ensures unharmed { result ≢ Close.ReadFault → IsUnharmed (I.counts input.old) (I.counts input.new) }
+    ensures count { O.counts out.new ≡ counts_at result (O.counts out.old) }
 {
     let Ok(mut buffer) = vec![in alloc; 0u8; ROOM] else {
         return Close::Memory;
@@ -105,11 +98,9 @@ fn show_piece<O: Sink>(
     ensures ok { OnOk result (Passes show.old piece.now (O.taken out.old) (O.taken out.new) show.new) }
     ensures empty { OnOk result (text.new ≡ []) }
     ensures room { OnOk result (show.new.progress.room + length piece.now ≡ show.old.progress.room) }
-    ensures err { IfErr result (λ close. Closes close show.old piece.now (O.taken out.old) (O.taken out.new) show.new.progress.lines) }
-    ensures write { IfErr result (λ close. close ≡ Close.WriteFault → Rose (O.faults out.old) (O.faults out.new)) }
-    ensures unharmed { OnOk result (O.faults out.new ≡ O.faults out.old) }
-    ensures err_unharmed { IfErr result (λ close. close ≢ Close.WriteFault → O.faults out.new ≡ O.faults out.old) }
-    ensures faults_stay { O.faults out.old ≤ O.faults out.new }
+    ensures err { IfErr result (λ close. Closes close show.old piece.now (O.taken out.old) (O.taken out.new) show.new) }
+    ensures unharmed { OnOk result (O.counts out.new ≡ O.counts out.old) }
+    ensures count { IfErr result (λ close. O.counts out.new ≡ counts_at close (O.counts out.old)) }
 {
     let Ok(ending) = show.take(piece, text) else {
         return Err(Close::Memory);
@@ -127,10 +118,8 @@ fn show_piece<O: Sink>(
 /// Writes the last line of a stream that came whole.
 fn show_end<O: Sink>(show: &mut Show, text: &mut Lines, out: &mut O) -> Close
     requires { text.old ≡ [] }
-    ensures told { Finishes result show.old (O.taken out.old) (O.taken out.new) show.new.progress.lines }
-    ensures write { result ≡ Close.WriteFault → Rose (O.faults out.old) (O.faults out.new) }
-    ensures unharmed { result ≢ Close.WriteFault → O.faults out.new ≡ O.faults out.old }
-    ensures faults_stay { O.faults out.old ≤ O.faults out.new }
+    ensures told { Finishes result show.old (O.taken out.old) (O.taken out.new) show.new }
+    ensures count { O.counts out.new ≡ counts_at result (O.counts out.old) }
 {
     let Ok(ending) = show.finish(text) else {
         return Close::Memory;

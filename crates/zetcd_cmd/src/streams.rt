@@ -1,10 +1,11 @@
 //! Reading of the next piece, and writing of a whole one.
 
-ghost use Rattle.std.specs.Prelude.{◌≡◌, ◌≢◌, ◌<◌, ◌≤◌, ◌⊎◌, ℕ, length, IsTrue, false};
-ghost use Rattle.zx_outside.specs.Counts.{Rose};
-ghost use Rattle.zx_outside.specs.Writing.{Takes};
-ghost use Rattle.zetcd_cmd.specs.Outcomes.{patience};
-ghost use Rattle.zetcd_cmd.specs.Streams.{Comes, Fits, Waited};
+ghost use Rattle.std.specs.Prelude.{◌≡◌, ◌≢◌, ◌<◌, ℕ, length, IsTrue, true, false};
+ghost use Rattle.zx_outside.specs.Counts.{InputCounts};
+ghost use Rattle.zx_outside.specs.Writing.{Takes, counts_after_write};
+ghost use Rattle.zx_outside.specs.declared.sink.Took.TheVariants.{Failed as TookFailed};
+ghost use Rattle.zetcd_cmd.specs.Outcomes.{Failed, TakesSome};
+ghost use Rattle.zetcd_cmd.specs.Streams.{Comes, Fits, Waited, MayWait};
 
 use zx_outside::{Got, Sink, Source, Took};
 
@@ -27,11 +28,9 @@ pub fn next_piece<I: Source>(input: &mut I, buffer: &mut [u8], idle: &mut u32) -
     requires { 0 < length buffer.old }
     ensures size { Fits result (length buffer.new) }
     ensures bytes { Comes result buffer.new (I.given input.old) (I.given input.new) (I.left input.old) (I.left input.new) }
-    ensures fault { result ≡ Piece.Fault → Rose (I.faults input.old) (I.faults input.new) ⊎ (patience ≤ idle.new) }
-    ensures unharmed { result ≢ Piece.Fault → I.faults input.new ≡ I.faults input.old }
-    ensures waited { (start : ℕ) → Waited start idle.old (I.idles input.old) → Waited start idle.new (I.idles input.new) }
-    ensures faults_stay { I.faults input.old ≤ I.faults input.new }
-    ensures idles_stay { I.idles input.old ≤ I.idles input.new }
+    ensures end { result ≡ Piece.End → I.ended input.new ≡ true }
+    ensures fault { result ≡ Piece.Fault → (start : InputCounts) → Waited start idle.old (I.counts input.old) → Failed start (I.counts input.new) }
+    ensures waited { result ≢ Piece.Fault → (start : InputCounts) → Waited start idle.old (I.counts input.old) → MayWait start idle.new (I.counts input.new) }
 {
     'turns: while *idle < PATIENCE {
         match input.read(buffer) {
@@ -47,9 +46,9 @@ pub fn next_piece<I: Source>(input: &mut I, buffer: &mut [u8], idle: &mut u32) -
 /// Writes all of the bytes, and says whether the sink took them.
 pub fn write_all<O: Sink>(out: &mut O, bytes: &[u8]) -> bool
     ensures taken { IsTrue result → Takes bytes.now (O.taken out.old) (O.taken out.new) }
-    ensures fault { result ≡ false → Rose (O.faults out.old) (O.faults out.new) }
-    ensures unharmed { IsTrue result → O.faults out.new ≡ O.faults out.old }
-    ensures faults_stay { O.faults out.old ≤ O.faults out.new }
+    ensures front { result ≡ false → TakesSome bytes.now (O.taken out.old) (O.taken out.new) }
+    ensures count { result ≡ false → O.counts out.new ≡ counts_after_write TookFailed (O.counts out.old) }
+    ensures unharmed { IsTrue result → O.counts out.new ≡ O.counts out.old }
 {
     let mut at = 0;
     'pieces: while at < bytes.len() {

@@ -1,17 +1,14 @@
-use Rattle.std.proofs.Common.{◌≡◌, ◌≤◌, ℕ, List, vec_len}
+use Rattle.std.proofs.Common.{◌≡◌, ℕ, List, vec_len}
 use Rattle.zx_outside.specs.Reading.{Gives}
 use Rattle.zetcd_cmd.specs.Scripting.{Stands}
-use Rattle.zetcd_cmd.specs.Streams.{Waited}
+use Rattle.zetcd_cmd.specs.Streams.{MayWait}
 use Rattle.zetcd_cmd.proofs.replay.read_script.Given as goal
 
 abbrev pub invariant-pieces : goal.invariant-pieces
 invariant-pieces g l = record {
   seen : (seen : List ℕ) × Gives seen (g.I.Source.given l.fn.input) (g.I.Source.given l.input) (g.I.Source.left l.fn.input) (g.I.Source.left l.input) × Stands seen l.script;
   wide : vec_len l.buffer ≡ 65536;
-  waited : Waited (g.I.Source.idles l.fn.input) l.idle (g.I.Source.idles l.input);
-  unharmed : g.I.Source.faults l.input ≡ g.I.Source.faults l.fn.input;
-  faults_stay : g.I.Source.faults l.fn.input ≤ g.I.Source.faults l.input;
-  idles_stay : g.I.Source.idles l.fn.input ≤ g.I.Source.idles l.input;
+  waited : MayWait (g.I.Source.counts l.fn.input) l.idle (g.I.Source.counts l.input);
 }
 
 abbrev pub decreases-pieces : goal.decreases-pieces

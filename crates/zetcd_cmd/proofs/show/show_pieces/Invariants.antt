@@ -1,9 +1,9 @@
-use Rattle.std.proofs.Common.{◌≡◌, ◌≤◌, ℕ, List, [], vec_len}
+use Rattle.std.proofs.Common.{◌≡◌, ℕ, List, [], vec_len}
 use Rattle.zt_show.specs.Shown.{joined}
 use Rattle.zt_show.specs.Showing.{Follows}
 use Rattle.zx_outside.specs.Reading.{Gives}
 use Rattle.zx_outside.specs.Writing.{Takes}
-use Rattle.zetcd_cmd.specs.Streams.{Waited}
+use Rattle.zetcd_cmd.specs.Streams.{MayWait}
 use Rattle.zetcd_cmd.proofs.show.show_pieces.Given as goal
 
 abbrev pub invariant-pieces : goal.invariant-pieces
@@ -13,12 +13,8 @@ invariant-pieces g l = record {
       × Takes (joined lines) (g.O.Sink.taken l.fn.out) (g.O.Sink.taken l.out) × Follows seen lines l.show;
   empty : l.text ≡ [];
   wide : vec_len l.buffer ≡ 65536;
-  waited : Waited (g.I.Source.idles l.fn.input) l.idle (g.I.Source.idles l.input);
-  input_unharmed : g.I.Source.faults l.input ≡ g.I.Source.faults l.fn.input;
-  output_unharmed : g.O.Sink.faults l.out ≡ g.O.Sink.faults l.fn.out;
-  faults_stay : g.I.Source.faults l.fn.input ≤ g.I.Source.faults l.input;
-  idles_stay : g.I.Source.idles l.fn.input ≤ g.I.Source.idles l.input;
-  output_stays : g.O.Sink.faults l.fn.out ≤ g.O.Sink.faults l.out;
+  waited : MayWait (g.I.Source.counts l.fn.input) l.idle (g.I.Source.counts l.input);
+  unharmed : g.O.Sink.counts l.out ≡ g.O.Sink.counts l.fn.out;
 }
 
 abbrev pub decreases-pieces : goal.decreases-pieces

@@ -6,8 +6,7 @@ abbrev pub invariant-pieces : goal.invariant-pieces
 invariant-pieces g l = record {
   within : l.at ≤ length l.bytes;
   taken : Takes (take l.at l.bytes) (g.O.Sink.taken l.fn.out) (g.O.Sink.taken l.out);
-  unharmed : g.O.Sink.faults l.out ≡ g.O.Sink.faults l.fn.out;
-  faults_stay : g.O.Sink.faults l.fn.out ≤ g.O.Sink.faults l.out;
+  unharmed : g.O.Sink.counts l.out ≡ g.O.Sink.counts l.fn.out;
 }
 
 abbrev pub decreases-pieces : goal.decreases-pieces

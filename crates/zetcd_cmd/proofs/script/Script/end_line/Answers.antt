@@ -1,6 +1,6 @@
 use Rattle.std.proofs.Common.{arith}
 use Rattle.std.proofs.lemmas.Result.{err_from_is_err_and}
-use Rattle.zetcd_cmd.proofs.Progress.{HasRead-line, Ends-line}
+use Rattle.zetcd_cmd.proofs.Progress.{HasRead-line, Ends-line, IsOver-line}
 use Rattle.zetcd_cmd.proofs.script.Script.end_line.Goals as goal
 
 pub returns-in_err-apply_with-clause-err : goal.returns-in_err-apply_with-clause-err
@@ -13,3 +13,8 @@ pub returns-clause-ok : goal.returns-clause-ok
 returns-clause-ok c = λ seen r fits.
     HasRead-line seen c.args.bytes.now c.args.self.now _ c.requires c.in_ok-apply_with.ensures.ok c.in_ok-apply_with.ensures.empty
     (let line = c.in_ok-apply_with.ensures.line in grind (arith, c.saturating_add-self.ensures)) r fits
+
+pub returns-in_err-apply_with-clause-over : goal.returns-in_err-apply_with-clause-over
+returns-in_err-apply_with-clause-over c =
+    let p = err_from_is_err_and c.from_residual.result c.from_residual.ensures.1 in
+    rw p.1 (λ seen rest r fits. IsOver-line seen c.args.bytes.now rest c.args.self.now _ c.in_err-apply_with.ensures.line r fits)

@@ -3,7 +3,7 @@ use Rattle.std.proofs.lemmas.Result.{err_from_is_err_and, on_ok_weaker, IfErr-we
 use Rattle.zt_text.specs.Scripts.{max_line}
 use Rattle.zetcd_cmd.specs.declared.script.Stop.{Stop}
 use Rattle.zetcd_cmd.specs.Scripting.{IsKeptOut}
-use Rattle.zetcd_cmd.proofs.Progress.{Goes-line, Goes-halts, Goes-begun, Goes-kept_out}
+use Rattle.zetcd_cmd.proofs.Progress.{Goes-line, Goes-halts, Goes-begun, Goes-kept_out, Over-halts, Over-kept_out}
 use Rattle.zetcd_cmd.proofs.script.Script.take_lines.Goals as goal
 
 pub returns-in_err-end_line-clause-err : goal.returns-in_err-end_line-clause-err
@@ -29,4 +29,16 @@ pub returns-clause-err : goal.returns-clause-err
 returns-clause-err c =
     IfErr-weaker c.keep.result (λ (why : Stop). IsKeptOut (c.lines.self.pending.items ++ c.lines.rest.now) why) _
     (λ why out. Goes-kept_out c.args.self.now c.lines.self _ c.args.bytes.now c.lines.rest.now why c.in_default.ensures out refl refl c.lines.invariant.goes)
+    c.keep.ensures.err
+
+pub returns-in_err-end_line-clause-over : goal.returns-in_err-end_line-clause-over
+returns-in_err-end_line-clause-over c =
+    let p = err_from_is_err_and c.from_residual.result c.from_residual.ensures.1 in
+    rw (p.1, p.2) (Over-halts c.args.self.now c.lines.self c.end_line.new.self c.args.bytes.now c.lines.rest.now c.in-Some.line.now c.in-Some.later.now c.in_err-end_line.field-0.0
+    c.in-Some.ensures.0 c.in_err-end_line.ensures.over c.lines.invariant.goes)
+
+pub returns-clause-over : goal.returns-clause-over
+returns-clause-over c =
+    IfErr-weaker c.keep.result (λ (why : Stop). IsKeptOut (c.lines.self.pending.items ++ c.lines.rest.now) why) _
+    (λ why out. Over-kept_out c.args.self.now c.lines.self (record c.lines.self { pending = c.keep.new.pending }) c.args.bytes.now c.lines.rest.now why out refl c.lines.invariant.goes)
     c.keep.ensures.err

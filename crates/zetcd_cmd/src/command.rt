@@ -1,0 +1,82 @@
+//! The top call.
+
+ghost use Rattle.std.specs.Prelude.{◌≡◌, ◌≢◌, ◌⊎◌};
+ghost use Rattle.zx_outside.specs.Writing.{counts_after_write};
+ghost use Rattle.zx_outside.specs.declared.sink.Took.TheVariants.{Failed as TookFailed};
+ghost use Rattle.zetcd_cmd.specs.Outcomes.{IsReplay, IsShow, Did, Replays, Shows, Refuses, Failed, IsUnharmed};
+ghost use Rattle.zetcd_cmd.specs.Commands.{IsCommand};
+
+use crate::replay::replay;
+use crate::show::show;
+use crate::status::Status;
+use crate::streams::write_all;
+use std::alloc::Global;
+use zx_outside::{Sink, Source};
+
+const USAGE: &[u8] =
+    b"usage: zetcd replay | show | stress NUMBER CONNECTIONS STEPS | serve LISTEN ENDPOINT LIMIT | etcd LISTEN LIMIT\n";
+
+/// Runs a command: its words, its input and its output.
+pub fn zetcd<I: Source, O: Sink>(
+    alloc: Global,
+    words: &[&str],
+    input: &mut I,
+    out: &mut O,
+) -> Status
+    // Of `replay`, by the status: the transcript of a run to which exactly the lines that were read were applied. The run is one
+    // run of the service, and each conversation in it is lawful and fresh.
+    ensures replay { IsReplay words.now → Did (Replays result (I.ended input.new) (I.left input.new)) (I.given input.old) (I.given input.new) (I.left input.old) (I.left input.new) (O.taken out.old) (O.taken out.new) }
+    // Of `show`, by the status: what is shown of the stream that was read.
+    ensures show { IsShow words.now → Did (Shows result (I.ended input.new) (I.left input.new)) (I.given input.old) (I.given input.new) (I.left input.old) (I.left input.new) (O.taken out.old) (O.taken out.new) }
+    // Of other words: the usage,
+    ensures usage { ¬ IsReplay words.now → ¬ IsShow words.now → Refuses result (O.taken out.old) (O.taken out.new) }
+    // and nothing is read.
+    ensures unread { ¬ IsReplay words.now → ¬ IsShow words.now → input.new ≡ input.old }
+    // Status 4 has its cause in the input: one fault, or 1,000 idle turns.
+    ensures read { result ≡ Status.ReadFault → Failed (I.counts input.old) (I.counts input.new) }
+    // Statuses 0, 2 and 3 pass over no fault, and there were fewer idle turns;
+    ensures unless_fault { result ≢ Status.ReadFault → result ≢ Status.WriteFault → result ≢ Status.Memory → IsUnharmed (I.counts input.old) (I.counts input.new) }
+    // neither does want of memory in `show`. In `replay` it may be met when the lines before a fault are written.
+    ensures show_memory { IsShow words.now → result ≡ Status.Memory → IsUnharmed (I.counts input.old) (I.counts input.new) }
+    // The input is not read on after that.
+    ensures once { IsUnharmed (I.counts input.old) (I.counts input.new) ⊎ Failed (I.counts input.old) (I.counts input.new) }
+    // Status 5 has its cause in the output: one fault, after which nothing is written.
+    ensures write { result ≡ Status.WriteFault → O.counts out.new ≡ counts_after_write TookFailed (O.counts out.old) }
+    // With another status it had none.
+    ensures unless_write_fault { result ≢ Status.WriteFault → O.counts out.new ≡ O.counts out.old }
+{
+    match command_of(words) {
+        Some(Command::Replay) => replay(alloc, input, out),
+        Some(Command::Show) => show(alloc, input, out),
+        None => {
+            if write_all(out, USAGE) {
+                Status::Usage
+            } else {
+                Status::WriteFault
+            }
+        }
+    }
+}
+
+/// A command that is built.
+#[derive(Clone, Copy)]
+enum Command {
+    Replay,
+    Show,
+}
+
+/// The command of these words.
+fn command_of(words: &[&str]) -> Option<Command>
+    ensures { IsCommand result words.now }
+{
+    let [word] = words else {
+        return None;
+    };
+    if word.as_bytes() == b"replay".as_slice() {
+        return Some(Command::Replay);
+    }
+    if word.as_bytes() == b"show".as_slice() {
+        return Some(Command::Show);
+    }
+    None
+}
