@@ -18,7 +18,7 @@ use Rattle.ev_http.specs.declared.taking.Cut.TheVariants as cut
 use Rattle.ev_http.specs.Taking.{Told, Ends, counted, HasNoFeed, IsLine, Grows, TakesLine}
 use Rattle.ev_http.specs.Body.{Chunk, IsChunk, print_chunk, IsSizeLine, IsLastLine, print_chunks, contents, IsFieldLine, AreFields, InChunks, Behind, AtSize, AtContent, AtGap, AtTrailer, Came, EndsWhole, IsNoChunk, IsNoTrailer, BreaksAt, PartAnswer, TakesPart, SizeAnswer, TrailerAnswer, Framed}
 use Rattle.ev_http.proofs.Takings.{no_feed-nil}
-use Rattle.ev_http.proofs.Lines.{same_line, text_short, no_feed-append, no_feed-cons, no_chunk-long, no_chunk-never}
+use Rattle.ev_http.proofs.Feeds.{same_line, text_short, no_feed-append, no_feed-cons, no_chunk-long, no_chunk-never}
 use Rattle.ev_http.proofs.Bodies.{behind_more, chunk_goes}
 
 pub line_grown : (old added new : List ℕ) → HasNoFeed old → IsLine added → new ≡ old ++ added → IsLine new

@@ -2,7 +2,7 @@ pub mod Bodies
 pub mod Chunks
 pub mod Framings
 pub mod Heads
-pub mod Lines
+pub mod Feeds
 pub mod Messages
 pub mod Places
 pub mod Reading

@@ -14,7 +14,7 @@ use Rattle.ev_http.specs.declared.head.Kind.TheVariants as kind
 use Rattle.ev_http.specs.Heads.{IsHead}
 use Rattle.ev_http.specs.Framing.{EndsInFeed, StandsAt}
 use Rattle.ev_http.proofs.Takings.{no_feed-nil}
-use Rattle.ev_http.proofs.Lines.{pass_no_feed, no_feed-append, no_feed-cons}
+use Rattle.ev_http.proofs.Feeds.{pass_no_feed, no_feed-append, no_feed-cons}
 
 abbrev pub joined : List (List ℕ) → List ℕ
 joined lines = flat_map (λ (line : List ℕ). line) lines

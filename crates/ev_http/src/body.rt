@@ -151,7 +151,6 @@ fn take_content<S: Source>(
     body: &mut Vec<u8>,
 ) -> Result<Part, HttpFault>
     requires within { tally.old.turns ≤ 6000 }
-    requires some { 0 < left }
     ensures part { (added : List ℕ)
         × Took added (failed result) tally.old tally.new
             (told S.given S.left S.counts S.ended S.name source.old)
@@ -160,6 +159,9 @@ fn take_content<S: Source>(
             (told S.given S.left S.counts S.ended S.name source.new) tally.new) }
     ensures on { length body.old.items ≤ 8388608 → IfOk result (λ next. work next (length body.new.items) < work (Part.Content place left) (length body.old.items)) }
 {
+    if left == 0 {
+        return Err(HttpFault::Body { place });
+    }
     match take_bytes(source, tally, body, left) {
         Ok(Some(count)) => Ok(after_content(place, left - count)),
         Ok(None) => Err(HttpFault::Ended {
@@ -360,7 +362,7 @@ pub fn take_part<S: Source>(
     line: &mut Vec<u8>,
     body: &mut Vec<u8>,
 ) -> Result<Part, HttpFault>
-    requires more { IsOpen part }
+    requires more { part ≢ Part.Whole }
     requires within { tally.old.turns ≤ 6000 }
     ensures part { (added : List ℕ)
         × Took added (failed result) tally.old tally.new

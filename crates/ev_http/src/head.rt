@@ -1,7 +1,7 @@
 //! The head of a message.
 
 ghost use Rattle.std.specs.Prelude.{◌≡◌, ◌<◌, ◌≤◌, ◌++◌, List, ℕ, length};
-ghost use Rattle.ev_http.specs.Heads.{HasNoHead, NeverFits, BeginsWithHead, TakesHead, HeadAnswer};
+ghost use Rattle.ev_http.specs.Heads.{HasNoHead, NeverFits, BeginsWithHead, IsOpenHead, TakesHead, HeadAnswer};
 ghost use Rattle.ev_http.specs.Taking.{Took, told, failed};
 
 use crate::fault::HttpFault;
@@ -81,14 +81,12 @@ pub fn take_head<S: Source>(
     head: &mut Vec<u8>,
 ) -> Result<(), HttpFault>
     requires within { tally.old.turns ≤ 6000 }
-    requires none { HasNoHead kind head.old.items }
-    requires short { length head.old.items ≤ 16384 }
     ensures head { (added : List ℕ)
         × Took added (failed result) tally.old tally.new
             (told S.given S.left S.counts S.ended S.name source.old)
             (told S.given S.left S.counts S.ended S.name source.new)
-        × TakesHead result kind head.old.items added head.new.items
-            (told S.given S.left S.counts S.ended S.name source.new) tally.new }
+        × (IsOpenHead kind head.old.items → TakesHead result kind head.old.items added head.new.items
+            (told S.given S.left S.counts S.ended S.name source.new) tally.new) }
 {
     'lines: loop {
         match take_line(source, tally, head, MAX_HEAD) {

@@ -1,5 +1,5 @@
 use Rattle.std.proofs.Common.{[], refl, sym, ◌∙◌, ap}
-use Rattle.ev_http.proofs.Lines.{size_read, never_size, no_chunk-never}
+use Rattle.ev_http.proofs.Feeds.{size_read, never_size, no_chunk-never}
 use Rattle.ev_http.proofs.body.read_size.Goals as goal
 
 pub returns-in-Ok-Complete : goal.returns-in-Ok-Complete

@@ -8,7 +8,7 @@ invariant-lines g l =
     (added : List ℕ)
     × Took added false l.fn.tally l.tally (told g.S.Source.given g.S.Source.left g.S.Source.counts g.S.Source.ended g.S.Source.name l.fn.source)
     (told g.S.Source.given g.S.Source.left g.S.Source.counts g.S.Source.ended g.S.Source.name l.source)
-    × (l.head.items ≡ l.fn.head.items ++ added) × IsOpenHead l.kind l.head.items
+    × (l.head.items ≡ l.fn.head.items ++ added) × (IsOpenHead l.kind l.fn.head.items → IsOpenHead l.kind l.head.items)
 
 abbrev pub decreases-lines : goal.decreases-lines
 decreases-lines g l = 16384 - vec_len l.head
