@@ -2,7 +2,7 @@
 
 ghost use Rattle.std.specs.Prelude.{◌≡◌, IfOk, true, None};
 ghost use Rattle.std.specs.Arc.{arc_value};
-ghost use Rattle.zw_hub.specs.Lists.{last as list_last};
+ghost use Rattle.zw_hub.specs.Lists.{last_number};
 ghost use Rattle.zw_hub.specs.Ends.{IsProper};
 
 use std::alloc::Global;
@@ -18,7 +18,7 @@ pub struct Publisher<R: Wait + Drop> {
     hub: Hub<R>,
     last: i64,
     is_open: bool,
-    ghost counted: { last ≡ list_last hub.list },
+    ghost counted: { last ≡ last_number hub.list },
     ghost opened: { is_open ≡ true → hub.list.end ≡ None },
 }
 
