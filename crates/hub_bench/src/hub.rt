@@ -4,7 +4,7 @@ ghost use Rattle.std.specs.Prelude.{◌≡◌, true, None};
 ghost use Rattle.zw_hub.specs.Lists.{last_number};
 
 use crate::entry::entry_of;
-use crate::tally::{Race, Taken, Tally, all_of, out_of_memory};
+use crate::tally::{Race, Taken, Tally, all_of, micros_in, out_of_memory};
 use std::alloc::Global;
 use std::rt::Clock;
 use std::sync::Wait;
@@ -84,13 +84,13 @@ pub fn race<R: Threads + Wait + Clock + Send + Clone + Drop + 'static>(
     for _ in 0..race.count {
         publisher.publish(alloc)?;
     }
-    let published = start.elapsed(rt)?.as_micros() as u64;
+    let published = micros_in(start.elapsed(rt)?);
     publisher.close()?;
     let mut readers = Vec::with_capacity(alloc, race.readers)?;
     for worker in workers {
         readers.push(worker.join(rt))?;
     }
-    let ended = start.elapsed(rt)?.as_micros() as u64;
+    let ended = micros_in(start.elapsed(rt)?);
     Ok(all_of(published, ended, readers.as_slice()))
 }
 

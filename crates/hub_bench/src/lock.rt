@@ -1,7 +1,7 @@
 //! Entries through a ring under one lock.
 
 use crate::entry::entry_of;
-use crate::tally::{Race, Taken, Tally, all_of};
+use crate::tally::{Race, Taken, Tally, all_of, micros_in};
 use std::alloc::{AllocError, Global};
 use std::collections::VecDeque;
 use std::rt::Clock;
@@ -86,13 +86,13 @@ pub fn race<R: Threads + Wait + Clock + Send + Clone + Drop + 'static>(
         let entry = entry_of(alloc, number.saturating_add(1))?;
         shared.lock(rt).publish(entry)?;
     }
-    let published = start.elapsed(rt)?.as_micros() as u64;
+    let published = micros_in(start.elapsed(rt)?);
     shared.lock(rt).end = Some(Arc::new(alloc, FeedEnd::NoLine)?);
     let mut readers = Vec::with_capacity(alloc, race.readers)?;
     for worker in workers {
         readers.push(worker.join(rt))?;
     }
-    let ended = start.elapsed(rt)?.as_micros() as u64;
+    let ended = micros_in(start.elapsed(rt)?);
     Ok(all_of(published, ended, readers.as_slice()))
 }
 

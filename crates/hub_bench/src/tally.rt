@@ -1,5 +1,6 @@
 //! What is raced, and what came of it.
 
+use std::time::Duration;
 use std::{io, thread};
 use zw_hub::Fed;
 
@@ -69,6 +70,11 @@ pub fn all_of(published: u64, ended: u64, readers: &[Taken]) -> Tally {
         tally.taken = tally.taken.saturating_add(one.taken);
     }
     tally
+}
+
+/// Whole microseconds.
+pub fn micros_in(time: Duration) -> u64 {
+    u64::try_from(time.as_micros()).unwrap_or(u64::MAX)
 }
 
 pub fn out_of_memory() -> io::Error {
