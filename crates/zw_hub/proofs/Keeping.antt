@@ -11,17 +11,16 @@ use Rattle.circular_buffer.proofs.Places.{slice_get-append_left, slice_get-appen
 use Rattle.zn_layout.specs.declared.entry.Entry.{Entry}
 use Rattle.zx_history.specs.declared.ghost_history.GhostHistory.{GhostHistory}
 use Rattle.zw_hub.specs.declared.published.Published.{Published}
-use Rattle.zw_hub.specs.declared.published.TheConstants.{MAX_KEPT}
 use Rattle.zw_hub.specs.declared.window.Window.TheInside.{Inside}
-use Rattle.zw_hub.specs.Lists.{last_number, floor, IsAt, IsNumbered, is_next, with_entry}
+use Rattle.zw_hub.specs.Lists.{max_kept, last_number, floor, IsAt, IsNumbered, is_next, with_entry}
 use Rattle.zw_hub.specs.Windows.{published, IsWindow}
 use Rattle.zw_hub.proofs.Newest.{newest-push, newest-get}
 
 -- an entry in the ring is the entry of the list that is so far above the floor
 pub kept_at : (w : Inside) → IsWindow w → (cursor : ℤ) (place : ℕ) (a : Arc Entry Global) → floor (published w) +ℤ pos place ≡ cursor → slice_get w.ring.items place ≡ Some a → IsAt (published w) (cursor +ℤ pos 1) (arc_value a)
 kept_at w kept cursor place a is at =
-    let k = length w.all.items - MAX_KEPT + place in
-    let there : slice_get w.all.items k ≡ Some (arc_value a) = newest-get arc_value MAX_KEPT w.ring.items w.all.items place a kept.newest at in
+    let k = length w.all.items - max_kept + place in
+    let there : slice_get w.all.items k ≡ Some (arc_value a) = newest-get arc_value max_kept w.ring.items w.all.items place a kept.newest at in
     let number : cursor +ℤ pos 1 ≡ w.first +ℤ pos (k + 1) = omega (arith, ints) in
     (k, there, number, kept.numbered k (arc_value a) there ∙ sym number)
 
@@ -54,9 +53,9 @@ pushed w kept ring number all entry mine next number_is mine_is ring_is all_is =
       newest =
           ap (λ (b : Buffer (Arc Entry Global)). map arc_value b.items) ring_is
           ∙ ap (λ n. map arc_value (keep_last n (w.ring.items ++ mine ∷ []))) kept.room
-          ∙ newest-push arc_value MAX_KEPT w.ring.items w.all.items mine kept.newest
-          ∙ ap (λ (e : Entry). keep_last MAX_KEPT (w.all.items ++ e ∷ [])) mine_is
-          ∙ ap (keep_last MAX_KEPT) (sym all_is);
+          ∙ newest-push arc_value max_kept w.ring.items w.all.items mine kept.newest
+          ∙ ap (λ (e : Entry). keep_last max_kept (w.all.items ++ e ∷ [])) mine_is
+          ∙ ap (keep_last max_kept) (sym all_is);
       room = ap (λ (b : Buffer (Arc Entry Global)). b.capacity) ring_is ∙ kept.room;
       last = number_is ∙ next ∙ omega (arith, ints, ap length all_is, length-append w.all.items (entry ∷ []));
       numbered = subst (λ (es : List Entry). IsNumbered (record { first = w.first; entries = es; end = w.end })) (sym all_is) (numbered-next (published w) entry kept.numbered next);

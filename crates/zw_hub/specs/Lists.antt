@@ -3,7 +3,6 @@ use Rattle.std.specs.Prelude.{◌≡◌, ℕ, ◌+◌, ◌-◌, ℤ, pos, ◌+�
 use Rattle.std.specs.Ordering.{int_eq}
 use mathlib.Core.List.{IsPrefix}
 use Rattle.zn_layout.specs.declared.entry.Entry.{Entry}
-use Rattle.zw_hub.specs.declared.published.TheConstants.{MAX_KEPT}
 use Rattle.zw_hub.specs.declared.feed.FeedEnd.{FeedEnd}
 use Rattle.zw_hub.specs.declared.published.Published.{Published}
 
@@ -15,9 +14,13 @@ empty first = record { first = first; entries = []; end = None }
 abbrev pub last_number : Published → ℤ
 last_number list = list.first +ℤ pos (length list.entries)
 
--- the number before that of the oldest entry that is kept: those are the newest 4,096
+-- so many of the newest entries are kept
+abbrev pub max_kept : ℕ
+max_kept = 4096
+
+-- the number before that of the oldest entry that is kept
 abbrev pub floor : Published → ℤ
-floor list = list.first +ℤ pos (length list.entries - MAX_KEPT)
+floor list = list.first +ℤ pos (length list.entries - max_kept)
 
 -- this entry of the list has this number, and stands in its place
 abbrev pub IsAt : Published → ℤ → Entry → Type 0

@@ -3,9 +3,8 @@ use Rattle.std.specs.Prelude.{◌≡◌, map}
 use Rattle.std.specs.Arc.{arc_value}
 use Rattle.circular_buffer.specs.Buffer.{keep_last}
 use Rattle.zw_hub.specs.declared.published.Published.{Published}
-use Rattle.zw_hub.specs.declared.published.TheConstants.{MAX_KEPT}
 use Rattle.zw_hub.specs.declared.window.Window.TheInside.{Inside}
-use Rattle.zw_hub.specs.Lists.{last_number, IsNumbered}
+use Rattle.zw_hub.specs.Lists.{max_kept, last_number, IsNumbered}
 
 -- the list that was published
 abbrev pub published : Inside → Published
@@ -13,7 +12,7 @@ published w = record { first = w.first; entries = w.all.items; end = w.end }
 
 -- the ring has the newest entries of the list, and the last number is the list's
 pub record IsWindow (w : Inside) : Type 0 where
-  pub newest : map arc_value w.ring.items ≡ keep_last MAX_KEPT w.all.items
-  pub room : w.ring.capacity ≡ MAX_KEPT
+  pub newest : map arc_value w.ring.items ≡ keep_last max_kept w.all.items
+  pub room : w.ring.capacity ≡ max_kept
   pub last : w.last ≡ last_number (published w)
   pub numbered : IsNumbered (published w)
