@@ -90,8 +90,8 @@ in_content start place left zero f line bytes added body body' at grown size = r
   is_size = at.is_size;
   content = at.content ++ added;
   behind = behind_more _ _ _ _ _ _ _ _ at.behind (
-    append_assoc (print_chunk_line at.size) at.content added
-    ∙ ap (λ (x : List ℕ). print_chunk_line at.size ++ x) (sym (append-nil (at.content ++ added)) ∙ ap (λ (x : List ℕ). (at.content ++ added) ++ x) (sym at.empty)));
+      append_assoc (print_chunk_line at.size) at.content added
+      ∙ ap (λ (x : List ℕ). print_chunk_line at.size ++ x) (sym (append-nil (at.content ++ added)) ∙ ap (λ (x : List ℕ). (at.content ++ added) ++ x) (sym at.empty)));
   body_is = grown ∙ ap (λ (x : List ℕ). x ++ added) at.body_is ∙ append_assoc (contents at.chunks) at.content added;
   size_is = omega (arith, length-append at.content added, at.left_is, size);
   some = omega (arith, at.left_is, at.some);

@@ -176,16 +176,16 @@ pub gap_other : (place limit : ℕ) (line added new body : List ℕ) (source : T
     → TakesPart (Err (fault.Body place)) (part.Gap place) line body added new body source tally
 gap_other place limit line added new body source tally got other =
     gap_broken place line added new body source tally got.1 (λ no_feed more rest e.
-      let is = line_grown line added new no_feed got.0 got.1 in
-      let text = same_line is.0 (13 ∷ []) more rest is.1 (no_feed-cons 13 [] (λ x. cc) no_feed-nil) (ap (λ (x : List ℕ). x ++ more) (sym is.2) ∙ e) in
-      other (is.2 ∙ ap (λ (x : List ℕ). x ++ 10 ∷ []) text))
+    let is = line_grown line added new no_feed got.0 got.1 in
+    let text = same_line is.0 (13 ∷ []) more rest is.1 (no_feed-cons 13 [] (λ x. cc) no_feed-nil) (ap (λ (x : List ℕ). x ++ more) (sym is.2) ∙ e) in
+    other (is.2 ∙ ap (λ (x : List ℕ). x ++ 10 ∷ []) text))
 
 pub gap_full : (place limit : ℕ) (line added new body : List ℕ) (source : Told) (tally : Tally) → Grows line added new limit → 2 ≤ length new
     → TakesPart (Err (fault.Body place)) (part.Gap place) line body added new body source tally
 gap_full place limit line added new body source tally grows long =
     gap_broken place line added new body source tally grows.grown (λ no_feed more rest e.
-      let le = text_short new more (13 ∷ []) rest (grown_no_feed line added new limit no_feed grows) e in
-      omega (arith, le, long))
+    let le = text_short new more (13 ∷ []) rest (grown_no_feed line added new limit no_feed grows) e in
+    omega (arith, le, long))
 
 pub gap_cut : (place limit : ℕ) (line added new body : List ℕ) (source : Told) (tally : Tally) → Grows line added new limit → (new ≢ []) × (new ≢ 13 ∷ [])
     → TakesPart (Err (fault.Body place)) (part.Gap place) line body added new body source tally
@@ -238,7 +238,7 @@ first_line l m x y a b e =
 peel : (ls ms : List (List ℕ)) (end : LineEnd) (x rest : List ℕ) → All IsFieldLine ls → All IsFieldLine ms
     → flat_map (λ (line : List ℕ). line) ls ++ x ≡ flat_map (λ (line : List ℕ). line) ms ++ (print_end end ++ rest)
     → (ns : List (List ℕ)) × All IsFieldLine ns × (length (flat_map (λ (line : List ℕ). line) ls) + length (flat_map (λ (line : List ℕ). line) ns) ≡ length (flat_map (λ (line : List ℕ). line) ms))
-      × (x ≡ flat_map (λ (line : List ℕ). line) ns ++ (print_end end ++ rest))
+    × (x ≡ flat_map (λ (line : List ℕ). line) ns ++ (print_end end ++ rest))
 peel [] ms end x rest a b e = (ms, b, omega arith, e)
 peel (l ∷ ls) [] end x rest a b e =
     let is = All-head IsFieldLine l ls a in
@@ -248,7 +248,7 @@ peel (l ∷ ls) (m ∷ ms) end x rest a b e =
     let is = All-head IsFieldLine l ls a in
     let has = All-head IsFieldLine m ms b in
     let whole : l ++ (flat_map (λ (line : List ℕ). line) ls ++ x) ≡ m ++ (flat_map (λ (line : List ℕ). line) ms ++ (print_end end ++ rest)) =
-      sym (append_assoc l (flat_map (λ (line : List ℕ). line) ls) x) ∙ e ∙ append_assoc m (flat_map (λ (line : List ℕ). line) ms) (print_end end ++ rest) in
+    sym (append_assoc l (flat_map (λ (line : List ℕ). line) ls) x) ∙ e ∙ append_assoc m (flat_map (λ (line : List ℕ). line) ms) (print_end end ++ rest) in
     let same = first_line l m _ _ is.is_line has.is_line whole in
     let more = same_front l m _ _ (ap length same) whole in
     let later = peel ls ms end x rest (All-tail IsFieldLine l ls a) (All-tail IsFieldLine m ms b) more in (
@@ -273,7 +273,7 @@ cut_short [] end cut more rest all none e =
 cut_short (m ∷ ms) end cut more rest all none e =
     let is = (All-head IsFieldLine m ms all).is_line in
     let le : length cut ≤ length is.0 = text_short cut more is.0 (flat_map (λ (line : List ℕ). line) ms ++ (print_end end ++ rest)) none
-      (e ∙ append_assoc m (flat_map (λ (line : List ℕ). line) ms) (print_end end ++ rest) ∙ ap (λ (x : List ℕ). x ++ (flat_map (λ (line : List ℕ). line) ms ++ (print_end end ++ rest))) is.2) in
+    (e ∙ append_assoc m (flat_map (λ (line : List ℕ). line) ms) (print_end end ++ rest) ∙ ap (λ (x : List ℕ). x ++ (flat_map (λ (line : List ℕ). line) ms ++ (print_end end ++ rest))) is.2) in
     omega (arith, le, ap length is.2, length-append is.0 (10 ∷ []), length-append m (flat_map (λ (line : List ℕ). line) ms))
 
 long_trailer : (text cut : List ℕ) → AreFields text → HasNoFeed cut → 16386 ≤ length (text ++ cut) → IsNoTrailer (text ++ cut)
@@ -315,8 +315,8 @@ pub trailer_full : (place fields limit : ℕ) (line added new body : List ℕ) (
     → TakesPart (Err (fault.Body place)) (part.Trailer place fields) line body added new body source tally
 trailer_full place fields limit line added new body source tally grows long =
     trailer_broken place fields line added new body source tally grows.grown (λ start f bytes at.
-      let same : new ≡ at.text ++ (at.cut ++ added) = grows.grown ∙ ap (λ (x : List ℕ). x ++ added) at.line_is ∙ append_assoc at.text at.cut added in
-      subst IsNoTrailer (sym same) (long_trailer at.text (at.cut ++ added) at.are_fields (no_feed-append at.cut added at.no_feed grows.no_feed) (subst (λ (x : List ℕ). 16386 ≤ length x) same long)))
+    let same : new ≡ at.text ++ (at.cut ++ added) = grows.grown ∙ ap (λ (x : List ℕ). x ++ added) at.line_is ∙ append_assoc at.text at.cut added in
+    subst IsNoTrailer (sym same) (long_trailer at.text (at.cut ++ added) at.are_fields (no_feed-append at.cut added at.no_feed grows.no_feed) (subst (λ (x : List ℕ). 16386 ≤ length x) same long)))
 
 -- the last line of a trailer, behind its field lines
 last_line : (start place fields : ℕ) (f : Framing) (line added new bytes body : List ℕ) → AtTrailer start place fields f line bytes body → new ≡ line ++ added → IsLine added
@@ -398,6 +398,6 @@ pub trailer_fails : (place fields limit : ℕ) (line added new body : List ℕ) 
     → (fields < length new → TrailerAnswer None place fields new) → TakesPart (Err (fault.Body place)) (part.Trailer place fields) line body added new body source tally
 trailer_fails place fields limit line added new body source tally got answer =
     trailer_broken place fields line added new body source tally got.1 (λ start f bytes at.
-      let says = answer (inside start place fields f line added new bytes body at got.1 got.0) in
-      let last = last_line start place fields f line added new bytes body at got.1 got.0 in
-      long_fields new (fields_more last.0 last.1 new last.2 last.4 last.5 (λ e. says.1 (last.7 ∙ e)) (λ e. says.2 (last.7 ∙ e))) says.0)
+    let says = answer (inside start place fields f line added new bytes body at got.1 got.0) in
+    let last = last_line start place fields f line added new bytes body at got.1 got.0 in
+    long_fields new (fields_more last.0 last.1 new last.2 last.4 last.5 (λ e. says.1 (last.7 ∙ e)) (λ e. says.2 (last.7 ∙ e))) says.0)

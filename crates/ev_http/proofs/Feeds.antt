@@ -8,7 +8,6 @@ use Rattle.std.specs.Char.{is_ascii_hexdigit}
 use Rattle.ev_http.specs.Taking.{HasNoFeed, IsLine}
 use Rattle.ev_http.specs.Body.{Chunk, IsChunk, print_chunk, IsSizeLine, IsLastLine, IsNoChunk}
 
-
 -- a line feed behind bytes without one ends the line
 pub line_once : (text front rest : List ℕ) → HasNoFeed text → text ++ 10 ∷ [] ≡ (front ++ 10 ∷ []) ++ rest → rest ≡ []
 line_once [] [] rest none e = cc
@@ -58,7 +57,7 @@ pub size_no_feed : (l : ChunkLine) → IsChunkLine l → HasNoFeed (size_text l)
 size_no_feed l is =
     no_feed-append (l.digits ++ l.pad ++ print_extension l.extension) (13 ∷ [])
     (no_feed-append (l.digits ++ l.pad) (print_extension l.extension)
-      (no_feed-append l.digits l.pad (pass_no_feed is_ascii_hexdigit refl l.digits is.digits.2) (pass_no_feed is_ows refl l.pad is.pad)) (extension_no_feed l.extension is.extension))
+    (no_feed-append l.digits l.pad (pass_no_feed is_ascii_hexdigit refl l.digits is.digits.2) (pass_no_feed is_ows refl l.pad is.pad)) (extension_no_feed l.extension is.extension))
     (no_feed-cons 13 [] (λ e. cc) (All-nil (λ x. x ≢ 10)))
 
 -- a whole line that begins with the line before a chunk is that line

@@ -33,7 +33,6 @@ line_at (l ∷ lines) (suc k) all le =
     let later = line_at lines k (All-tail IsLine l lines all) (omega (arith, le)) in
     (later.0, later.1, ap (λ (x : List (List ℕ)). l ∷ x) later.2)
 
-
 -- one line back
 pub line_back : (bytes before : List ℕ) (lines : List (List ℕ)) (k end start : ℕ) → bytes ≡ before ++ joined lines → All IsLine lines → All IsLine (take k lines) → suc k ≤ length lines → EndsInFeed before → end ≡ length (before ++ joined (take (suc k) lines))
     → ((front text : List ℕ) → take end bytes ≡ front ++ (text ++ 10 ∷ []) → HasNoFeed text → EndsInFeed front → start ≡ length front) → start ≡ length (before ++ joined (take k lines))
@@ -42,11 +41,11 @@ line_back bytes before lines k end start are all all_front le ends is begins =
     let text = line.1 in
     let front = before ++ joined (take k lines) in
     let whole : before ++ joined (take (suc k) lines) ≡ front ++ (text.0 ++ 10 ∷ []) =
-      ap (λ (x : List (List ℕ)). before ++ joined x) line.2 ∙ ap (λ (x : List ℕ). before ++ x) (flat_map-append (λ (l : List ℕ). l) (take k lines) (line.0 ∷ []) ∙ ap (λ (x : List ℕ). joined (take k lines) ++ x) (append-nil line.0 ∙ text.2))
-      ∙ sym (append_assoc before (joined (take k lines)) (text.0 ++ 10 ∷ [])) in
+    ap (λ (x : List (List ℕ)). before ++ joined x) line.2 ∙ ap (λ (x : List ℕ). before ++ x) (flat_map-append (λ (l : List ℕ). l) (take k lines) (line.0 ∷ []) ∙ ap (λ (x : List ℕ). joined (take k lines) ++ x) (append-nil line.0 ∙ text.2))
+    ∙ sym (append_assoc before (joined (take k lines)) (text.0 ++ 10 ∷ [])) in
     let split : bytes ≡ (before ++ joined (take (suc k) lines)) ++ joined (drop (suc k) lines) =
-      are ∙ ap (λ (x : List (List ℕ)). before ++ joined x) (sym (take-append-drop (suc k) lines)) ∙ ap (λ (x : List ℕ). before ++ x) (flat_map-append (λ (l : List ℕ). l) (take (suc k) lines) (drop (suc k) lines))
-      ∙ sym (append_assoc before (joined (take (suc k) lines)) (joined (drop (suc k) lines))) in
+    are ∙ ap (λ (x : List (List ℕ)). before ++ joined x) (sym (take-append-drop (suc k) lines)) ∙ ap (λ (x : List ℕ). before ++ x) (flat_map-append (λ (l : List ℕ). l) (take (suc k) lines) (drop (suc k) lines))
+    ∙ sym (append_assoc before (joined (take (suc k) lines)) (joined (drop (suc k) lines))) in
     let cut : take end bytes ≡ before ++ joined (take (suc k) lines) = ap (λ n. take n bytes) is ∙ ap (take (length (before ++ joined (take (suc k) lines)))) split ∙ take-append_seam (before ++ joined (take (suc k) lines)) (joined (drop (suc k) lines)) in
     begins front text.0 (cut ∙ whole) text.1 (feed_joined before (take k lines) ends all_front)
 
@@ -94,11 +93,11 @@ section_cut : (head start : List ℕ) (fields : List Field) (last : LineEnd) (nu
 section_cut head start fields last number is ends all =
     let front = start ++ joined (lines_of (take number fields)) in
     let split : flat_map print_field fields ≡ joined (lines_of (take number fields)) ++ flat_map print_field (drop number fields) =
-      ap (flat_map print_field) (sym (take-append-drop number fields)) ∙ flat_map-append print_field (take number fields) (drop number fields) ∙ ap (λ (x : List ℕ). x ++ flat_map print_field (drop number fields)) (sym (joined_fields (take number fields))) in (
+    ap (flat_map print_field) (sym (take-append-drop number fields)) ∙ flat_map-append print_field (take number fields) (drop number fields) ∙ ap (λ (x : List ℕ). x ++ flat_map print_field (drop number fields)) (sym (joined_fields (take number fields))) in (
       front,
       feed_joined start (lines_of (take number fields)) ends (field_lines (take number fields) (All-take IsField number fields all)),
       is ∙ ap (λ (x : List ℕ). start ++ (x ++ print_end last)) split ∙ ap (λ (x : List ℕ). start ++ x) (append_assoc (joined (lines_of (take number fields))) (flat_map print_field (drop number fields)) (print_end last))
-      ∙ sym (append_assoc start (joined (lines_of (take number fields))) (print_section (drop number fields) last)),
+          ∙ sym (append_assoc start (joined (lines_of (take number fields))) (print_section (drop number fields) last)),
     )
 
 start_ends : (a : List ℕ) (end : LineEnd) → EndsInFeed (a ++ print_end end)
@@ -128,5 +127,5 @@ stands k fields head number lines place is le count begins =
       cut.1,
       cut.4,
       begins cut.0 ls (cut.4 ∙ ap (λ (x : List ℕ). cut.0 ++ x) (sym (section_lines rest cut.1)))
-      (All-append IsLine (lines_of rest) (print_end cut.1 ∷ []) (field_lines rest (All-drop IsField number fields cut.3)) (All-cons IsLine (print_end cut.1) [] (end_line cut.1) (All-nil IsLine))) size cut.2,
+          (All-append IsLine (lines_of rest) (print_end cut.1 ∷ []) (field_lines rest (All-drop IsField number fields cut.3)) (All-cons IsLine (print_end cut.1) [] (end_line cut.1) (All-nil IsLine))) size cut.2,
     )

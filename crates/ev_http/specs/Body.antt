@@ -151,7 +151,7 @@ abbrev pub BreaksAt : ℕ → ℕ → Framing → List ℕ → Type 0
 BreaksAt start place f bytes =
     ((chunks : List Chunk) × (tail : List ℕ) × Behind start place f chunks tail bytes × IsNoChunk tail)
     ⊎ ((chunks : List Chunk) × (last : ChunkLine) × (tail : List ℕ) × (f ≡ framing.Chunked) × (All IsChunk chunks) × IsLastLine last
-      × (bytes ≡ print_chunks chunks ++ (print_chunk_line last ++ tail)) × (place ≡ counted (start + length (print_chunks chunks ++ print_chunk_line last))) × IsNoTrailer tail)
+    × (bytes ≡ print_chunks chunks ++ (print_chunk_line last ++ tail)) × (place ≡ counted (start + length (print_chunks chunks ++ print_chunk_line last))) × IsNoTrailer tail)
 
 -- The part that comes first behind a head of so many bytes.
 abbrev pub first_part : Framing → ℕ → Part

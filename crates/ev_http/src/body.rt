@@ -65,10 +65,10 @@ fn take_bytes<S: Source>(
     requires some { 0 < most }
     ensures bytes { (added : List ℕ)
         × Took added (failed result) tally.old tally.new
-            (told S.given S.left S.counts S.ended S.name source.old)
-            (told S.given S.left S.counts S.ended S.name source.new)
+        (told S.given S.left S.counts S.ended S.name source.old)
+        (told S.given S.left S.counts S.ended S.name source.new)
         × TakesBytes result body.old.items added body.new.items most
-            (told S.given S.left S.counts S.ended S.name source.new) tally.new }
+        (told S.given S.left S.counts S.ended S.name source.new) tally.new }
 {
     let mut buffer = [0u8; PIECE];
     let room = most.min(PIECE as u64) as usize;
@@ -93,10 +93,10 @@ fn take_counted<S: Source>(
     requires within { tally.old.turns ≤ 6000 }
     ensures part { (added : List ℕ)
         × Took added (failed result) tally.old tally.new
-            (told S.given S.left S.counts S.ended S.name source.old)
-            (told S.given S.left S.counts S.ended S.name source.new)
+        (told S.given S.left S.counts S.ended S.name source.old)
+        (told S.given S.left S.counts S.ended S.name source.new)
         × ((line : List ℕ) → TakesPart result (Part.Counted left) line body.old.items added line body.new.items
-            (told S.given S.left S.counts S.ended S.name source.new) tally.new) }
+        (told S.given S.left S.counts S.ended S.name source.new) tally.new) }
     ensures on { length body.old.items ≤ 8388608 → IfOk result (λ next. work next (length body.new.items) < work (Part.Counted left) (length body.old.items)) }
 {
     if left == 0 {
@@ -104,9 +104,7 @@ fn take_counted<S: Source>(
     }
     match take_bytes(source, tally, body, left) {
         Ok(Some(count)) => Ok(Part::Counted { left: left - count }),
-        Ok(None) => Err(HttpFault::Ended {
-            taken: tally.taken,
-        }),
+        Ok(None) => Err(HttpFault::Ended { taken: tally.taken }),
         Err(fault) => Err(fault),
     }
 }
@@ -119,10 +117,10 @@ fn take_to_end<S: Source>(
     requires within { tally.old.turns ≤ 6000 }
     ensures part { (added : List ℕ)
         × Took added (failed result) tally.old tally.new
-            (told S.given S.left S.counts S.ended S.name source.old)
-            (told S.given S.left S.counts S.ended S.name source.new)
+        (told S.given S.left S.counts S.ended S.name source.old)
+        (told S.given S.left S.counts S.ended S.name source.new)
         × ((line : List ℕ) → TakesPart result Part.ToEnd line body.old.items added line body.new.items
-            (told S.given S.left S.counts S.ended S.name source.new) tally.new) }
+        (told S.given S.left S.counts S.ended S.name source.new) tally.new) }
     ensures on { length body.old.items ≤ 8388608 → IfOk result (λ next. work next (length body.new.items) < work Part.ToEnd (length body.old.items)) }
 {
     match take_bytes(source, tally, body, PIECE as u64) {
@@ -153,10 +151,10 @@ fn take_content<S: Source>(
     requires within { tally.old.turns ≤ 6000 }
     ensures part { (added : List ℕ)
         × Took added (failed result) tally.old tally.new
-            (told S.given S.left S.counts S.ended S.name source.old)
-            (told S.given S.left S.counts S.ended S.name source.new)
+        (told S.given S.left S.counts S.ended S.name source.old)
+        (told S.given S.left S.counts S.ended S.name source.new)
         × ((line : List ℕ) → TakesPart result (Part.Content place left) line body.old.items added line body.new.items
-            (told S.given S.left S.counts S.ended S.name source.new) tally.new) }
+        (told S.given S.left S.counts S.ended S.name source.new) tally.new) }
     ensures on { length body.old.items ≤ 8388608 → IfOk result (λ next. work next (length body.new.items) < work (Part.Content place left) (length body.old.items)) }
 {
     if left == 0 {
@@ -164,9 +162,7 @@ fn take_content<S: Source>(
     }
     match take_bytes(source, tally, body, left) {
         Ok(Some(count)) => Ok(after_content(place, left - count)),
-        Ok(None) => Err(HttpFault::Ended {
-            taken: tally.taken,
-        }),
+        Ok(None) => Err(HttpFault::Ended { taken: tally.taken }),
         Err(fault) => Err(fault),
     }
 }
@@ -214,10 +210,10 @@ fn take_size<S: Source>(
     requires within { tally.old.turns ≤ 6000 }
     ensures part { (added : List ℕ)
         × Took added (failed result) tally.old tally.new
-            (told S.given S.left S.counts S.ended S.name source.old)
-            (told S.given S.left S.counts S.ended S.name source.new)
+        (told S.given S.left S.counts S.ended S.name source.old)
+        (told S.given S.left S.counts S.ended S.name source.new)
         × ((body : List ℕ) → TakesPart result (Part.Size place) line.old.items body added line.new.items body
-            (told S.given S.left S.counts S.ended S.name source.new) tally.new) }
+        (told S.given S.left S.counts S.ended S.name source.new) tally.new) }
     ensures on { IfOk result (λ next. rank next < rank (Part.Size place)) }
 {
     match take_line(source, tally, line, MAX_CHUNK_LINE) {
@@ -233,9 +229,7 @@ fn take_size<S: Source>(
             if is_no_size(line.as_slice()) {
                 return Err(HttpFault::Body { place });
             }
-            Err(HttpFault::Ended {
-                taken: tally.taken,
-            })
+            Err(HttpFault::Ended { taken: tally.taken })
         }
         Err(fault) => Err(fault),
     }
@@ -273,10 +267,10 @@ fn take_gap<S: Source>(
     requires within { tally.old.turns ≤ 6000 }
     ensures part { (added : List ℕ)
         × Took added (failed result) tally.old tally.new
-            (told S.given S.left S.counts S.ended S.name source.old)
-            (told S.given S.left S.counts S.ended S.name source.new)
+        (told S.given S.left S.counts S.ended S.name source.old)
+        (told S.given S.left S.counts S.ended S.name source.new)
         × ((body : List ℕ) → TakesPart result (Part.Gap place) line.old.items body added line.new.items body
-            (told S.given S.left S.counts S.ended S.name source.new) tally.new) }
+        (told S.given S.left S.counts S.ended S.name source.new) tally.new) }
     ensures on { IfOk result (λ next. rank next < rank (Part.Gap place)) }
 {
     match take_line(source, tally, line, 2) {
@@ -285,18 +279,14 @@ fn take_gap<S: Source>(
                 return Err(HttpFault::Body { place });
             }
             line.clear();
-            Ok(Part::Size {
-                place: tally.taken,
-            })
+            Ok(Part::Size { place: tally.taken })
         }
         Ok(Cut::Full) => Err(HttpFault::Body { place }),
         Ok(Cut::End) => {
             if !begins_gap(line.as_slice()) {
                 return Err(HttpFault::Body { place });
             }
-            Err(HttpFault::Ended {
-                taken: tally.taken,
-            })
+            Err(HttpFault::Ended { taken: tally.taken })
         }
         Err(fault) => Err(fault),
     }
@@ -334,10 +324,10 @@ fn take_trailer<S: Source>(
     requires within { tally.old.turns ≤ 6000 }
     ensures part { (added : List ℕ)
         × Took added (failed result) tally.old tally.new
-            (told S.given S.left S.counts S.ended S.name source.old)
-            (told S.given S.left S.counts S.ended S.name source.new)
+        (told S.given S.left S.counts S.ended S.name source.old)
+        (told S.given S.left S.counts S.ended S.name source.new)
         × ((body : List ℕ) → TakesPart result (Part.Trailer place fields) line.old.items body added line.new.items body
-            (told S.given S.left S.counts S.ended S.name source.new) tally.new) }
+        (told S.given S.left S.counts S.ended S.name source.new) tally.new) }
     ensures on { IfOk result (λ next. rank next < rank (Part.Trailer place fields)) }
 {
     match take_line(source, tally, line, MAX_TRAILER + 2) {
@@ -346,9 +336,7 @@ fn take_trailer<S: Source>(
             None => Err(HttpFault::Body { place }),
         },
         Ok(Cut::Full) => Err(HttpFault::Body { place }),
-        Ok(Cut::End) => Err(HttpFault::Ended {
-            taken: tally.taken,
-        }),
+        Ok(Cut::End) => Err(HttpFault::Ended { taken: tally.taken }),
         Err(fault) => Err(fault),
     }
 }
@@ -366,10 +354,10 @@ pub fn take_part<S: Source>(
     requires within { tally.old.turns ≤ 6000 }
     ensures part { (added : List ℕ)
         × Took added (failed result) tally.old tally.new
-            (told S.given S.left S.counts S.ended S.name source.old)
-            (told S.given S.left S.counts S.ended S.name source.new)
+        (told S.given S.left S.counts S.ended S.name source.old)
+        (told S.given S.left S.counts S.ended S.name source.new)
         × TakesPart result part line.old.items body.old.items added line.new.items body.new.items
-            (told S.given S.left S.counts S.ended S.name source.new) tally.new }
+        (told S.given S.left S.counts S.ended S.name source.new) tally.new }
     ensures on { length body.old.items ≤ 8388608 → IfOk result (λ next. work next (length body.new.items) < work part (length body.old.items)) }
 {
     match part {
@@ -414,10 +402,10 @@ pub fn read_body<S: Source>(
     requires within { tally.old.turns ≤ 6000 }
     ensures body { (bytes : List ℕ)
         × Took bytes (failed result) tally.old tally.new
-            (told S.given S.left S.counts S.ended S.name source.old)
-            (told S.given S.left S.counts S.ended S.name source.new)
+        (told S.given S.left S.counts S.ended S.name source.old)
+        (told S.given S.left S.counts S.ended S.name source.new)
         × BodyAnswer result tally.old.taken framing bytes
-            (told S.given S.left S.counts S.ended S.name source.new) tally.new }
+        (told S.given S.left S.counts S.ended S.name source.new) tally.new }
 {
     let mut part = first_part(framing, tally.taken);
     let mut line = Vec::new(alloc);

@@ -55,7 +55,9 @@ fn count_of(value: &[u8]) -> Option<u64>
         if !digit.is_ascii_digit() {
             return None;
         }
-        count = count.saturating_mul(10).saturating_add((*digit - b'0') as u64);
+        count = count
+            .saturating_mul(10)
+            .saturating_add((*digit - b'0') as u64);
     }
     Some(count)
 }

@@ -83,10 +83,10 @@ pub fn take_head<S: Source>(
     requires within { tally.old.turns ≤ 6000 }
     ensures head { (added : List ℕ)
         × Took added (failed result) tally.old tally.new
-            (told S.given S.left S.counts S.ended S.name source.old)
-            (told S.given S.left S.counts S.ended S.name source.new)
+        (told S.given S.left S.counts S.ended S.name source.old)
+        (told S.given S.left S.counts S.ended S.name source.new)
         × (IsOpenHead kind head.old.items → TakesHead result kind head.old.items added head.new.items
-            (told S.given S.left S.counts S.ended S.name source.new) tally.new) }
+        (told S.given S.left S.counts S.ended S.name source.new) tally.new) }
 {
     'lines: loop {
         match take_line(source, tally, head, MAX_HEAD) {
@@ -99,9 +99,7 @@ pub fn take_head<S: Source>(
             Ok(Cut::End) => match judge(kind, head.as_slice()) {
                 Judged::Never => return Err(HttpFault::Head),
                 _ => {
-                    return Err(HttpFault::Ended {
-                        taken: tally.taken,
-                    });
+                    return Err(HttpFault::Ended { taken: tally.taken });
                 }
             },
             Err(fault) => return Err(fault),
@@ -120,10 +118,10 @@ pub fn read_head<S: Source>(
     requires first { tally.old.taken ≡ 0 }
     ensures head { (bytes : List ℕ)
         × Took bytes (failed result) tally.old tally.new
-            (told S.given S.left S.counts S.ended S.name source.old)
-            (told S.given S.left S.counts S.ended S.name source.new)
+        (told S.given S.left S.counts S.ended S.name source.old)
+        (told S.given S.left S.counts S.ended S.name source.new)
         × HeadAnswer result kind bytes
-            (told S.given S.left S.counts S.ended S.name source.new) tally.new }
+        (told S.given S.left S.counts S.ended S.name source.new) tally.new }
 {
     let mut head = Vec::new(alloc);
     match take_head(source, tally, kind, &mut head) {

@@ -105,7 +105,13 @@ impl<S: Source> Lines<S> {
                     taken: self.tally.taken,
                 });
             }
-            match take_part(&mut self.source, &mut self.tally, part, &mut self.line, &mut self.kept) {
+            match take_part(
+                &mut self.source,
+                &mut self.tally,
+                part,
+                &mut self.line,
+                &mut self.kept,
+            ) {
                 Ok(next) => part = next,
                 Err(fault) => return Err(fault),
             }
@@ -129,7 +135,12 @@ impl<S: Source> Lines<S> {
         requires { self.old.tally.turns ≤ 6000 }
         ensures { self.new.tally.turns ≤ 6000 }
     {
-        match take_head(&mut self.source, &mut self.tally, Kind::Response, &mut self.line) {
+        match take_head(
+            &mut self.source,
+            &mut self.tally,
+            Kind::Response,
+            &mut self.line,
+        ) {
             Ok(()) => {
                 let framing = response_framing(self.line.as_slice())?;
                 let part = first_part(framing, self.tally.taken);

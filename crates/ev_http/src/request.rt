@@ -119,22 +119,22 @@ fn read_counted(head: &[u8], fields: &[HeaderSpan]) -> Result<u64, usize>
 }
 
 /// Reads one request to the gateway, and takes no byte behind it (RFC 9112): where it goes, and its body.
-pub fn read_request<S: Source>(
-    alloc: Global,
-    source: &mut S,
-) -> Result<(Route, Vec<u8>), HttpFault>
+pub fn read_request<S: Source>(alloc: Global, source: &mut S) -> Result<(Route, Vec<u8>), HttpFault>
     ensures { (bytes : List ℕ) × (tally : Tally)
         × Took bytes (failed result) fresh tally
-            (told S.given S.left S.counts S.ended S.name source.old)
-            (told S.given S.left S.counts S.ended S.name source.new)
+        (told S.given S.left S.counts S.ended S.name source.old)
+        (told S.given S.left S.counts S.ended S.name source.new)
         × RequestAnswer result bytes
-            (told S.given S.left S.counts S.ended S.name source.new) tally }
+        (told S.given S.left S.counts S.ended S.name source.new) tally }
 {
     let mut tally = Tally::new();
     match read_head(alloc, source, &mut tally, Kind::Request) {
         Ok(head) => match request_framing(head.as_slice()) {
             Ok((route, count)) => {
-                with_route(route, read_body(alloc, source, &mut tally, Framing::Counted(count)))
+                with_route(
+                    route,
+                    read_body(alloc, source, &mut tally, Framing::Counted(count)),
+                )
             }
             Err(fault) => Err(fault),
         },

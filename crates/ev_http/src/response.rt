@@ -58,10 +58,10 @@ pub fn response_framing(head: &[u8]) -> Result<Framing, HttpFault>
 pub fn read_response<S: Source>(alloc: Global, source: &mut S) -> Result<Vec<u8>, HttpFault>
     ensures { (bytes : List ℕ) × (tally : Tally)
         × Took bytes (failed result) fresh tally
-            (told S.given S.left S.counts S.ended S.name source.old)
-            (told S.given S.left S.counts S.ended S.name source.new)
+        (told S.given S.left S.counts S.ended S.name source.old)
+        (told S.given S.left S.counts S.ended S.name source.new)
         × ResponseAnswer result bytes
-            (told S.given S.left S.counts S.ended S.name source.new) tally }
+        (told S.given S.left S.counts S.ended S.name source.new) tally }
 {
     let mut tally = Tally::new();
     match read_head(alloc, source, &mut tally, Kind::Response) {

@@ -61,7 +61,12 @@ fn text_of(fixed: Fixed) -> &'static str
     }
 }
 
-fn request_head(alloc: Global, host: &str, route: Route, length: usize) -> Result<String, AllocError>
+fn request_head(
+    alloc: Global,
+    host: &str,
+    route: Route,
+    length: usize,
+) -> Result<String, AllocError>
     ensures { IfOk result (λ text. string_bytes text ≡ request_head host.now route length) }
 {
     let post = text_of(Fixed::Post);

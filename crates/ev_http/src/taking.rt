@@ -93,10 +93,10 @@ pub fn take_line<S: Source>(
     requires within { tally.old.turns ≤ 6000 }
     ensures line { (added : List ℕ)
         × Took added (failed result) tally.old tally.new
-            (told S.given S.left S.counts S.ended S.name source.old)
-            (told S.given S.left S.counts S.ended S.name source.new)
+        (told S.given S.left S.counts S.ended S.name source.old)
+        (told S.given S.left S.counts S.ended S.name source.new)
         × TakesLine result line.old.items added line.new.items limit
-            (told S.given S.left S.counts S.ended S.name source.new) tally.new }
+        (told S.given S.left S.counts S.ended S.name source.new) tally.new }
 {
     'bytes: while line.len() < limit {
         let Some(byte) = next_byte(source, tally)? else {

@@ -41,10 +41,9 @@ pub returns-else-not-is_gap-clause-part : goal.returns-else-not-is_gap-clause-pa
 returns-else-not-is_gap-clause-part g c =
     let source = told g.S.Source.given g.S.Source.left g.S.Source.counts g.S.Source.ended g.S.Source.name c.take_line.new.source in
     let got = rw c.in-Ok-LineFeed.field-0-is at c.in-Ok-LineFeed.ensures.line in
-    let same = subst (λ (x : List ℕ). x ≡ 13 ∷ 10 ∷ []) c.as_slice.ensures.value (c.is_gap.ensures.yes (search rules)) in
-    (
-        got.0,
-        got.1,
-        λ body. subst (λ (x : List ℕ). TakesPart (Ok (part.Size c.take_line.new.tally.taken)) (part.Gap c.args.place) c.args.line.now.items body got.0 x body source c.take_line.new.tally) (sym c.clear.ensures.items)
-        (gap_whole c.args.place 2 c.args.line.now.items got.0 c.take_line.new.line.items body source c.take_line.new.tally got.2 same),
-      )
+    let same = subst (λ (x : List ℕ). x ≡ 13 ∷ 10 ∷ []) c.as_slice.ensures.value (c.is_gap.ensures.yes (search rules)) in (
+      got.0,
+      got.1,
+      λ body. subst (λ (x : List ℕ). TakesPart (Ok (part.Size c.take_line.new.tally.taken)) (part.Gap c.args.place) c.args.line.now.items body got.0 x body source c.take_line.new.tally) (sym c.clear.ensures.items)
+          (gap_whole c.args.place 2 c.args.line.now.items got.0 c.take_line.new.line.items body source c.take_line.new.tally got.2 same),
+    )

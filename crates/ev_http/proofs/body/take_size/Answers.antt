@@ -35,13 +35,12 @@ pub returns-in-Some-clause-part : goal.returns-in-Some-clause-part
 returns-in-Some-clause-part g c =
     let source = told g.S.Source.given g.S.Source.left g.S.Source.counts g.S.Source.ended g.S.Source.name c.take_line.new.source in
     let got = rw c.in-Ok-LineFeed.field-0-is at c.in-Ok-LineFeed.ensures.line in
-    let answer = subst (λ (x : List ℕ). IsLine x → SizeAnswer (Some c.in-Some.part) c.args.place c.take_line.new.tally.taken x) c.as_slice.ensures.value c.in-Some.ensures.answer in
-    (
-        got.0,
-        got.1,
-        λ body. subst (λ (x : List ℕ). TakesPart (Ok c.in-Some.part) (part.Size c.args.place) c.args.line.now.items body got.0 x body source c.take_line.new.tally) (sym c.clear.ensures.items)
-        (size_whole c.in-Some.part c.args.place c.args.line.now.items got.0 c.take_line.new.line.items body 1026 source c.take_line.new.tally got.2 answer),
-      )
+    let answer = subst (λ (x : List ℕ). IsLine x → SizeAnswer (Some c.in-Some.part) c.args.place c.take_line.new.tally.taken x) c.as_slice.ensures.value c.in-Some.ensures.answer in (
+      got.0,
+      got.1,
+      λ body. subst (λ (x : List ℕ). TakesPart (Ok c.in-Some.part) (part.Size c.args.place) c.args.line.now.items body got.0 x body source c.take_line.new.tally) (sym c.clear.ensures.items)
+          (size_whole c.in-Some.part c.args.place c.args.line.now.items got.0 c.take_line.new.line.items body 1026 source c.take_line.new.tally got.2 answer),
+    )
 
 pub returns-in-None-clause-part : goal.returns-in-None-clause-part
 returns-in-None-clause-part g c =

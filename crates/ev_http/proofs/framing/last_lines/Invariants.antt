@@ -9,6 +9,6 @@ abbrev pub invariant-lines : goal.invariant-lines
 invariant-lines l = record {
   within : l.end ≤ length l.bytes;
   begins :
-    (before : List ℕ) (lines : List (List ℕ)) → l.bytes ≡ before ++ joined lines → All IsLine lines → length lines ≡ l.count → EndsInFeed before
-    → l.end ≡ length (before ++ joined (take (l.count - l.counter) lines));
+      (before : List ℕ) (lines : List (List ℕ)) → l.bytes ≡ before ++ joined lines → All IsLine lines → length lines ≡ l.count → EndsInFeed before
+      → l.end ≡ length (before ++ joined (take (l.count - l.counter) lines));
 }

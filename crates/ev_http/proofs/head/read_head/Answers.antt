@@ -15,7 +15,7 @@ returns-in-Err g c =
         got.0,
         got.1,
         stops_in_head (Vec ℕ) c.in-Err.fault c.args.kind got.0 c.take_head.new.head.items source c.take_head.new.tally
-        (subst (λ (x : List ℕ). TakesHead (Err c.in-Err.fault) c.args.kind x got.0 c.take_head.new.head.items source c.take_head.new.tally) c.new-head.ensures.items (got.2 (subst (λ (x : List ℕ). IsOpenHead c.args.kind x) (sym c.new-head.ensures.items) (IsOpenHead-nil c.args.kind)))) c.args.tally.now.taken c.requires.first got.1.taken,
+            (subst (λ (x : List ℕ). TakesHead (Err c.in-Err.fault) c.args.kind x got.0 c.take_head.new.head.items source c.take_head.new.tally) c.new-head.ensures.items (got.2 (subst (λ (x : List ℕ). IsOpenHead c.args.kind x) (sym c.new-head.ensures.items) (IsOpenHead-nil c.args.kind)))) c.args.tally.now.taken c.requires.first got.1.taken,
       );
     }
 

@@ -21,6 +21,6 @@ returns-in-Err c = λ h is eq few.
       search rules,
       c.in-Err.number,
       ap (λ x. whole_framing kind.Request (length h.fields) (framing_after kind.Request ToEnd x)) (sym at.fields)
-      ∙ ap (λ n. whole_framing kind.Request n (framing_after kind.Request ToEnd (map (header_bytes c.args.head.now) (take spans.headers fields)))) (count ∙ sym inside) ∙ broken,
+          ∙ ap (λ n. whole_framing kind.Request n (framing_after kind.Request ToEnd (map (header_bytes c.args.head.now) (take spans.headers fields)))) (count ∙ sym inside) ∙ broken,
       c.place_of.ensures kind.Request h.fields (h, is, refl, eq) count (omega (arith, few, count)) (omega (arith, within, inside)),
     )

@@ -13,7 +13,7 @@ returns-then-is_err g c =
 pub bytes-preserved : goal.bytes-preserved
 bytes-preserved g c =
     let pushed : c.push.new.self.items ≡ c.bytes.line.items ++ c.in-Some.byte ∷ [] = search rules in (
-  c.bytes.invariant.0 ++ c.in-Some.byte ∷ [],
-  Took-append _ _ _ _ _ _ _ _ _ c.bytes.invariant.1 (search rules),
-  subst (λ (x : List ℕ). Grows c.args.line.now.items (c.bytes.invariant.0 ++ c.in-Some.byte ∷ []) x c.args.limit) (sym pushed) (Grows-push _ _ _ _ _ c.bytes.invariant.2 (search rules) c.if-byte-eq10.false),
-)
+      c.bytes.invariant.0 ++ c.in-Some.byte ∷ [],
+      Took-append _ _ _ _ _ _ _ _ _ c.bytes.invariant.1 (search rules),
+      subst (λ (x : List ℕ). Grows c.args.line.now.items (c.bytes.invariant.0 ++ c.in-Some.byte ∷ []) x c.args.limit) (sym pushed) (Grows-push _ _ _ _ _ c.bytes.invariant.2 (search rules) c.if-byte-eq10.false),
+    )
