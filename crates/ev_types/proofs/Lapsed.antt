@@ -1,17 +1,18 @@
 -- A lease that lapsed, and a put of another user.
-use Rattle.std.proofs.Common.{◌≡◌, ℕ, ◌≤◌, ◌||◌, Bool, true, false, cond, not, ℤ, pos, ◌+ℤ◌, List, [], ◌∷◌, length, Option, Some, None, refl, sym, ap, ◌∙◌, subst, ⊎_elim}
-use Rattle.std.specs.Prelude.{is_some}
+use Rattle.std.proofs.Common.{◌≡◌, ℕ, ◌≤◌, ◌||◌, Bool, true, false, cond, not, ℤ, pos, ◌+ℤ◌, List, [], ◌∷◌, length, Option, Some, None, refl, sym, ap, ◌∙◌, subst, ⊎_elim, arith}
+use Rattle.std.specs.Prelude.{◌≤ℤ◌, ◌<ℤ◌, is_some}
 use Rattle.std.specs.List.{list_any}
 use Rattle.std.specs.Ordering.{nat_cmp, eq_by_cmp, is_eq}
 use Rattle.std.specs.Cmp.Lexicographic.{slice_cmp, nat_list_cmp_total}
 use Rattle.std.specs.FinMap.{get, insert, remove, retain_keys, get-remove, contains_key-keys}
 use Rattle.std.proofs.lemmas.Cmp.{tied_itself}
-use Rattle.std.proofs.lemmas.Bool.{or_left}
+use Rattle.std.proofs.lemmas.Bool.{or_left, le-ltb, lt-ltb}
+use Rattle.std.proofs.lemmas.Int.{ints}
 use Rattle.zx_base.specs.Maps.{Bytes, same}
 use Rattle.zx_base.proofs.MapLaws.{either, same-refl, same-false, get-insert_same, get-insert_other, get-retain}
 use Rattle.ev_types.specs.declared.answer.Kv.{Kv}
 use Rattle.ev_types.specs.Ranges.{Keys}
-use Rattle.ev_types.specs.Store.{Store, Change, Puts, revision, after_changes, present, store_at, put_over, grown}
+use Rattle.ev_types.specs.Store.{Store, Change, Puts, revision, after_changes, present, store_at, put_over, grown, last_revision, max_revisions}
 use Rattle.ev_types.specs.Denials.{has_lease, is_full}
 use Rattle.ev_types.specs.Lapses.{is_leased, leased_keys, removals, lapse, foreign}
 use Rattle.ev_types.proofs.Grown.{present-grown, earlier-grown, revision-grown}
@@ -83,6 +84,15 @@ lapsed s new id e =
     let c = chosen (not (has_lease s id) || is_full s (removals (leased_keys s id))) (grown (without s id) (removals (leased_keys s id))) new e in
     record { there = was_there (has_lease s id) _ c.0; is = sym c.1 }
 
+has_room : (s : Store) (cs : List Change) → revision s <ℤ last_revision → is_full s cs ≡ false
+has_room s [] room = refl
+has_room s (c ∷ cs) room = ap not (lt-ltb (length s.revisions) max_revisions (omega (arith, ints)))
+
+pub lapse-lapses : (s : Store) (id : ℤ) → has_lease s id ≡ true → revision s <ℤ last_revision → (new : Store) × (lapse s id ≡ Some new)
+unfolding lapse
+lapse-lapses s id there room =
+    (grown (without s id) (removals (leased_keys s id)), rw (there, has_room s (removals (leased_keys s id)) room) refl)
+
 pub lapse-zero : (s : Store) → lapse s (pos 0) ≡ None
 unfolding lapse
 lapse-zero s = refl
@@ -137,6 +147,14 @@ get-put m k q kv = ⊎_elim
     (λ e. subst (λ (x : Bytes). get (insert m k kv) x ≡ cond (same x k) (Some kv) (get m x)) (sym e) (get-insert_same m k kv ∙ sym (ap (λ b. cond b (Some kv) (get m k)) (same-refl k))))
     (λ n. get-insert_other m k q kv n ∙ sym (ap (λ b. cond b (Some kv) (get m q)) (same-false q k n)))
     (either q k)
+
+pub foreign-puts : (s : Store) (k v : Bytes) → revision s <ℤ last_revision → (new : Store) × (foreign s k v ≡ Some new)
+unfolding foreign
+foreign-puts s k v room = (grown s (Puts k v (pos 0) ∷ []), rw (has_room s (Puts k v (pos 0) ∷ []) room) refl)
+
+pub foreign-full : (s : Store) (k v : Bytes) → last_revision ≤ℤ revision s → foreign s k v ≡ None
+unfolding foreign
+foreign-full s k v full = ap (λ b. cond b None (Some (grown s (Puts k v (pos 0) ∷ [])))) (ap not (le-ltb (length s.revisions) max_revisions (omega (arith, ints))))
 
 pub foreign-one : (s new : Store) (k v : Bytes) → foreign s k v ≡ Some new → revision new ≡ revision s +ℤ pos 1
 foreign-one s new k v e = ap revision (put_foreign s new k v e) ∙ revision-grown s _ _

@@ -15,11 +15,11 @@ use Rattle.zk_transcript.specs.History.{State, after}
 use Rattle.zk_transcript.specs.Answers.{plain_request, told}
 use Rattle.zk_model.specs.Watches.{no_watches}
 use Rattle.zt_text.specs.Transcripts.{IsWellFormed}
-use Rattle.zp_alone.specs.Runs.{IsAnswerLine, AreNumbered, frames_of}
+use Rattle.zp_alone.specs.Runs.{IsAnswerLine, AreNumbered, AreOneByOne, frames_of, sends_of}
 use Rattle.zn_ops.specs.Built.{is_built_request}
 use Rattle.zk_jute.proofs.Lists.{both_of}
 use Rattle.zk_transcript.proofs.Quiet.{IsQuiet, open_quiet, frame_quiet, send_quiet, after-quiet, is_legal-quiet, is_ordered-quiet}
-use Rattle.zp_alone.proofs.Counts.{frames_of-append}
+use Rattle.zp_alone.proofs.Counts.{frames_of-append, sends_of-append}
 use Rattle.zn_layout.specs.StandsFor.{StandsFor}
 use Rattle.zn_ops.specs.declared.requests.Answered.{Answered}
 use Rattle.zn_ops.specs.declared.requests.Answered.TheVariants.{Repeats, Looked, Updated}
@@ -33,7 +33,7 @@ use Rattle.zk_transcript.proofs.SoundHistories.{legal-sound}
 use Rattle.zp_alone.proofs.Linked.{linked-push, linked-open}
 use Rattle.zp_alone.proofs.Silent.{silent-push, silent-send, silent-open}
 use Rattle.zp_alone.proofs.Talked.{talks-open, talks-frame, talks-plain, talks-looked, talks-updated}
-use Rattle.zp_alone.proofs.Walked.{one_frame}
+use Rattle.zp_alone.proofs.Walked.{one_frame, same_number}
 use Rattle.zp_alone.proofs.Updated.{asked_commit-of, kept-asked}
 use Rattle.zk_model.specs.Limits.{max_frame, max_long}
 
@@ -188,8 +188,30 @@ numbered-one c clock q told old new (Looked reply zxid) more answers h = subst (
 numbered-one c clock q told old new (Updated reply zxid) more answers h =
     (answers.1 ∙ ap pos answers.0, subst (λ (z : ℤ). AreNumbered z more) (sym answers.1) h)
 
+-- and carries out the request that is answered next
+sends-packet : (c : ℕ) (packet : List ℕ) → sends_of c (Send c packet ∷ []) ≡ 1
+sends-packet c packet = rw (same_number c) refl
+
+sends-more : (c : ℕ) (lines : List TranscriptLine) (packet : List ℕ) → sends_of c (lines ++ Send c packet ∷ []) ≡ sends_of c lines + 1
+sends-more c lines packet = omega (arith, sends_of-append c lines (Send c packet ∷ []), sends-packet c packet)
+
+sends-update : (c i now : ℕ) (zxid : ℤ) (lines : List TranscriptLine) (packet : List ℕ) → sends_of c (lines ++ (asked_line c i now zxid ∷ Send c packet ∷ [])) ≡ sends_of c lines + 1
+sends-update c i now zxid lines packet = omega (arith, sends_of-append c lines (asked_line c i now zxid ∷ Send c packet ∷ []), sends-packet c packet)
+
+index-next : (c : ℕ) (w : World) (q : Waiting) (qs : List Waiting) → w.connection ≡ Some c → w.waiting ≡ q ∷ qs → IsKept w → q.index ≡ sends_of c w.lines + 1
+index-next c w q qs linked oldest k =
+    let talks : Talks c w.lines (q ∷ qs) w.told = subst (λ (ws : List Waiting). Talks c w.lines ws w.told) oldest (talking c w linked k.keeps).talks in
+    talks.queued.0.index ∙ sym talks.counted.sent
+
+one_by_one-one : (c : ℕ) (w : World) (q : Waiting) (qs : List Waiting) (a : Answered) (more : List TranscriptLine) → w.connection ≡ Some c → w.waiting ≡ q ∷ qs → IsKept w
+    → AreOneByOne (sends_of c (w.lines ++ answer_lines c w.clock q w.told a)) more → AreOneByOne (sends_of c w.lines) (answer_lines c w.clock q w.told a ++ more)
+one_by_one-one c w q qs (Repeats reply) more linked oldest k h = subst (λ (n : ℕ). AreOneByOne n more) (sends-more c w.lines (reply_packet q.xid w.told reply)) h
+one_by_one-one c w q qs (Looked reply zxid) more linked oldest k h = subst (λ (n : ℕ). AreOneByOne n more) (sends-more c w.lines (reply_packet q.xid zxid reply)) h
+one_by_one-one c w q qs (Updated reply zxid) more linked oldest k h =
+    (index-next c w q qs linked oldest k, subst (λ (n : ℕ). AreOneByOne n more) (sends-update c q.index w.clock zxid w.lines (reply_packet q.xid zxid reply)) h)
+
 pub answers-none : (c : ℕ) (w : World) → AnswersSome c w w
-answers-none c w = record { kept = λ linked k. k; connection = refl; clock = refl; added = []; lines = sym (append-nil w.lines); each = All-nil (IsAnswerLine c w.clock); numbered = λ more h. h }
+answers-none c w = record { kept = λ linked k. k; connection = refl; clock = refl; added = []; lines = sym (append-nil w.lines); each = All-nil (IsAnswerLine c w.clock); numbered = λ more h. h; one_by_one = λ linked k more h. h }
 
 answers-then : (c : ℕ) (first mid : World) (q : Waiting) (qs : List Waiting) (store : Store) (a : Answered) → AnswersSome c first mid
     → mid.waiting ≡ q ∷ qs → HasRoom mid.store → Answers mid.store store q.request mid.clock a
@@ -204,6 +226,8 @@ answers-then c first mid q qs store a some oldest room answers formed = record {
       (subst (λ (n : ℕ). All (IsAnswerLine c n) (answer_lines c mid.clock q mid.told a)) some.clock (answer_lines-each c mid.clock q mid.told a));
   numbered = λ more h. subst (AreNumbered (revision first.store)) (sym (append_assoc some.added (answer_lines c mid.clock q mid.told a) more))
       (some.numbered (answer_lines c mid.clock q mid.told a ++ more) (numbered-one c mid.clock q mid.told mid.store store a more answers h));
+  one_by_one = λ linked k more h. subst (AreOneByOne (sends_of c first.lines)) (sym (append_assoc some.added (answer_lines c mid.clock q mid.told a) more))
+      (some.one_by_one linked k (answer_lines c mid.clock q mid.told a ++ more) (one_by_one-one c mid q qs a more (some.connection ∙ linked) oldest (some.kept linked k) h));
 }
 
 pub answers-more : (c : ℕ) (first mid last : World) → AnswersSome c first mid → AnswersOne c mid last → AnswersSome c first last

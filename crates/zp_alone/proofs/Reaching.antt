@@ -19,7 +19,7 @@ use Rattle.zk_transcript.specs.Legal.{Tick, is_legal, is_ordered, may_update}
 use Rattle.zk_transcript.specs.Conversations.{IsServedAlone}
 use Rattle.zk_transcript.specs.Walks.{walk, packets, all_choices}
 use Rattle.zt_text.specs.Transcripts.{IsWellFormed}
-use Rattle.zp_alone.specs.Runs.{IsAnswerLine, AreNumbered, IsAddedBy, clock_after, why_not, is_open, is_opening, is_built, refused_if, frames_of, sends_of, begin_line, Run, new_run, run_after, Happens, Runs, IsOneRun}
+use Rattle.zp_alone.specs.Runs.{IsAnswerLine, AreNumbered, AreOneByOne, IsAddedBy, clock_after, why_not, is_open, is_opening, is_built, refused_if, frames_of, sends_of, begin_line, Run, new_run, run_after, Happens, Runs, IsOneRun}
 use Rattle.zn_ops.specs.Built.{is_built_request}
 use Rattle.zp_alone.proofs.Counts.{frames_of-append, before_close}
 use Rattle.zp_alone.proofs.Happened.{within-new, within-runs, RunsFrom-push, punctual-happens, shown-happens}
@@ -173,7 +173,8 @@ plays-settle old new c possible some idle = λ hs r.
     omega (arith, queued, t.talks.counted.sent, ap (sends_of c) some.lines, ap (frames_of c) some.lines, frames_of-append c old.lines some.added, no_frames c old.clock some.added some.each) in
     let numbered : AreNumbered (after old.lines).zxid some.added =
     subst (λ (z : ℤ). AreNumbered z some.added) r.kept.kept.revision (subst (AreNumbered (revision old.store)) (append-nil some.added) (some.numbered [] tt)) in
-    reached-more hs (line.Settle c) old new some.added r possible (record { each = some.each; numbered = numbered; answered = answered }) some.lines some.clock k
+    let one_by_one : AreOneByOne (sends_of c old.lines) some.added = subst (AreOneByOne (sends_of c old.lines)) (append-nil some.added) (some.one_by_one linked r.kept [] tt) in
+    reached-more hs (line.Settle c) old new some.added r possible (record { each = some.each; numbered = numbered; one_by_one = one_by_one; answered = answered }) some.lines some.clock k
 
 -- ---- the world begins
 

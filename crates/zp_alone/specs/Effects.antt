@@ -9,7 +9,7 @@ use Rattle.zk_transcript.specs.declared.transcript.UpdateKind.TheVariants.{Asked
 use Rattle.zk_jute.specs.Packets.{reply_packet}
 use Rattle.zk_transcript.specs.History.{after}
 use Rattle.zt_text.specs.Transcripts.{IsWellFormed}
-use Rattle.zp_alone.specs.Runs.{IsAnswerLine, AreNumbered, begin_line}
+use Rattle.zp_alone.specs.Runs.{IsAnswerLine, AreNumbered, AreOneByOne, begin_line, sends_of}
 use Rattle.zn_layout.specs.StandsFor.{StandsFor}
 use Rattle.zn_ops.specs.declared.requests.Answered.{Answered}
 use Rattle.zn_ops.specs.declared.requests.Answered.TheVariants.{Repeats, Looked, Updated}
@@ -94,3 +94,4 @@ pub record AnswersSome (c : ℕ) (old new : World) : Type 0 where
   pub each : All (IsAnswerLine c old.clock) added
   -- the updates among them made the revisions between the two stores
   pub numbered : (more : List TranscriptLine) → AreNumbered (revision new.store) more → AreNumbered (revision old.store) (added ++ more)
+  pub one_by_one : old.connection ≡ Some c → IsKept old → (more : List TranscriptLine) → AreOneByOne (sends_of c new.lines) more → AreOneByOne (sends_of c old.lines) (added ++ more)

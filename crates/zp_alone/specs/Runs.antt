@@ -81,10 +81,24 @@ AreNumbered last [] = ⊤
 AreNumbered last (Update u ∷ lines) = (u.zxid ≡ last +ℤ pos 1) × AreNumbered u.zxid lines
 AreNumbered last (_ ∷ lines) = AreNumbered last lines
 
+-- an update carries out the frame behind those that so many packets answered
+abbrev pub IsAskedNext : ℕ → UpdateKind → Type 0
+IsAskedNext sent (Asked c i now) = i ≡ sent + 1
+IsAskedNext sent _ = ⊥
+
+-- One request is out at a time: where so many packets were sent before these lines, no update stands before the answers to all
+-- earlier frames. Of frames 1 and 2, both creates, the lines are update, packet, update, packet.
+abbrev pub AreOneByOne : ℕ → List TranscriptLine → Type 0
+AreOneByOne sent [] = ⊤
+AreOneByOne sent (Update u ∷ lines) = IsAskedNext sent u.kind × AreOneByOne sent lines
+AreOneByOne sent (Send c bytes ∷ lines) = AreOneByOne (sent + 1) lines
+AreOneByOne sent (_ ∷ lines) = AreOneByOne sent lines
+
 -- all frames of c are answered
 pub record AnswersAllFrames (c clock : ℕ) (lines added : List TranscriptLine) : Type 0 where
   pub each : All (IsAnswerLine c clock) added
   pub numbered : AreNumbered (after lines).zxid added
+  pub one_by_one : AreOneByOne (sends_of c lines) added
   pub answered : sends_of c (lines ++ added) ≡ frames_of c lines
 
 abbrev pub IsAddedBy : Happening → ℕ → List TranscriptLine → List TranscriptLine → Type 0

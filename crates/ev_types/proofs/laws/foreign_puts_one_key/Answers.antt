@@ -1,5 +1,11 @@
-use Rattle.ev_types.proofs.Lapsed.{foreign-keys, foreign-leases, foreign-one, foreign-earlier}
+use Rattle.ev_types.proofs.Lapsed.{foreign-puts, foreign-full, foreign-keys, foreign-leases, foreign-one, foreign-earlier}
 use Rattle.ev_types.proofs.laws.foreign_puts_one_key.Goals as goal
+
+pub returns-clause-puts : goal.returns-clause-puts
+returns-clause-puts c = foreign-puts
+
+pub returns-clause-full : goal.returns-clause-full
+returns-clause-full c = foreign-full
 
 pub returns-clause-keys : goal.returns-clause-keys
 returns-clause-keys c = foreign-keys
