@@ -36,6 +36,6 @@ if_closed _ = 0
 abbrev pub IsLagged : Fed → Type 0
 IsLagged answer = if_lagged answer ≡ 1
 
--- the list was read once. Or it was not read, since the writer is gone: then memory is said to be wanted, and all is as before
+-- the list was read once. Or it was not read: then the answer is `Memory`, and the list that was read last stays the same
 abbrev pub IsOneRead : Fed → ℕ → ℕ → Published → Published → Type 0
 IsOneRead answer before after old new = (after ≡ before + 1) ⊎ ((answer ≡ fed.Memory) × (after ≡ before) × (new ≡ old))

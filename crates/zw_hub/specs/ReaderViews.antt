@@ -6,6 +6,7 @@ use Rattle.zw_hub.specs.Readers.{ReaderState}
 
 abbrev pub reading : Inside → ReaderState
 reading r = record {
+  table = r.reader.place.table_id;
   list = (view r.reader.place).list;
   reads = (view r.reader.place).steps;
   lags = length r.lags.items;

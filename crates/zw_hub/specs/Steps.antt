@@ -5,6 +5,7 @@
 --   a reader leaves                            no view changes
 --   a reader's place is handed out             the new view: nothing seen
 --   a reader's place is given back             no view changes
+--   the writer ends                            no view changes, and no reader enters any more
 use Rattle.std.specs.Prelude.{◌≡◌, ℕ, ◌+◌, ◌<◌, pos, List}
 use mathlib.Core.Option.{some}
 use lib.ListN.{get_elem?}

@@ -1,6 +1,7 @@
 //! A hub with its readers.
 
 ghost use Rattle.std.specs.Prelude.{◌≡◌, All, IfOk, vec_len};
+ghost use Rattle.std.specs.Arc.{arc_value};
 ghost use Rattle.zw_hub.specs.Hubs.{new_hub};
 ghost use Rattle.zw_hub.specs.Readers.{new_reader};
 
@@ -24,9 +25,9 @@ pub fn hub<R: Wait + Drop>(
     first: i64,
     readers: usize,
 ) -> Result<(Hub<R>, Vec<HubReader>), Memory>
-    ensures hub { IfOk result (λ made. made.0 ≡ new_hub first) }
+    ensures hub { IfOk result (λ made. made.0 ≡ new_hub made.0.table first) }
     ensures count { IfOk result (λ made. vec_len made.1 ≡ readers) }
-    ensures readers { IfOk result (λ made. All (λ reader. reader ≡ new_reader) made.1.items) }
+    ensures readers { IfOk result (λ made. All (λ reader. reader ≡ new_reader made.0.table) made.1.items) }
 {
     if readers > MAX_READERS {
         return Err(Memory);
@@ -43,7 +44,7 @@ fn readers_of(
     count: usize,
 ) -> Result<Vec<HubReader>, Memory>
     ensures count { IfOk result (λ readers. vec_len readers ≡ count) }
-    ensures readers { IfOk result (λ readers. All (λ reader. reader ≡ new_reader) readers.items) }
+    ensures readers { IfOk result (λ readers. All (λ reader. reader ≡ new_reader (arc_value places.now.board).shared.table_id) readers.items) }
 {
     let mut readers = Vec::with_capacity(alloc, count)?;
     for _ in 0..count {

@@ -60,7 +60,7 @@ impl HubReader {
 
     pub(crate) fn over(reader: ListReader) -> HubReader
         requires { view reader.place ≡ nothing_seen }
-        ensures { result ≡ new_reader }
+        ensures { result ≡ new_reader reader.place.table_id }
     {
         HubReader {
             reader,

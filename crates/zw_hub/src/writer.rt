@@ -38,7 +38,7 @@ impl<R: Wait + Drop> Model for Hub<R> {
 
     ghost Value = { HubState };
 
-    ghost view = { λ h. record { list = h.writer.desk.shown.value; steps = (sides.view h.writer.desk.place).steps; is_stuck = h.is_stuck } };
+    ghost view = { λ h. record { table = h.writer.desk.place.table_id; list = h.writer.desk.shown.value; steps = (sides.view h.writer.desk.place).steps; is_stuck = h.is_stuck } };
 
     // No change waits where it is not stuck, and its own view is the list that it published.
     ghost invariant = { λ h. (h.is_stuck ≡ false → drop h.writer.behind h.writer.log.items ≡ [])
@@ -82,6 +82,7 @@ impl<R: Wait + Drop> Hub<R> {
     pub(crate) fn over(writer: ListWriter, alloc: Global, rt: R) -> Hub<R>
         requires none_waits { drop writer.behind writer.log.items ≡ [] }
         requires nothing { view writer.desk.place ≡ nothing_seen }
+        ensures table { result.table ≡ writer.desk.place.table_id }
         ensures list { result.list ≡ writer.desk.shown.value }
         ensures steps { result.steps ≡ 0 }
         ensures works { result.is_stuck ≡ false }
@@ -94,7 +95,9 @@ impl<R: Wait + Drop> Hub<R> {
         }
     }
 
-    pub(crate) fn factory(&self) -> &Factory<Window, View, Growing> {
+    pub(crate) fn factory(&self) -> &Factory<Window, View, Growing>
+        ensures { (arc_value result.now.board).shared.table_id ≡ self.now.table }
+    {
         self.writer.factory()
     }
 
