@@ -1,6 +1,5 @@
 -- How a body that comes piece by piece goes on.
-use Rattle.std.proofs.Common.{◌≡◌, ◌≢◌, ℕ, ◌+◌, ◌-◌, ◌<◌, ◌≤◌, List, [], ◌∷◌, ◌++◌, length, Some, None, Ok, Err, Result, zero, suc, refl, sym, ap, subst, ◌∙◌, append_assoc, append-nil, length-append, arith}
-use Rattle.std.specs.Prelude.{Option}
+use Rattle.std.proofs.Common.{◌≡◌, ℕ, ◌+◌, ◌-◌, List, [], ◌++◌, length, Some, None, Ok, Err, zero, suc, sym, ap, subst, ◌∙◌, append_assoc, append-nil, length-append, arith}
 use Rattle.ev_http.specs.declared.fault.HttpFault.{HttpFault}
 use Rattle.ev_http.specs.declared.fault.HttpFault.TheVariants as fault
 use Rattle.ev_http.specs.declared.framing.Framing.{Framing}
@@ -8,10 +7,10 @@ use Rattle.ev_http.specs.declared.framing.Framing.TheVariants as framing
 use Rattle.ev_http.specs.declared.body.Part.{Part}
 use Rattle.ev_http.specs.declared.body.Part.TheVariants as part
 use Rattle.ev_http.specs.declared.taking.Tally.{Tally}
-use Rattle.httparse.specs.Grammar.{ChunkLine, print_chunk_line, chunk_size}
+use Rattle.httparse.specs.Grammar.{print_chunk_line}
 use Rattle.ev_http.proofs.Takings.{no_feed-nil}
-use Rattle.ev_http.specs.Taking.{Told, Ends, counted, HasNoFeed}
-use Rattle.ev_http.specs.Body.{Chunk, print_chunks, contents, Behind, AtContent, AtGap, Came, EndsWhole, PartAnswer, TakesBytes, TakesPart, after_content, Framed}
+use Rattle.ev_http.specs.Taking.{Told, HasNoFeed}
+use Rattle.ev_http.specs.Body.{Chunk, print_chunks, contents, Behind, AtContent, Came, EndsWhole, TakesBytes, TakesPart, after_content, Framed}
 
 nothing : (bytes added : List ℕ) → added ≡ [] → bytes ++ added ≡ bytes
 nothing bytes added e = ap (λ (x : List ℕ). bytes ++ x) e ∙ append-nil bytes

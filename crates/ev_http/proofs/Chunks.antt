@@ -1,22 +1,20 @@
 -- How chunks, what stands between them and trailers go on line by line.
-use Rattle.std.proofs.Common.{◌≡◌, ◌≢◌, ℕ, ◌+◌, ◌-◌, ◌<◌, ◌≤◌, List, [], ◌∷◌, ◌++◌, length, take, drop, Some, None, Ok, Err, zero, suc, refl, sym, ap, subst, ◌∙◌, append_assoc, append-nil, length-append, arith, inl, inr}
-use Rattle.std.specs.Prelude.{Option, Result, ◌⊎◌, All}
+use Rattle.std.proofs.Common.{◌≡◌, ◌≢◌, ℕ, ◌+◌, ◌<◌, ◌≤◌, List, [], ◌∷◌, ◌++◌, length, drop, Some, None, Ok, Err, refl, sym, ap, subst, ◌∙◌, append_assoc, append-nil, length-append, arith, inl, inr}
+use Rattle.std.specs.Prelude.{All}
 use Rattle.std.specs.List.{flat_map}
 use Rattle.std.proofs.Math.Seq.{drop-append_seam}
 use Rattle.std.proofs.lemmas.List.Elements.{All-append, All-cons, All-nil, All-head, All-tail}
 use Rattle.std.proofs.lemmas.Grind.{flat_map-append}
-use Rattle.httparse.specs.Grammar.{LineEnd, print_end, crlf, lf, ChunkLine, IsChunkLine, print_chunk_line, chunk_size, NeverHasChunkLine}
+use Rattle.httparse.specs.Grammar.{LineEnd, print_end, crlf, lf, ChunkLine, print_chunk_line, chunk_size, NeverHasChunkLine}
 use Rattle.httparse.proofs.ChunkLemmas.{chunk_line_unique}
 use Rattle.ev_http.specs.declared.fault.HttpFault.{HttpFault}
 use Rattle.ev_http.specs.declared.fault.HttpFault.TheVariants as fault
 use Rattle.ev_http.specs.declared.framing.Framing.{Framing}
-use Rattle.ev_http.specs.declared.framing.Framing.TheVariants as framing
 use Rattle.ev_http.specs.declared.body.Part.{Part}
 use Rattle.ev_http.specs.declared.body.Part.TheVariants as part
 use Rattle.ev_http.specs.declared.taking.Tally.{Tally}
-use Rattle.ev_http.specs.declared.taking.Cut.TheVariants as cut
 use Rattle.ev_http.specs.Taking.{Told, Ends, counted, HasNoFeed, IsLine, Grows, TakesLine}
-use Rattle.ev_http.specs.Body.{Chunk, IsChunk, print_chunk, IsSizeLine, IsLastLine, print_chunks, contents, IsFieldLine, AreFields, InChunks, Behind, AtSize, AtContent, AtGap, AtTrailer, Came, EndsWhole, IsNoChunk, IsNoTrailer, BreaksAt, PartAnswer, TakesPart, SizeAnswer, TrailerAnswer, Framed}
+use Rattle.ev_http.specs.Body.{Chunk, IsChunk, print_chunk, IsSizeLine, print_chunks, contents, IsFieldLine, AreFields, InChunks, Behind, AtSize, AtGap, AtTrailer, Came, IsNoChunk, IsNoTrailer, BreaksAt, TakesPart, SizeAnswer, TrailerAnswer, Framed}
 use Rattle.ev_http.proofs.Takings.{no_feed-nil}
 use Rattle.ev_http.proofs.Feeds.{same_line, text_short, no_feed-append, no_feed-cons, no_chunk-long, no_chunk-never}
 use Rattle.ev_http.proofs.Bodies.{behind_more, chunk_goes}

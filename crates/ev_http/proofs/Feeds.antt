@@ -1,12 +1,11 @@
 -- Lines end with their first line feed, and so do the lines before chunks.
-use Rattle.std.proofs.Common.{◌≡◌, ◌≢◌, ℕ, ◌+◌, ◌<◌, ◌≤◌, Bool, true, false, List, [], ◌∷◌, ◌++◌, length, suc, refl, sym, ap, subst, ◌∙◌, append_assoc, append-nil, length-append, Option, Some, None, arith}
-use Rattle.std.specs.Prelude.{All}
+use Rattle.std.proofs.Common.{◌≡◌, ◌≢◌, ℕ, ◌≤◌, Bool, true, false, List, [], ◌∷◌, ◌++◌, length, refl, sym, ap, ◌∙◌, append_assoc, append-nil, length-append, Option, Some, None, arith}
 use Rattle.std.proofs.lemmas.List.Elements.{All-weaker, All-append, All-cons, All-nil, All-head, All-tail}
-use Rattle.httparse.specs.Grammar.{AllPass, is_ows, is_extension_byte, ChunkLine, IsChunkLine, IsExtension, print_chunk_line, print_extension, chunk_size, HasNoChunkLine, NeverHasChunkLine, ReadsChunkLine}
+use Rattle.httparse.specs.Grammar.{AllPass, is_ows, is_extension_byte, ChunkLine, IsChunkLine, IsExtension, print_chunk_line, print_extension, chunk_size, HasNoChunkLine, NeverHasChunkLine}
 use Rattle.httparse.specs.Spans.{IsChunkLineAt}
 use Rattle.std.specs.Char.{is_ascii_hexdigit}
 use Rattle.ev_http.specs.Taking.{HasNoFeed, IsLine}
-use Rattle.ev_http.specs.Body.{Chunk, IsChunk, print_chunk, IsSizeLine, IsLastLine, IsNoChunk}
+use Rattle.ev_http.specs.Body.{IsSizeLine, IsNoChunk}
 
 -- a line feed behind bytes without one ends the line
 pub line_once : (text front rest : List ℕ) → HasNoFeed text → text ++ 10 ∷ [] ≡ (front ++ 10 ∷ []) ++ rest → rest ≡ []

@@ -1,6 +1,6 @@
 -- Whole messages.
-use Rattle.std.proofs.Common.{Bool, ◌≡◌, ◌≢◌, ℕ, ◌+◌, ◌-◌, ◌<◌, ◌≤◌, List, [], ◌∷◌, ◌++◌, length, Ok, Err, refl, sym, ap, subst, ◌∙◌, length-append, arith, inl, inr}
-use Rattle.std.specs.Prelude.{Result, ◌⊎◌}
+use Rattle.std.proofs.Common.{Bool, ◌≡◌, ℕ, ◌≤◌, List, [], ◌++◌, length, Ok, Err, refl, sym, subst, ◌∙◌, arith, inl, inr}
+use Rattle.std.specs.Prelude.{Result}
 use Rattle.std.specs.Global.{Vec}
 use Rattle.httparse.specs.Grammar.{Field, ResponseHead, IsResponseHead, print_response, RequestHead, IsRequestHead, print_request}
 use Rattle.ev_types.specs.declared.route.Route.{Route}
@@ -11,10 +11,10 @@ use Rattle.ev_http.specs.declared.framing.Framing.TheVariants as framing
 use Rattle.ev_http.specs.declared.head.Kind.{Kind}
 use Rattle.ev_http.specs.declared.head.Kind.TheVariants as kind
 use Rattle.ev_http.specs.declared.taking.Tally.{Tally}
-use Rattle.ev_http.specs.Taking.{Told, Took, failed, fresh, counted, risen}
-use Rattle.ev_http.specs.Heads.{TakesHead, FitsHead, NeverFits, IsOpenHead, StopsInHead, HeadAnswer}
+use Rattle.ev_http.specs.Taking.{Told, Took, failed, fresh, risen}
+use Rattle.ev_http.specs.Heads.{TakesHead, FitsHead, NeverFits, IsOpenHead, StopsInHead}
 use Rattle.ev_http.specs.Body.{BodyAnswer}
-use Rattle.ev_http.specs.Messages.{JudgesResponse, JudgesRequest, IsWholeResponse, IsWholeRequest, GoesOn, RefusesResponse, ResponseAnswer, GoesOnRequest, RefusesRequest, RequestAnswer, with_route}
+use Rattle.ev_http.specs.Messages.{JudgesResponse, JudgesRequest, ResponseAnswer, RequestAnswer, with_route}
 
 -- a reading that stopped in the head
 pub stops_in_head : (A : Type 0) (e : HttpFault) (k : Kind) (bytes head : List ℕ) (source' : Told) (tally : Tally) → TakesHead (Err e) k [] bytes head source' tally → (start : ℕ) → start ≡ 0 → tally.taken ≡ risen (length bytes) start → StopsInHead {A = A} (Err e) k bytes source' tally

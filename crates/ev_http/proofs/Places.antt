@@ -1,10 +1,10 @@
 -- Where the lines of a head stand.
-use Rattle.std.proofs.Common.{◌≡◌, ◌≢◌, ℕ, ◌+◌, ◌-◌, ◌<◌, ◌≤◌, List, [], ◌∷◌, ◌++◌, length, take, drop, map, suc, zero, refl, sym, ap, subst, ◌∙◌, append_assoc, append-nil, length-append, arith, inl, inr}
-use Rattle.std.specs.Prelude.{All, ◌⊎◌}
+use Rattle.std.proofs.Common.{◌≡◌, ℕ, ◌+◌, ◌-◌, ◌≤◌, List, [], ◌∷◌, ◌++◌, length, take, drop, map, suc, zero, refl, sym, ap, subst, ◌∙◌, append_assoc, append-nil, length-append, arith, inr}
+use Rattle.std.specs.Prelude.{All}
 use Rattle.std.specs.List.{flat_map}
 use Rattle.std.proofs.Math.Seq.{take-append_seam}
 use Rattle.std.proofs.lemmas.List.{take-append-drop}
-use Rattle.std.proofs.Common.{Bool, true, false, length-drop}
+use Rattle.std.proofs.Common.{false, length-drop}
 use Rattle.std.proofs.lemmas.List.Elements.{All-head, All-tail, All-nil, All-cons, All-append, All-take, All-drop}
 use Rattle.httparse.specs.Grammar.{LineEnd, crlf, lf, Field, IsField, is_token_byte, is_value_byte, print_end, print_blank, print_version, print_reason, print_field, print_section, print_response, print_request}
 use Rattle.std.proofs.lemmas.Grind.{flat_map-append}

@@ -1,6 +1,5 @@
 -- A body that is read part by part.
-use Rattle.std.proofs.Common.{◌≡◌, ◌≢◌, ℕ, ◌+◌, ◌-◌, ◌<◌, ◌≤◌, ◌^◌, Bool, true, false, List, [], ◌∷◌, ◌++◌, length, Ok, Err, refl, sym, ap, subst, ◌∙◌, append_assoc, append-nil, length-append, arith}
-use Rattle.std.specs.Prelude.{Result, All}
+use Rattle.std.proofs.Common.{◌≡◌, ◌≢◌, ℕ, ◌+◌, ◌<◌, ◌^◌, List, [], length, Err, refl, ap, arith}
 use Rattle.std.proofs.lemmas.List.Elements.{All-nil}
 use Rattle.ev_http.specs.declared.fault.HttpFault.{HttpFault}
 use Rattle.ev_http.specs.declared.fault.HttpFault.TheVariants as fault
@@ -9,9 +8,9 @@ use Rattle.ev_http.specs.declared.framing.Framing.TheVariants as framing
 use Rattle.ev_http.specs.declared.body.Part.{Part}
 use Rattle.ev_http.specs.declared.body.Part.TheVariants as part
 use Rattle.ev_http.specs.declared.taking.Tally.{Tally}
-use Rattle.ev_http.specs.Taking.{Told, Took, Ends, counted, risen}
-use Rattle.ev_http.specs.Body.{Chunk, IsChunk, Came, EndsWhole, IsOpen, PartAnswer, TakesPart, BodyAnswer, IsTooMuch, IsCut, BreaksAt, first_part, announced}
-use Rattle.ev_http.proofs.Takings.{Took-append, no_feed-nil}
+use Rattle.ev_http.specs.Taking.{Told, counted, risen}
+use Rattle.ev_http.specs.Body.{IsChunk, Came, EndsWhole, IsOpen, PartAnswer, BodyAnswer, first_part}
+use Rattle.ev_http.proofs.Takings.{no_feed-nil}
 
 -- in front of the first byte of a body
 pub came_first : (f : Framing) (start : ℕ) → start < 2 ^ 64 → Came start f (first_part f start) [] [] []

@@ -1,17 +1,13 @@
 -- Writes in a row.
-use Rattle.std.proofs.Common.{◌≡◌, ℕ, ◌+◌, ◌-◌, ◌<◌, ◌≤◌, Bool, true, false, List, [], ◌∷◌, ◌++◌, length, take, drop, Some, None, Ok, Err, Result, refl, sym, ap, subst, ◌∙◌, append_assoc, length-append, length-drop, arith}
-use Rattle.std.specs.Prelude.{Option, unwrap_or, nat_le, nat_lt, ◌&&◌}
-use Rattle.std.proofs.Math.Seq.{take-add, take-append-add}
-use Rattle.std.proofs.lemmas.Bool.{lt-ltb, le-ltb}
-use Rattle.std.specs.Io.KnownBytes.{append_known}
-use Rattle.http.specs.StatusCode.{reason_phrase}
+use Rattle.std.proofs.Common.{◌≡◌, ℕ, ◌+◌, ◌≤◌, List, ◌++◌, length, take, drop, Ok, Err, Result, sym, ap, subst, ◌∙◌, length-append, length-drop, arith}
+use Rattle.std.specs.Prelude.{Option}
+use Rattle.std.proofs.Math.Seq.{take-append-add}
 use Rattle.zx_outside.specs.Counts.{OutputCounts, one_more}
 use Rattle.zx_outside.specs.Writing.{Takes, TakesFront}
 use Rattle.zx_outside.proofs.Streams.{Takes-append, Takes-next}
-use Rattle.std.proofs.lemmas.List.{take-append-le}
 use Rattle.ev_http.specs.declared.fault.HttpFault.{HttpFault}
 use Rattle.ev_http.specs.declared.fault.HttpFault.TheVariants as fault
-use Rattle.ev_http.specs.Sending.{phrase_of, Wrote}
+use Rattle.ev_http.specs.Sending.{Wrote}
 
 -- a front of what is left of a piece
 pub front_next : (bytes : List ℕ) (at : ℕ) (taken taken' taken'' : Option (List ℕ)) → at ≤ length bytes → Takes (take at bytes) taken taken' → TakesFront (drop at bytes) taken' taken'' → TakesFront bytes taken taken''

@@ -1,11 +1,10 @@
 -- What was taken of a source, over calls in a row.
-use Rattle.std.proofs.Common.{◌≡◌, ◌≢◌, ℕ, ◌+◌, ◌-◌, ◌<◌, ◌≤◌, ◌^◌, min, max, Bool, true, false, cond, List, [], ◌∷◌, ◌++◌, length, refl, sym, ap, ◌∙◌, append_assoc, append-nil, length-append, arith}
-use Rattle.std.specs.Prelude.{All}
+use Rattle.std.proofs.Common.{◌≡◌, ◌≢◌, ℕ, ◌+◌, ◌-◌, ◌<◌, ◌≤◌, Bool, false, cond, List, [], ◌∷◌, ◌++◌, length, refl, sym, ap, ◌∙◌, append_assoc, append-nil, length-append, arith}
 use Rattle.std.proofs.lemmas.List.Elements.{All-cons, All-nil, All-append}
 use Rattle.zx_outside.specs.Counts.{one_more}
 use Rattle.zx_outside.proofs.Streams.{Gives-nil, Gives-append}
 use Rattle.ev_http.specs.declared.taking.Tally.{Tally}
-use Rattle.ev_http.specs.Taking.{Told, Took, risen, counted, HasNoFeed, IsLine, Grows}
+use Rattle.ev_http.specs.Taking.{Told, Took, risen, HasNoFeed, Grows}
 
 risen-risen : (a b c x : ℕ) → a ≤ b → b ≤ c → risen (c - b) (risen (b - a) x) ≡ risen (c - a) x
 risen-risen a b c x ab bc = omega arith

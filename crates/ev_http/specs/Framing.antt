@@ -1,9 +1,9 @@
 -- How the body of a message is framed (RFC 9112, section 6), by the fields of its head.
-use Rattle.std.specs.Prelude.{◌≡◌, ℕ, ◌+◌, ◌<◌, ◌≤◌, ◌⊎◌, List, [], ◌∷◌, ◌++◌, length, map, drop, Bool, true, false, ◌&&◌, ◌==◌, if◌then◌else◌, Option, Some, None, Result, Ok, Err, codes, bytes_eq, nat_lt, suc}
-use Rattle.std.specs.List.{list_all, flat_map}
+use Rattle.std.specs.Prelude.{◌≡◌, ℕ, ◌⊎◌, List, [], ◌∷◌, ◌++◌, length, map, drop, Bool, true, false, ◌&&◌, ◌==◌, if◌then◌else◌, Option, Some, None, Result, Ok, Err, codes, bytes_eq, nat_lt, suc}
+use Rattle.std.specs.List.{list_all}
 use Rattle.std.specs.Char.{is_ascii_digit, to_ascii_lowercase}
 use Rattle.std.specs.Str.Parse.{digits_value}
-use Rattle.httparse.specs.Grammar.{Field, LineEnd, print_end, print_section}
+use Rattle.httparse.specs.Grammar.{Field, LineEnd, print_section}
 use Rattle.httparse.specs.Spans.{name_and_value}
 use Rattle.ev_http.specs.declared.head.Kind.{Kind}
 use Rattle.ev_http.specs.declared.head.Kind.TheVariants as kind

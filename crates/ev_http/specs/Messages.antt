@@ -1,6 +1,6 @@
 -- Requests and responses of the gateway: what their heads say, and the bodies that they carry (RFC 9112; etcd API reference, "gRPC gateway").
-use Rattle.std.specs.Prelude.{◌≡◌, ◌≢◌, ℕ, ◌<◌, ◌≤◌, ◌⊎◌, List, [], ◌++◌, length, map, Bool, true, false, ⊤, Option, Some, None, Result, Ok, Err, codes, bytes_eq}
-use Rattle.httparse.specs.Grammar.{Field, RequestHead, IsRequestHead, print_request, ResponseHead, IsResponseHead, print_response, status_code}
+use Rattle.std.specs.Prelude.{◌≡◌, ◌≢◌, ℕ, ◌≤◌, ◌⊎◌, List, ◌++◌, length, Bool, true, false, Option, Some, None, Result, Ok, Err, codes, bytes_eq}
+use Rattle.httparse.specs.Grammar.{RequestHead, IsRequestHead, print_request, ResponseHead, IsResponseHead, print_response, status_code}
 use Rattle.httparse.specs.Spans.{IsResponseAt, IsRequestAt}
 use Rattle.httparse.specs.declared.spans.HeaderSpan.{HeaderSpan}
 use Rattle.httparse.specs.declared.spans.ResponseSpans.{ResponseSpans}
@@ -13,7 +13,6 @@ use Rattle.ev_http.specs.declared.framing.Framing.{Framing}
 use Rattle.ev_http.specs.declared.framing.Framing.TheVariants as framing
 use Rattle.ev_http.specs.declared.head.Kind.TheVariants as kind
 use Rattle.std.specs.Global.{Vec}
-use Rattle.ev_http.specs.declared.head.Kind.{Kind}
 use Rattle.ev_http.specs.declared.taking.Tally.{Tally}
 use Rattle.ev_http.specs.Taking.{Told}
 use Rattle.ev_http.specs.Heads.{StopsInHead}

@@ -1,6 +1,4 @@
-use Rattle.std.proofs.Common.{◌++◌, ◌≡◌, ◌≢◌, List, ℕ, length, refl, sym, subst, rules, Ok, Err}
-use Rattle.ev_http.specs.declared.body.Part.TheVariants as part
-use Rattle.ev_http.specs.Taking.{told, counted}
+use Rattle.std.proofs.Common.{◌++◌, rules}
 use Rattle.ev_http.proofs.Takings.{Took-append}
 use Rattle.ev_http.proofs.Reading.{came_open, counted_taken, body_stops}
 use Rattle.ev_http.proofs.body.read_body.Goals as goal

@@ -1,5 +1,4 @@
 use Rattle.std.proofs.Common.{◌<◌, ◌^◌, List, ℕ, length, false}
-use Rattle.ev_http.specs.declared.body.Part.TheVariants.{Whole}
 use Rattle.ev_http.specs.Taking.{Took, told}
 use Rattle.ev_http.specs.Body.{Came, EndsWhole, work}
 use Rattle.ev_http.proofs.body.read_body.Given as goal

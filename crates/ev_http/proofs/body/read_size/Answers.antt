@@ -1,4 +1,3 @@
-use Rattle.std.proofs.Common.{[], refl, sym, ◌∙◌, ap}
 use Rattle.ev_http.proofs.Feeds.{size_read, never_size, no_chunk-never}
 use Rattle.ev_http.proofs.body.read_size.Goals as goal
 

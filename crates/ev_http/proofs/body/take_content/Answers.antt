@@ -1,9 +1,9 @@
-use Rattle.std.proofs.Common.{[], Ok, refl, subst, sym}
+use Rattle.std.proofs.Common.{Ok, subst, sym}
 use Rattle.ev_http.specs.declared.body.Part.{Part}
 use Rattle.ev_http.specs.declared.body.Part.TheVariants as part
 use Rattle.ev_http.specs.Taking.{told}
 use Rattle.ev_http.specs.Body.{TakesPart}
-use Rattle.ev_http.proofs.Bodies.{content_more, part_ends, part_stops}
+use Rattle.ev_http.proofs.Bodies.{content_more}
 use Rattle.ev_http.proofs.body.take_content.Goals as goal
 
 pub returns-in-Ok-Some-clause-part : goal.returns-in-Ok-Some-clause-part

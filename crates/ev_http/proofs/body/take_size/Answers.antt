@@ -1,4 +1,4 @@
-use Rattle.std.proofs.Common.{[], Some, Ok, List, ℕ, refl, sym, subst}
+use Rattle.std.proofs.Common.{Some, Ok, List, ℕ, refl, sym, subst}
 use Rattle.httparse.specs.Grammar.{NeverHasChunkLine}
 use Rattle.ev_http.specs.declared.body.Part.TheVariants as part
 use Rattle.ev_http.specs.Taking.{told, IsLine}

@@ -1,4 +1,4 @@
-use Rattle.std.proofs.Common.{Some, None, ◌<◌, length, List, ℕ, refl, sym, subst}
+use Rattle.std.proofs.Common.{Some, None, ◌<◌, length, List, ℕ, refl, subst}
 use Rattle.ev_http.specs.declared.body.Part.TheVariants as part
 use Rattle.ev_http.specs.Taking.{told}
 use Rattle.ev_http.specs.Body.{TrailerAnswer}

@@ -1,4 +1,4 @@
-use Rattle.std.proofs.Common.{rules, ◌≡◌, ◌≤◌, ◌<◌, ◌^◌, List, ℕ, length, ◌+◌, ◌-◌, ◌*◌, Bool, true, false, drop, get_or, ap, sym, ◌∙◌, arith, ◌&&◌, cond, Some, None}
+use Rattle.std.proofs.Common.{rules, ◌≡◌, ◌≤◌, ◌<◌, length, ◌+◌, ◌*◌, true, drop, get_or, ap, sym, ◌∙◌, arith, ◌&&◌}
 use Rattle.std.specs.List.{list_all}
 use Rattle.std.specs.Char.{is_ascii_digit, digit_value}
 use Rattle.std.specs.Str.Parse.{digits_value_after}
@@ -6,7 +6,6 @@ use Rattle.std.proofs.lemmas.List.{at_drop_more, at_drop_all}
 use Rattle.std.proofs.lemmas.Str.{digit_value_digit}
 use Rattle.std.proofs.lemmas.Bool.{eqb-false}
 use Rattle.ev_http.specs.Taking.{counted}
-use Rattle.ev_http.specs.Framing.{count_of}
 use Rattle.ev_http.proofs.Framings.{counted-digits, some_count}
 use Rattle.ev_http.proofs.framing.count_of.Goals as goal
 

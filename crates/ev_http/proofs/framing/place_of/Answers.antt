@@ -1,4 +1,4 @@
-use Rattle.std.proofs.Common.{arith, ◌+◌, ◌-◌, ◌≡◌, length}
+use Rattle.std.proofs.Common.{arith}
 use Rattle.ev_http.proofs.Places.{stands}
 use Rattle.ev_http.proofs.framing.place_of.Goals as goal
 

@@ -1,4 +1,4 @@
-use Rattle.std.proofs.Common.{◌≡◌, ◌++◌, ap, [], Err, List, ℕ, refl, sym, subst, ◌∙◌}
+use Rattle.std.proofs.Common.{◌≡◌, ◌++◌, ap, Err, List, ℕ, sym, subst, ◌∙◌}
 use Rattle.std.specs.Global.{Vec}
 use Rattle.ev_http.specs.Taking.{told}
 use Rattle.ev_http.specs.Heads.{TakesHead, IsOpenHead, FitsHead}

@@ -1,4 +1,4 @@
-use Rattle.std.proofs.Common.{◌≡◌, ◌++◌, List, ℕ, subst, sym, refl}
+use Rattle.std.proofs.Common.{◌++◌, List, ℕ, subst, refl}
 use Rattle.ev_http.specs.Heads.{BeginsWithHead, NeverFits}
 use Rattle.ev_http.proofs.Takings.{Took-append, grown_twice}
 use Rattle.ev_http.proofs.Heads.{head_whole, head_stops, never_fits-full, IsOpenHead-grows}

@@ -1,4 +1,4 @@
-use Rattle.std.proofs.Common.{◌++◌, ◌≡◌, ◌≤◌, Ok, List, ℕ, length, refl, sym, subst, ap, ◌∙◌, rules}
+use Rattle.std.proofs.Common.{◌++◌, ◌≡◌, ◌≤◌, Ok, List, ℕ, length, subst, ap, ◌∙◌}
 use Rattle.httparse.specs.Grammar.{RequestHead, IsRequestHead, print_request}
 use Rattle.ev_http.specs.Taking.{told, failed}
 use Rattle.ev_http.specs.Messages.{JudgesRequest}

@@ -1,8 +1,8 @@
-use Rattle.std.proofs.Common.{rules, arith, ◌≡◌, ◌≤◌, length, map, take, Ok, Err, refl, sym, ap, ◌∙◌, length-take-le}
-use Rattle.httparse.specs.Spans.{header_bytes, name_and_value}
+use Rattle.std.proofs.Common.{rules, arith, ◌≡◌, length, map, take, Err, refl, sym, ap, ◌∙◌, length-take-le}
+use Rattle.httparse.specs.Spans.{header_bytes}
 use Rattle.ev_http.specs.declared.framing.Framing.TheVariants.{ToEnd}
 use Rattle.ev_http.specs.declared.head.Kind.TheVariants as kind
-use Rattle.ev_http.specs.Framing.{framing_after, whole_framing, framing_of}
+use Rattle.ev_http.specs.Framing.{framing_after, whole_framing}
 use Rattle.ev_http.proofs.Framings.{same_count, whole_fault}
 use Rattle.ev_http.proofs.request.request_framing.Goals as goal
 

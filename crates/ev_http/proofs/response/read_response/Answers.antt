@@ -1,4 +1,4 @@
-use Rattle.std.proofs.Common.{◌++◌, ◌≡◌, ◌≤◌, Ok, List, ℕ, length, refl, sym, subst, ap, ◌∙◌, rules}
+use Rattle.std.proofs.Common.{◌++◌, ◌≡◌, ◌≤◌, Ok, List, ℕ, length, refl, subst}
 use Rattle.httparse.specs.Grammar.{ResponseHead, IsResponseHead, print_response}
 use Rattle.ev_http.specs.Taking.{told}
 use Rattle.ev_http.specs.Messages.{JudgesResponse}

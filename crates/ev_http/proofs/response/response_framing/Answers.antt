@@ -1,4 +1,4 @@
-use Rattle.std.proofs.Common.{rules, arith, ◌≡◌, ◌≤◌, length, map, take, Err, refl, sym, ap, ◌∙◌, length-take-le}
+use Rattle.std.proofs.Common.{rules, arith, ◌≡◌, map, take, Err, refl, sym, ap, ◌∙◌, length-take-le}
 use Rattle.httparse.specs.Spans.{header_bytes}
 use Rattle.ev_http.specs.declared.framing.Framing.TheVariants.{ToEnd}
 use Rattle.ev_http.specs.declared.head.Kind.TheVariants as kind

@@ -1,4 +1,4 @@
-use Rattle.std.proofs.Common.{◌≡◌, ◌∙◌, ◌-◌, length, drop, take, arith, ap, sym}
+use Rattle.std.proofs.Common.{◌≡◌, ◌∙◌, ◌-◌, length, drop, take, arith, ap}
 use Rattle.std.proofs.lemmas.List.{length-drop, take_all}
 use Rattle.zx_outside.specs.Counts.{OutputCounts, one_more}
 use Rattle.zx_outside.proofs.Streams.{Takes-next}

@@ -1,5 +1,5 @@
-use Rattle.std.proofs.Common.{◌≡◌, ◌≢◌, [], ◌∷◌, ◌++◌, List, ℕ, rules, subst, sym, ap}
-use Rattle.ev_http.specs.Taking.{Took, told, Grows}
+use Rattle.std.proofs.Common.{◌≡◌, [], ◌∷◌, ◌++◌, List, ℕ, rules, subst, sym}
+use Rattle.ev_http.specs.Taking.{Grows}
 use Rattle.ev_http.proofs.Takings.{Took-none, Took-append, Grows-none, Grows-push}
 use Rattle.ev_http.proofs.taking.take_line.Goals as goal
 
