@@ -12,7 +12,6 @@ use Rattle.ev_types.specs.Ranges.{Keys}
 use Rattle.ev_types.specs.Store.{Store, Change, Puts, Removes, Done, removal, one_act, then_done, acts_from, after_changes, changed, worked, present, revision}
 use Rattle.ev_types.specs.Denials.{writes, puts, writes_twice}
 use Rattle.ev_store.specs.Changes.{put_keys, are_distinct}
-use Rattle.ev_store.specs.Repeats.{act_keys}
 use Rattle.std.proofs.lemmas.Bool.{not_from_false, not-true, or_parts, or_from, and_parts, and_from}
 
 after_changes-append : (r : ℤ) (m : Keys) (cs ds : List Change) → after_changes r m (cs ++ ds) ≡ after_changes r (after_changes r m cs) ds
@@ -53,6 +52,13 @@ done_all s cs ps acts none total whole =
     sym (done-end (record { changes = cs; parts = ps })) ∙ ap (λ xs. done_with s (revision s +ℤ pos 1) (present s) cs ps xs) (sym none) ∙ whole
 
 -- ---- keys put once
+
+-- the keys that a list of operations puts
+abbrev pub act_keys : List Act → List Bytes
+act_keys [] = []
+act_keys (Put k v lease ∷ acts) = k ∷ act_keys acts
+act_keys (Delete k ∷ acts) = act_keys acts
+act_keys (Range q ∷ acts) = act_keys acts
 
 put_keys-append : (cs ds : List Change) → put_keys (cs ++ ds) ≡ put_keys cs ++ put_keys ds
 put_keys-append [] ds = refl

@@ -1,6 +1,5 @@
 pub mod Asks
-pub mod Causes
+pub mod FirstDenial
 pub mod Changes
 pub mod Codes
 pub mod Folds
-pub mod Repeats

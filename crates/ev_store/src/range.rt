@@ -1,6 +1,6 @@
 //! Ranges: the keys between two, in the order of their bytes.
 
-ghost use Rattle.std.specs.Prelude.{◌≡◌, ◌<◌, ◌≤◌, ◌^◌, ◌+◌, pos, true, List, length, map, take, IfOk, OnOk, Option};
+ghost use Rattle.std.specs.Prelude.{◌≡◌, ◌<◌, ◌≤◌, ◌<ℤ◌, ◌≤ℤ◌, ◌^◌, ◌+◌, pos, true, List, [], length, map, take, vec_capacity, IfOk, OnOk, Option};
 ghost use Rattle.std.specs.BTreeMap as tree;
 ghost use Rattle.std.specs.FinMap.{empty};
 ghost use Rattle.std.specs.List.{list_all};
@@ -105,6 +105,7 @@ fn held_after<'a>(
 fn shown_count(limit: i64, all: usize) -> usize
     ensures first { (kvs : List Kv) → length kvs ≡ all → take result kvs ≡ limited limit kvs }
     ensures most { result ≤ all }
+    ensures few { pos 0 <ℤ limit → pos result ≤ℤ limit }
 {
     if limit > 0 {
         all.min(limit as usize)
@@ -113,11 +114,19 @@ fn shown_count(limit: i64, all: usize) -> usize
     }
 }
 
+/// Room for so many keys, and for no more.
+fn room(alloc: Global, count: usize) -> Result<Vec<Kv>, Memory>
+    ensures empty { IfOk result (λ v. v.items ≡ []) }
+    ensures exact { IfOk result (λ v. vec_capacity v ≡ count) }
+{
+    Ok(Vec::with_capacity(alloc, count)?)
+}
+
 /// Copies of the first so many keys.
 fn copies(alloc: Global, held: &Held<'_>, most: usize, keys_only: bool) -> Result<Seq<Kv>, Memory>
     ensures { IfOk result (λ kvs. kvs ≡ map (shown keys_only) (take most (tree.values held.now))) }
 {
-    let mut kvs = Seq::from_vec(Vec::with_capacity(alloc, most)?);
+    let mut kvs = Seq::from_vec(room(alloc, most)?);
     let mut left = most;
     for found in held.values() {
         if left == 0 {

@@ -1,13 +1,13 @@
 //! The store: its revisions, its leases, its floor.
 
-ghost use Rattle.std.specs.Prelude.{◌≡◌, ◌≢◌, ◌≤◌, ◌+◌, pos, true, false, length, Option, IfOk, IfErr, OnOk, OnErr, Result};
+ghost use Rattle.std.specs.Prelude.{◌≡◌, ◌≤◌, ◌+◌, pos, true, length, Option, None, IfOk, IfErr, OnOk, OnErr, Result};
 ghost use Rattle.std.specs.List.{list_all};
 ghost use Rattle.std.specs.FinMap.{get};
 ghost use Rattle.ev_types.specs.Store as etcd;
-ghost use Rattle.ev_types.specs.Denials.{has_lease, is_full, is_denied, carry};
+ghost use Rattle.ev_types.specs.Denials.{has_lease, carry};
 ghost use Rattle.ev_store.specs.declared.fault.Denied.{Denied as Denial};
 ghost use Rattle.ev_store.specs.Asks.{IsGrantable};
-ghost use Rattle.ev_store.specs.Causes.{is_cause, is_full_cause, denies, if_denied};
+ghost use Rattle.ev_store.specs.FirstDenial.{first_denial, full, Names};
 ghost use Rattle.ev_store.specs.Changes.{puts_once};
 
 use crate::change::Change;
@@ -19,7 +19,7 @@ use std::marker::Model;
 use zx_base::{Memory, Seq};
 
 /// The last revision that there can be.
-const LAST_REVISION: i64 = 4_611_686_018_427_387_903;
+pub(crate) const MAX_REVISION: i64 = 4_611_686_018_427_387_903;
 
 /// An etcd in memory.
 #[derive(Drop)]
@@ -49,7 +49,7 @@ impl Model for Store {
       floor = s.floor;
     } };
 
-    ghost invariant = { λ s. (length s.revisions.items ≤ 4611686018427387903) × (list_all puts_once s.revisions.items ≡ true) };
+    ghost invariant = { λ s. (length s.revisions.items ≤ etcd.max_revisions) × (list_all puts_once s.revisions.items ≡ true) };
 }
 
 impl Store {
@@ -81,7 +81,7 @@ impl Store {
     /// The changes of each revision, from revision 1 on.
     pub(crate) fn history(&self) -> &[Seq<Change>]
         ensures all { result.now ≡ self.now.revisions }
-        ensures short { length self.now.revisions ≤ 4611686018427387903 }
+        ensures short { length self.now.revisions ≤ etcd.max_revisions }
         ensures once { list_all puts_once self.now.revisions ≡ true }
     {
         self.revisions.as_slice()
@@ -96,34 +96,33 @@ impl Store {
     pub(crate) fn has_lease(&self, id: i64) -> bool
         ensures { result ≡ has_lease self.now id }
     {
-        self.leases.get(id).is_some()
+        id > 0 && self.leases.get(id).is_some()
     }
 
     /// One revision more with these changes, unless there are none.
     pub(crate) fn add(&mut self, changes: Seq<Change>) -> Result<(), StoreFault>
         requires { puts_once changes ≡ true }
         ensures grown { OnOk result (self.new ≡ etcd.grown self.old changes) }
-        ensures room { OnOk result (is_full self.old changes ≡ false) }
+        ensures room { OnOk result (full self.old changes ≡ None) }
         ensures stays { OnErr result (self.new ≡ self.old) }
-        ensures full { IfErr result (λ e. if_denied (is_full_cause self.old changes) e ≡ true) }
+        ensures named { IfErr result (Names (full self.old changes)) }
     {
         if changes.len() == 0 {
             return Ok(());
         }
-        if self.revisions.len() as i64 >= LAST_REVISION {
-            return Err(StoreFault::Denied(Denied::Full {
-                revision: LAST_REVISION,
-            }));
+        let revision = self.revision();
+        if revision >= MAX_REVISION {
+            return Err(StoreFault::Denied(Denied::Full { revision }));
         }
         self.revisions.push(changes)?;
         Ok(())
     }
 
     /// A range outside a transaction.
-    #[tactic(auto, using(crate::proofs::Denying::range_carried), unfolding(crate::specs::Causes::is_cause))]
+    #[tactic(auto, using(crate::proofs::Denying::range_carried), unfolding(crate::specs::FirstDenial::first_denial))]
     fn read(&self, range: &RangeReq) -> Result<Answer, StoreFault>
         ensures carried { IfOk result (λ a. carry self.now (Ask.Range range.now) ≡ Some (self.now, a)) }
-        ensures cause { IfErr result (λ e. if_denied (is_cause self.now (Ask.Range range.now)) e ≡ true) }
+        ensures named { IfErr result (Names (first_denial self.now (Ask.Range range.now))) }
     {
         self.check_range(range)?;
         let found = self.find(&[], range)?;
@@ -133,10 +132,10 @@ impl Store {
         })
     }
 
-    #[tactic(auto, using(crate::proofs::Denying::grant_carried), unfolding(crate::specs::Causes::is_cause))]
+    #[tactic(auto, using(crate::proofs::Denying::grant_carried), unfolding(crate::specs::FirstDenial::first_denial))]
     fn grant(&mut self, id: i64, ttl: i64) -> Result<Answer, StoreFault>
         ensures carried { IfOk result (λ a. carry self.old (Ask.Grant id ttl) ≡ Some (self.new, a)) }
-        ensures cause { IfErr result (λ e. if_denied (is_cause self.old (Ask.Grant id ttl)) e ≡ true) }
+        ensures named { IfErr result (Names (first_denial self.old (Ask.Grant id ttl))) }
         ensures stays { OnErr result (self.new ≡ self.old) }
     {
         if self.has_lease(id) {
@@ -161,14 +160,14 @@ impl Store {
         }
     }
 
-    /// Carries out one ask. Where several causes deny a transaction the first of these is named: a list that is too long,
-    /// a key that a list writes twice, what an operation of the chosen list names, in their order, a full store.
+    /// Carries out one ask. Where several causes deny it the first is named, in this order: a list that is too long, a
+    /// key that a list writes twice, what the operations of the chosen list name, one after the other, a full store. A
+    /// grant's number is at least 1, and its seconds are from 0 to below 2^62.
     pub fn carry_out(&mut self, ask: &Ask) -> Result<Answer, StoreFault>
         requires { IsGrantable ask.now }
         ensures carried { IfOk result (λ a. carry self.old ask.now ≡ Some (self.new, a)) }
         ensures denied { (d : Denial) → result ≡ Err (StoreFault.Denied d) → carry self.old ask.now ≡ None }
-        ensures cause { (d : Denial) → result ≡ Err (StoreFault.Denied d) → is_cause self.old ask.now d ≡ true }
-        ensures exact { result ≢ Err StoreFault.Memory → denies result ≡ is_denied self.old ask.now }
+        ensures first { (d : Denial) → result ≡ Err (StoreFault.Denied d) → first_denial self.old ask.now ≡ Some d }
         ensures stays { OnErr result (self.new ≡ self.old) }
     {
         self.answer_to(ask)
@@ -176,7 +175,7 @@ impl Store {
 
     fn answer_to(&mut self, ask: &Ask) -> Result<Answer, StoreFault>
         ensures carried { IfOk result (λ a. carry self.old ask.now ≡ Some (self.new, a)) }
-        ensures cause { IfErr result (λ e. if_denied (is_cause self.old ask.now) e ≡ true) }
+        ensures named { IfErr result (Names (first_denial self.old ask.now)) }
         ensures stays { OnErr result (self.new ≡ self.old) }
     {
         match ask {

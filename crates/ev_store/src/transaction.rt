@@ -1,9 +1,9 @@
 //! Transactions.
 
-ghost use Rattle.std.specs.Prelude.{◌≡◌, true, IfOk, IfErr, OnErr, Option};
+ghost use Rattle.std.specs.Prelude.{◌≡◌, IfOk, IfErr, OnErr, Option};
 ghost use Rattle.ev_types.specs.Store as etcd;
 ghost use Rattle.ev_types.specs.Denials.{carry};
-ghost use Rattle.ev_store.specs.Causes.{is_cause, if_denied};
+ghost use Rattle.ev_store.specs.FirstDenial.{first_denial, Names};
 
 use crate::fault::StoreFault;
 use crate::refusal::check_txn;
@@ -12,10 +12,10 @@ use ev_types::{Act, Answer, Ask, TxnReq};
 
 impl Store {
     /// Carries out the success list where all guards hold, otherwise the failure list. The store grows last.
-    #[tactic(auto, using(crate::proofs::Denying::txn_carried), unfolding(crate::specs::Causes::is_cause))]
+    #[tactic(auto, using(crate::proofs::Denying::txn_carried), unfolding(crate::specs::FirstDenial::first_denial))]
     pub(crate) fn transact(&mut self, txn: &TxnReq) -> Result<Answer, StoreFault>
         ensures carried { IfOk result (λ a. carry self.old (Ask.Txn txn.now) ≡ Some (self.new, a)) }
-        ensures cause { IfErr result (λ e. if_denied (is_cause self.old (Ask.Txn txn.now)) e ≡ true) }
+        ensures named { IfErr result (Names (first_denial self.old (Ask.Txn txn.now))) }
         ensures stays { OnErr result (self.new ≡ self.old) }
     {
         check_txn(self.alloc(), txn)?;

@@ -3,42 +3,40 @@
 use Rattle.std.specs.Prelude.{ℕ, ℤ, pos, Bool, false, not, ◌&&◌, ◌||◌, List, [], ◌∷◌, length, nat_lt, int_lt, if◌then◌else◌, Option, Some, None, is_some}
 use Rattle.std.specs.List.{list_any}
 use Rattle.std.specs.Ordering.{int_eq}
-use Rattle.std.specs.FinMap.{get, remove, retain_keys, keys}
-use Rattle.ev_types.specs.declared.answer.Kv.{Kv}
+use Rattle.std.specs.FinMap.{get}
 use Rattle.ev_types.specs.declared.answer.Answer.{Answer}
 use Rattle.ev_types.specs.declared.ask.Act.{Act}
 use Rattle.ev_types.specs.declared.ask.Act.TheVariants as act
 use Rattle.ev_types.specs.declared.ask.TxnReq.{TxnReq}
 use Rattle.ev_types.specs.declared.ask.Ask.{Ask}
 use Rattle.ev_types.specs.declared.ask.Ask.TheVariants as ask
-use Rattle.ev_types.specs.Store.{Store, Change, Puts, Removes, revision, last_revision, present, succeeds, chosen, worked, carried_out, grown}
+use Rattle.ev_types.specs.Store.{Store, Change, revision, last_revision, succeeds, chosen, worked, carried_out}
 use Rattle.zx_base.specs.Maps.{Bytes, same}
 
+-- a lease's number is at least 1: 0 is no lease
+abbrev pub is_lease : ℤ → Bool
+is_lease id = int_lt (pos 0) id
+
 abbrev pub has_lease : Store → ℤ → Bool
-has_lease s id = is_some (get s.leases id)
+has_lease s id = is_lease id && is_some (get s.leases id)
 
--- a put that names a lease which isn't there
-abbrev pub names_no_lease : Store → Act → Bool
-names_no_lease s (act.Put k v lease) = not (int_eq lease (pos 0)) && not (has_lease s lease)
-names_no_lease s (act.Delete k) = false
-names_no_lease s (act.Range q) = false
+-- what a put names is neither 0 nor a lease that is there
+abbrev pub lacks_lease : Store → ℤ → Bool
+lacks_lease s lease = not (int_eq lease (pos 0)) && not (has_lease s lease)
 
--- a revision above the store's, or below the floor
+-- a range names a revision above the store's
 abbrev pub is_future : Store → ℤ → Bool
 is_future s r = int_lt (revision s) r
 
+-- or one below the floor, which is at least 0; 0 names the present
 abbrev pub is_compacted : Store → ℤ → Bool
 is_compacted s r = not (int_eq r (pos 0)) && int_lt r s.floor
 
-abbrev pub looks_ahead : Store → Act → Bool
-looks_ahead s (act.Range q) = is_future s q.revision
-looks_ahead s (act.Put k v lease) = false
-looks_ahead s (act.Delete k) = false
-
-abbrev pub looks_below : Store → Act → Bool
-looks_below s (act.Range q) = is_compacted s q.revision
-looks_below s (act.Put k v lease) = false
-looks_below s (act.Delete k) = false
+-- an operation names a lease or a revision that the store doesn't have
+abbrev pub names_missing : Store → Act → Bool
+names_missing s (act.Put k v lease) = lacks_lease s lease
+names_missing s (act.Delete k) = false
+names_missing s (act.Range q) = is_future s q.revision || is_compacted s q.revision
 
 abbrev pub writes : Bytes → Act → Bool
 writes k (act.Put q v lease) = same k q
@@ -58,11 +56,11 @@ writes_twice (act.Delete k ∷ acts) = list_any (puts k) acts || writes_twice ac
 writes_twice (act.Range q ∷ acts) = writes_twice acts
 
 -- the most compares, and the most operations of a list
-abbrev pub most_operations : ℕ
-most_operations = 128
+abbrev pub max_operations : ℕ
+max_operations = 128
 
 abbrev pub is_long : {A : Type 0} → List A → Bool
-is_long xs = nat_lt most_operations (length xs)
+is_long xs = nat_lt max_operations (length xs)
 
 abbrev pub has_long_list : TxnReq → Bool
 has_long_list t = is_long t.guards || is_long t.success || is_long t.failure
@@ -78,7 +76,7 @@ chosen_acts s t = chosen (succeeds s t) t
 unfoldable pub is_denied : Store → Ask → Bool
 is_denied s (ask.Txn t) =
     has_long_list t || writes_twice t.success || writes_twice t.failure
-    || list_any (names_no_lease s) (chosen_acts s t) || list_any (looks_ahead s) (chosen_acts s t) || list_any (looks_below s) (chosen_acts s t)
+    || list_any (names_missing s) (chosen_acts s t)
     || is_full s (worked s (chosen_acts s t)).changes
 is_denied s (ask.Range q) = is_future s q.revision || is_compacted s q.revision
 is_denied s (ask.Grant id ttl) = has_lease s id
@@ -87,25 +85,3 @@ is_denied s (ask.Alive id) = false
 -- the next store and the answer, or a denial
 unfoldable pub carry : Store → Ask → Option (Store × Answer)
 carry s a = if is_denied s a then None else Some (carried_out s a)
-
--- ---- a lapse, and a put of another user
-
-abbrev pub is_leased : ℤ → Option Kv → Bool
-is_leased id None = false
-is_leased id (Some kv) = int_eq id kv.lease
-
-abbrev pub removals : List Bytes → List Change
-removals [] = []
-removals (k ∷ ks) = Removes k ∷ removals ks
-
-abbrev pub lapse_changes : Store → ℤ → List Change
-lapse_changes s id = removals (keys (retain_keys (present s) (λ k. is_leased id (get (present s) k))))
-
--- the lease goes, and all its keys at one revision
-unfoldable pub lapse : Store → ℤ → Option Store
-lapse s id =
-    if not (has_lease s id) || is_full s (lapse_changes s id) then None
-    else Some (grown (record s { leases = remove s.leases id }) (lapse_changes s id))
-
-unfoldable pub foreign : Store → Bytes → Bytes → Option Store
-foreign s k v = if is_full s (Puts k v (pos 0) ∷ []) then None else Some (grown s (Puts k v (pos 0) ∷ []))

@@ -41,8 +41,11 @@ abbrev pub revision : Store → ℤ
 revision s = pos (length s.revisions)
 
 -- the last revision that there can be
+abbrev pub max_revisions : ℕ
+max_revisions = 4611686018427387903
+
 abbrev pub last_revision : ℤ
-last_revision = pos 4611686018427387903
+last_revision = pos max_revisions
 
 -- ---- the keys at a revision
 

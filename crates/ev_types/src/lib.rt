@@ -6,9 +6,13 @@
 
 mod answer;
 mod ask;
+mod laws;
+mod route;
 
 pub use answer::{ActAns, Answer, Kv, RangeAns};
 pub use ask::{Act, Ask, Guard, RangeReq, TxnReq};
-
-#[cfg(test)]
-mod tests;
+pub use laws::{
+    foreign_puts_one_key, keys_were_put, lapse_takes_its_keys, one_key_is_found,
+    reads_change_nothing,
+};
+pub use route::Route;

@@ -42,7 +42,10 @@ fn main(rt: HostRuntime) -> Result<ExitCode> {
         Some(folder) => folder.as_str(),
         None => "examples",
     };
-    let mut tally = Tally { passed: 0, failed: 0 };
+    let mut tally = Tally {
+        passed: 0,
+        failed: 0,
+    };
     files_of(&rt, root, "replay", "script", "transcript", &mut tally)?;
     files_of(&rt, root, "show", "stream", "lines", &mut tally)?;
     runs_of(&rt, root, &mut tally)?;

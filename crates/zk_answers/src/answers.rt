@@ -1,9 +1,8 @@
 //! What a service with one connection answers.
 
 ghost use Rattle.std.specs.Prelude.{◌≡◌, option_map, pos, IfOk, IfErr};
-ghost use Rattle.zk_transcript.specs.Conversations.{no_more};
 ghost use Rattle.zk_plain.specs.Faults.{BeyondUnless};
-ghost use Rattle.zk_answers.specs.Answering.{answer, told_update};
+ghost use Rattle.zk_answers.specs.Answering.{answer, told_commit};
 ghost use Rattle.zk_answers.specs.Fits.{FitsRequest};
 ghost use Rattle.zk_answers.specs.Outcomes.{answer_of, commit_of, told_of};
 
@@ -15,7 +14,7 @@ use crate::watches::Watches;
 use std::alloc::Global;
 use zk_model::{Reply, Request};
 use zk_plain::{Fault, Tree, Turn};
-use zx_base::{Memory, Seq};
+use zx_base::Memory;
 
 /// What the connection is told, and the tree after it.
 #[derive(Debug, Drop)]
@@ -24,19 +23,9 @@ pub struct Answered {
     pub tree: Tree,
 }
 
-fn no_more(alloc: Global, watches: &Watches, reply: Reply) -> Result<Told, Memory>
-    ensures { IfOk result (λ t. told_of t ≡ no_more watches.now reply) }
-{
-    Ok(Told {
-        reply,
-        notices: Seq::new(alloc),
-        watches: watches.copy(alloc)?,
-    })
-}
-
 /// The update's own notices stand before its reply.
-fn told_update(alloc: Global, watches: &Watches, update: Update) -> Result<Answered, Memory>
-    ensures { IfOk result (λ a. answer_of a ≡ record { told = told_update watches.now (commit_of update); tree = update.tree }) }
+fn told_commit(alloc: Global, watches: &Watches, update: Update) -> Result<Answered, Memory>
+    ensures { IfOk result (λ a. answer_of a ≡ record { told = told_commit watches.now (commit_of update); tree = update.tree }) }
 {
     let fired = watches.fire_all(alloc, update.triggers.as_slice())?;
     Ok(Answered {
@@ -60,16 +49,16 @@ pub fn answer(
     request: &Request,
 ) -> Result<Option<Answered>, Fault>
     ensures ok { IfOk result (λ o. option_map answer_of o ≡ answer tree.now turn.now.limit turn.now.session watches.now request.now turn.now.zxid turn.now.moment) }
-    ensures beyond { IfErr result (BeyondUnless (FitsRequest tree.now 40 turn.now.session request.now (pos 0) 0
+    ensures beyond { IfErr result (BeyondUnless (FitsRequest tree.now turn.now.limit turn.now.session request.now (pos 0) 0
         × FitsRequest tree.now turn.now.limit turn.now.session request.now turn.now.zxid turn.now.moment)) }
 {
-    if let Some(reply) = plain_request(alloc, request)? {
+    if let Some(told) = plain_request(alloc, watches, request)? {
         return Ok(Some(Answered {
-            told: no_more(alloc, watches, reply)?,
+            told,
             tree: tree.copy(alloc)?,
         }));
     }
-    if let Some(told) = tree_reply(alloc, tree, turn.session, watches, request)? {
+    if let Some(told) = tree_reply(alloc, tree, turn.limit, turn.session, watches, request)? {
         return Ok(Some(Answered {
             told,
             tree: tree.copy(alloc)?,
@@ -77,6 +66,6 @@ pub fn answer(
     }
     match commit(alloc, tree, turn, request)? {
         None => Ok(None),
-        Some(update) => Ok(Some(told_update(alloc, watches, update)?)),
+        Some(update) => Ok(Some(told_commit(alloc, watches, update)?)),
     }
 }

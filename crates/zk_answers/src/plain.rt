@@ -1,15 +1,21 @@
 //! Answers that need no tree.
 
-ghost use Rattle.std.specs.Prelude.{◌≡◌, ◌&&◌, not, Some, None, if◌then◌else◌, IfOk};
+ghost use Rattle.std.specs.Prelude.{◌≡◌, ◌&&◌, not, Some, None, if◌then◌else◌, option_map, IfOk};
 ghost use Rattle.zx_base.specs.Maps.{same};
-ghost use Rattle.zk_transcript.specs.Answers.{plain_request, path_reply, refused_reply};
+ghost use Rattle.zk_model.specs.declared.reply.Body.TheVariants as body;
+ghost use Rattle.zk_model.specs.declared.reply.Reply.TheVariants as reply;
+ghost use Rattle.zk_transcript.specs.Answers.{plain_request, told, told_of_path, told_refusal};
 ghost use Rattle.zk_model.specs.Codes.{bad_arguments, invalid_acl};
 ghost use Rattle.zk_model.specs.Paths.{is_path, is_sequence_prefix, root};
 ghost use Rattle.zk_model.specs.Single.{or_else, path_refusal, is_create_mode, is_sequential};
 ghost use Rattle.zk_model.specs.Access.{is_open_acl};
+ghost use Rattle.zk_answers.specs.Outcomes.{told_of};
+
+use crate::told::{Told, good, refused};
+use crate::watches::Watches;
 use std::alloc::Global;
 use zk_model::code::{AUTH_FAILED, BAD_ARGUMENTS, INVALID_ACL};
-use zk_model::{Acl, Body, Reply, Request};
+use zk_model::{Acl, Body, Request};
 use zk_plain::{is_create_mode, is_open_acl, is_sequential, read_path};
 use zx_base::Memory;
 
@@ -55,40 +61,59 @@ fn delete_refusal(alloc: Global, text: &[u8]) -> Result<Option<i32>, Memory>
     }
 }
 
-fn refused_reply(code: Option<i32>) -> Option<Reply>
-    ensures { result ≡ refused_reply code }
+fn told_refusal(alloc: Global, watches: &Watches, code: Option<i32>) -> Result<Option<Told>, Memory>
+    ensures { IfOk result (λ o. option_map told_of o ≡ told_refusal watches.now code) }
 {
     match code {
-        Some(code) => Some(Reply::Refused(code)),
-        None => None,
+        Some(code) => Ok(Some(refused(alloc, watches, code)?)),
+        None => Ok(None),
     }
 }
 
-fn path_reply(alloc: Global, text: &[u8]) -> Result<Option<Reply>, Memory>
-    ensures { IfOk result (λ o. o ≡ path_reply text.now) }
+fn told_of_path(alloc: Global, watches: &Watches, text: &[u8]) -> Result<Option<Told>, Memory>
+    ensures { IfOk result (λ o. option_map told_of o ≡ told_of_path watches.now text.now) }
 {
-    Ok(refused_reply(path_refusal(alloc, text)?))
+    let code = path_refusal(alloc, text)?;
+    Ok(told_refusal(alloc, watches, code)?)
+}
+
+fn told_done(alloc: Global, watches: &Watches) -> Result<Option<Told>, Memory>
+    ensures { IfOk result (λ o. option_map told_of o ≡ told watches.now (reply.Good body.Empty)) }
+{
+    Ok(Some(good(alloc, watches.copy(alloc)?, Body::Empty)))
 }
 
 /// The answer to a request that the tree does not decide: a ping, an authentication, or a request of no valid form.
 #[tactic(auto, unfolding(zk_transcript::specs::Answers::plain_request, zk_model::specs::Single::form_refusal))]
-pub fn plain_request(alloc: Global, request: &Request) -> Result<Option<Reply>, Memory>
-    ensures { IfOk result (λ o. o ≡ plain_request request.now) }
+pub fn plain_request(
+    alloc: Global,
+    watches: &Watches,
+    request: &Request,
+) -> Result<Option<Told>, Memory>
+    ensures { IfOk result (λ o. option_map told_of o ≡ plain_request watches.now request.now) }
 {
     match request {
-        Request::Ping => Ok(Some(Reply::Good(Body::Empty))),
-        Request::Auth { scheme, .. } if scheme.is(b"digest") => Ok(Some(Reply::Good(Body::Empty))),
-        Request::Auth { .. } => Ok(Some(Reply::Refused(AUTH_FAILED))),
-        Request::Multi { parts } if MAX_PARTS < parts.len() => Ok(Some(Reply::Refused(
-            BAD_ARGUMENTS,
-        ))),
+        Request::Ping => Ok(told_done(alloc, watches)?),
+        Request::Auth { scheme, .. } if scheme.is(b"digest") => Ok(told_done(alloc, watches)?),
+        Request::Auth { .. } => Ok(told_refusal(alloc, watches, Some(AUTH_FAILED))?),
+        Request::Multi { parts } if MAX_PARTS < parts.len() => Ok(told_refusal(
+            alloc,
+            watches,
+            Some(BAD_ARGUMENTS),
+        )?),
         Request::Create {
             path,
             acl,
             flags,
             ..
-        } => Ok(refused_reply(create_refusal(alloc, path.as_slice(), acl.as_slice(), *flags)?)),
-        Request::Delete { path, .. } => Ok(refused_reply(delete_refusal(alloc, path.as_slice())?)),
+        } => {
+            let code = create_refusal(alloc, path.as_slice(), acl.as_slice(), *flags)?;
+            Ok(told_refusal(alloc, watches, code)?)
+        }
+        Request::Delete { path, .. } => {
+            let code = delete_refusal(alloc, path.as_slice())?;
+            Ok(told_refusal(alloc, watches, code)?)
+        }
         Request::SetData { path, .. }
         | Request::Check { path, .. }
         | Request::Exists { path, .. }
@@ -96,7 +121,7 @@ pub fn plain_request(alloc: Global, request: &Request) -> Result<Option<Reply>, 
         | Request::GetAcl { path }
         | Request::GetChildren { path, .. }
         | Request::GetChildren2 { path, .. }
-        | Request::Sync { path } => path_reply(alloc, path.as_slice()),
+        | Request::Sync { path } => Ok(told_of_path(alloc, watches, path.as_slice())?),
         Request::Multi { .. } | Request::SetWatches { .. } | Request::Close => Ok(None),
     }
 }

@@ -21,9 +21,6 @@ use zk_plain::{
 };
 use zx_base::{Memory, Text};
 
-/// The most nodes that a session may own.
-const MAX_OWNED: usize = 40;
-
 /// An update is answered by its refusal; one that succeeds is answered by what it commits.
 fn refusal_of(alloc: Global, watches: &Watches, outcome: Outcome) -> Result<Option<Told>, Memory>
     ensures { IfOk result (λ o. option_map told_of o ≡ refusal_of watches.now (outcome_of outcome)) }
@@ -77,31 +74,32 @@ fn rearmed(seen: Seen) -> Told
 }
 
 /// The turn of a request that is only looked at: whether it is refused does not depend on zxid and moment.
-fn looking(session: i64) -> Turn
-    ensures { (result.limit ≡ 40) × (result.session ≡ session) × (result.zxid ≡ pos 0) × (result.moment ≡ 0) }
+fn looking(limit: usize, session: i64) -> Turn
+    ensures { (result.limit ≡ limit) × (result.session ≡ session) × (result.zxid ≡ pos 0) × (result.moment ≡ 0) }
 {
     Turn {
-        limit: MAX_OWNED,
+        limit,
         session,
         zxid: 0,
         moment: 0,
     }
 }
 
-/// The answer as the tree shows it: to a read, to a setWatches, and to an update that is refused. An update that
-/// succeeds has none here.
+/// The answer as the tree shows it to a session that may own so many nodes: to a read, to a setWatches, and to an update
+/// that is refused. An update that succeeds has none here.
 #[tactic(auto, unfolding(zk_transcript::specs::Answers::tree_reply))]
 pub fn tree_reply(
     alloc: Global,
     tree: &Tree,
+    limit: usize,
     session: i64,
     watches: &Watches,
     request: &Request,
 ) -> Result<Option<Told>, Fault>
-    ensures ok { IfOk result (λ o. option_map told_of o ≡ tree_reply tree.now session watches.now request.now) }
-    ensures beyond { IfErr result (BeyondUnless (FitsRequest tree.now 40 session request.now (pos 0) 0)) }
+    ensures ok { IfOk result (λ o. option_map told_of o ≡ tree_reply tree.now limit session watches.now request.now) }
+    ensures beyond { IfErr result (BeyondUnless (FitsRequest tree.now limit session request.now (pos 0) 0)) }
 {
-    let turn = looking(session);
+    let turn = looking(limit, session);
     match request {
         Request::Exists { path, watch } => Ok(Some(exists(alloc, tree, watches, path, *watch)?)),
         Request::GetData { path, watch } => Ok(Some(get_data(alloc, tree, watches, path, *watch)?)),

@@ -14,8 +14,8 @@ use crate::session::Session;
 use crate::shown::{connect, opening, request};
 use crate::state::State;
 use std::alloc::Global;
-use zk_transcript::{TranscriptLine, UpdateKind, UpdateRec};
 use zk_plain::{Fault, Turn, begin};
+use zk_transcript::{TranscriptLine, UpdateKind, UpdateRec};
 use zx_base::{Memory, Seq};
 
 /// The most ephemeral nodes that a session may own.

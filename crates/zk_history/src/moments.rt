@@ -8,8 +8,8 @@ ghost use Rattle.zk_history.specs.Fits.{AllFit};
 use crate::lines::change;
 use crate::state::State;
 use std::alloc::Global;
-use zk_transcript::TranscriptLine;
 use zk_plain::Fault;
+use zk_transcript::TranscriptLine;
 
 /// The state after the updates and lapses among these lines; faults as in [`change`]. Goes through the lines before each
 /// line again.

@@ -4,8 +4,8 @@ use crate::{Fault, State, after, change, state_at};
 use std::alloc::Global;
 use std::test::Fail;
 use zk_model::{Acl, Part, Request, Trigger};
-use zk_transcript::{TranscriptLine, UpdateKind, UpdateRec};
 use zk_plain::{Outcome, Tree, Turn, single};
+use zk_transcript::{TranscriptLine, UpdateKind, UpdateRec};
 use zk_wire::{request_can_be_sent, write_request};
 use zx_base::{Bytes, Memory, Seq, Text};
 

@@ -15,6 +15,7 @@ use Rattle.zk_model.specs.declared.request.Acl.{Acl}
 use Rattle.zk_jute.specs.JuteValues.{Value, int, long, boolean, buffer, ustring, ustrings, acls, Kind, an_int, a_long, a_boolean, a_buffer, a_ustring, some_ustrings, some_acls, open_acl, the_open_acl, kind_of, Spelled, IsInt, IsLong, IsBoolean, IsCount, IsBuffer, IsUstring, IsVector, IsAcl, Spells}
 use Rattle.zk_jute.specs.JuteReading.{Read, ◌>>=◌, int_at, long_at, boolean_at, bytes_after, text_of, ustring_at, count_of, count_at, buffer_at, items_at, vector_at, acl_at, as_value, value_at, values_at, open_of}
 use Rattle.zk_model.specs.Access.{is_open_acl, open_entry}
+
 -- the bytes are a spelling of x, and then the rest
 pub record Takes {A : Type 0} (Is : A → List ℕ → Type 0) (bytes : List ℕ) (x : A) (rest : List ℕ) : Type 0 where
   pub front : List ℕ

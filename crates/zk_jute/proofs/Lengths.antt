@@ -9,6 +9,7 @@ use Rattle.zk_model.specs.declared.reply.Reply.{Reply}
 use Rattle.zk_model.specs.declared.reply.Reply.TheVariants as replies
 use Rattle.zk_model.specs.declared.request.Acl.{Acl}
 use Rattle.zk_model.specs.declared.request.Request.{Request}
+use Rattle.zk_model.specs.Limits.{max_frame}
 use Rattle.zk_jute.specs.JuteValues.{Value, int, long, boolean, buffer, ustring, ustrings, acls, open_acl}
 use Rattle.zk_jute.specs.JuteWriting.{int_bytes, long_bytes, boolean_bytes, string_bytes, vector_bytes, acl_bytes, canonical, IsShort, IsShortAcl, CanBeWritten, FitsLength, written}
 use Rattle.zk_jute.specs.Connects.{optional, connect_response_values}
@@ -123,8 +124,8 @@ optional_short (Some true) = omega arith
 optional_short (Some false) = omega arith
 
 -- an answer to a connect has a password of 16 bytes
-pub connect_short : (r : ConnectResponse) → length r.passwd ≡ 16 → FitsLength (written (connect_response_values r))
-connect_short r sixteen =
+pub connect_within : (r : ConnectResponse) → length r.passwd ≡ 16 → length (written (connect_response_values r)) ≤ max_frame
+connect_within r sixteen =
     let last : List ℕ = written (optional r.read_only) in
     let passwd : List ℕ = string_bytes r.passwd in
     omega (
@@ -140,3 +141,6 @@ connect_short r sixteen =
       length-string_bytes r.passwd,
       sixteen,
     )
+
+pub connect_short : (r : ConnectResponse) → length r.passwd ≡ 16 → FitsLength (written (connect_response_values r))
+connect_short r sixteen = omega (arith, connect_within r sixteen)

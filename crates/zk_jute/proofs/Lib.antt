@@ -16,3 +16,4 @@ pub mod ConnectLaws
 pub mod ResultLaws
 pub mod RoundTrips
 pub mod Contents
+pub mod SentLaws

@@ -1,5 +1,6 @@
--- The record that given values are. Where the values are not of the record's kinds, which reading excludes, a field is 0,
--- false or empty.
+-- The record that given values are, the other way round of `values_of`. What a frame spells is said in `Grammar`, without
+-- these, and the laws of `requests_are_spelled` and `replies_are_spelled` show that reading with them is the same. Where the
+-- values are not of the record's kinds, which reading excludes, a field is 0, false or empty.
 use Rattle.std.specs.Prelude.{ℕ, zero, suc, ℤ, pos, Bool, false, List, [], ◌∷◌}
 use Rattle.zk_model.specs.declared.node.Stat.{Stat}
 use Rattle.zk_jute.specs.declared.opcode.Opcode.{Opcode}

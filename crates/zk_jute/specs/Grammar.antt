@@ -1,13 +1,17 @@
--- What a frame spells: the wire protocol as relations between records and bytes, with each spelling that a record has.
-use Rattle.std.specs.Prelude.{◌≡◌, ◌≢◌, ℕ, ℤ, pos, Bool, true, false, List, [], ◌∷◌, ◌++◌}
+-- What a frame spells: the wire protocol as relations between records and bytes, with each spelling that a record has. Fields
+-- stand in the order of zookeeper.jute.
+use Rattle.std.specs.Prelude.{◌≡◌, ◌≢◌, ℕ, ℤ, pos, Bool, true, false, Option, None, Some, List, [], ◌∷◌, ◌++◌, length}
+use Rattle.zk_model.specs.Codes.{minus}
 use Rattle.zk_model.specs.declared.connect.ConnectRequest.{ConnectRequest}
+use Rattle.zk_model.specs.declared.connect.ConnectResponse.{ConnectResponse}
 use Rattle.zk_jute.specs.declared.opcode.Opcode.{Opcode}
+use Rattle.zk_model.specs.declared.reply.Notice.{Notice}
 use Rattle.zk_model.specs.declared.reply.Reply.{Reply}
 use Rattle.zk_model.specs.declared.reply.Reply.TheVariants as replies
 use Rattle.zk_model.specs.declared.request.Part.{Part}
 use Rattle.zk_model.specs.declared.request.Request.{Request}
 use Rattle.zk_model.specs.declared.request.Request.TheVariants as requests
-use Rattle.zk_jute.specs.JuteValues.{int, boolean, Spelled, Spells}
+use Rattle.zk_jute.specs.JuteValues.{int, boolean, IsInt, IsLong, IsBoolean, IsBuffer, IsUstring, Spelled, Spells}
 use Rattle.zk_jute.specs.Numbers.{number_of, opcode_of, part_number, part_kind}
 use Rattle.zk_jute.specs.Records.{values_of, part_values}
 use Rattle.zk_jute.specs.Connects.{connect_values}
@@ -50,3 +54,27 @@ Suits code (replies.Good body) = shape_of body ≡ shape_for code
 pub record IsReply (code : Opcode) (xid zxid : ℤ) (reply : Reply) (frame : List ℕ) : Type 0 where
   pub suits : Suits code reply
   pub spelled : Spelled Spells (reply_values xid zxid reply) frame
+
+-- nothing, or a boolean
+abbrev pub IsReadOnly : Option Bool → List ℕ → Type 0
+IsReadOnly None bytes = bytes ≡ []
+IsReadOnly (Some flag) bytes = IsBoolean flag bytes
+
+-- a frame of the answer to a connect, `ConnectResponse`: protocol version 0, the timeout, the session, its password of 16 bytes,
+-- and whether the server only reads
+abbrev pub IsConnectResponse : ConnectResponse → List ℕ → Type 0
+IsConnectResponse r frame = (version : List ℕ) × (timeout : List ℕ) × (session : List ℕ) × (passwd : List ℕ) × (read_only : List ℕ)
+    × IsInt (pos 0) version × IsInt r.timeout timeout × IsLong r.session session × IsBuffer r.passwd passwd × (length r.passwd ≡ 16) × IsReadOnly r.read_only read_only
+    × (frame ≡ version ++ timeout ++ session ++ passwd ++ read_only)
+
+-- the `ReplyHeader` of a notification: xid -1, zxid -1, no error
+abbrev pub IsNoticeHeader : List ℕ → Type 0
+IsNoticeHeader bytes = (xid : List ℕ) × (zxid : List ℕ) × (err : List ℕ) × IsInt (minus 1) xid × IsLong (minus 1) zxid × IsInt (pos 0) err × (bytes ≡ xid ++ zxid ++ err)
+
+-- `WatcherEvent`: its type, the state "connected", 3, and the path
+abbrev pub IsWatcherEvent : Notice → List ℕ → Type 0
+IsWatcherEvent n bytes = (type : List ℕ) × (state : List ℕ) × (path : List ℕ) × IsInt n.kind type × IsInt (pos 3) state × IsUstring n.path path × (bytes ≡ type ++ state ++ path)
+
+-- a frame of a notification
+abbrev pub IsNotice : Notice → List ℕ → Type 0
+IsNotice n frame = (header : List ℕ) × (event : List ℕ) × IsNoticeHeader header × IsWatcherEvent n event × (frame ≡ header ++ event)

@@ -1,12 +1,12 @@
 -- Reading Jute's values from left to right. What can't be read is named by how many bytes are left from its first byte on.
-use Rattle.std.specs.Prelude.{ℕ, zero, suc, ◌==◌, ℤ, pos, negsuc, Bool, true, false, Option, Some, None, List, [], ◌∷◌, length, take, drop, Result, Ok, Err, nat_lt, bytes_eq, ◌&&◌, if◌then◌else◌}
+use Rattle.std.specs.Prelude.{ℕ, zero, suc, ◌==◌, ℤ, pos, negsuc, Bool, true, false, Option, Some, None, List, [], ◌∷◌, length, take, drop, Result, Ok, Err, nat_lt, if◌then◌else◌}
 use Rattle.std.specs.Int.{w32, w64, cast_signed}
 use Rattle.std.specs.Str.{is_utf8}
-use Rattle.std.specs.Ordering.{int_eq}
 use Rattle.byteorder.specs.Endian.{big_number}
 use Rattle.zk_model.specs.declared.request.Acl.{Acl}
 use Rattle.zk_jute.specs.JuteValues.{Value, int, long, boolean, buffer, ustring, ustrings, acls, Kind, an_int, a_long, a_boolean, a_buffer, a_ustring, some_ustrings, some_acls, open_acl, the_open_acl}
-use Rattle.zk_model.specs.Access.{is_open_acl, open_entry}
+use Rattle.zk_model.specs.Access.{is_open_acl}
+
 -- the value and the bytes after it, or the fault
 abbrev pub Read : Type 0 → Type 0
 Read A = Result (A × List ℕ) ℕ
@@ -98,7 +98,7 @@ abbrev pub more_then : {A : Type 0} → (List ℕ → Read (List A)) → Option 
 more_then {A = A} others None rest = Ok ([], rest)
 more_then {A = A} others (Some x) rest = others rest >>= λ xs. Ok (x ∷ xs.0, xs.1)
 
--- the items before the last, at most so many
+-- the items before the last, at most so many: a count for the recursion alone, and `IsListed` of `Grammar` has none
 unfoldable pub until_last : {A : Type 0} → (List ℕ → Read (Option A)) → ℕ → List ℕ → Read (List A)
 until_last {A = A} next zero bytes = Err (length bytes)
 until_last {A = A} next (suc n) bytes = next bytes >>= λ x. more_then (until_last next n) x.0 x.1

@@ -1,9 +1,10 @@
 -- Jute's values (zookeeper.jute; `org.apache.jute.BinaryInputArchive`), and the bytes that spell each of them. A value may
 -- have several spellings.
-use Rattle.std.specs.Prelude.{◌≡◌, ℕ, zero, suc, ℤ, pos, negsuc, Bool, true, false, ◌⊎◌, codes, List, [], ◌∷◌, ◌++◌, length}
+use Rattle.std.specs.Prelude.{◌≡◌, ℕ, zero, suc, ℤ, pos, Bool, true, false, ◌⊎◌, List, [], ◌∷◌, ◌++◌, length}
 use Rattle.std.specs.Int.{w32, w64, cast_signed}
 use Rattle.std.specs.Str.{IsUtf8}
 use Rattle.byteorder.specs.Endian.{big_number}
+use Rattle.zk_model.specs.Codes.{minus}
 use Rattle.zk_model.specs.declared.request.Acl.{Acl}
 use Rattle.zk_model.specs.Access.{open_entry}
 
@@ -60,7 +61,7 @@ IsBoolean b (c ∷ d ∷ bytes) = ⊥
 
 -- the length or the count of a buffer or a vector; -1 stands for 0 too
 abbrev pub IsCount : ℕ → List ℕ → Type 0
-IsCount n bytes = IsInt (pos n) bytes ⊎ ((n ≡ 0) × IsInt (negsuc 0) bytes)
+IsCount n bytes = IsInt (pos n) bytes ⊎ ((n ≡ 0) × IsInt (minus 1) bytes)
 
 abbrev pub IsBuffer : List ℕ → List ℕ → Type 0
 IsBuffer content bytes = (front : List ℕ) × IsCount (length content) front × (bytes ≡ front ++ content)

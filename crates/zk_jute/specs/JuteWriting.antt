@@ -8,6 +8,7 @@ use Rattle.byteorder.specs.Endian.{big_bytes}
 use Rattle.zk_model.specs.declared.request.Acl.{Acl}
 use Rattle.zk_jute.specs.JuteValues.{Value, int, long, boolean, buffer, ustring, ustrings, acls, open_acl}
 use Rattle.zk_model.specs.Access.{open_entry}
+
 unfoldable pub int_bytes : ℤ → List ℕ
 int_bytes n = big_bytes 4 (cast_unsigned w32 n)
 

@@ -1,5 +1,6 @@
 -- The kinds of requests and of the parts of a multi, and their numbers (`ZooDefs.OpCode`, release 3.4).
 use Rattle.std.specs.Prelude.{ℕ, ◌==◌, ℤ, pos, negsuc, Option, Some, None, if◌then◌else◌}
+use Rattle.zk_model.specs.Codes.{minus}
 use Rattle.zk_jute.specs.declared.opcode.Opcode.{Opcode}
 use Rattle.zk_jute.specs.declared.opcode.Opcode.TheVariants as opcodes
 use Rattle.zk_jute.specs.declared.opcode.PartKind.{PartKind}
@@ -48,7 +49,7 @@ number_of opcodes.Check = pos 13
 number_of opcodes.Multi = pos 14
 number_of opcodes.Auth = pos 100
 number_of opcodes.SetWatches = pos 101
-number_of opcodes.Close = negsuc 10
+number_of opcodes.Close = minus 11
 
 abbrev pub unsigned_opcode : ℕ → Option Opcode
 unsigned_opcode n =

@@ -1,6 +1,7 @@
 -- The packets that a server sends: a length, and a reply, a notification or the answer to the connect (zookeeper.jute,
 -- `ReplyHeader`, `WatcherEvent`, `ConnectResponse`).
-use Rattle.std.specs.Prelude.{ℕ, ℤ, pos, negsuc, List, [], ◌∷◌, ◌++◌}
+use Rattle.std.specs.Prelude.{ℕ, ℤ, pos, List, [], ◌∷◌, ◌++◌}
+use Rattle.zk_model.specs.Codes.{minus}
 use Rattle.zk_model.specs.declared.connect.ConnectResponse.{ConnectResponse}
 use Rattle.zk_model.specs.declared.reply.Notice.{Notice}
 use Rattle.zk_model.specs.declared.reply.Reply.{Reply}
@@ -30,13 +31,19 @@ CanBeSent reply = FitsLength (reply_bytes (pos 0) (pos 0) reply)
 
 -- a notification has xid -1, zxid -1, no error, and the state "connected", 3
 abbrev pub notice_values : Notice → List Value
-notice_values n = int (negsuc 0) ∷ long (negsuc 0) ∷ int (pos 0) ∷ int n.kind ∷ int (pos 3) ∷ ustring n.path ∷ []
+notice_values n = reply_header (minus 1) (minus 1) (pos 0) ++ int n.kind ∷ int (pos 3) ∷ ustring n.path ∷ []
+
+abbrev pub notice_bytes : Notice → List ℕ
+notice_bytes n = written (notice_values n)
 
 unfoldable pub notice_packet : Notice → List ℕ
-notice_packet n = with_length (written (notice_values n))
+notice_packet n = with_length (notice_bytes n)
 
 abbrev pub NoticeCanBeSent : Notice → Type 0
-NoticeCanBeSent n = FitsLength (written (notice_values n))
+NoticeCanBeSent n = FitsLength (notice_bytes n)
+
+abbrev pub connect_bytes : ConnectResponse → List ℕ
+connect_bytes r = written (connect_response_values r)
 
 unfoldable pub connect_packet : ConnectResponse → List ℕ
-connect_packet r = with_length (written (connect_response_values r))
+connect_packet r = with_length (connect_bytes r)

@@ -1,6 +1,7 @@
 -- The results of a multi's parts (zookeeper.jute, `MultiHeader`, `ErrorResponse`).
-use Rattle.std.specs.Prelude.{ℕ, ℤ, pos, negsuc, Bool, true, false, ◌&&◌, Option, Some, None, List, [], ◌∷◌, ◌++◌, length, Ok, Err, if◌then◌else◌}
+use Rattle.std.specs.Prelude.{ℕ, ℤ, pos, Bool, true, false, ◌&&◌, Option, Some, None, List, [], ◌∷◌, ◌++◌, length, Ok, Err, if◌then◌else◌}
 use Rattle.std.specs.Ordering.{int_eq}
+use Rattle.zk_model.specs.Codes.{minus}
 use Rattle.zk_model.specs.declared.reply.PartResult.{PartResult}
 use Rattle.zk_model.specs.declared.reply.PartResult.TheVariants as results
 use Rattle.zk_jute.specs.declared.opcode.PartKind.{PartKind}
@@ -31,10 +32,10 @@ result_values (results.Created path) = good_result kinds.Create (ustring path �
 result_values results.Deleted = good_result kinds.Delete []
 result_values (results.Set stat) = good_result kinds.SetData (stat_values stat)
 result_values results.Checked = good_result kinds.Check []
-result_values (results.Code code) = result_header (negsuc 0) false code ++ int code ∷ []
+result_values (results.Code code) = result_header (minus 1) false code ++ int code ∷ []
 
 abbrev pub last_result : List Value
-last_result = result_header (negsuc 0) true (negsuc 0)
+last_result = result_header (minus 1) true (minus 1)
 
 -- ---- reading
 
@@ -50,8 +51,8 @@ form_of_kind None = none
 form_of_kind (Some kind) = good kind
 
 abbrev pub form_of : ℤ → Bool → ℤ → Form
-form_of type true err = if int_eq type (negsuc 0) && int_eq err (negsuc 0) then last else none
-form_of type false err = if int_eq type (negsuc 0) then refused else (if int_eq err (pos 0) then form_of_kind (part_numbered type) else none)
+form_of type true err = if int_eq type (minus 1) && int_eq err (minus 1) then last else none
+form_of type false err = if int_eq type (minus 1) then refused else (if int_eq err (pos 0) then form_of_kind (part_numbered type) else none)
 
 -- the code behind a header is the header's own; a header and a code that differ have a fault of the header
 abbrev pub code_at : ℕ → ℤ → List ℕ → Read (Option PartResult)

@@ -1,6 +1,7 @@
 -- The packets of requests, as clients write them.
-use Rattle.std.specs.Prelude.{ℕ, ℤ, pos, negsuc, Bool, true, false, List, [], ◌∷◌, ◌++◌}
+use Rattle.std.specs.Prelude.{ℕ, ℤ, pos, Bool, true, false, List, [], ◌∷◌, ◌++◌}
 use Rattle.std.specs.List.{flat_map}
+use Rattle.zk_model.specs.Codes.{minus}
 use Rattle.zk_model.specs.declared.request.Part.{Part}
 use Rattle.zk_model.specs.declared.request.Request.{Request}
 use Rattle.zk_model.specs.declared.request.Request.TheVariants as requests
@@ -11,14 +12,14 @@ use Rattle.zk_jute.specs.Records.{values_of, part_values}
 
 -- a MultiHeader, with the error -1
 abbrev pub header_values : ℤ → Bool → List Value
-header_values type last = int type ∷ boolean last ∷ int (negsuc 0) ∷ []
+header_values type last = int type ∷ boolean last ∷ int (minus 1) ∷ []
 
 abbrev pub whole_part : Part → List Value
 whole_part part = header_values (part_number (part_kind part)) false ++ part_values part
 
 -- the parts, and the last header, of type -1
 abbrev pub multi_values : List Part → List Value
-multi_values ps = flat_map whole_part ps ++ header_values (negsuc 0) true
+multi_values ps = flat_map whole_part ps ++ header_values (minus 1) true
 
 abbrev pub asked_values : Request → List Value
 asked_values (requests.Multi ps) = multi_values ps

@@ -1,20 +1,22 @@
 //! What is true of every frame. These functions do nothing: each clause is a law of the definitions.
 
 ghost use Rattle.std.specs.Prelude.{◌≡◌, ◌≢◌, ℕ, ℤ, ◌≤◌, Some, List, [], ◌∷◌, length};
-ghost use Rattle.zk_jute.specs.Connects.{read_connect};
+ghost use Rattle.zk_jute.specs.Connects.{connect_response_values, read_connect};
 ghost use Rattle.zk_jute.specs.Frames.{Framed};
 ghost use Rattle.zk_jute.specs.FromValues.{request_from};
-ghost use Rattle.zk_jute.specs.Grammar.{IsConnect, IsReply, IsRequest, Suits};
+ghost use Rattle.zk_jute.specs.Grammar.{IsConnect, IsConnectResponse, IsNotice, IsReply, IsRequest, Suits};
 ghost use Rattle.zk_jute.specs.JuteWriting.{AreValues};
 ghost use Rattle.zk_jute.specs.Numbers.{number_of, opcode_of, opcode_numbered};
-ghost use Rattle.zk_jute.specs.Packets.{CanBeSent, reply_bytes, reply_packet, reply_values};
+ghost use Rattle.zk_jute.specs.Packets.{CanBeSent, NoticeCanBeSent, connect_bytes, connect_packet, notice_bytes, notice_packet, notice_values, reply_bytes, reply_packet, reply_values};
 ghost use Rattle.zk_jute.specs.Records.{values_of};
 ghost use Rattle.zk_jute.specs.ReplyReading.{Answers, read_reply};
 ghost use Rattle.zk_jute.specs.Requests.{Asks, read_request};
 ghost use Rattle.zk_jute.specs.Sending.{RequestCanBeSent, request_bytes, request_packet, request_values};
 ghost use Rattle.zk_model.specs.declared.connect.ConnectRequest.{ConnectRequest};
+ghost use Rattle.zk_model.specs.declared.connect.ConnectResponse.{ConnectResponse};
 ghost use Rattle.zk_jute.specs.declared.opcode.Opcode.{Opcode};
 ghost use Rattle.zk_jute.specs.declared.opcode.Opcode.TheVariants as opcodes;
+ghost use Rattle.zk_model.specs.declared.reply.Notice.{Notice};
 ghost use Rattle.zk_model.specs.declared.reply.Reply.{Reply};
 ghost use Rattle.zk_model.specs.declared.request.Request.{Request};
 ghost use Rattle.zk_model.specs.Limits.{max_frame};
@@ -59,4 +61,20 @@ pub fn replies_come_back()
     ensures framed { (xid zxid : ℤ) (reply : Reply) → length (reply_bytes xid zxid reply) ≤ max_frame → Framed (reply_packet xid zxid reply) (reply_bytes xid zxid reply ∷ []) [] }
     ensures read { (kind : ℤ) (code : Opcode) (xid zxid : ℤ) (reply : Reply) → opcode_numbered kind ≡ Some code → Suits code reply → CanBeSent reply → AreValues (reply_values xid zxid reply) →
         read_reply (reply_bytes xid zxid reply) kind ≡ Answers xid zxid reply }
+{}
+
+/// The packet of a notification is cut as one frame, which spells that notification and no other: where its frame is within the
+/// limit, its kind is in the range of an int and its path is UTF-8.
+pub fn notices_are_spelled()
+    ensures framed { (notice : Notice) → length (notice_bytes notice) ≤ max_frame → Framed (notice_packet notice) (notice_bytes notice ∷ []) [] }
+    ensures spelled { (notice : Notice) → NoticeCanBeSent notice → AreValues (notice_values notice) → IsNotice notice (notice_bytes notice) }
+    ensures one { (frame : List ℕ) (notice other : Notice) → IsNotice notice frame → IsNotice other frame → notice ≡ other }
+{}
+
+/// The packet of an answer to a connect is cut as one frame, which spells that answer and no other: where its password has 16
+/// bytes and its numbers are in their range.
+pub fn connect_responses_are_spelled()
+    ensures framed { (response : ConnectResponse) → length response.passwd ≡ 16 → Framed (connect_packet response) (connect_bytes response ∷ []) [] }
+    ensures spelled { (response : ConnectResponse) → length response.passwd ≡ 16 → AreValues (connect_response_values response) → IsConnectResponse response (connect_bytes response) }
+    ensures one { (frame : List ℕ) (response other : ConnectResponse) → IsConnectResponse response frame → IsConnectResponse other frame → response ≡ other }
 {}

@@ -2,4 +2,5 @@ pub mod Paths
 pub mod PathDefects
 pub mod PathScans
 pub mod SequencePaths
+pub mod SequenceParents
 pub mod ValidPaths

@@ -17,7 +17,7 @@ use Rattle.zk_model.specs.Limits.{max_path, max_sequence_prefix}
 
 -- ---- digits
 
-abbrev Digits : Bytes → Type 0
+abbrev pub Digits : Bytes → Type 0
 Digits [] = ⊤
 Digits (d ∷ ds) = (48 ≤ d) × (d < 58) × Digits ds
 
@@ -28,11 +28,11 @@ digits-append (x ∷ xs) ys hx hy = (hx.0, hx.1, digits-append xs ys hx.2 hy)
 last_digit : (n : ℕ) → Digits ((48 + n % 10) ∷ [])
 last_digit n = (omega arith, omega arith, tt)
 
-fixed-digits : (k n : ℕ) → Digits (fixed_digits k n)
+pub fixed-digits : (k n : ℕ) → Digits (fixed_digits k n)
 fixed-digits zero n = tt
 fixed-digits (suc k) n = digits-append (fixed_digits k (n / 10)) _ (fixed-digits k (n / 10)) (last_digit n)
 
-length-fixed : (k n : ℕ) → length (fixed_digits k n) ≡ k
+pub length-fixed : (k n : ℕ) → length (fixed_digits k n) ≡ k
 length-fixed zero n = refl
 length-fixed (suc k) n = omega (arith, length-append (fixed_digits k (n / 10)) ((48 + n % 10) ∷ []), length-fixed k (n / 10))
 

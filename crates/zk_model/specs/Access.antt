@@ -1,6 +1,6 @@
 -- The one access list of this project (Programmer's Guide, "ZooKeeper access control using ACLs"): everything is allowed
 -- to everyone.
-use Rattle.std.specs.Prelude.{ℤ, pos, Bool, false, ◌&&◌, List, [], ◌∷◌, codes, bytes_eq}
+use Rattle.std.specs.Prelude.{pos, Bool, false, ◌&&◌, List, [], ◌∷◌, codes, bytes_eq}
 use Rattle.std.specs.Ordering.{int_eq}
 use Rattle.zk_model.specs.declared.request.Acl.{Acl}
 

@@ -74,4 +74,3 @@ settled t parts (Passed rs u gs ss) = if nat_lt max_load (load t parts ss) then 
 
 unfoldable pub several : Tree → ℕ → ℤ → List Part → ℤ → ℕ → Several
 several t limit session parts zxid now = settled t parts (parts_of t limit session parts zxid now)
-

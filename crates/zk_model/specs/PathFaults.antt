@@ -11,6 +11,7 @@ use Rattle.zk_model.specs.declared.path.PathFault.TheVariants.{NoSlash, EndSlash
 use Rattle.zx_base.specs.Maps.{Bytes, same}
 use Rattle.zk_model.specs.Paths.{slash, dot, names, begins_with_slash, is_path_char, is_path, with_one, is_sequence_prefix}
 use Rattle.zk_model.specs.Limits.{max_path, max_sequence_prefix}
+
 -- the text whose form is tested: a sequence node's has `1` behind it
 abbrev pub tested : Bool → Bytes → Bytes
 tested sequential text = if sequential then with_one text else text

@@ -2,7 +2,6 @@
 -- "Sequence Nodes", "ZooKeeper Stat Structure"; codes by `KeeperException.Code`). The order of the refusals is this project's.
 use Rattle.std.specs.Prelude.{ℕ, ℤ, pos, negsuc, nat_abs, ◌+ℤ◌, Bool, true, false, not, ◌&&◌, ◌||◌, List, [], ◌∷◌, length, nat_le, if◌then◌else◌, Option, Some, None, ◌==◌}
 use Rattle.std.specs.Ordering.{int_eq}
-use Rattle.zk_model.specs.declared.request.Acl.{Acl}
 use Rattle.zk_model.specs.declared.node.Node.{Node}
 use Rattle.zk_model.specs.declared.request.Part.{Part}
 use Rattle.zk_model.specs.declared.request.Part.TheVariants.{Create, Delete, SetData, Check}

@@ -13,8 +13,6 @@ mod connect;
 pub mod limit;
 mod node;
 mod path;
-#[cfg(test)]
-mod path_tests;
 mod reply;
 mod request;
 

@@ -4,7 +4,7 @@ use Rattle.std.specs.Prelude.{Option, Some, None, ◌&&◌}
 use Rattle.std.proofs.lemmas.Bool.{and_parts}
 use Rattle.std.proofs.Math.Bool.{and-true, and_assoc}
 use Rattle.zk_transcript.specs.declared.transcript.TranscriptLine.{TranscriptLine}
-use Rattle.zk_transcript.specs.declared.transcript.TranscriptLine.TheVariants.{Update}
+use Rattle.zk_transcript.specs.declared.transcript.TranscriptLine.TheVariants.{Update, Open, Frame, Send, Lapse, Close}
 use Rattle.zk_transcript.specs.History.{State, after, after_from, change, nothing_yet, first_place}
 use Rattle.zk_transcript.specs.Legal.{begins, is_legal, is_legal_from, is_legal_line, is_ordered, is_ordered_from, is_in_order}
 
@@ -30,7 +30,11 @@ is_legal_from-push before s (x ∷ ls) l =
 begins-push : (ls : List TranscriptLine) (l : TranscriptLine) → begins ls ≡ true → begins (ls ++ l ∷ []) ≡ true
 begins-push [] l h = absurd (cc)
 begins-push (Update u ∷ ls) l h = h
-begins-push (_ ∷ ls) l h = absurd (cc)
+begins-push (Lapse revision id ∷ ls) l h = absurd (cc)
+begins-push (Open c proxy id passwd ∷ ls) l h = begins-push ls l h
+begins-push (Frame c i z bytes ∷ ls) l h = begins-push ls l h
+begins-push (Send c bytes ∷ ls) l h = begins-push ls l h
+begins-push (Close c end ∷ ls) l h = begins-push ls l h
 
 pub is_legal-push : (ls : List TranscriptLine) (l : TranscriptLine) → is_legal ls ≡ true → is_legal_line ls (after ls) l ≡ true → is_legal (ls ++ l ∷ []) ≡ true
 unfolding is_legal after

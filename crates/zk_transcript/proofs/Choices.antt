@@ -1,138 +1,92 @@
--- What one choice gives a connection on which nothing is armed.
-use Rattle.std.proofs.Common.{◌≡◌, ℕ, ◌+◌, ◌≤◌, List, [], ◌∷◌, length, refl, ◌∙◌, arith, Bool, true, false, ℤ, pos, ◌≤ℤ◌}
-use Rattle.std.specs.Prelude.{Option, Some, None, nat_le, int_le, ◌==◌, if◌then◌else◌}
+-- The two tests of choices, fresh and in turn, over more lines and more choices.
+use Rattle.std.proofs.Common.{◌≡◌, ℕ, ◌≤◌, List, [], ◌∷◌, ◌++◌, length, take, refl, sym, subst, arith, Bool, true, false, ℤ}
+use Rattle.std.specs.Prelude.{Option, Some, None, nat_le, ◌&&◌, if◌then◌else◌}
+use Rattle.std.proofs.lemmas.List.{take-append-le}
+use Rattle.std.proofs.lemmas.Bool.{and_parts}
 use Rattle.std.proofs.lemmas.Bool.Decides.{nat_tests}
-use Rattle.std.proofs.lemmas.Int.{ints}
-use Rattle.std.proofs.Math.Seq.{take-length}
-use Rattle.std.specs.FinMap.{empty, get-empty}
-use Rattle.zx_base.proofs.MapLaws.{remove-absent}
-use Rattle.zk_model.specs.declared.node.Trigger.{Trigger}
-use Rattle.zk_model.specs.declared.node.Trigger.TheVariants.{Created, Deleted, Changed, Children}
-use Rattle.zk_model.specs.declared.reply.Body.{Body}
-use Rattle.zk_model.specs.declared.reply.Reply.{Reply}
-use Rattle.zk_model.specs.declared.reply.Reply.TheVariants as reply
-use Rattle.zk_transcript.specs.declared.transcript.UpdateKind.TheVariants.{Asked}
-use Rattle.zk_transcript.proofs.Walks.{first_place-bound}
-use Rattle.zk_model.specs.declared.request.Request.{Request}
 use Rattle.zk_transcript.specs.declared.transcript.TranscriptLine.{TranscriptLine}
-use Rattle.zk_transcript.specs.declared.transcript.UpdateRec.{UpdateRec}
-use Rattle.zk_jute.specs.Requests.{Asks, read_request}
-use Rattle.zk_jute.specs.Packets.{reply_packet}
-use Rattle.zk_model.specs.Watches.{no_watches, fire, fire_all}
-use Rattle.zk_transcript.specs.History.{after, state_at, first_place, frame_shown}
-use Rattle.zk_transcript.specs.Answers.{plain_request, tree_reply}
-use Rattle.zk_transcript.specs.Conversations.{Walker, Plain, Answer, move, is_not_overtaken, fired_at, is_above, then_fired, fired_from, fired_above, placed_frame, is_auth_refusal, later_of, answer_as_of, answer_framed, answer_past, carried, update_shown, after_place, after_update, response_at}
+use Rattle.zk_transcript.specs.History.{frame_shown}
+use Rattle.zk_transcript.specs.Walks.{Walker, Choice, Tell, Plain, Answer, Due, move, walk, placed_frame, answer_as_of, own_update, then_due, next_index, all_choices, is_past, is_fresh, are_fresh, is_not_overtaken, is_in_turn, are_in_turn}
+use Rattle.zk_transcript.proofs.Appending.{first_place-push}
+use Rattle.zk_transcript.proofs.Longer.{move-index, then_due-next, if_Some}
 
--- ---- where nothing is armed, nothing fires
+both-true : (a b : Bool) → a ≡ true → b ≡ true → (a && b) ≡ true
+both-true true b h e = e
+both-true false b h e = absurd (cc)
 
-fire-none : (t : Trigger) → fire no_watches t ≡ (no_watches, [])
-fire-none (Created p) = rw (get-empty {X = Unit {0}} _ p, remove-absent {X = Unit {0}} empty p (get-empty _ p)) refl
-fire-none (Deleted p) = rw (get-empty {X = Unit {0}} _ p, remove-absent {X = Unit {0}} empty p (get-empty _ p)) refl
-fire-none (Changed p) = rw (get-empty {X = Unit {0}} _ p, remove-absent {X = Unit {0}} empty p (get-empty _ p)) refl
-fire-none (Children p) = rw (get-empty {X = Unit {0}} _ p, remove-absent {X = Unit {0}} empty p (get-empty _ p)) refl
-
-pub fire_all-none : (ts : List Trigger) → fire_all no_watches ts ≡ (no_watches, [])
-unfolding fire_all
-fire_all-none [] = refl
-fire_all-none (t ∷ ts) = rw (fire-none t, fire_all-none ts) refl
-
-fired_at-none : (lines : List TranscriptLine) (k : ℕ) → fired_at lines k no_watches ≡ (no_watches, [])
-fired_at-none lines k = rw (fire_all-none (state_at lines (k + 1)).triggers) refl
-
-then_fired-none : (lines : List TranscriptLine) (k : ℕ) (b : Bool) → then_fired lines k b (no_watches, []) ≡ (no_watches, [])
-then_fired-none lines k true = rw (fired_at-none lines k) refl
-then_fired-none lines k false = refl
-
-fired_from-none : (lines : List TranscriptLine) (p : ℤ) (k : ℕ) (ls : List TranscriptLine) → fired_from lines p k ls (no_watches, []) ≡ (no_watches, [])
-fired_from-none lines p k [] = refl
-fired_from-none lines p k (l ∷ ls) = rw (then_fired-none lines k (is_above p l)) (fired_from-none lines p (k + 1) ls)
-
-pub fired_above-none : (lines : List TranscriptLine) (p : ℤ) → fired_above lines p no_watches ≡ (no_watches, [])
-unfolding fired_above
-fired_above-none lines p = fired_from-none lines p 0 lines
-
--- ---- an answer as of the moment after all lines
-
--- where a walker may answer: it stands within these lines, with nothing armed and nothing over
-pub record MayAnswer (lines : List TranscriptLine) (w : Walker) : Type 0 where
-  pub zxid : w.zxid ≤ℤ (after lines).zxid
-  pub moment : w.moment ≤ length lines
-  pub watches : w.watches ≡ no_watches
-  pub goes_on : w.over ≡ false
-
--- the next frame, at its place, asks this
-pub record AsksNext (c next : ℕ) (lines : List TranscriptLine) (place : ℕ) (bytes : List ℕ) (xid : ℤ) (r : Request) : Type 0 where
-  pub frame : placed_frame c next lines ≡ Some (place, bytes)
-  pub read : read_request bytes ≡ Asks xid r
-  pub ahead : is_not_overtaken lines c next ≡ true
-
-answer_framed-now : (past : List TranscriptLine) (c : ℕ) (id : ℤ) (w : Walker) (own : Option (ℕ × UpdateRec)) (place : ℕ) (bytes : List ℕ) (xid : ℤ) (r : Request)
-    → MayAnswer past w → is_not_overtaken past c w.next ≡ true → read_request bytes ≡ Asks xid r → answer_framed past c id w own (Some (place, bytes)) ≡ answer_as_of past c id w (Asks xid r) (no_watches, []) own
-answer_framed-now past c id w own place bytes xid r may ahead read =
-    let late : nat_le w.moment (length past) ≡ true = grind (arith, nat_tests, may.moment) in
-    let above : int_le w.zxid (after past).zxid ≡ true = grind (arith, ints, may.zxid) in
-    rw (read, late, above, ahead, may.watches, fired_above-none past w.zxid) refl
-
-pub answer-now : (lines : List TranscriptLine) (c : ℕ) (id : ℤ) (w : Walker) (own : Option (ℕ × UpdateRec)) (place : ℕ) (bytes : List ℕ) (xid : ℤ) (r : Request)
-    → MayAnswer lines w → AsksNext c w.next lines place bytes xid r → carried c w.next lines ≡ own
-    → move lines c id w (Answer (length lines)) ≡ answer_as_of lines c id w (Asks xid r) (no_watches, []) own
-unfolding move answer_past
-answer-now lines c id w own place bytes xid r may asks carries =
-    let whole : nat_le (length lines) (length lines) ≡ true = grind (arith, nat_tests) in
-    rw (may.goes_on, whole, take-length lines, carries, asks.frame) (answer_framed-now lines c id w own place bytes xid r may asks.ahead asks.read)
-
--- the walker behind an answer as of now
-abbrev pub answered_now : List TranscriptLine → Walker → Walker
-answered_now lines w = record {
-  zxid = (after lines).zxid;
-  since = after_update (after lines).zxid lines;
-  watches = no_watches;
-  next = w.next + 1;
-  moment = length lines;
-  over = false;
-}
-
--- a request that nothing carried out is answered by the tree
-pub answer-looked : (lines : List TranscriptLine) (c : ℕ) (w : Walker) (place : ℕ) (bytes : List ℕ) (xid : ℤ) (r : Request) (reply : Reply)
-    → MayAnswer lines w → AsksNext c w.next lines place bytes xid r → carried c w.next lines ≡ None
-    → plain_request r ≡ None → tree_reply (after lines).tree (pos 0) no_watches r ≡ Some (record { reply = reply; notices = []; watches = no_watches })
-    → move lines c (pos 0) w (Answer (length lines)) ≡ Some (answered_now lines w, (length lines, reply_packet xid (after lines).zxid reply) ∷ [])
-answer-looked lines c w place bytes xid r reply may asks own plain told =
-    answer-now lines c (pos 0) w None place bytes xid r may asks own ∙ rw (plain, told) refl
-
--- a request that the last line carried out is answered by what it did
-pub answer-carried : (lines : List TranscriptLine) (c : ℕ) (w : Walker) (place : ℕ) (bytes : List ℕ) (xid : ℤ) (r : Request) (k i now : ℕ) (zxid : ℤ) (b : Body)
-    → MayAnswer lines w → AsksNext c w.next lines place bytes xid r → carried c w.next lines ≡ Some (k, record { zxid = zxid; kind = Asked c i now })
-    → length lines ≡ k + 1 → response_at lines k zxid (Asked c i now) ≡ Some b
-    → move lines c (pos 0) w (Answer (length lines)) ≡ Some (answered_now lines w, (length lines, reply_packet xid (after lines).zxid (reply.Good b)) ∷ [])
-answer-carried lines c w place bytes xid r k i now zxid b may asks own last response =
-    let here : (length lines == k + 1) ≡ true = grind (arith, nat_tests) in
-    answer-now lines c (pos 0) w (Some (k, record { zxid = zxid; kind = Asked c i now })) place bytes xid r may asks own ∙ rw (here, response) refl
-
--- ---- an answer without the tree
-
--- the walker behind it
-abbrev pub answered_plainly : Walker → Walker
-answered_plainly w = record w { next = w.next + 1; over = false }
-
-pub answer-plain : (lines : List TranscriptLine) (c : ℕ) (w : Walker) (place : ℕ) (bytes : List ℕ) (xid : ℤ) (r : Request) (reply : Reply)
-    → w.over ≡ false → AsksNext c w.next lines place bytes xid r → plain_request r ≡ Some reply → is_auth_refusal reply ≡ false
-    → move lines c (pos 0) w Plain ≡ Some (answered_plainly w, (later_of w.since (place + 1), reply_packet xid w.zxid reply) ∷ [])
-unfolding move
-answer-plain lines c w place bytes xid r reply goes_on asks plain no_auth = rw (goes_on, asks.frame, asks.read, plain, no_auth) refl
-
-later_of-most : (a b n : ℕ) → a ≤ n → b ≤ n → later_of a b ≤ n
-later_of-most a b n h g = elim (nat_le a b) as (λ t. (if t then b else a) ≤ n) [ true ↦ g | false ↦ h ]
-
--- it is due at once
-pub plain-due : (lines : List TranscriptLine) (c : ℕ) (w : Walker) (place : ℕ) (bytes : List ℕ) → w.since ≤ length lines → placed_frame c w.next lines ≡ Some (place, bytes) → later_of w.since (place + 1) ≤ length lines
-plain-due lines c w place bytes since frame =
-    later_of-most w.since (place + 1) (length lines) since (omega (arith, first_place-bound (frame_shown c w.next) 0 lines (place, bytes) frame))
-
--- the moment right after an update is one of these
-pub after_update-bound : (z : ℤ) (lines : List TranscriptLine) → after_update z lines ≤ length lines
-after_update-bound z lines = go (first_place (update_shown z) 0 lines) refl
+-- what holds of the choices so far and of those that go on from there holds of all
+pub choices-append : (test : ℕ → Choice → Bool) (lines : List TranscriptLine) (c : ℕ) (id : ℤ) (w : Walker) (xs ys : List Choice) (r : Walker × List Due)
+    → walk lines c id w xs ≡ Some r → all_choices test w.next xs ≡ true → all_choices test r.0.next ys ≡ true → all_choices test w.next (xs ++ ys) ≡ true
+unfolding walk all_choices
+choices-append test lines c id w [] ys r h f g =
+    let e : (w, []) ≡ r = cc in
+    subst (λ (p : Walker × List Due). all_choices test p.0.next ys ≡ true → all_choices test w.next ys ≡ true) e (λ q. q) g
+choices-append test lines c id w (x ∷ xs) ys r h f g = go (move lines c id w x) refl (λ v s e n m. choices-append test lines c id v xs ys s e n m) h
   where
-    go : (o : Option (ℕ × ℤ)) → first_place (update_shown z) 0 lines ≡ o → after_place o ≤ length lines
-    go None e = omega arith
-    go (Some x) e = omega (arith, first_place-bound (update_shown z) 0 lines x e)
+    go : (o : Option (Walker × List Due)) → move lines c id w x ≡ o
+        → ((v : Walker) (s : Walker × List Due) → walk lines c id v xs ≡ Some s → all_choices test v.next xs ≡ true → all_choices test s.0.next ys ≡ true → all_choices test v.next (xs ++ ys) ≡ true)
+        → (elim o [ None ↦ None | Some u ↦ then_due u.1 (walk lines c id u.0 xs) ]) ≡ Some r
+        → (test w.next x && all_choices test (next_index w.next x) (xs ++ ys)) ≡ true
+    go None e later t = absurd (cc)
+    go (Some u) e later t =
+        let s = then_due-next u.1 (walk lines c id u.0 xs) r t in
+        let q = and_parts (test w.next x) (all_choices test (next_index w.next x) xs) f in
+        let i : u.0.next ≡ next_index w.next x = move-index lines c id w x u e in
+        both-true (test w.next x) _ q.0
+        (subst (λ n. all_choices test n (xs ++ ys) ≡ true) i
+        (later u.0 s.0 s.1 (subst (λ n. all_choices test n xs ≡ true) (sym i) q.1) (subst (λ (v : Walker). all_choices test v.next ys ≡ true) (sym s.2) g)))
+
+-- one test for another, along a walk
+choices-as : (test still : ℕ → Choice → Bool) (lines : List TranscriptLine) (c : ℕ) (id : ℤ)
+    → ((w : Walker) (x : Choice) (y : Walker × List Due) → move lines c id w x ≡ Some y → test w.next x ≡ true → still w.next x ≡ true)
+    → (w : Walker) (xs : List Choice) (r : Walker × List Due) → walk lines c id w xs ≡ Some r → all_choices test w.next xs ≡ true → all_choices still w.next xs ≡ true
+unfolding walk all_choices
+choices-as test still lines c id one w [] r h f = refl
+choices-as test still lines c id one w (x ∷ xs) r h f = go (move lines c id w x) refl (λ v s e n. choices-as test still lines c id one v xs s e n) h
+  where
+    go : (o : Option (Walker × List Due)) → move lines c id w x ≡ o
+        → ((v : Walker) (s : Walker × List Due) → walk lines c id v xs ≡ Some s → all_choices test v.next xs ≡ true → all_choices still v.next xs ≡ true)
+        → (elim o [ None ↦ None | Some u ↦ then_due u.1 (walk lines c id u.0 xs) ]) ≡ Some r
+        → (still w.next x && all_choices still (next_index w.next x) xs) ≡ true
+    go None e later t = absurd (cc)
+    go (Some u) e later t =
+        let s = then_due-next u.1 (walk lines c id u.0 xs) r t in
+        let q = and_parts (test w.next x) (all_choices test (next_index w.next x) xs) f in
+        let i : u.0.next ≡ next_index w.next x = move-index lines c id w x u e in
+        both-true (still w.next x) _ (one w x u e q.0)
+        (subst (λ n. all_choices still n xs ≡ true) i (later u.0 s.0 s.1 (subst (λ n. all_choices test n xs ≡ true) (sym i) q.1)))
+
+past-push : (m c i : ℕ) (lines more : List TranscriptLine) → is_past m (placed_frame c i lines) ≡ true → is_past m (placed_frame c i (lines ++ more)) ≡ true
+past-push m c i lines more h = go (placed_frame c i lines) refl h
+  where
+    go : (o : Option (ℕ × List ℕ)) → placed_frame c i lines ≡ o → is_past m o ≡ true → is_past m (placed_frame c i (lines ++ more)) ≡ true
+    go None e t = absurd (cc)
+    go (Some f) e t = rw (first_place-push (frame_shown c i) 0 lines more f e) t
+
+fresh-one : (lines more : List TranscriptLine) (c i : ℕ) (x : Choice) → is_fresh lines c i x ≡ true → is_fresh (lines ++ more) c i x ≡ true
+fresh-one lines more c i Tell h = refl
+fresh-one lines more c i Plain h = refl
+fresh-one lines more c i (Answer m) h = past-push m c i lines more h
+
+pub fresh-push : (lines more : List TranscriptLine) (c : ℕ) (id : ℤ) (w : Walker) (xs : List Choice) (r : Walker × List Due)
+    → walk lines c id w xs ≡ Some r → are_fresh lines c w.next xs ≡ true → are_fresh (lines ++ more) c w.next xs ≡ true
+fresh-push lines more c id w xs r h f = choices-as (is_fresh lines c) (is_fresh (lines ++ more) c) lines c id (λ v x y e g. fresh-one lines more c v.next x g) w xs r h f
+
+-- a moment that was answered as of is one of these lines'
+answer-within : (lines : List TranscriptLine) (c : ℕ) (id : ℤ) (w : Walker) (m : ℕ) (y : Walker × List Due) → move lines c id w (Answer m) ≡ Some y → m ≤ length lines
+unfolding move
+answer-within lines c id w m y h = go (nat_le m (length lines)) refl (if_Some w.over _ y h)
+  where
+    go : (b : Bool) → nat_le m (length lines) ≡ b → (if b then answer_as_of (take m lines) c id w (own_update c w.next lines) (placed_frame c w.next lines) else None) ≡ Some y → m ≤ length lines
+    go true e f = grind (arith, nat_tests)
+    go false e f = absurd (cc)
+
+turn-one : (lines more : List TranscriptLine) (c : ℕ) (id : ℤ) (w : Walker) (x : Choice) (y : Walker × List Due)
+    → move lines c id w x ≡ Some y → is_in_turn lines c w.next x ≡ true → is_in_turn (lines ++ more) c w.next x ≡ true
+turn-one lines more c id w Tell y h f = refl
+turn-one lines more c id w Plain y h f = refl
+turn-one lines more c id w (Answer m) y h f = subst (λ past. is_not_overtaken past c w.next ≡ true) (sym (take-append-le m lines more (answer-within lines c id w m y h))) f
+
+pub turn-push : (lines more : List TranscriptLine) (c : ℕ) (id : ℤ) (w : Walker) (xs : List Choice) (r : Walker × List Due)
+    → walk lines c id w xs ≡ Some r → are_in_turn lines c w.next xs ≡ true → are_in_turn (lines ++ more) c w.next xs ≡ true
+turn-push lines more c id w xs r h f = choices-as (is_in_turn lines c) (is_in_turn (lines ++ more) c) lines c id (turn-one lines more c id) w xs r h f

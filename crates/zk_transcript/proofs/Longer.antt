@@ -1,58 +1,41 @@
 -- Walks over more lines, and one choice longer.
-use Rattle.std.proofs.Common.{◌≡◌, ℕ, ◌+◌, ◌≤◌, ◌<◌, List, [], ◌∷◌, ◌++◌, length, take, refl, sym, ap, ◌∙◌, subst, arith, Bool, true, false, ℤ, append_assoc, append-nil}
-use Rattle.std.specs.Prelude.{Option, Some, None, nat_le, ◌&&◌, ◌==◌, int_le, if◌then◌else◌}
-use Rattle.zk_model.specs.declared.reply.Reply.{Reply}
+use Rattle.std.proofs.Common.{◌≡◌, ℕ, ◌+◌, ◌≤◌, ◌<◌, List, [], ◌∷◌, ◌++◌, take, refl, sym, ap, ◌∙◌, subst, arith, Bool, true, false, ℤ, append_assoc, append-nil}
+use Rattle.std.specs.Prelude.{Option, Some, None, ◌&&◌, if◌then◌else◌}
 use Rattle.zk_transcript.specs.declared.transcript.UpdateRec.{UpdateRec}
 use Rattle.zk_transcript.specs.declared.transcript.TranscriptLine.{TranscriptLine}
-use Rattle.zk_jute.specs.Requests.{Frame, read_request}
-use Rattle.zk_transcript.specs.History.{after}
-use Rattle.zk_model.specs.Watches.{Watches, is_unarmed}
-use Rattle.zk_transcript.specs.Answers.{Told, plain_reply, xid_of, session_reply}
-use Rattle.zk_transcript.specs.Conversations.{carried_shown, Walker, Choice, Tell, Plain, Answer, Due, move, walk, told_update, next_update, placed_frame, plain_answer, later_of, answer_plainly, answered, answered_if, no_more, answer_seen, carried_told, response_at, ends, answer_as_of, has_header, answer_framed, answer_past, fired_above, carried, then_due, is_not_overtaken}
+use Rattle.zk_jute.specs.Requests.{read_request}
+use Rattle.zk_model.specs.Watches.{is_unarmed}
+use Rattle.zk_transcript.specs.Answers.{Told, plain_reply, xid_of}
+use Rattle.zk_transcript.specs.Walks.{own_update, own_update_shown, Walker, Choice, Tell, Plain, Answer, Due, move, walk, told_update, next_update, placed_frame, plain_answer, later_of, answer_plainly, reply_step, reply_step_if, may_answer_at, has_header, answer_as_of, fired_above, then_due, next_index}
 use Rattle.zk_transcript.proofs.Lookups.{first_place-skip}
-use Rattle.zk_transcript.proofs.Walks.{move-push, tell-push, plain-push, unless-push}
+use Rattle.zk_transcript.proofs.Walks.{move-push, entry-push, plain-push, unless-push}
 
 -- ---- the next frame: an answer takes one, and telling an update takes none
 
-answered_if-next : (past : List TranscriptLine) (w : Walker) (xid : ℤ) (over : Bool) (fired : List Due) (o : Option Told) (y : Walker × List Due)
-    → answered_if past w xid over fired o ≡ Some y → y.0.next ≡ w.next + 1
-answered_if-next past w xid over fired None y h = absurd (cc)
-answered_if-next past w xid over fired (Some t) y h = let s : answered past w xid over fired t ≡ y = cc in ap (λ (p : Walker × List Due). p.0.next) (sym s)
-
-answer_seen-next : (past : List TranscriptLine) (id : ℤ) (w : Walker) (x : Frame) (f : Watches × List Due) (o : Option Reply) (y : Walker × List Due)
-    → answer_seen past id w x f o ≡ Some y → y.0.next ≡ w.next + 1
-answer_seen-next past id w x f (Some r) y h = answered_if-next past w (xid_of x) true f.1 (Some (no_more f.0 r)) y h
-answer_seen-next past id w x f None y h = answered_if-next past w (xid_of x) false f.1 _ y h
-
-answer_as_of-next : (past : List TranscriptLine) (c : ℕ) (id : ℤ) (w : Walker) (x : Frame) (f : Watches × List Due) (own : Option (ℕ × UpdateRec)) (y : Walker × List Due)
-    → answer_as_of past c id w x f own ≡ Some y → y.0.next ≡ w.next + 1
-answer_as_of-next past c id w x f (Some u) y h =
-    elim (length past == u.0 + 1) as (λ b. (if b then answered_if past w (xid_of x) (ends u.1.kind) f.1 (carried_told f.0 (response_at past u.0 u.1.zxid u.1.kind)) else None) ≡ Some y → y.0.next ≡ w.next + 1) [
-      | true ↦ λ e. answered_if-next past w (xid_of x) (ends u.1.kind) f.1 _ y e
-      | false ↦ λ e. absurd (cc)
-    ] h
-answer_as_of-next past c id w x f None y h = answer_seen-next past id w x f (session_reply (after past) id c) y h
-
-answer_framed-next : (past : List TranscriptLine) (c : ℕ) (id : ℤ) (w : Walker) (own : Option (ℕ × UpdateRec)) (o : Option (ℕ × List ℕ)) (y : Walker × List Due)
-    → answer_framed past c id w own o ≡ Some y → y.0.next ≡ w.next + 1
-answer_framed-next past c id w own None y h = absurd (cc)
-answer_framed-next past c id w own (Some f) y h =
-    elim (nat_le w.moment (length past) && int_le w.zxid (after past).zxid && has_header (read_request f.1) && is_not_overtaken past c w.next) as (λ b. (if b then answer_as_of past c id w (read_request f.1) (fired_above past w.zxid w.watches) own else None) ≡ Some y → y.0.next ≡ w.next + 1) [
-      | true ↦ λ e. answer_as_of-next past c id w (read_request f.1) _ own y e
-      | false ↦ λ e. absurd (cc)
-    ] h
-
-if_Some : (b : Bool) (o : Option (Walker × List Due)) (y : Walker × List Due) → (if b then None else o) ≡ Some y → o ≡ Some y
+pub if_Some : (b : Bool) (o : Option (Walker × List Due)) (y : Walker × List Due) → (if b then None else o) ≡ Some y → o ≡ Some y
 if_Some true o y h = absurd (cc)
 if_Some false o y h = h
 
-then_Some : (b : Bool) (o : Option (Walker × List Due)) (y : Walker × List Due) → (if b then o else None) ≡ Some y → o ≡ Some y
+pub then_Some : (b : Bool) (o : Option (Walker × List Due)) (y : Walker × List Due) → (if b then o else None) ≡ Some y → o ≡ Some y
 then_Some true o y h = h
 then_Some false o y h = absurd (cc)
 
+reply_step_if-next : (past : List TranscriptLine) (w : Walker) (k : ℕ) (xid : ℤ) (fired : List Due) (o : Option (Bool × Told)) (y : Walker × List Due)
+    → reply_step_if past w k xid fired o ≡ Some y → y.0.next ≡ w.next + 1
+reply_step_if-next past w k xid fired None y h = absurd (cc)
+reply_step_if-next past w k xid fired (Some t) y h = let s : reply_step past w k xid fired t ≡ y = cc in ap (λ (p : Walker × List Due). p.0.next) (sym s)
+
+answer_as_of-next : (past : List TranscriptLine) (c : ℕ) (id : ℤ) (w : Walker) (own : Option (ℕ × UpdateRec)) (o : Option (ℕ × List ℕ)) (y : Walker × List Due)
+    → answer_as_of past c id w own o ≡ Some y → y.0.next ≡ w.next + 1
+unfolding answer_as_of
+answer_as_of-next past c id w own None y h = absurd (cc)
+answer_as_of-next past c id w own (Some f) y h =
+    reply_step_if-next past w f.0 (xid_of (read_request f.1)) (fired_above past w.zxid w.watches).1 _ y
+    (then_Some (may_answer_at past w && has_header (read_request f.1)) _ y h)
+
 answer-next : (lines : List TranscriptLine) (c m : ℕ) (id : ℤ) (w : Walker) (y : Walker × List Due) → move lines c id w (Answer m) ≡ Some y → y.0.next ≡ w.next + 1
-unfolding move answer_past
-answer-next lines c m id w y h = answer_framed-next (take m lines) c id w (carried c w.next lines) _ y (then_Some _ _ y (if_Some w.over _ y h))
+unfolding move
+answer-next lines c m id w y h = answer_as_of-next (take m lines) c id w (own_update c w.next lines) (placed_frame c w.next lines) y (then_Some _ _ y (if_Some w.over _ y h))
 
 told-next : (lines : List TranscriptLine) (w : Walker) (o : Option (ℕ × ℤ)) (y : Walker × List Due) → told_update lines w o ≡ Some y → y.0.next ≡ w.next
 told-next lines w None y h = absurd (cc)
@@ -61,26 +44,34 @@ told-next lines w (Some u) y h = go _ h
     go : (z : Walker × List Due) → Some z ≡ Some y → y.0.next ≡ z.0.next
     go z e = let s : z ≡ y = cc in ap (λ (p : Walker × List Due). p.0.next) (sym s)
 
-plain-next : (w : Walker) (k : ℕ) (xid : ℤ) (o : Option Reply) (y : Walker × List Due) → plain_answer w k xid o ≡ Some y → y.0.next ≡ w.next + 1
+plain-next : (w : Walker) (k : ℕ) (xid : ℤ) (o : Option Told) (y : Walker × List Due) → plain_answer w k xid o ≡ Some y → y.0.next ≡ w.next + 1
 plain-next w k xid None y h = absurd (cc)
-plain-next w k xid (Some r) y h = go _ h
+plain-next w k xid (Some t) y h = go _ h
   where
     go : (z : Walker × List Due) → Some z ≡ Some y → y.0.next ≡ z.0.next
     go z e = let s : z ≡ y = cc in ap (λ (p : Walker × List Due). p.0.next) (sym s)
 
 plainly-next : (w : Walker) (o : Option (ℕ × List ℕ)) (y : Walker × List Due) → answer_plainly w o ≡ Some y → y.0.next ≡ w.next + 1
 plainly-next w None y h = absurd (cc)
-plainly-next w (Some f) y h = plain-next w (later_of w.since (f.0 + 1)) (xid_of (read_request f.1)) (plain_reply (read_request f.1)) y h
+plainly-next w (Some f) y h = plain-next w (later_of w.since (f.0 + 1)) (xid_of (read_request f.1)) (plain_reply w.watches (read_request f.1)) y h
+
+pub move-index : (lines : List TranscriptLine) (c : ℕ) (id : ℤ) (w : Walker) (x : Choice) (y : Walker × List Due) → move lines c id w x ≡ Some y → y.0.next ≡ next_index w.next x
+unfolding move
+move-index lines c id w Tell y h = told-next lines w (next_update w.zxid lines) y (if_Some (is_unarmed w.watches) _ y h)
+move-index lines c id w Plain y h = plainly-next w (placed_frame c w.next lines) y (if_Some w.over _ y h)
+move-index lines c id w (Answer m) y h = answer-next lines c m id w y h
+
+index-rises : (i : ℕ) (x : Choice) → i ≤ next_index i x
+index-rises i Tell = omega arith
+index-rises i Plain = omega arith
+index-rises i (Answer m) = omega arith
 
 pub move-next : (lines : List TranscriptLine) (c : ℕ) (id : ℤ) (w : Walker) (x : Choice) (y : Walker × List Due) → move lines c id w x ≡ Some y → w.next ≤ y.0.next
-unfolding move
-move-next lines c id w Tell y h = omega (arith, told-next lines w (next_update w.zxid lines) y (if_Some (is_unarmed w.watches) _ y h))
-move-next lines c id w Plain y h = omega (arith, plainly-next w (placed_frame c w.next lines) y (if_Some w.over _ y h))
-move-next lines c id w (Answer m) y h = omega (arith, answer-next lines c m id w y h)
+move-next lines c id w x y h = omega (arith, move-index lines c id w x y h, index-rises w.next x)
 
 -- ---- whole walks
 
-then_due-next : (first : List Due) (o : Option (Walker × List Due)) (r : Walker × List Due) → then_due first o ≡ Some r → (s : Walker × List Due) × (o ≡ Some s) × (s.0 ≡ r.0) × (first ++ s.1 ≡ r.1)
+pub then_due-next : (first : List Due) (o : Option (Walker × List Due)) (r : Walker × List Due) → then_due first o ≡ Some r → (s : Walker × List Due) × (o ≡ Some s) × (s.0 ≡ r.0) × (first ++ s.1 ≡ r.1)
 then_due-next first None r h = absurd (cc)
 then_due-next first (Some s) r h = let e : (s.0, first ++ s.1) ≡ r = cc in (s, refl, ap (λ (p : Walker × List Due). p.0) e, ap (λ (p : Walker × List Due). p.1) e)
 
@@ -97,7 +88,7 @@ walk-next lines c id w (x ∷ xs) r h = go (move lines c id w x) refl (λ v q e.
 
 still-tell : (lines more : List TranscriptLine) (c : ℕ) (id : ℤ) (w : Walker) (y : Walker × List Due) → move lines c id w Tell ≡ Some y → move (lines ++ more) c id w Tell ≡ Some y
 unfolding move
-still-tell lines more c id w y h = tell-push lines more w y h
+still-tell lines more c id w y h = entry-push lines more w y h
 
 still-plain : (lines more : List TranscriptLine) (c : ℕ) (id : ℤ) (w : Walker) (y : Walker × List Due) → move lines c id w Plain ≡ Some y → move (lines ++ more) c id w Plain ≡ Some y
 unfolding move
@@ -105,7 +96,7 @@ still-plain lines more c id w y h = unless-push w.over _ _ y (plain-push lines m
 
 -- A choice keeps what it gave where each request below the next one keeps its line.
 pub Stays : List TranscriptLine → List TranscriptLine → ℕ → ℕ → Type 0
-Stays lines more c n = (j : ℕ) → j < n → carried c j (lines ++ more) ≡ carried c j lines
+Stays lines more c n = (j : ℕ) → j < n → own_update c j (lines ++ more) ≡ own_update c j lines
 
 step-push : (lines more : List TranscriptLine) (c : ℕ) (id : ℤ) (w : Walker) (x : Choice) (y : Walker × List Due) (n : ℕ)
     → Stays lines more c n → y.0.next ≤ n → move lines c id w x ≡ Some y → move (lines ++ more) c id w x ≡ Some y
@@ -156,6 +147,6 @@ walk-more lines c id w (z ∷ xs) x r y h m = go (move lines c id w z) refl (λ 
         rw (later u.0 s.0 s.1 n) (ap (λ l. Some (y.0, l)) (sym (append_assoc u.1 s.0.1 y.1) ∙ ap (λ l. l ++ y.1) s.3))
 
 -- a line that carries out none of them
-pub stays-line : (lines : List TranscriptLine) (l : TranscriptLine) (c n : ℕ) → ((j : ℕ) → j < n → carried_shown c j l ≡ None) → Stays lines (l ∷ []) c n
+pub stays-line : (lines : List TranscriptLine) (l : TranscriptLine) (c n : ℕ) → ((j : ℕ) → j < n → own_update_shown c j l ≡ None) → Stays lines (l ∷ []) c n
 unfolding Stays
-stays-line lines l c n none = λ j small. first_place-skip (carried_shown c j) 0 lines l (none j small)
+stays-line lines l c n none = λ j small. first_place-skip (own_update_shown c j) 0 lines l (none j small)

@@ -18,40 +18,56 @@ use Rattle.zk_model.specs.Znodes.{Tree, stat_of, child_names}
 use Rattle.zk_model.specs.Single.{Outcome, Refused, Done, single, form_refusal}
 use Rattle.zk_model.specs.Multi.{Several, Denied, Codes, All as AllDone, several}
 use Rattle.zk_model.specs.Watches.{Watches, Seen, arm_data, arm_children, set_watches}
-use Rattle.zk_transcript.specs.History.{State, Session, session_at}
-use Rattle.zk_model.specs.Limits.{max_owned, max_parts}
+use Rattle.zk_transcript.specs.History.{State, Session, session_zero, limit_of}
+use Rattle.zk_model.specs.Limits.{max_parts}
 
--- ---- answers that need no tree
+-- ---- what a client is told
 
-abbrev pub refused_reply : Option ℤ → Option Reply
-refused_reply None = None
-refused_reply (Some code) = Some (reply.Refused code)
+-- a reply, the notices that stand before it, and what is armed after it
+pub record Told : Type 0 where
+  pub reply : Reply
+  pub notices : List Notice
+  pub watches : Watches
 
-abbrev pub path_reply : List ℕ → Option Reply
-path_reply p = if is_path p then None else Some (reply.Refused bad_arguments)
+-- a reply without notices
+abbrev pub only : Watches → Reply → Told
+only w r = record { reply = r; notices = []; watches = w }
 
-unfoldable pub plain_request : Request → Option Reply
-plain_request req.Ping = Some (reply.Good body.Empty)
-plain_request (req.Auth kind scheme auth) = Some (if bytes_eq scheme (codes "digest") then reply.Good body.Empty else reply.Refused auth_failed)
-plain_request (req.Multi parts) = if nat_lt max_parts (length parts) then Some (reply.Refused bad_arguments) else None
-plain_request (req.Create p d a f) = refused_reply (form_refusal (part.Create p d a f))
-plain_request (req.Delete p v) = refused_reply (form_refusal (part.Delete p v))
-plain_request (req.SetData p d v) = refused_reply (form_refusal (part.SetData p d v))
-plain_request (req.Check p v) = refused_reply (form_refusal (part.Check p v))
-plain_request (req.Exists p w) = path_reply p
-plain_request (req.GetData p w) = path_reply p
-plain_request (req.GetAcl p) = path_reply p
-plain_request (req.GetChildren p w) = path_reply p
-plain_request (req.GetChildren2 p w) = path_reply p
-plain_request (req.Sync p) = path_reply p
-plain_request (req.SetWatches r e d c) = None
-plain_request req.Close = None
+abbrev pub told : Watches → Reply → Option Told
+told w r = Some (only w r)
 
-abbrev pub plain_reply : Frame → Option Reply
-plain_reply NoHeader = None
-plain_reply (Unreadable xid place) = Some (reply.Refused marshalling_error)
-plain_reply (Unknown xid kind) = Some (reply.Refused unimplemented)
-plain_reply (Asks xid r) = plain_request r
+-- ---- answers that need no tree, with these watches armed
+
+abbrev pub told_refusal : Watches → Option ℤ → Option Told
+told_refusal w None = None
+told_refusal w (Some code) = told w (reply.Refused code)
+
+abbrev pub told_of_path : Watches → List ℕ → Option Told
+told_of_path w p = if is_path p then None else told w (reply.Refused bad_arguments)
+
+unfoldable pub plain_request : Watches → Request → Option Told
+plain_request w req.Ping = told w (reply.Good body.Empty)
+plain_request w (req.Auth kind scheme auth) = told w (if bytes_eq scheme (codes "digest") then reply.Good body.Empty else reply.Refused auth_failed)
+plain_request w (req.Multi parts) = if nat_lt max_parts (length parts) then told w (reply.Refused bad_arguments) else None
+plain_request w (req.Create p d a f) = told_refusal w (form_refusal (part.Create p d a f))
+plain_request w (req.Delete p v) = told_refusal w (form_refusal (part.Delete p v))
+plain_request w (req.SetData p d v) = told_refusal w (form_refusal (part.SetData p d v))
+plain_request w (req.Check p v) = told_refusal w (form_refusal (part.Check p v))
+plain_request w (req.Exists p watch) = told_of_path w p
+plain_request w (req.GetData p watch) = told_of_path w p
+plain_request w (req.GetAcl p) = told_of_path w p
+plain_request w (req.GetChildren p watch) = told_of_path w p
+plain_request w (req.GetChildren2 p watch) = told_of_path w p
+plain_request w (req.Sync p) = told_of_path w p
+plain_request w (req.SetWatches r e d c) = None
+plain_request w req.Close = None
+
+-- the answer to a frame where the tree does not decide it
+abbrev pub plain_reply : Watches → Frame → Option Told
+plain_reply w NoHeader = None
+plain_reply w (Unreadable xid place) = told w (reply.Refused marshalling_error)
+plain_reply w (Unknown xid kind) = told w (reply.Refused unimplemented)
+plain_reply w (Asks xid r) = plain_request w r
 
 abbrev pub xid_of : Frame → ℤ
 xid_of NoHeader = pos 0
@@ -61,6 +77,11 @@ xid_of (Asks xid r) = xid
 
 -- ---- the session test
 
+-- Until there are sessions each connection asks under one of number 0 that is its own: with sessions it is `session_at id s`.
+abbrev pub session_seen : State → ℕ → ℤ → Option Session
+session_seen s c id = Some (session_zero c)
+
+-- the refusal where the session isn't open or is lapsed, or where another connection is attached to it
 abbrev pub session_refusal : ℕ → Option Session → Option Reply
 session_refusal c None = Some (reply.Refused session_expired)
 session_refusal c (Some x) =
@@ -68,24 +89,12 @@ session_refusal c (Some x) =
     else if not (c == x.connection) then Some (reply.Refused session_moved)
     else None
 
--- what the state refuses to a session's connection
-abbrev pub state_refusal : State → ℤ → ℕ → Option Reply
-state_refusal s id c = session_refusal c (session_at id s)
-
--- Until there are sessions nothing is refused so: with sessions it is `state_refusal`.
-abbrev pub session_reply : State → ℤ → ℕ → Option Reply
-session_reply s id c = None
+-- how many nodes it may own
+abbrev pub limit_in : Option Session → ℕ
+limit_in None = 0
+limit_in (Some x) = limit_of x
 
 -- ---- reads, and refusals by the tree
-
--- a reply, the notices that stand before it, and what is armed after it
-pub record Told : Type 0 where
-  pub reply : Reply
-  pub notices : List Notice
-  pub watches : Watches
-
-abbrev pub told : Watches → Reply → Option Told
-told w r = Some (record { reply = r; notices = []; watches = w })
 
 abbrev pub armed_data : Bool → List ℕ → Watches → Watches
 armed_data watch p w = if watch then arm_data w p else w
@@ -123,19 +132,20 @@ refusal_of_several w (AllDone rs t g) = None
 abbrev pub rearmed : Seen → Option Told
 rearmed s = Some (record { reply = reply.Good body.Empty; notices = s.notices; watches = s.watches })
 
-unfoldable pub tree_reply : Tree → ℤ → Watches → Request → Option Told
-tree_reply t session w (req.Exists p watch) = about (armed_data watch p w) (armed_data watch p w) (get t p) (λ n. body.Stat (stat_of t p n))
-tree_reply t session w (req.GetData p watch) = about (armed_data watch p w) w (get t p) (λ n. body.Content n.content (stat_of t p n))
-tree_reply t session w (req.GetAcl p) = about w w (get t p) (λ n. body.OpenAcl (stat_of t p n))
-tree_reply t session w (req.GetChildren p watch) = listing (armed_children watch p w) w (get t p) (λ n. body.Names (child_names t p))
-tree_reply t session w (req.GetChildren2 p watch) = listing (armed_children watch p w) w (get t p) (λ n. body.NamesStat (child_names t p) (stat_of t p n))
-tree_reply t session w (req.Sync p) = told w (reply.Good (body.Path p))
-tree_reply t session w (req.SetWatches since exists datas children) = rearmed (set_watches t since datas exists children w)
-tree_reply t session w (req.Check p v) = checked w (single t max_owned session (part.Check p v) (pos 0) 0)
-tree_reply t session w (req.Create p d a f) = refusal_of w (single t max_owned session (part.Create p d a f) (pos 0) 0)
-tree_reply t session w (req.Delete p v) = refusal_of w (single t max_owned session (part.Delete p v) (pos 0) 0)
-tree_reply t session w (req.SetData p d v) = refusal_of w (single t max_owned session (part.SetData p d v) (pos 0) 0)
-tree_reply t session w (req.Multi parts) = refusal_of_several w (several t max_owned session parts (pos 0) 0)
-tree_reply t session w req.Ping = None
-tree_reply t session w (req.Auth kind scheme auth) = None
-tree_reply t session w req.Close = None
+-- the answer by the tree to a session that may own so many nodes
+unfoldable pub tree_reply : Tree → ℕ → ℤ → Watches → Request → Option Told
+tree_reply t limit session w (req.Exists p watch) = about (armed_data watch p w) (armed_data watch p w) (get t p) (λ n. body.Stat (stat_of t p n))
+tree_reply t limit session w (req.GetData p watch) = about (armed_data watch p w) w (get t p) (λ n. body.Content n.content (stat_of t p n))
+tree_reply t limit session w (req.GetAcl p) = about w w (get t p) (λ n. body.OpenAcl (stat_of t p n))
+tree_reply t limit session w (req.GetChildren p watch) = listing (armed_children watch p w) w (get t p) (λ n. body.Names (child_names t p))
+tree_reply t limit session w (req.GetChildren2 p watch) = listing (armed_children watch p w) w (get t p) (λ n. body.NamesStat (child_names t p) (stat_of t p n))
+tree_reply t limit session w (req.Sync p) = told w (reply.Good (body.Path p))
+tree_reply t limit session w (req.SetWatches since exists datas children) = rearmed (set_watches t since datas exists children w)
+tree_reply t limit session w (req.Check p v) = checked w (single t limit session (part.Check p v) (pos 0) 0)
+tree_reply t limit session w (req.Create p d a f) = refusal_of w (single t limit session (part.Create p d a f) (pos 0) 0)
+tree_reply t limit session w (req.Delete p v) = refusal_of w (single t limit session (part.Delete p v) (pos 0) 0)
+tree_reply t limit session w (req.SetData p d v) = refusal_of w (single t limit session (part.SetData p d v) (pos 0) 0)
+tree_reply t limit session w (req.Multi parts) = refusal_of_several w (several t limit session parts (pos 0) 0)
+tree_reply t limit session w req.Ping = None
+tree_reply t limit session w (req.Auth kind scheme auth) = None
+tree_reply t limit session w req.Close = None

@@ -2,6 +2,7 @@
 -- "Consistency Guarantees": updates stand in one order, that of their zxids).
 -- A moment is a place between two lines: the number of lines before it.
 use Rattle.std.specs.Prelude.{◌≡◌, ℕ, ℤ, pos, ◌+◌, ◌≤◌, ◌≤ℤ◌, Bool, true, false, ◌&&◌, List, [], ◌∷◌, ◌++◌, length, take, fold, flat_map, Option, Some, None, option_map, option_and_then, if◌then◌else◌, ◌==◌, IsTrue}
+use Rattle.std.specs.List.{filter_map}
 use Rattle.std.specs.Int.{int_max, int_min}
 use Rattle.std.specs.Ordering.{int_cmp}
 use Rattle.zk_model.specs.declared.node.Node.{Node}
@@ -14,6 +15,7 @@ use Rattle.zk_model.specs.declared.request.Request.TheVariants as req
 use Rattle.zk_model.specs.declared.request.Part.TheVariants as part
 use Rattle.zk_model.specs.declared.node.Trigger.{Trigger}
 use Rattle.zk_model.specs.declared.connect.ConnectRequest.{ConnectRequest}
+use Rattle.zk_transcript.specs.declared.transcript.UpdateRec.{UpdateRec}
 use Rattle.zk_transcript.specs.declared.transcript.UpdateKind.{UpdateKind}
 use Rattle.zk_transcript.specs.declared.transcript.UpdateKind.TheVariants.{Begin, Session as NewSession, Attach, Asked, Closed, Reaped}
 use Rattle.zk_transcript.specs.declared.transcript.TranscriptLine.{TranscriptLine}
@@ -194,11 +196,15 @@ session_ended s zxid id =
     let ps = owned s.tree id in
     advanced s zxid (removed_all s.tree ps zxid) (flat_map removal ps) (remove s.sessions id)
 
+-- how many nodes a session may own
+abbrev pub limit_of : Session → ℕ
+limit_of x = max_owned
+
 abbrev pub asked_commit : List TranscriptLine → State → ℤ → ℕ → ℕ → ℕ → Option Commit
 asked_commit before s zxid c i now =
-    elim (session_of c s) [
+    elim (attached c s) [
       | None ↦ None
-      | Some session ↦ elim (request c i before) [ None ↦ None | Some r ↦ commit s.tree max_owned session r zxid now ]
+      | Some e ↦ elim (request c i before) [ None ↦ None | Some r ↦ commit s.tree (limit_of e.1) e.0 r zxid now ]
     ]
 
 unfoldable pub updated : List TranscriptLine → State → ℤ → UpdateKind → State
@@ -227,47 +233,76 @@ after_from before s (l ∷ ls) = after_from (before ++ l ∷ []) (change before 
 unfoldable pub after : List TranscriptLine → State
 after lines = after_from [] nothing_yet lines
 
+-- the updates among these lines
+abbrev pub update_in : TranscriptLine → Option UpdateRec
+update_in (Update u) = Some u
+update_in _ = None
+
+abbrev pub updates : List TranscriptLine → List UpdateRec
+updates lines = filter_map update_in lines
+
 -- the state at a moment
 abbrev pub state_at : List TranscriptLine → ℕ → State
 state_at lines moment = after (take moment lines)
 
--- ---- sound states: the first update leads to one, and so does each update that is built, from one to the next. No clause says
--- it of every legal history
+-- ---- sound states: the state after each legal history is one
 
--- the parent of a path is there, and is no ephemeral node
+-- a node is there, and is no ephemeral node
+pub record HasPlain (t : Tree) (p : Bytes) : Type 0 where
+  pub node : Node
+  pub there : get t p ≡ Some node
+  pub plain : node.owner ≡ pos 0
+
 pub record HasParent (t : Tree) (p : Bytes) : Type 0 where
   pub path : Bytes
   pub is : parent p ≡ Some path
-  pub node : Node
-  pub there : get t path ≡ Some node
-  pub plain : node.owner ≡ pos 0
+  pub has : HasPlain t path
 
-pub record HasRoot (t : Tree) : Type 0 where
-  pub node : Node
-  pub there : get t root ≡ Some node
-  pub plain : node.owner ≡ pos 0
-
--- a node's numbers are in their ranges, and its creates are at least its children
-pub record IsNodeWithin (n : Node) (children : ℕ) : Type 0 where
+-- a node has counted as many creates as it has children, and no more than it may count
+pub record IsCounted (n : Node) (children : ℕ) : Type 0 where
   pub counted : pos children ≤ℤ n.creates
-  pub creates : n.creates ≤ℤ max_creates
+  pub most : n.creates ≤ℤ max_creates
+
+-- a tree under these open sessions
+pub record IsSoundTree (sessions : Sessions) (t : Tree) : Type 0 where
+  pub rooted : HasPlain t root
+  pub parents : (p : Bytes) (n : Node) → get t p ≡ Some n → (p ≡ root → ⊥) → HasParent t p
+  pub counted : (p : Bytes) (n : Node) → get t p ≡ Some n → IsCounted n (num_children t p)
+  pub numbered : (id : ℤ) (x : Session) → get sessions id ≡ Some x → pos 1 ≤ℤ id
+  pub owners : (p : Bytes) (n : Node) → get t p ≡ Some n → (n.owner ≡ pos 0 → ⊥) → (x : Session) × (get sessions n.owner ≡ Some x)
+  pub limited : (id : ℤ) (x : Session) → get sessions id ≡ Some x → length (owned t id) ≤ limit_of x
+  pub small : (p : Bytes) (n : Node) → get t p ≡ Some n → length n.content ≤ max_frame
+
+abbrev pub IsSound : State → Type 0
+IsSound s = IsSoundTree s.sessions s.tree
+
+-- ---- the ranges of a state's numbers, which a stored layout needs besides: those of the state after each legal history
+
+-- a zxid of the updates from the first to the last
+pub record IsPast (first last zxid : ℤ) : Type 0 where
+  pub least : first ≤ℤ zxid
+  pub most : zxid ≤ℤ last
+
+pub record IsBoundedNode (first last : ℤ) (p : Bytes) (n : Node) : Type 0 where
+  pub valid : IsTrue (is_path p)
+  pub made : IsPast first last n.czxid
+  pub changed : IsPast first last n.mzxid
+  pub children_changed : IsPast first last n.pzxid
+  pub made_at : pos 0 ≤ℤ n.ctime
+  pub changed_at : pos 0 ≤ℤ n.mtime
   pub version_least : pos 0 ≤ℤ n.version
   pub version_most : n.version ≤ℤ max_version
-  pub czxid : pos 1 ≤ℤ n.czxid
-  pub pzxid : pos 1 ≤ℤ n.pzxid
-  pub owner : pos 0 ≤ℤ n.owner
-  pub small : length n.content ≤ max_frame
+  pub owner_least : pos 0 ≤ℤ n.owner
+  pub owner_most : n.owner ≤ℤ max_long
 
--- the numbers that sessions have
-pub record IsId (id : ℤ) : Type 0 where
-  pub least : pos 1 ≤ℤ id
+pub record IsBoundedSession (first last : ℤ) (id : ℤ) (x : Session) : Type 0 where
   pub most : id ≤ℤ max_long
+  pub attached : IsPast first last x.attached
+  pub timeout_least : min_timeout ≤ℤ x.timeout
+  pub timeout_most : x.timeout ≤ℤ max_timeout
 
-pub record IsSound (s : State) : Type 0 where
-  pub valid : (p : Bytes) (n : Node) → get s.tree p ≡ Some n → IsTrue (is_path p)
-  pub rooted : HasRoot s.tree
-  pub parents : (p : Bytes) (n : Node) → get s.tree p ≡ Some n → (p ≡ root → ⊥) → HasParent s.tree p
-  pub within : (p : Bytes) (n : Node) → get s.tree p ≡ Some n → IsNodeWithin n (num_children s.tree p)
-  pub numbered : (id : ℤ) (x : Session) → session_at id s ≡ Some x → IsId id
-  pub owners : (p : Bytes) (n : Node) → get s.tree p ≡ Some n → (n.owner ≡ pos 0 → ⊥) → (x : Session) × (session_at n.owner s ≡ Some x)
-  pub limited : (id : ℤ) → pos 1 ≤ℤ id → length (owned s.tree id) ≤ max_owned
+-- of a state whose history began with an update of this zxid
+pub record IsBounded (first : ℤ) (s : State) : Type 0 where
+  pub zxid : IsPast first max_long s.zxid
+  pub nodes : (p : Bytes) (n : Node) → get s.tree p ≡ Some n → IsBoundedNode first s.zxid p n
+  pub sessions : (id : ℤ) (x : Session) → get s.sessions id ≡ Some x → IsBoundedSession first s.zxid id x

@@ -1,6 +1,6 @@
 -- Legal histories: each update is one that the service could make in the state before it (Programmer's Guide,
 -- "Consistency Guarantees", "ZooKeeper Sessions").
-use Rattle.std.specs.Prelude.{◌≡◌, ℕ, zero, suc, ℤ, pos, ◌<◌, ◌≤◌, Bool, true, false, not, ◌&&◌, List, [], ◌∷◌, ◌++◌, length, nat_lt, nat_le, ◌==◌, int_lt, int_le, Option, Some, None, is_some, is_none, option_map, bytes_eq, slice_get, slice_index_or}
+use Rattle.std.specs.Prelude.{◌≡◌, ℕ, zero, suc, ℤ, pos, ◌<◌, ◌≤◌, Bool, true, false, not, ◌&&◌, ◌||◌, List, [], ◌∷◌, ◌++◌, length, nat_lt, nat_le, ◌==◌, int_lt, int_le, Option, Some, None, is_some, is_none, option_map, bytes_eq, slice_get, slice_index_or}
 use Rattle.std.specs.List.{list_all}
 use Rattle.std.specs.Ordering.{int_eq}
 use Rattle.zk_model.specs.declared.request.Request.{Request}
@@ -9,28 +9,57 @@ use Rattle.zk_model.specs.declared.connect.ConnectRequest.{ConnectRequest}
 use Rattle.zk_transcript.specs.declared.transcript.UpdateKind.{UpdateKind}
 use Rattle.zk_transcript.specs.declared.transcript.UpdateKind.TheVariants.{Begin, Session as NewSession, Attach, Asked, Closed, Reaped}
 use Rattle.zk_transcript.specs.declared.transcript.TranscriptLine.{TranscriptLine}
-use Rattle.zk_transcript.specs.declared.transcript.TranscriptLine.TheVariants.{Update}
+use Rattle.zk_transcript.specs.declared.transcript.TranscriptLine.TheVariants.{Update, Lapse}
 use Rattle.zk_transcript.specs.History.{State, Session, nothing_yet, session_at, attached, opening, connect, frame, request, first_place, frame_shown, when, asked_commit, change}
 use Rattle.zk_model.specs.Limits.{max_frame, max_long, max_parts}
--- the connection of a Session or Attach line; its place, with the zxid and the session
-abbrev pub attach_in : ℕ → ℤ → UpdateKind → Option (ℤ × ℤ)
-attach_in c zxid (NewSession id connection) = when (c == connection) (zxid, id)
-attach_in c zxid (Attach id connection) = when (c == connection) (zxid, id)
+
+-- ---- a connection's own line: the Session or Attach line that attaches a session to it
+
+-- the zxid of an attachment, and the session
+pub record Attachment : Type 0 where
+  pub zxid : ℤ
+  pub session : ℤ
+
+abbrev pub attach_in : ℕ → ℤ → UpdateKind → Option Attachment
+attach_in c zxid (NewSession id connection) = when (c == connection) (record { zxid = zxid; session = id })
+attach_in c zxid (Attach id connection) = when (c == connection) (record { zxid = zxid; session = id })
 attach_in c zxid _ = None
 
-abbrev pub attach_shown : ℕ → TranscriptLine → Option (ℤ × ℤ)
+abbrev pub attach_shown : ℕ → TranscriptLine → Option Attachment
 attach_shown c (Update u) = attach_in c u.zxid u.kind
 attach_shown c _ = None
 
-abbrev pub attach_of : ℕ → List TranscriptLine → Option (ℕ × ℤ × ℤ)
-attach_of c lines = option_map (λ (x : ℕ × (ℤ × ℤ)). (x.0, x.1.0, x.1.1)) (first_place (attach_shown c) 0 lines)
+-- the place of its own line, and what it says
+abbrev pub attach_of : ℕ → List TranscriptLine → Option (ℕ × Attachment)
+attach_of c lines = first_place (attach_shown c) 0 lines
+
+-- ---- lines that concern a session
+
+-- the update opens, attaches or ends it
+abbrev pub changes_in : ℤ → UpdateKind → Bool
+changes_in id (NewSession other c) = int_eq id other
+changes_in id (Attach other c) = int_eq id other
+changes_in id (Closed other c i) = int_eq id other
+changes_in id (Reaped other) = int_eq id other
+changes_in id _ = false
+
+abbrev pub changes_session : ℤ → TranscriptLine → Bool
+changes_session id (Update u) = changes_in id u.kind
+changes_session id _ = false
+
+-- its lease lapses
+abbrev pub lapses_session : ℤ → TranscriptLine → Bool
+lapses_session id (Lapse revision other) = int_eq id other
+lapses_session id _ = false
+
+-- ---- the conditions of the kinds of updates
 
 -- a frame that is there, within the limit
 abbrev pub is_small_frame : Option (List ℕ) → Bool
 is_small_frame None = false
 is_small_frame (Some bytes) = nat_le (length bytes) max_frame
 
--- c has no session yet, and its connect has seen less than this zxid
+-- c has no own line yet, and its connect has seen less than this zxid
 abbrev pub may_attach : List TranscriptLine → ℕ → ℤ → Option ConnectRequest → Bool
 may_attach before c zxid None = false
 may_attach before c zxid (Some r) = is_none (attach_of c before) && is_small_frame (frame c 0 before) && int_lt r.last_zxid zxid
@@ -86,12 +115,12 @@ may_update before s zxid (Closed id c i) =
     is_id id && is_live_as id (attached c s) && nat_lt 0 i && is_small_frame (frame c i before) && is_close (request c i before)
 may_update before s zxid (Reaped id) = is_lapsed (session_at id s)
 
--- zxids rise, from 1 on, and each is a `long` (jute)
-abbrev pub is_next_zxid : ℤ → ℤ → Bool
-is_next_zxid last zxid = int_lt last zxid && int_le zxid max_long
+-- zxids rise from any first one on; the greatest is that of a `long` (jute)
+abbrev pub is_next_zxid : State → ℤ → Bool
+is_next_zxid s zxid = (s.updates == 0 || int_lt s.zxid zxid) && int_le zxid max_long
 
 abbrev pub is_legal_line : List TranscriptLine → State → TranscriptLine → Bool
-is_legal_line before s (Update u) = may_update before s u.zxid u.kind && is_next_zxid s.zxid u.zxid
+is_legal_line before s (Update u) = may_update before s u.zxid u.kind && is_next_zxid s u.zxid
 is_legal_line before s _ = true
 
 abbrev pub is_legal_from : List TranscriptLine → State → List TranscriptLine → Bool
@@ -102,12 +131,17 @@ abbrev pub is_begin : UpdateKind → Bool
 is_begin (Begin now) = true
 is_begin _ = false
 
--- the first line is the store's first update
-abbrev pub begins : List TranscriptLine → Bool
-begins (Update u ∷ ls) = is_begin u.kind
-begins _ = false
+-- Begin is the first of the updates and lapses: it is this line, or it is the first of those behind it
+abbrev pub begins_with : TranscriptLine → Bool → Bool
+begins_with (Update u) behind = is_begin u.kind
+begins_with (Lapse revision id) behind = false
+begins_with _ behind = behind
 
--- the first line is Begin, no other is, and every line is legal where it stands
+abbrev pub begins : List TranscriptLine → Bool
+begins [] = false
+begins (l ∷ ls) = begins_with l (begins ls)
+
+-- Begin is the first of the updates and lapses, no other is Begin, and every line is legal where it stands
 unfoldable pub is_legal : List TranscriptLine → Bool
 is_legal lines = begins lines && is_legal_from [] nothing_yet lines
 
@@ -156,7 +190,10 @@ pub record Tick : Type 0 where
 abbrev pub lines_before : List Tick → ℕ → ℕ
 lines_before ticks k = elim k [ zero ↦ 0 | suc j ↦ (slice_index_or ticks j (record { clock = 0; lines = 0 })).lines ]
 
--- some script line, not before the one that gave the line at `first` and not after the one that gave the line at `last`
+-- Some script line, not before the one that gave the line at `first` and not after the one that gave the line at `last`.
+-- Say `open`, `frame`, `tick 5` and `settle` gave the lines 1, 2, none, and 3 with 4, behind Begin as line 0: they leave the
+-- ticks (0, 2), (0, 3), (5, 3), (5, 5). An update at 3 that carries out the frame at 2 was made at 0, by the tick of `frame`,
+-- or at 5, by those of `tick` and `settle`; that of `open` is before the frame.
 abbrev pub IsClockBetween : List Tick → ℕ → ℕ → ℕ → Type 0
 IsClockBetween ticks first last now = (k : ℕ) × (t : Tick) × (slice_get ticks k ≡ Some t) × (t.clock ≡ now) × (first < t.lines) × (lines_before ticks k ≤ last)
 

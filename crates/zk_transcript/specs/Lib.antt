@@ -1,4 +1,5 @@
 pub mod History
 pub mod Legal
 pub mod Answers
+pub mod Walks
 pub mod Conversations

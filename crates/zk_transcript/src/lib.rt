@@ -2,9 +2,17 @@
 //! statement about a run is made of.
 //!
 //! In reading order: `History` (the state of the service at each moment of a transcript), `Legal` (the updates are one run
-//! of the machine), `Answers` (what a request is answered in a state), `Conversations` (what a connection may be sent).
+//! of the machine), `Answers` (what a request is answered in a state), `Walks` (what a connection is sent behind its attachment),
+//! `Conversations` (all that it is sent).
 #![tactic(auto)]
 
+mod laws;
 mod transcript;
 
+pub use laws::{
+    alive_since_own_line, attached_by_own_line, attached_last, attached_since_own_line,
+    attached_to_own_line, begin_comes_before_lapses, begin_comes_behind_an_open_line,
+    legal_histories_are_bounded, legal_histories_are_sound, requests_are_carried_out_in_order,
+    updates_are_counted, zxids_rise,
+};
 pub use transcript::{Cause, Conversation, Ended, TranscriptLine, UpdateKind, UpdateRec};

@@ -48,11 +48,12 @@ impl Cutter {
 
     /// The frames that are whole with this piece of the stream, and were not handed out before. A length out of range
     /// stands behind the frames before it: it is answered by a call that has no frame to hand out, and from then on by
-    /// each call. Without memory the piece is not taken. Copies each frame once, and the bytes of a frame that comes in
-    /// several pieces once more.
+    /// each call, which takes nothing of its piece. Without memory the piece is not taken, and the cutter is as it was.
+    /// Copies each frame once, and the bytes of a frame that comes in several pieces once more.
     pub fn take(&mut self, piece: &[u8]) -> Result<Vec<Bytes>, CutFault>
         ensures takes { Takes self.old piece.now result self.new }
         ensures for_good { (n : ℤ) → bad_length_of self.old.rest ≡ Some n → result ≡ Err (faults.BadLength self.old.place n) }
+        ensures holds_no_more { (n : ℤ) → bad_length_of self.old.rest ≡ Some n → self.new ≡ self.old }
     {
         if self.rest.is_empty() {
             self.take_front(piece)
@@ -84,6 +85,7 @@ impl Cutter {
     fn take_behind(&mut self, piece: &[u8]) -> Result<Vec<Bytes>, CutFault>
         ensures takes { Takes self.old piece.now result self.new }
         ensures for_good { (n : ℤ) → bad_length_of self.old.rest ≡ Some n → result ≡ Err (faults.BadLength self.old.place n) }
+        ensures holds_no_more { (n : ℤ) → bad_length_of self.old.rest ≡ Some n → self.new ≡ self.old }
     {
         let place = self.place;
         if let Some(length) = bad_length(&self.rest) {

@@ -38,8 +38,6 @@ mod request_fields;
 mod requests;
 mod sink;
 mod stat_bytes;
-#[cfg(test)]
-mod tests;
 mod writer;
 
 pub use connects::read_connect;

@@ -1,6 +1,6 @@
 //! Reading Jute's values from the front of a frame.
 
-ghost use Rattle.std.specs.Prelude.{◌≡◌, ℕ, ◌<◌, ◌≤◌, List, Option, Some, Ok, length};
+ghost use Rattle.std.specs.Prelude.{◌≡◌, ℕ, ◌*◌, ◌<◌, ◌≤◌, List, [], Option, Some, Ok, IfOk, length, vec_capacity};
 ghost use Rattle.std.specs.Str.{is_utf8};
 ghost use Rattle.zk_jute.specs.JuteReading.{Read, front_int, front_long, int_at, long_at, boolean_at, buffer_at, ustring_at, acl_at, count_at, items_at, vector_at, value_at, all_until_last, ended as whole_of};
 ghost use Rattle.zk_jute.specs.JuteValues.{open_acl, the_open_acl};
@@ -9,7 +9,7 @@ ghost use Rattle.zk_model.specs.Access.{is_open_acl};
 
 use crate::fault::Fault;
 use byteorder::{BigEndian, ByteOrder};
-use std::alloc::Global;
+use std::alloc::{AllocError, Global};
 use std::marker::Model;
 use zk_model::Acl;
 use zx_base::{Bytes, Seq, Text};
@@ -133,7 +133,7 @@ impl<'a> Reader<'a> {
         Ok(Text::from_vec(Vec::from_slice(self.alloc, text)?))
     }
 
-    /// A vector of items of one kind. Reserves room for its count of items, or for as many as can stand in the bytes left.
+    /// A vector of items of one kind.
     pub fn vector<T: Item>(&mut self) -> Result<Seq<T>, Fault>
         ensures { Gives (λ x. x) result self.new (vector_at T.item_at self.old) }
     {
@@ -145,13 +145,22 @@ impl<'a> Reader<'a> {
     fn items<T: Item>(&mut self, count: usize) -> Result<Vec<T>, Fault>
         ensures { Gives (λ x. x.items) result self.new (items_at T.item_at count self.old) }
     {
-        let room = count.min(self.rest.len() / MIN_ITEM);
-        let mut items = Vec::with_capacity(self.alloc, room)?;
+        let mut items = self.list_for(count)?;
         for _ in 0..count {
             let item = T::read(self)?;
             items.push(item)?;
         }
         Ok(items)
+    }
+
+    /// An empty list with room for this count of items, or for as many as can stand in the bytes left: a count that is
+    /// claimed reserves no more than what came with it.
+    fn list_for<T: Item>(&self, count: usize) -> Result<Vec<T>, AllocError>
+        ensures empty { IfOk result (λ list. list.items ≡ []) }
+        ensures by_count { IfOk result (λ list. vec_capacity list ≤ count) }
+        ensures by_bytes { IfOk result (λ list. 4 * vec_capacity list ≤ length self.now) }
+    {
+        Vec::with_capacity(self.alloc, count.min(self.rest.len() / MIN_ITEM))
     }
 
     /// The access list that allows everything to everyone, and no other.

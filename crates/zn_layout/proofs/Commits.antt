@@ -20,13 +20,14 @@ use Rattle.zk_model.specs.declared.node.Trigger.{Trigger}
 use Rattle.zn_layout.specs.Keys.{HeadKey, key_bytes}
 use Rattle.zn_layout.specs.Records.{head_value}
 use Rattle.zn_layout.specs.StandsFor.{at}
-use Rattle.zn_layout.specs.Begin.{read_key}
+use Rattle.ev_types.specs.Reads.{read_key, key_range, one_found}
 use Rattle.zn_layout.specs.Changes.{Change, act_of, acts_of, head_put, update_acts}
-use Rattle.zn_layout.specs.Commits.{key_range, one_found, update_txn, IsCommitted}
+use Rattle.zn_layout.specs.Commits.{IsCommitted}
+use Rattle.zn_layout.specs.Updates.{update_txn}
 use Rattle.zn_layout.proofs.Denials.{none_of}
-use Rattle.zn_layout.proofs.Found.{found-key}
+use Rattle.ev_types.proofs.Found.{found-key}
 use Rattle.zn_layout.proofs.Stands.{all_of, head_there, update_applied}
-use Rattle.zn_layout.proofs.Transactions.{acts_from-append, present-worked}
+use Rattle.ev_types.proofs.Transactions.{acts_from-append, present-worked}
 
 -- ---- what was carried out
 
@@ -84,7 +85,7 @@ abbrev early : Store → List Change → Done
 early s cs = acts_from s (revision s +ℤ pos 1) (present s) (acts_of cs)
 
 -- the changes and the head's put, and then the read of the head
-split : (s : Store) (cs : List Change) (ts : List Trigger) → worked s (update_acts cs ts) ≡ then_done (acts_from s (revision s +ℤ pos 1) (present s) (acts_of (all_of cs ts))) (record { changes = []; parts = part.Range (found (key_range (key_bytes HeadKey)) (acts_applied (revision s +ℤ pos 1) (present s) (acts_of (all_of cs ts)))) ∷ [] })
+pub split : (s : Store) (cs : List Change) (ts : List Trigger) → worked s (update_acts cs ts) ≡ then_done (acts_from s (revision s +ℤ pos 1) (present s) (acts_of (all_of cs ts))) (record { changes = []; parts = part.Range (found (key_range (key_bytes HeadKey)) (acts_applied (revision s +ℤ pos 1) (present s) (acts_of (all_of cs ts)))) ∷ [] })
 unfolding worked
 split s cs ts = acts_from-append s (revision s +ℤ pos 1) (present s) (acts_of (all_of cs ts)) (read_key (key_bytes HeadKey) ∷ [])
 

@@ -1,5 +1,5 @@
 -- The first transaction makes the first state of a new store.
-use Rattle.std.proofs.Common.{◌≡◌, ℕ, ◌<◌, ◌^◌, ℤ, pos, true, false, cond, List, [], ◌∷◌, Option, Some, None, refl, sym, ap, ◌∙◌, subst, arith}
+use Rattle.std.proofs.Common.{◌≡◌, ℕ, ◌<◌, ◌^◌, ℤ, pos, true, false, cond, List, [], ◌∷◌, ◌++◌, Option, Some, None, refl, sym, ap, ◌∙◌, subst, arith}
 use Rattle.std.specs.Prelude.{◌&&◌}
 use Rattle.std.specs.Ordering.{nat_cmp, int_cmp, int_eq}
 use Rattle.std.specs.Cmp.Lexicographic.{slice_cmp}
@@ -10,41 +10,40 @@ use Rattle.ev_types.specs.declared.ask.Act.{Act}
 use Rattle.ev_types.specs.declared.ask.Ask.TheVariants as ask
 use Rattle.ev_types.specs.declared.ask.Guard.{Guard}
 use Rattle.ev_types.specs.declared.answer.ActAns.{ActAns}
+use Rattle.ev_types.specs.declared.answer.ActAns.TheVariants as part
 use Rattle.ev_types.specs.declared.answer.Answer.TheVariants as answer
+use Rattle.ev_types.specs.declared.answer.RangeAns.{RangeAns}
 use Rattle.ev_types.specs.Ranges.{Keys}
-use Rattle.ev_types.specs.Store.{Store, new_store, revision, present, put_over, mod_of, succeeds, worked, grown, acts_applied}
+use Rattle.ev_types.proofs.Found.{found-key}
+use Rattle.ev_types.specs.Store.{Store, Done, new_store, revision, present, put_over, mod_of, succeeds, worked, grown, acts_applied}
 use Rattle.ev_types.specs.Denials.{is_denied, carry}
 use Rattle.zk_model.specs.declared.node.Node.{Node}
 use Rattle.zk_model.specs.Paths.{root}
 use Rattle.zk_model.specs.Znodes.{num_children, owned, new_node}
-use Rattle.zk_transcript.specs.History.{State, Session, nothing_yet, after, IsSound}
+use Rattle.zk_transcript.specs.History.{State, Session, nothing_yet, after}
 use Rattle.zx_base.specs.Maps.{Bytes, same}
 use Rattle.zx_base.proofs.MapLaws.{same-true, apart-from_same}
-use Rattle.zn_layout.specs.Keys.{Key, HeadKey, DataKey, CountsKey, SessionKey, LeaseKey, key_bytes}
+use Rattle.zn_layout.proofs.Absent.{none_some}
+use Rattle.zn_layout.specs.Keys.{Key, HeadKey, DataKey, CountsKey, SessionKey, LeaseKey, key_bytes, front}
 use Rattle.zn_layout.specs.Records.{node_value, counts_value, head_value, IsLongCount, IsNodeRec}
 use Rattle.zn_layout.specs.StandsFor.{Stored, stored_of, at, Means, IsData, IsCounts, DataMeans, CountsMean, NodesMean, LifeMeans, IsHead, AreLayout, StandsFor}
-use Rattle.zn_layout.specs.Begin.{read_key, new_record, no_counts, begin_ask, begin_lines, Begins}
-use Rattle.zn_layout.specs.Changes.{Change, put_key, update_acts, or_else, last}
-use Rattle.zn_layout.specs.Commits.{update_txn}
+use Rattle.zn_layout.specs.Begin.{new_record, no_counts, begin_changes, head_is_absent, first_head, begin_parts, begin_ask, begin_lines, Begins}
+use Rattle.ev_types.specs.Reads.{read_key, one_found}
+use Rattle.zn_layout.specs.Changes.{acts_of, update_acts, or_else, last}
+use Rattle.zn_layout.specs.Updates.{update_txn}
 use Rattle.zn_layout.specs.Fits.{KeyFits}
-use Rattle.zn_layout.proofs.First.{first_tree, first_state, first_there, first_other, first_childless, after-begin, first_sound}
-use Rattle.zn_layout.proofs.Stands.{stands_over}
+use Rattle.zn_layout.proofs.First.{first_tree, first_state, first_there, first_other, first_childless, after-begin}
+use Rattle.zn_layout.proofs.Stands.{all_of, head_there, stands_over}
+use Rattle.zn_layout.proofs.Applied.{at-unwritten}
 use Rattle.zn_layout.proofs.Denials.{update-not_denied}
-use Rattle.zn_layout.proofs.Commits.{carried, committed}
-use Rattle.zn_layout.proofs.Transactions.{present-is}
+use Rattle.zn_layout.proofs.Commits.{carried, split, committed}
+use Rattle.ev_types.proofs.Grown.{present-is}
 
-begin_changes : ℕ → List Change
-begin_changes now = put_key (DataKey root) (node_value (new_record [] now (pos 0))) ∷ put_key (CountsKey root) (counts_value no_counts) ∷ []
+abbrev begin_guards : List Guard
+begin_guards = head_is_absent ∷ []
 
-begin_guards : List Guard
-begin_guards = record { key = key_bytes HeadKey; mod_revision = pos 0 } ∷ []
-
-begin_again : List Act
+abbrev begin_again : List Act
 begin_again = read_key (key_bytes HeadKey) ∷ []
-
-as_update : (now : ℕ) → begin_ask now ≡ ask.Txn (update_txn begin_guards (begin_changes now) [] begin_again)
-unfolding begin_ask begin_changes begin_guards begin_again
-as_update now = refl
 
 -- ---- each key
 
@@ -91,14 +90,12 @@ no_nodes None ps qs (Some o) e h = h
 no_nodes (Some x) ps qs o e h = absurd cc
 
 data_fits : (now : ℕ) → now < 2 ^ 62 → (p : Bytes) → KeyFits (pos 2) (last (begin_changes now) (DataKey p)) (DataKey p) nothing_yet (first_state now)
-unfolding begin_changes
 data_fits now h p = elim (same p root) as (λ b. same p root ≡ b → KeyFits (pos 2) (cond b (Some (Some (record { value = node_value (new_record [] now (pos 0)); lease = pos 0 }))) None) (DataKey p) nothing_yet (first_state now)) [
   | true ↦ λ e. subst (λ (o : Option Node). DataMeans o (Some (record { value = node_value (new_record [] now (pos 0)); revision = pos 2; lease = pos 0 }))) (sym (ap (get (first_tree now)) (same-true p root e) ∙ first_there now)) (root_data now h)
   | false ↦ λ e o. no_data (get empty p) (get (first_tree now) p) o (get-empty (slice_cmp nat_cmp) p) (first_other now p (apart-from_same p root e))
 ] refl
 
 counts_fit : (now : ℕ) (p : Bytes) → KeyFits (pos 2) (last (begin_changes now) (CountsKey p)) (CountsKey p) nothing_yet (first_state now)
-unfolding begin_changes
 counts_fit now p = elim (same p root) as (λ b. same p root ≡ b → KeyFits (pos 2) (or_else (cond b (Some (Some (record { value = counts_value no_counts; lease = pos 0 }))) None) None) (CountsKey p) nothing_yet (first_state now)) [
   | true ↦ λ e. subst (λ (o : Option Node). CountsMean o (num_children (first_tree now) p) (Some (record { value = counts_value no_counts; revision = pos 2; lease = pos 0 }))) (sym (ap (get (first_tree now)) (same-true p root e) ∙ first_there now))
       (subst (λ (k : ℕ). IsCounts (record { value = counts_value no_counts; revision = pos 2; lease = pos 0 }) (new_node [] (pos 0) (pos 2) now) k) (sym (first_childless now p)) (root_counts now))
@@ -106,7 +103,6 @@ counts_fit now p = elim (same p root) as (λ b. same p root ≡ b → KeyFits (p
 ] refl
 
 key_fits : (now : ℕ) → now < 2 ^ 62 → (k : Key) → KeyFits (pos 2) (last (begin_changes now) k) k nothing_yet (first_state now)
-unfolding begin_changes
 key_fits now h HeadKey = λ o x. x
 key_fits now h (DataKey p) = data_fits now h p
 key_fits now h (CountsKey p) = counts_fit now p
@@ -117,9 +113,6 @@ key_fits now h (LeaseKey id) = λ o x. x
 
 no_keys : present new_store ≡ empty
 no_keys = present-is new_store
-
-none_some : {X : Type 0} {x : X} → None ≡ Some x → ⊥
-none_some e = cc
 
 none_there : (k : Key) → at empty k ≡ None
 none_there k = get-empty (slice_cmp nat_cmp) (key_bytes k)
@@ -139,13 +132,13 @@ nothing_there key kv e = absurd (none_some (sym (get-empty (slice_cmp nat_cmp) k
 
 empty_layout : AreLayout empty
 empty_layout = record {
-  no_other = λ rest kv e. nothing_there (122 ∷ 107 ∷ 47 ∷ rest) kv e;
+  no_other = λ rest kv e. nothing_there (front ++ rest) kv e;
   least = λ key kv e. nothing_there key kv e;
   most = λ key kv e. nothing_there key kv e;
 }
 
-first_head : (now : ℕ) → IsHead (put_over (pos 2) (key_bytes HeadKey) (head_value []) (pos 0) (at empty HeadKey)) (first_state now)
-first_head now = subst (λ (o : Option Kv). IsHead (put_over (pos 2) (key_bytes HeadKey) (head_value []) (pos 0) o) (first_state now)) (sym (none_there HeadKey)) (record {
+head_made : (now : ℕ) → IsHead (put_over (pos 2) (key_bytes HeadKey) (head_value []) (pos 0) (at empty HeadKey)) (first_state now)
+head_made now = subst (λ (o : Option Kv). IsHead (put_over (pos 2) (key_bytes HeadKey) (head_value []) (pos 0) o) (first_state now)) (sym (none_there HeadKey)) (record {
   fits = record { count = omega arith; valid = λ k t low. absurd (omega arith) };
   value = refl;
   zxid = refl;
@@ -154,41 +147,48 @@ first_head now = subst (λ (o : Option Kv). IsHead (put_over (pos 2) (key_bytes 
 })
 
 first_stands : (now : ℕ) → now < 2 ^ 62 → StandsFor (acts_applied (pos 2) empty (update_acts (begin_changes now) [])) (first_state now)
-unfolding begin_changes
-first_stands now h = stands_over (pos 2) (begin_changes now) [] empty nothing_yet (first_state now) (omega (arith, ints)) (omega (arith, ints)) refl (first_head now) empty_means empty_layout (record { each = key_fits now h })
+first_stands now h = stands_over (pos 2) (begin_changes now) [] empty nothing_yet (first_state now) (omega (arith, ints)) (omega (arith, ints)) refl (head_made now) empty_means empty_layout (record { each = key_fits now h })
 
 -- ---- the transaction
 
 allowed : (now : ℕ) → is_denied new_store (ask.Txn (update_txn begin_guards (begin_changes now) [] begin_again)) ≡ false
-unfolding begin_changes begin_guards begin_again
 allowed now = update-not_denied new_store begin_guards (begin_changes now) [] begin_again (omega arith) (omega arith) (omega arith) refl refl refl (omega (arith, ints))
 
 guard_holds : (now : ℕ) → succeeds new_store (update_txn begin_guards (begin_changes now) [] begin_again) ≡ true
-unfolding begin_guards
 guard_holds now = ap (λ (o : Option Kv). int_eq (mod_of o) (pos 0) && true) (ap (λ (m : Keys). get m (key_bytes HeadKey)) no_keys ∙ none_there HeadKey)
 
 -- the store after it, and the parts of the answer
 first_new : ℕ → Store
 first_new now = grown new_store (worked new_store (update_acts (begin_changes now) [])).changes
 
-first_parts : ℕ → List ActAns
-first_parts now = (worked new_store (update_acts (begin_changes now) [])).parts
+head_found : (now : ℕ) → at (acts_applied (pos 2) (present new_store) (acts_of (all_of (begin_changes now) []))) HeadKey ≡ Some first_head
+head_found now =
+    head_there (pos 2) (begin_changes now) [] (present new_store)
+    ∙ ap (λ (o : Option Kv). Some (put_over (pos 2) (key_bytes HeadKey) (head_value []) (pos 0) o))
+    (at-unwritten (pos 2) (begin_changes now) (present new_store) HeadKey refl ∙ ap (λ (m : Keys). at m HeadKey) no_keys ∙ none_there HeadKey)
 
-begin_carried : (now : ℕ) → carry new_store (ask.Txn (update_txn begin_guards (begin_changes now) [] begin_again)) ≡ Some (first_new now, answer.Txn (revision (first_new now)) true (first_parts now))
-unfolding first_new first_parts
-begin_carried now = carried new_store (update_txn begin_guards (begin_changes now) [] begin_again) true (allowed now) (guard_holds now)
+parts_are : (now : ℕ) → (worked new_store (update_acts (begin_changes now) [])).parts ≡ begin_parts
+parts_are now =
+    let after_puts : Keys = acts_applied (pos 2) (present new_store) (acts_of (all_of (begin_changes now) [])) in
+    ap (λ (w : Done). w.parts) (split new_store (begin_changes now) [])
+    ∙ ap (λ (a : RangeAns). part.Put ∷ part.Put ∷ part.Put ∷ part.Range a ∷ []) (found-key (key_bytes HeadKey) after_puts ∙ ap one_found (head_found now))
+
+begin_carried : (now : ℕ) → carry new_store (begin_ask now) ≡ Some (first_new now, answer.Txn (revision (first_new now)) true begin_parts)
+unfolding first_new begin_ask
+begin_carried now =
+    carried new_store (update_txn begin_guards (begin_changes now) [] begin_again) true (allowed now) (guard_holds now)
+    ∙ ap (λ (ps : List ActAns). Some (first_new now, answer.Txn (revision (first_new now)) true ps)) (parts_are now)
 
 pub begin_stands : (now : ℕ) → now < 2 ^ 62 → Begins now
+unfolding begin_ask
 begin_stands now h =
-    let c = committed new_store (first_new now) begin_guards (begin_changes now) [] begin_again (revision (first_new now)) (first_parts now) (begin_carried now) in
+    let c = committed new_store (first_new now) begin_guards (begin_changes now) [] begin_again (revision (first_new now)) begin_parts (begin_carried now) in
     let second : revision (first_new now) ≡ pos 2 = c.zxid_is in
     let keys : present (first_new now) ≡ acts_applied (pos 2) empty (update_acts (begin_changes now) []) =
     c.keys ∙ (λ i. acts_applied (second i) (no_keys i) (update_acts (begin_changes now) [])) in
     record {
       new = first_new now;
-      parts = first_parts now;
-      carried = ap (carry new_store) (as_update now) ∙ begin_carried now ∙ ap (λ (r : ℤ). Some (first_new now, answer.Txn r true (first_parts now))) second;
+      carried = begin_carried now ∙ ap (λ (r : ℤ). Some (first_new now, answer.Txn r true begin_parts)) second;
       revision_is = second;
       stands = subst (λ (m : Keys). StandsFor m (after (begin_lines now))) (sym keys) (subst (λ (s : State). StandsFor (acts_applied (pos 2) empty (update_acts (begin_changes now) [])) s) (sym (after-begin now)) (first_stands now h));
-      sound = subst IsSound (sym (after-begin now)) (first_sound now);
     }

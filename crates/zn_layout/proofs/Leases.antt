@@ -9,7 +9,7 @@ use Rattle.zn_layout.specs.declared.record.LeaseRec.{LeaseRec}
 use Rattle.zn_layout.specs.Records.{lease_value, IsLeaseRec}
 use Rattle.zn_layout.specs.Reading.{IsNoValue, IsReadAs}
 use Rattle.zn_layout.specs.ReadingSteps.{HasLife}
-use Rattle.zn_layout.proofs.Numbers.{length-int, length-long}
+use Rattle.zk_jute.proofs.Lengths.{length-int_bytes, length-long_bytes}
 use Rattle.zn_layout.proofs.Nodes.{int_fits, long_fits, int_same, long_same}
 
 abbrev pub life_numbers : LeaseRec → Bytes
@@ -37,7 +37,7 @@ pub lease_value-injective : (r q : LeaseRec) → IsLeaseRec r → IsLeaseRec q �
 lease_value-injective r q f g e = lease_value-same r q (has_life r f) (has_life q g) e
 
 life_length : (r : LeaseRec) → length r.passwd ≡ 16 → length (life_numbers r) ≡ 28
-life_length r e = simp (length-append, length-long, length-int) (omega arith)
+life_length r e = simp (length-append, length-long_bytes, length-int_bytes) (omega arith)
 
 -- numbers split off one after the other are those of the record
 pub lease_joined : (r : LeaseRec) (xs xs2 : Bytes) → xs ≡ int_bytes r.timeout ++ xs2 → xs2 ≡ long_bytes r.attaches ++ r.passwd → 1 ∷ xs ≡ lease_value r

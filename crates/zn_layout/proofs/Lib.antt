@@ -3,8 +3,6 @@ pub mod Depth
 pub mod Fits
 pub mod Applied
 pub mod Stands
-pub mod Found
-pub mod Transactions
 pub mod Denials
 pub mod Commits
 pub mod Paths
@@ -17,3 +15,8 @@ pub mod Digits
 pub mod Leases
 pub mod Sessions
 pub mod Lists
+pub mod Again
+pub mod ListRecords
+pub mod Rising
+pub mod Lapses
+pub mod Absent

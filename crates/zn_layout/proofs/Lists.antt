@@ -1,4 +1,4 @@
--- Records that are lists: so many items, one after the other.
+-- So many items, one after the other.
 use Rattle.std.proofs.Common.{◌≡◌, ℕ, suc, ◌^◌, ◌<◌, ◌≤◌, ℤ, pos, Option, Some, None, List, [], ◌∷◌, ◌++◌, length, take, drop, get_or, refl, sym, ap, ◌∙◌, subst, arith, append_assoc}
 use Rattle.std.specs.Prelude.{IfOk, Result, Ok, Err}
 use Rattle.std.specs.Int.{w32, FitsUnsignedBits}
@@ -6,17 +6,15 @@ use Rattle.std.proofs.lemmas.Int.{to_z-of_z}
 use mir.Val.{to_z, of_z}
 use Rattle.std.specs.Int.RustNames.{FitsSigned}
 use Rattle.std.specs.List.{All, flat_map}
-use Rattle.std.proofs.lemmas.List.{append-nil, drop_all, length-append, length-drop, length-take-le, take-append-drop, take_at, drop_at}
+use Rattle.std.proofs.lemmas.List.{length-append, length-drop, length-take-le, take-append-drop, take_at, drop_at}
 use Rattle.std.proofs.lemmas.List.Elements.{All-drop}
 use Rattle.zk_model.specs.declared.node.Trigger.{Trigger}
 use Rattle.zk_model.specs.declared.node.Trigger.TheVariants.{Created, Deleted, Changed, Children}
 use Rattle.zk_jute.specs.JuteWriting.{int_bytes, count_bytes, string_bytes}
 use Rattle.zx_base.specs.Maps.{Bytes}
-use Rattle.zn_layout.specs.declared.record.HeadRec.{HeadRec}
-use Rattle.zn_layout.specs.Records.{head_value, trigger_bytes, IsHeadRec}
-use Rattle.zn_layout.specs.Reading.{IsNoValue, IsValueOf, head_bytes, IsHeadWithin}
+use Rattle.zn_layout.specs.Records.{trigger_bytes}
 use Rattle.zn_layout.specs.ReadingSteps.{IsValidPath, IsValidTrigger, IsPathOf, IsCounted, IsNotCounted, TakesItem, TakesItems}
-use Rattle.zn_layout.proofs.Numbers.{length-int}
+use Rattle.zk_jute.proofs.Lengths.{length-int_bytes}
 use Rattle.zn_layout.proofs.Nodes.{int_same}
 use Rattle.zn_layout.proofs.Paths.{path_short}
 
@@ -48,7 +46,7 @@ paths_same p q r s vp vq e = strings_same p q r s (omega (arith, path_short p vp
 
 -- too few bytes for a count
 pub uncounted-short : (old : Bytes) → length old < 4 → IsNotCounted old
-uncounted-short old short n rest lt e = omega (arith, length-append (count_bytes n) rest, length-int (pos n), ap (λ (l : Bytes). length l) e)
+uncounted-short old short n rest lt e = omega (arith, length-append (count_bytes n) rest, length-int_bytes (pos n), ap (λ (l : Bytes). length l) e)
 
 -- a number that is no count
 pub uncounted-number : (old rest : Bytes) (z : ℤ) → FitsSigned w32 z → old ≡ int_bytes z ++ rest → (FitsUnsignedBits 64 (to_z w32 (of_z w32 z)) → ⊥) → IsNotCounted old
@@ -95,7 +93,7 @@ kind_is (Children p) r = refl
 same_kind : (t u : Trigger) (r s : Bytes) → trigger_bytes t ++ r ≡ trigger_bytes u ++ s → kind_of t ≡ kind_of u
 same_kind t u r s e = sym (kind_is t r) ∙ ap (λ (l : Bytes). get_or l 0 0) e ∙ kind_is u s
 
-behind : {x y : ℕ} {r s : Bytes} → x ∷ r ≡ y ∷ s → r ≡ s
+pub behind : {x y : ℕ} {r s : Bytes} → x ∷ r ≡ y ∷ s → r ≡ s
 behind e = ap (λ (l : Bytes). drop 1 l) e
 
 pub triggers_same : (t u : Trigger) (r s : Bytes) → IsValidTrigger t → IsValidTrigger u → trigger_bytes t ++ r ≡ trigger_bytes u ++ s → (t ≡ u) × (r ≡ s)
@@ -145,50 +143,3 @@ module _ {A : Type 0} (each : A → Bytes) (IsItem : A → Type 0) (same : (x y 
 pub ok_along : {T E : Type 0} (P Q : T → Type 0) → ((t : T) → P t → Q t) → (r : Result T E) → IfOk r P → IfOk r Q
 ok_along P Q f (Ok t) h = f t h
 ok_along P Q f (Err e) h = h
-
--- ---- the head
-
-abbrev head_items : HeadRec → Bytes
-head_items r = count_bytes (length r.triggers) ++ flat_map trigger_bytes r.triggers
-
-head_value-is : (r : HeadRec) → head_bytes r ≡ 1 ∷ head_items r
-unfolding head_value
-head_value-is r = refl
-
--- what begins otherwise than with a 1
-pub head-not_one : (v : Bytes) → ((rest : Bytes) → v ≡ 1 ∷ rest → ⊥) → IsNoValue head_bytes IsHeadWithin v
-head-not_one v none r is e = none (head_items r) (e ∙ head_value-is r)
-
-pub head-uncounted : (v numbers : Bytes) → v ≡ 1 ∷ numbers → IsNotCounted numbers → IsNoValue head_bytes IsHeadWithin v
-head-uncounted v numbers begins none r is e = none (length r.triggers) (flat_map trigger_bytes r.triggers) is.count (behind (sym begins ∙ e ∙ head_value-is r))
-
--- the triggers in front of what is left behind a count
-triggers_are : (v numbers left : Bytes) (n : ℕ) (r : HeadRec) → v ≡ 1 ∷ numbers → IsCounted numbers n left → IsHeadWithin r → v ≡ head_bytes r → (n ≡ length r.triggers) × (left ≡ flat_map trigger_bytes r.triggers)
-triggers_are v numbers left n r begins c is e = counts_same n (length r.triggers) left (flat_map trigger_bytes r.triggers) c.0 is.count (sym c.1 ∙ behind (sym begins ∙ e ∙ head_value-is r))
-
-pub head-untaken : (v numbers left new : Bytes) (n : ℕ) → v ≡ 1 ∷ numbers → IsCounted numbers n left → TakesItems trigger_bytes IsValidTrigger n left new None → IsNoValue head_bytes IsHeadWithin v
-head-untaken v numbers left new n begins c none r is e =
-    let both = triggers_are v numbers left n r begins c is e in
-    none r.triggers [] (sym both.0) is.valid (both.1 ∙ sym (append-nil (flat_map trigger_bytes r.triggers)))
-
-pub head-trailing : (v numbers left new : Bytes) (n : ℕ) (ts : List Trigger) → v ≡ 1 ∷ numbers → IsCounted numbers n left → TakesItems trigger_bytes IsValidTrigger n left new (Some ts) → (new ≡ [] → ⊥) → IsNoValue head_bytes IsHeadWithin v
-head-trailing v numbers left new n ts begins c taken more r is e =
-    let both = triggers_are v numbers left n r begins c is e in
-    let same : length ts ≡ length r.triggers = taken.0 ∙ both.0 in
-    let rest : new ≡ flat_map trigger_bytes (drop (length ts) r.triggers) ++ [] =
-    rest_same trigger_bytes IsValidTrigger triggers_same ts r.triggers new [] taken.1 is.valid (omega arith) (sym taken.2 ∙ both.1 ∙ sym (append-nil (flat_map trigger_bytes r.triggers))) in
-    more (rest ∙ append-nil _ ∙ ap (flat_map trigger_bytes) (drop_all (length ts) r.triggers (omega arith)))
-
-pub head-read : (v numbers left new : Bytes) (n : ℕ) (ts : List Trigger) → v ≡ 1 ∷ numbers → IsCounted numbers n left → TakesItems trigger_bytes IsValidTrigger n left new (Some ts) → new ≡ [] → IsValueOf head_bytes IsHeadWithin v (record { triggers = ts })
-head-read v numbers left new n ts begins c taken done =
-    let all : left ≡ flat_map trigger_bytes ts = taken.2 ∙ ap (λ (l : Bytes). flat_map trigger_bytes ts ++ l) done ∙ append-nil (flat_map trigger_bytes ts) in (
-      record { count = subst (λ (k : ℕ). k < 2 ^ 31) (sym taken.0) c.0; valid = taken.1 },
-      begins ∙ ap (λ (l : Bytes). 1 ∷ l) (c.1 ∙ (λ i. count_bytes (sym taken.0 i) ++ all i)) ∙ sym (head_value-is (record { triggers = ts })),
-    )
-
--- a value has one head's record
-pub head_value-injective : (ts us : List Trigger) → IsHeadRec ts → IsHeadRec us → head_value ts ≡ head_value us → ts ≡ us
-unfolding head_value
-head_value-injective ts us f g e =
-    let both = counts_same (length ts) (length us) (flat_map trigger_bytes ts) (flat_map trigger_bytes us) f.count g.count (behind e) in
-    items_same trigger_bytes IsValidTrigger triggers_same ts us [] [] f.valid g.valid both.0 (ap (λ (l : Bytes). l ++ []) both.1)

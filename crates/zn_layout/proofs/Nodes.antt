@@ -13,7 +13,8 @@ use Rattle.zn_layout.specs.declared.record.CountRec.{CountRec}
 use Rattle.zn_layout.specs.Records.{node_value, counts_value, IsLongCount, IsNodeRec, IsCountRec}
 use Rattle.zn_layout.specs.Reading.{IsNoValue, IsReadAs}
 use Rattle.zn_layout.specs.ReadingSteps.{HasNumbers, HasCounts}
-use Rattle.zn_layout.proofs.Numbers.{int_back, long_back, length-int, length-long, drop-int, drop-long}
+use Rattle.zk_jute.proofs.Lengths.{length-int_bytes, length-long_bytes}
+use Rattle.zn_layout.proofs.Numbers.{int_back, long_back, drop-int, drop-long}
 
 -- ---- numbers side by side
 
@@ -72,7 +73,7 @@ pub node_value-injective : (r q : NodeRec) → IsNodeRec r → IsNodeRec q → n
 node_value-injective r q f g e = node_value-same r q (has_numbers r f) (has_numbers q g) e
 
 pub node_value-length : (r : NodeRec) → length (node_numbers r) ≡ 36 + length r.content
-node_value-length r = simp (length-append, length-long, length-int) (omega arith)
+node_value-length r = simp (length-append, length-long_bytes, length-int_bytes) (omega arith)
 
 -- numbers split off one after the other are those of the record
 pub node_joined : (r : NodeRec) (xs xs2 xs3 xs4 xs5 : Bytes) → xs ≡ long_bytes r.czxid ++ xs2 → xs2 ≡ int_bytes r.version ++ xs3 → xs3 ≡ long_bytes r.ctime ++ xs4 → xs4 ≡ long_bytes r.mtime ++ xs5 → xs5 ≡ long_bytes r.owner ++ r.content → 1 ∷ xs ≡ node_value r
@@ -105,7 +106,7 @@ pub counts_value-injective : (r q : CountRec) → IsCountRec r → IsCountRec q 
 counts_value-injective r q f g e = counts_value-same r q (has_counts r f) (has_counts q g) e
 
 pub counts_value-length : (r : CountRec) → length (count_numbers r) ≡ 8
-counts_value-length r = simp (length-append, length-int)
+counts_value-length r = simp (length-append, length-int_bytes)
 
 pub counts_joined : (r : CountRec) (xs xs2 xs3 : Bytes) → xs ≡ int_bytes r.creates ++ xs2 → xs2 ≡ int_bytes r.children ++ xs3 → length xs3 ≡ 0 → 1 ∷ xs ≡ counts_value r
 counts_joined r xs xs2 xs3 a b none =

@@ -11,6 +11,7 @@ use Rattle.std.proofs.lemmas.List.{append-nil, length-drop, length-take-le, take
 use Rattle.byteorder.specs.Endian.{big_number, big_from, big_bytes}
 use Rattle.byteorder.specs.Numbers.{big_number-reads_back, big_from-cons, big_from-take, big_from-lt, length-bytes_high_first}
 use Rattle.zk_jute.specs.JuteWriting.{int_bytes, long_bytes}
+use Rattle.zk_jute.proofs.Lengths.{length-int_bytes, length-long_bytes}
 use Rattle.zx_base.specs.Maps.{Bytes}
 
 -- each is a byte
@@ -79,19 +80,11 @@ long_back n rest fits =
     let lt : cast_unsigned w64 n < 256 ^ 8 = omega (arith, ints) in
     ap (cast_signed w64) (big_number-reads_back 8 (cast_unsigned w64 n) rest lt) ∙ to_z-of_z w64 n fits
 
-pub length-int : (n : ℤ) → length (int_bytes n) ≡ 4
-unfolding int_bytes
-length-int n = length-bytes_high_first 4 (cast_unsigned w32 n)
-
-pub length-long : (n : ℤ) → length (long_bytes n) ≡ 8
-unfolding long_bytes
-length-long n = length-bytes_high_first 8 (cast_unsigned w64 n)
-
 pub drop-int : (n : ℤ) (rest : Bytes) → drop 4 (int_bytes n ++ rest) ≡ rest
-drop-int n rest = drop_at (int_bytes n) rest 4 (length-int n)
+drop-int n rest = drop_at (int_bytes n) rest 4 (length-int_bytes n)
 
 pub drop-long : (n : ℤ) (rest : Bytes) → drop 8 (long_bytes n ++ rest) ≡ rest
-drop-long n rest = drop_at (long_bytes n) rest 8 (length-long n)
+drop-long n rest = drop_at (long_bytes n) rest 8 (length-long_bytes n)
 
 -- bytes are those of the number in front of them, and the rest
 pub int_front : (xs : Bytes) → 4 ≤ length xs → AreBytes xs → xs ≡ int_bytes (cast_signed w32 (big_number 4 xs)) ++ drop 4 xs

@@ -10,19 +10,17 @@ use Rattle.zk_model.specs.declared.node.Trigger.{Trigger}
 use Rattle.zk_transcript.specs.History.{State}
 use Rattle.zx_base.specs.Maps.{Bytes}
 use Rattle.zx_base.proofs.MapLaws.{either, get-insert_same}
-use Rattle.zn_layout.specs.Keys.{Key, HeadKey, key_bytes}
+use Rattle.zn_layout.proofs.Absent.{none_some}
+use Rattle.zn_layout.specs.Keys.{Key, HeadKey, key_bytes, front}
 use Rattle.zn_layout.specs.Records.{head_value, IsHeadRec}
 use Rattle.zn_layout.specs.StandsFor.{Stored, stored_of, at, Means, IsHead, HeadMeans, AreLayout, StandsFor}
-use Rattle.zn_layout.specs.Begin.{read_key}
+use Rattle.ev_types.specs.Reads.{read_key}
 use Rattle.zn_layout.specs.Changes.{Put, Change, head_put, acts_of, act_of, update_acts, last}
 use Rattle.zn_layout.specs.Fits.{left, KeyFits, Fits, IsNext}
 use Rattle.zn_layout.proofs.Fits.{fits_head}
 use Rattle.zn_layout.proofs.Applied.{acts_applied-append, over, one_more, write, write-is, write_other, write_same, stored-changes, at-unwritten}
 
 -- ---- the layout is kept
-
-none_some : {X : Type 0} {x : X} → None ≡ Some x → ⊥
-none_some e = cc
 
 revision_in : ℤ → Option Stored → ℤ
 revision_in z None = z
@@ -49,7 +47,7 @@ module _ (z : ℤ) (low : pos 1 ≤ℤ z) (high : z ≤ℤ last_revision) where
     no_other = λ rest kv h. ⊎_elim
         (λ e. (c.key, e))
         (λ n. a.no_other rest kv (sym (write_other z c.put keys (key_bytes c.key) _ n) ∙ h))
-        (either (122 ∷ 107 ∷ 47 ∷ rest) (key_bytes c.key));
+        (either (front ++ rest) (key_bytes c.key));
     least = revisions_kept (λ r. pos 1 ≤ℤ r) low c keys a.least;
     most = revisions_kept (λ r. r ≤ℤ last_revision) high c keys a.most;
   }

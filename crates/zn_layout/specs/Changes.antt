@@ -1,14 +1,15 @@
 -- Changes of keys by one update, and the operations of a transaction that make them.
-use Rattle.std.specs.Prelude.{ℤ, pos, Bool, true, not, ◌&&◌, cond, List, [], ◌∷◌, ◌++◌, map, Option, Some, None}
+use Rattle.std.specs.Prelude.{ℕ, ◌+◌, ℤ, pos, Bool, true, not, ◌&&◌, cond, List, [], ◌∷◌, ◌++◌, length, map, Option, Some, None}
 use Rattle.std.specs.List.{list_any, list_all}
-use Rattle.std.specs.Ordering.{int_eq}
 use Rattle.ev_types.specs.declared.ask.Act.{Act}
 use Rattle.ev_types.specs.declared.ask.Act.TheVariants as act
+use Rattle.ev_types.specs.Denials.{lacks_lease}
+use Rattle.ev_types.specs.Reads.{read_key}
+use Rattle.ev_types.specs.Store.{Store}
 use Rattle.zk_model.specs.declared.node.Trigger.{Trigger}
 use Rattle.zx_base.specs.Maps.{Bytes}
 use Rattle.zn_layout.specs.Keys.{Key, HeadKey, key_bytes, same_key}
 use Rattle.zn_layout.specs.Records.{head_value}
-use Rattle.zn_layout.specs.Begin.{read_key}
 
 -- a value and its lease, 0 for none
 pub record Put : Type 0 where
@@ -66,10 +67,20 @@ abbrev pub are_distinct : List Change → Bool
 are_distinct [] = true
 are_distinct (c ∷ cs) = not (list_any (writes_key c.key) cs) && are_distinct cs
 
-abbrev pub is_free_put : Option Put → Bool
-is_free_put None = true
-is_free_put (Some w) = int_eq w.lease (pos 0)
+-- the lease of each put is 0, or one that is there
+abbrev pub has_its_lease : Store → Option Put → Bool
+has_its_lease s None = true
+has_its_lease s (Some w) = not (lacks_lease s w.lease)
 
--- no put has a lease
-abbrev pub are_free : List Change → Bool
-are_free cs = list_all (λ (c : Change). is_free_put c.put) cs
+abbrev pub have_leases : Store → List Change → Bool
+have_leases s cs = list_all (λ (c : Change). has_its_lease s c.put) cs
+
+-- ---- how large changes are
+
+abbrev pub put_size : Option Put → ℕ
+put_size None = 0
+put_size (Some w) = length w.value
+
+-- the bytes of the key and of the value
+abbrev pub change_size : Change → ℕ
+change_size c = length (key_bytes c.key) + put_size c.put

@@ -1,5 +1,5 @@
 -- The keys under which the service keeps its tree, its sessions and its last update.
-use Rattle.std.specs.Prelude.{ℕ, zero, suc, ◌+◌, ◌/◌, ◌%◌, Bool, true, false, cond, nat_lt, nat_eq, [], ◌∷◌}
+use Rattle.std.specs.Prelude.{ℕ, zero, suc, ◌+◌, ◌/◌, ◌%◌, Bool, true, false, cond, nat_lt, nat_eq, [], ◌∷◌, ◌++◌, codes}
 use Rattle.zk_model.specs.Paths.{depth}
 use Rattle.zx_base.specs.Maps.{Bytes, same}
 
@@ -11,9 +11,16 @@ pub data Key : Type 0 where
   SessionKey : ℕ → Key
   LeaseKey : ℕ → Key
 
--- `zk/`, a letter, a slash, the depth as four digits, and the path: so the children of a path are one range of keys
-abbrev pub node_key : ℕ → ℕ → Bytes → Bytes
-node_key letter n p = 122 ∷ 107 ∷ 47 ∷ letter ∷ 47 ∷ (48 + n / 1000) ∷ (48 + n / 100 % 10) ∷ (48 + n / 10 % 10) ∷ (48 + n % 10) ∷ p
+-- a number below 10,000 as four digits
+abbrev pub digit : ℕ → ℕ
+digit n = 48 + n % 10
+
+abbrev pub four_digits : ℕ → Bytes
+four_digits n = digit (n / 1000) ∷ digit (n / 100) ∷ digit (n / 10) ∷ digit n ∷ []
+
+-- a kind, the path's depth, and the path: so the children of a path are one range of keys
+abbrev pub node_key : Bytes → Bytes → Bytes
+node_key kind p = kind ++ four_digits (depth p) ++ p
 
 abbrev pub hex_digit : ℕ → ℕ
 hex_digit n = cond (nat_lt n 10) (48 + n) (87 + n)
@@ -23,17 +30,20 @@ unfoldable pub hex_digits : ℕ → ℕ → Bytes → Bytes
 hex_digits zero n rest = hex_digit n ∷ rest
 hex_digits (suc k) n rest = hex_digits k (n / 16) (hex_digit (n % 16) ∷ rest)
 
--- `zk/`, a letter, a slash, and the session's number as 16 digits
-abbrev pub session_key : ℕ → ℕ → Bytes
-session_key letter n = 122 ∷ 107 ∷ 47 ∷ letter ∷ 47 ∷ hex_digits 15 n []
+-- a kind, and the session's number as 16 digits
+abbrev pub session_key : Bytes → ℕ → Bytes
+session_key kind n = kind ++ hex_digits 15 n []
 
--- `zk/head`, `zk/d/..`, `zk/c/..`, `zk/s/..`, `zk/l/..`
 unfoldable pub key_bytes : Key → Bytes
-key_bytes HeadKey = 122 ∷ 107 ∷ 47 ∷ 104 ∷ 101 ∷ 97 ∷ 100 ∷ []
-key_bytes (DataKey p) = node_key 100 (depth p) p
-key_bytes (CountsKey p) = node_key 99 (depth p) p
-key_bytes (SessionKey n) = session_key 115 n
-key_bytes (LeaseKey n) = session_key 108 n
+key_bytes HeadKey = codes "zk/head"
+key_bytes (DataKey p) = node_key (codes "zk/d/") p
+key_bytes (CountsKey p) = node_key (codes "zk/c/") p
+key_bytes (SessionKey n) = session_key (codes "zk/s/") n
+key_bytes (LeaseKey n) = session_key (codes "zk/l/") n
+
+-- what all keys of the service begin with
+abbrev pub front : Bytes
+front = codes "zk/"
 
 abbrev pub same_key : Key → Key → Bool
 same_key HeadKey HeadKey = true

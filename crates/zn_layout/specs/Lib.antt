@@ -1,8 +1,9 @@
 pub mod Keys
 pub mod Records
 pub mod StandsFor
-pub mod Begin
 pub mod Changes
+pub mod Updates
+pub mod Begin
 pub mod Fits
 pub mod Commits
 pub mod Reading

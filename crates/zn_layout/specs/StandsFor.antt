@@ -1,5 +1,5 @@
 -- Which keys stand for a state of the service: one clause for each kind of key, and no other key below `zk/`.
-use Rattle.std.specs.Prelude.{◌≡◌, ℕ, ℤ, pos, cond, ◌≤ℤ◌, true, false, List, ◌∷◌, Option, Some, None}
+use Rattle.std.specs.Prelude.{◌≡◌, ℕ, ℤ, pos, cond, ◌≤ℤ◌, true, false, List, ◌++◌, Option, Some, None}
 use Rattle.std.specs.Ordering.{int_eq}
 use Rattle.std.specs.FinMap.{get}
 use Rattle.ev_types.specs.declared.answer.Kv.{Kv}
@@ -12,7 +12,7 @@ use Rattle.zx_base.specs.Maps.{Bytes}
 use Rattle.zn_layout.specs.declared.record.NodeRec.{NodeRec}
 use Rattle.zn_layout.specs.declared.record.CountRec.{CountRec}
 use Rattle.zn_layout.specs.declared.record.LeaseRec.{LeaseRec}
-use Rattle.zn_layout.specs.Keys.{Key, HeadKey, DataKey, CountsKey, SessionKey, LeaseKey, key_bytes}
+use Rattle.zn_layout.specs.Keys.{Key, HeadKey, DataKey, CountsKey, SessionKey, LeaseKey, front, key_bytes}
 use Rattle.zn_layout.specs.Records.{node_value, counts_value, session_value, lease_value, head_value, IsNodeRec, IsCountRec, IsSessionRec, IsLeaseRec, IsHeadRec}
 
 -- ---- what a key has, apart from what only the head needs
@@ -121,7 +121,7 @@ HeadMeans (Some kv) s = IsHead kv s
 
 -- the keys below `zk/` are those of the layout, and every key was put at a revision that a store can have
 pub record AreLayout (keys : Keys) : Type 0 where
-  pub no_other : (rest : Bytes) (kv : Kv) → get keys (122 ∷ 107 ∷ 47 ∷ rest) ≡ Some kv → (k : Key) × (122 ∷ 107 ∷ 47 ∷ rest ≡ key_bytes k)
+  pub no_other : (rest : Bytes) (kv : Kv) → get keys (front ++ rest) ≡ Some kv → (k : Key) × (front ++ rest ≡ key_bytes k)
   pub least : (key : Bytes) (kv : Kv) → get keys key ≡ Some kv → pos 1 ≤ℤ kv.mod_revision
   pub most : (key : Bytes) (kv : Kv) → get keys key ≡ Some kv → kv.mod_revision ≤ℤ last_revision
 

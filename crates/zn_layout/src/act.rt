@@ -1,7 +1,7 @@
 //! Operations of a transaction.
 
 ghost use Rattle.std.specs.Prelude.{◌≡◌, ◌≤◌, length, pos, IfOk};
-ghost use Rattle.zn_layout.specs.Begin.{read_key};
+ghost use Rattle.ev_types.specs.Reads.{read_key};
 ghost use Rattle.zn_layout.specs.Changes.{put_key, delete_key, head_put, act_of};
 ghost use Rattle.zn_layout.specs.Keys.{HeadKey, DataKey, CountsKey, key_bytes};
 ghost use Rattle.zn_layout.specs.Records.{node_value, counts_value, IsNodeRec, IsCountRec, IsHeadRec};

@@ -2,8 +2,8 @@
 
 ghost use Rattle.std.specs.Prelude.{◌≡◌, ◌<◌, ◌^◌, pos, [], IfOk};
 ghost use Rattle.zk_model.specs.Paths.{root};
-ghost use Rattle.zn_layout.specs.Begin.{begin_ask as first_ask, begin_success as first_success, new_record, no_counts};
-ghost use Rattle.zn_layout.specs.Changes.{put_key, act_of};
+ghost use Rattle.zn_layout.specs.Begin.{begin_ask as first_ask, begin_changes, new_record, no_counts};
+ghost use Rattle.zn_layout.specs.Changes.{put_key, act_of, update_acts};
 ghost use Rattle.zn_layout.specs.Keys.{DataKey, CountsKey};
 ghost use Rattle.zn_layout.specs.Records.{node_value, counts_value};
 
@@ -40,7 +40,7 @@ pub fn begin_ask(alloc: Global, now: u64) -> Result<Ask, Memory>
 
 fn begin_success(alloc: Global, now: u64) -> Result<Seq<Act>, Memory>
     requires { now < 2 ^ 62 }
-    ensures { IfOk result (λ acts. acts ≡ first_success now) }
+    ensures { IfOk result (λ acts. acts ≡ update_acts (begin_changes now) []) }
 {
     let head = HeadRec {
         triggers: Seq::new(alloc),

@@ -2,7 +2,7 @@
 
 ghost use Rattle.std.specs.Prelude.{◌≡◌, ◌+◌, ◌%◌, ◌^◌, ◌<◌, ◌≤◌, pos, nat_abs, ◌≤ℤ◌, [], length, IfOk};
 ghost use Rattle.zk_model.specs.Paths.{depth as path_depth};
-ghost use Rattle.zn_layout.specs.Keys.{HeadKey, DataKey, CountsKey, SessionKey, LeaseKey, key_bytes, node_key as bytes_of_node, session_key as bytes_of_session, hex_digits, hex_digit as digit_of};
+ghost use Rattle.zn_layout.specs.Keys.{HeadKey, DataKey, CountsKey, SessionKey, LeaseKey, key_bytes, node_key as bytes_of_node, session_key as bytes_of_session, digit as decimal_digit, hex_digits, hex_digit as digit_of};
 ghost use Rattle.zk_model.specs.Limits.{max_path};
 
 use std::alloc::Global;
@@ -26,7 +26,7 @@ pub fn data_key(alloc: Global, path: &[u8]) -> Result<Bytes, Memory>
     requires { length path.now ≤ max_path }
     ensures { IfOk result (λ k. k ≡ key_bytes (DataKey path.now)) }
 {
-    node_key(alloc, b'd', path)
+    node_key(alloc, b"zk/d/", path)
 }
 
 /// The key of the counts of a node's children. The path has at most 1,024 bytes.
@@ -35,7 +35,7 @@ pub fn counts_key(alloc: Global, path: &[u8]) -> Result<Bytes, Memory>
     requires { length path.now ≤ max_path }
     ensures { IfOk result (λ k. k ≡ key_bytes (CountsKey path.now)) }
 {
-    node_key(alloc, b'c', path)
+    node_key(alloc, b"zk/c/", path)
 }
 
 /// The key of the nodes of a session, whose number is at least 1.
@@ -44,7 +44,7 @@ pub fn session_key(alloc: Global, id: i64) -> Result<Bytes, Memory>
     requires { pos 1 ≤ℤ id }
     ensures { IfOk result (λ k. k ≡ key_bytes (SessionKey (nat_abs id))) }
 {
-    numbered_key(alloc, b's', id.unsigned_abs())
+    numbered_key(alloc, b"zk/s/", id.unsigned_abs())
 }
 
 /// The key of the life of a session, whose number is at least 1.
@@ -53,34 +53,25 @@ pub fn lease_key(alloc: Global, id: i64) -> Result<Bytes, Memory>
     requires { pos 1 ≤ℤ id }
     ensures { IfOk result (λ k. k ≡ key_bytes (LeaseKey (nat_abs id))) }
 {
-    numbered_key(alloc, b'l', id.unsigned_abs())
+    numbered_key(alloc, b"zk/l/", id.unsigned_abs())
 }
 
-fn node_key(alloc: Global, letter: u8, path: &[u8]) -> Result<Bytes, Memory>
+fn node_key(alloc: Global, kind: &[u8; 5], path: &[u8]) -> Result<Bytes, Memory>
     requires { length path.now ≤ max_path }
-    ensures { IfOk result (λ k. k ≡ bytes_of_node letter (path_depth path.now) path.now) }
+    ensures { IfOk result (λ k. k ≡ bytes_of_node kind.now path.now) }
 {
     let n = depth(path);
-    let front = [
-        b'z',
-        b'k',
-        b'/',
-        letter,
-        b'/',
-        digit(n / 1000),
-        digit(n / 100),
-        digit(n / 10),
-        digit(n),
-    ];
-    let mut key = Vec::with_capacity(alloc, front.len() + path.len())?;
-    key.extend_from_slice(&front)?;
+    let digits = [digit(n / 1000), digit(n / 100), digit(n / 10), digit(n)];
+    let mut key = Vec::with_capacity(alloc, kind.len() + digits.len() + path.len())?;
+    key.extend_from_slice(kind)?;
+    key.extend_from_slice(&digits)?;
     key.extend_from_slice(path)?;
     Ok(Bytes::from_vec(key))
 }
 
 /// The last decimal digit of a number.
 fn digit(n: usize) -> u8
-    ensures { result ≡ 48 + n % 10 }
+    ensures { result ≡ decimal_digit n }
 {
     b'0' + (n % 10) as u8
 }
@@ -97,14 +88,13 @@ fn depth(path: &[u8]) -> usize
     }
 }
 
-fn numbered_key(alloc: Global, letter: u8, n: u64) -> Result<Bytes, Memory>
+fn numbered_key(alloc: Global, kind: &[u8; 5], n: u64) -> Result<Bytes, Memory>
     requires { n < 2 ^ 63 }
-    ensures { IfOk result (λ k. k ≡ bytes_of_session letter n) }
+    ensures { IfOk result (λ k. k ≡ bytes_of_session kind.now n) }
 {
-    let front = [b'z', b'k', b'/', letter, b'/'];
     let digits = digits_of(n);
-    let mut key = Vec::with_capacity(alloc, front.len() + digits.len())?;
-    key.extend_from_slice(&front)?;
+    let mut key = Vec::with_capacity(alloc, kind.len() + digits.len())?;
+    key.extend_from_slice(kind)?;
     key.extend_from_slice(&digits)?;
     Ok(Bytes::from_vec(key))
 }

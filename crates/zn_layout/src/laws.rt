@@ -1,28 +1,35 @@
 //! The laws of the layout. Each function does nothing, and its contract is the law.
 
-ghost use Rattle.std.specs.Prelude.{◌≡◌, ℕ, ◌+◌, ◌^◌, ◌<◌, ◌≤◌, ℤ, pos, ◌≤ℤ◌, ◌<ℤ◌, List, ◌∷◌, [], ◌++◌, length, Some, None, true, false};
+ghost use Rattle.std.specs.Prelude.{◌≡◌, ℕ, ◌+◌, ◌^◌, ◌<◌, ◌≤◌, ℤ, pos, ◌≤ℤ◌, ◌<ℤ◌, List, ◌∷◌, [], ◌++◌, length, map, sum_by, Some, None, true, false};
+ghost use Rattle.std.specs.FinMap.{get};
+ghost use Rattle.std.specs.List.{list_all, All};
+ghost use Rattle.ev_types.specs.declared.answer.Kv.{Kv as KeyValue};
+ghost use Rattle.ev_types.specs.declared.answer.ActAns.{ActAns};
+ghost use Rattle.ev_types.specs.declared.answer.ActAns.TheVariants as part;
+ghost use Rattle.ev_types.specs.declared.answer.Answer.TheVariants as answer;
 ghost use Rattle.ev_types.specs.declared.ask.Act.{Act};
 ghost use Rattle.ev_types.specs.declared.ask.Ask.TheVariants as ask;
 ghost use Rattle.ev_types.specs.declared.ask.Guard.{Guard};
-ghost use Rattle.ev_types.specs.declared.answer.ActAns.{ActAns};
-ghost use Rattle.ev_types.specs.declared.answer.Answer.TheVariants as answer;
-ghost use Rattle.ev_types.specs.Denials.{most_operations, is_denied, carry};
-ghost use Rattle.ev_types.specs.Ranges.{Keys, found};
-ghost use Rattle.ev_types.specs.Store.{Store, revision, last_revision, acts_applied, worked};
+ghost use Rattle.ev_types.specs.Denials.{max_operations, is_denied, carry};
+ghost use Rattle.ev_types.specs.Lapses.{lapse};
+ghost use Rattle.ev_types.specs.Ranges.{Keys};
+ghost use Rattle.ev_types.specs.Reads.{are_present_reads, one_found};
+ghost use Rattle.ev_types.specs.Sizes.{act_size, guard_size, txn_size, max_txn_size, IsSendable};
+ghost use Rattle.ev_types.specs.Store.{Store, revision, last_revision, present, holds, acts_applied};
 ghost use Rattle.zk_model.specs.declared.node.Trigger.{Trigger as AnyTrigger};
-ghost use Rattle.zk_transcript.specs.History.{State};
+ghost use Rattle.zk_transcript.specs.History.{State, session_at, lapsed_in};
+ghost use Rattle.zx_base.specs.Maps.{Bytes};
 ghost use Rattle.zn_layout.specs.declared.record.CountRec.{CountRec};
 ghost use Rattle.zn_layout.specs.declared.record.LeaseRec.{LeaseRec};
 ghost use Rattle.zn_layout.specs.declared.record.NodeRec.{NodeRec};
-ghost use Rattle.std.specs.FinMap.{get};
-ghost use Rattle.zx_base.specs.Maps.{Bytes};
-ghost use Rattle.zn_layout.specs.Begin.{Begins};
-ghost use Rattle.zn_layout.specs.Changes.{Change, head_put, update_acts, last, are_distinct, are_free};
-ghost use Rattle.zn_layout.specs.Commits.{are_present_reads, key_range, one_found, update_txn, IsCommitted};
+ghost use Rattle.zn_layout.specs.Begin.{begin_ask as first_ask, Begins};
+ghost use Rattle.zn_layout.specs.Changes.{Change, head_put, update_acts, last, are_distinct, have_leases, change_size};
+ghost use Rattle.zn_layout.specs.Commits.{IsCommitted};
 ghost use Rattle.zn_layout.specs.Fits.{Fits, IsNext};
 ghost use Rattle.zn_layout.specs.Keys.{Key, HeadKey, key_bytes};
-ghost use Rattle.zn_layout.specs.Records.{node_value, counts_value, lease_value, head_value, IsNodeRec, IsCountRec, IsLeaseRec, IsHeadRec};
-ghost use Rattle.zn_layout.specs.StandsFor.{StandsFor};
+ghost use Rattle.zn_layout.specs.Records.{node_value, counts_value, session_value, lease_value, head_value, IsNodeRec, IsCountRec, IsSessionRec, IsLeaseRec, IsHeadRec};
+ghost use Rattle.zn_layout.specs.StandsFor.{at, StandsFor};
+ghost use Rattle.zn_layout.specs.Updates.{with_head, guards_at, update_ask, update_txn, IsAsSeen};
 
 /// Keys with the same bytes are one key.
 pub fn key_bytes_is_injective()
@@ -42,6 +49,11 @@ pub fn counts_value_is_injective()
 /// A value has one record of a session's life within its bounds.
 pub fn lease_value_is_injective()
     ensures { (r q : LeaseRec) → IsLeaseRec r → IsLeaseRec q → lease_value r ≡ lease_value q → r ≡ q }
+{}
+
+/// A value has one record of a session's nodes within its bounds.
+pub fn session_value_is_injective()
+    ensures { (ps qs : List Bytes) → IsSessionRec ps → IsSessionRec qs → session_value ps ≡ session_value qs → ps ≡ qs }
 {}
 
 /// A value has one head's record within its bounds.
@@ -64,10 +76,21 @@ pub fn stands_after()
     ensures { (z : ℤ) (cs : List Change) (ts : List AnyTrigger) (keys : Keys) (old new : State) → pos 1 ≤ℤ z → z ≤ℤ last_revision → IsHeadRec ts → last cs HeadKey ≡ None → IsNext z ts old new → StandsFor keys old → Fits z cs old new → StandsFor (acts_applied z keys (update_acts cs ts)) new }
 {}
 
-/// The first transaction stands: on a new store it isn't denied, succeeds at revision 2, and leaves keys that stand for the
-/// state after the line of the first update.
+/// Where a lease lapses, the keys that are left stand for the state in which the session of that number has lapsed, and all
+/// else is as it was.
+pub fn lapse_stands()
+    ensures { (s new : Store) (id : ℤ) (state : State) → StandsFor (present s) state → lapse s id ≡ Some new → StandsFor (present new) (lapsed_in state id (session_at id state)) }
+{}
+
+/// The first transaction stands: on a new store it isn't denied, succeeds at revision 2, answers the head that it put, and
+/// leaves keys that stand for the state after the line of the first update.
 pub fn begin_stands()
     ensures { (now : ℕ) → now < 2 ^ 62 → Begins now }
+{}
+
+/// In a store that has a head the first transaction changes nothing, and answers that head.
+pub fn begin_again_changes_nothing()
+    ensures { (s : Store) (now : ℕ) (head : KeyValue) → at (present s) HeadKey ≡ Some head → carry s (first_ask now) ≡ Some (s, answer.Txn (revision s) false (part.Range (one_found (Some head)) ∷ [])) }
 {}
 
 /// An update's transaction that succeeds makes the changes at the store's next revision, and answers the head that it put.
@@ -75,18 +98,26 @@ pub fn update_commits()
     ensures { (old new : Store) (guards : List Guard) (cs : List Change) (ts : List AnyTrigger) (again : List Act) (zxid : ℤ) (parts : List ActAns) → carry old (ask.Txn (update_txn guards cs ts again)) ≡ Some (new, answer.Txn zxid true parts) → IsCommitted old cs ts new zxid parts }
 {}
 
-/// An update's transaction isn't denied where each key is written once and without a lease, and the store has room.
+/// An update's transaction isn't denied where its lists are short, each key is written once, each put's lease is there or
+/// 0, and the store has room.
 pub fn update_is_allowed()
-    ensures { (s : Store) (guards : List Guard) (cs : List Change) (ts : List AnyTrigger) (again : List Act) → length guards ≤ most_operations → length cs + 2 ≤ most_operations → length again ≤ most_operations → are_distinct (cs ++ head_put ts ∷ []) ≡ true → are_free cs ≡ true → are_present_reads again ≡ true → revision s <ℤ last_revision → is_denied s (ask.Txn (update_txn guards cs ts again)) ≡ false }
+    ensures { (s : Store) (guards : List Guard) (cs : List Change) (ts : List AnyTrigger) (again : List Act) → length guards ≤ max_operations → length cs + 2 ≤ max_operations → length again ≤ max_operations → are_distinct (cs ++ head_put ts ∷ []) ≡ true → have_leases s cs ≡ true → are_present_reads again ≡ true → revision s <ℤ last_revision → is_denied s (ask.Txn (update_txn guards cs ts again)) ≡ false }
 {}
 
-/// A transaction without guards that only reads the present isn't denied, and changes nothing.
-pub fn reads_are_allowed()
-    ensures allowed { (s : Store) (acts : List Act) → length acts ≤ most_operations → are_present_reads acts ≡ true → is_denied s (ask.Txn (record { guards = []; success = acts; failure = [] })) ≡ false }
-    ensures unchanged { (s : Store) (acts : List Act) → are_present_reads acts ≡ true → (worked s acts).changes ≡ [] }
+/// The bytes of an update's transaction are those of its guards, its changes, the head that it puts, the head's key that it
+/// then reads, and the keys that it reads where a guard fails. Where they and the lists keep their bounds an etcd takes it.
+pub fn update_is_sendable()
+    ensures size { (guards : List Guard) (cs : List Change) (ts : List AnyTrigger) (again : List Act) → txn_size (update_txn guards cs ts again) ≡ sum_by guard_size guards + sum_by change_size cs + change_size (head_put ts) + length (key_bytes HeadKey) + sum_by act_size again }
+    ensures sendable { (guards : List Guard) (cs : List Change) (ts : List AnyTrigger) (again : List Act) → length guards ≤ max_operations → length cs + 2 ≤ max_operations → length again ≤ max_operations → sum_by guard_size guards + sum_by change_size cs + change_size (head_put ts) + length (key_bytes HeadKey) + sum_by act_size again ≤ max_txn_size → IsSendable (update_txn guards cs ts again) }
 {}
 
-/// A range of one key finds what is there.
-pub fn one_key_is_found()
-    ensures { (key : Bytes) (keys : Keys) → found (key_range key) keys ≡ one_found (get keys key) }
+/// The guards of an update hold exactly where each key that it looked up was put last at the revision that it saw.
+pub fn guards_tell_what_was_seen()
+    ensures held { (now seen : Keys) (keys : List Bytes) → list_all (holds now) (guards_at seen keys) ≡ true → All (IsAsSeen now seen) keys }
+    ensures hold { (now seen : Keys) (keys : List Bytes) → All (IsAsSeen now seen) keys → list_all (holds now) (guards_at seen keys) ≡ true }
+{}
+
+/// Where a guard fails an update changes nothing, and answers what the same keys and the head have now.
+pub fn update_looks_again()
+    ensures { (s : Store) (seen : Keys) (keys : List Bytes) (acts : List Act) → is_denied s (update_ask seen keys acts) ≡ false → list_all (holds (present s)) (guards_at seen keys) ≡ false → carry s (update_ask seen keys acts) ≡ Some (s, answer.Txn (revision s) false (map (λ k. part.Range (one_found (get (present s) k))) (with_head keys))) }
 {}

@@ -17,27 +17,28 @@
 
 mod act;
 mod begin;
+mod entry;
 mod fault;
 mod key;
 mod laws;
 mod list;
 mod read;
 mod record;
-#[cfg(test)]
-mod tests;
 mod write;
 mod writer;
 
 pub use act::{delete_counts, delete_node, get_head, get_key, put_counts, put_head, put_node};
 pub use begin::begin_ask;
+pub use entry::Entry;
 pub use fault::RecordFault;
 pub use key::{counts_key, data_key, head_key, lease_key, session_key};
 pub use laws::{
-    begin_stands, counts_value_is_injective, fits_append, fits_same, head_value_is_injective,
-    key_bytes_is_injective, lease_value_is_injective, node_value_is_injective, one_key_is_found,
-    reads_are_allowed, stands_after, update_commits, update_is_allowed,
+    begin_again_changes_nothing, begin_stands, counts_value_is_injective, fits_append, fits_same,
+    guards_tell_what_was_seen, head_value_is_injective, key_bytes_is_injective, lapse_stands,
+    lease_value_is_injective, node_value_is_injective, session_value_is_injective, stands_after,
+    update_commits, update_is_allowed, update_is_sendable, update_looks_again,
 };
-pub use list::read_head;
+pub use list::{read_head, read_session};
 pub use read::{read_counts, read_lease, read_node};
 pub use record::{CountRec, HeadRec, LeaseRec, NodeRec, SessionRec};
 pub use write::{write_counts, write_head, write_lease, write_node, write_session};

@@ -1,18 +1,27 @@
-//! Reading the head, whose record is a list.
+//! Reading the records that are lists: the head's triggers, and the nodes of a session.
 
-ghost use Rattle.std.specs.Prelude.{◌≡◌, ◌↔◌, ℕ, List, ◌∷◌, [], IfOk, MatchOption, MatchResult, IsTrue};
+ghost use Rattle.std.specs.Prelude.{◌≡◌, ◌↔◌, ◌*◌, ◌<◌, ◌≤◌, ℕ, List, ◌∷◌, [], IfOk, MatchOption, MatchResult, IsTrue};
+ghost use Rattle.std.specs.Cmp.Lexicographic.{slice_cmp};
+ghost use Rattle.std.specs.List.Sorted.{IsStrictlySortedBy};
+ghost use Rattle.std.specs.Ordering.{nat_cmp};
+ghost use Rattle.ev_types.specs.Ranges.{comes_before};
 ghost use Rattle.zk_jute.specs.JuteWriting.{string_bytes};
 ghost use Rattle.zn_layout.specs.Records.{trigger_bytes};
-ghost use Rattle.zn_layout.specs.Reading.{head_bytes, IsHeadWithin, IsValueOf, IsFault, IsReadAs};
+ghost use Rattle.zn_layout.specs.Reading.{head_bytes, IsHeadWithin, session_bytes, IsSessionWithin, IsValueOf, IsFault, IsReadAs};
 ghost use Rattle.zn_layout.specs.ReadingSteps.{IsValidPath, IsValidTrigger, TakesItem, TakesItems, IsOfKind, IsPathOf, IsCounted, IsNotCounted};
 
 use crate::fault::{RecordFault, damaged};
 use crate::read::{behind_first, split_int};
-use crate::record::HeadRec;
+use crate::record::{HeadRec, SessionRec};
 use std::alloc::Global;
 use std::marker::Model;
 use zk_model::{Path, PathFault, Trigger};
 use zx_base::{Memory, Seq};
+
+/// The fewest bytes of a path behind its length, and of a trigger.
+const MIN_STRING: usize = 5;
+
+const MIN_TRIGGER: usize = 6;
 
 /// The head's record of which this is the value under this key.
 pub fn read_head(alloc: Global, key: &[u8], value: &[u8]) -> Result<HeadRec, RecordFault>
@@ -44,6 +53,39 @@ fn head_in(alloc: Global, value: &[u8]) -> Result<Option<HeadRec>, Memory>
     }
 }
 
+/// The record of a session's nodes of which this is the value under this key.
+pub fn read_session(alloc: Global, key: &[u8], value: &[u8]) -> Result<SessionRec, RecordFault>
+    ensures { MatchResult result (IsValueOf session_bytes IsSessionWithin value.now) (IsFault session_bytes IsSessionWithin key.now value.now) }
+{
+    match session_in(alloc, value)? {
+        Some(session) => Ok(session),
+        None => Err(damaged(alloc, key, value)),
+    }
+}
+
+fn session_in(alloc: Global, value: &[u8]) -> Result<Option<SessionRec>, Memory>
+    ensures { IfOk result (IsReadAs session_bytes IsSessionWithin value.now) }
+{
+    let Some(numbers) = behind_first(value) else {
+        return Ok(None);
+    };
+    let Some((count, rest)) = split_count(numbers) else {
+        return Ok(None);
+    };
+    let mut reader = Reader { rest };
+    let Some(paths) = reader.paths(alloc, count)? else {
+        return Ok(None);
+    };
+    if !reader.is_done() {
+        return Ok(None);
+    }
+    if are_rising(paths.as_slice()) {
+        Ok(Some(SessionRec { paths }))
+    } else {
+        Ok(None)
+    }
+}
+
 /// What is still to be read of a value.
 #[derive(Drop)]
 struct Reader<'a> {
@@ -68,7 +110,8 @@ impl<'a> Reader<'a> {
     fn triggers(&mut self, alloc: Global, count: usize) -> Result<Option<Seq<Trigger>>, Memory>
         ensures { IfOk result (TakesItems trigger_bytes IsValidTrigger count self.old self.new) }
     {
-        let mut triggers = Vec::new(alloc);
+        let most = room(count, self.rest.len(), MIN_TRIGGER);
+        let mut triggers = Vec::with_capacity(alloc, most)?;
         for _ in 0..count {
             match self.trigger(alloc)? {
                 Some(trigger) => triggers.push(trigger)?,
@@ -91,6 +134,20 @@ impl<'a> Reader<'a> {
         }
     }
 
+    fn paths(&mut self, alloc: Global, count: usize) -> Result<Option<Seq<Path>>, Memory>
+        ensures { IfOk result (TakesItems string_bytes IsValidPath count self.old self.new) }
+    {
+        let most = room(count, self.rest.len(), MIN_STRING);
+        let mut paths = Vec::with_capacity(alloc, most)?;
+        for _ in 0..count {
+            match self.path(alloc)? {
+                Some(path) => paths.push(path)?,
+                None => return Ok(None),
+            }
+        }
+        Ok(Some(Seq::from_vec(paths)))
+    }
+
     fn path(&mut self, alloc: Global) -> Result<Option<Path>, Memory>
         ensures { IfOk result (TakesItem string_bytes IsValidPath self.old self.new) }
     {
@@ -104,6 +161,33 @@ impl<'a> Reader<'a> {
         self.rest = rest;
         path_of(alloc, text)
     }
+}
+
+/// For how many of so many items, each of at least so many bytes, there is room to make: for no more than are left can hold.
+fn room(count: usize, left: usize, least: usize) -> usize
+    requires { 0 < least }
+    ensures asked { result ≤ count }
+    ensures held { result * least ≤ left }
+{
+    count.min(left / least)
+}
+
+/// Whether each path stands before the next by its bytes.
+fn are_rising(paths: &[Path]) -> bool
+    ensures { IsTrue result ↔ IsStrictlySortedBy (slice_cmp nat_cmp) paths.now }
+{
+    for i in 1..paths.len() {
+        if !is_before(&paths[i - 1], &paths[i]) {
+            return false;
+        }
+    }
+    true
+}
+
+fn is_before(path: &Path, other: &Path) -> bool
+    ensures { result ≡ comes_before path.now other.now }
+{
+    path.bytes().cmp(other.bytes()).is_lt()
 }
 
 /// A byte, and what stands behind it.

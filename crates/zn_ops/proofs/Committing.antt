@@ -22,13 +22,13 @@ use Rattle.zx_base.specs.Maps.{Bytes}
 use Rattle.zx_base.proofs.MapLaws.{same-false}
 use Rattle.zn_layout.specs.declared.record.CountRec.{CountRec}
 use Rattle.zn_layout.specs.Changes.{Change, head_put, update_acts, are_distinct}
-use Rattle.zn_layout.specs.Commits.{update_txn, IsCommitted}
+use Rattle.zn_layout.specs.Commits.{IsCommitted}
+use Rattle.zn_layout.specs.Updates.{update_txn, reads_of, guards_at, update_ask}
 use Rattle.zn_layout.proofs.Commits.{committed}
 use Rattle.zn_layout.proofs.Denials.{update-not_denied}
 use Rattle.zn_ops.specs.Answering.{HasRoom}
 use Rattle.zn_ops.specs.Choices.{create_keys, create_changes, create_triggers}
 use Rattle.zn_ops.specs.Steps.{IsStep}
-use Rattle.zn_ops.specs.Views.{reads_of, guards_at, update_ask}
 use Rattle.zn_ops.proofs.Carried.{allowed}
 use Rattle.zn_ops.proofs.Looking.{looks-present}
 

@@ -1,5 +1,5 @@
 -- What a create answers, in each sound state that the store stands for.
-use Rattle.std.proofs.Common.{◌≡◌, ℕ, ◌+◌, ◌≤◌, ℤ, pos, ◌+ℤ◌, List, [], ◌∷◌, length, Option, Some, None, refl, sym, ap, ◌∙◌, subst, arith, is_some}
+use Rattle.std.proofs.Common.{◌≡◌, ℕ, ◌≤◌, ℤ, pos, ◌+ℤ◌, List, [], ◌∷◌, length, Option, Some, None, refl, sym, ap, ◌∙◌, subst, arith, is_some}
 use Rattle.std.specs.Prelude.{◌≤ℤ◌, ◌<ℤ◌, IsTrue}
 use Rattle.std.specs.FinMap.{get}
 use Rattle.std.proofs.lemmas.Int.{ints}
@@ -18,15 +18,15 @@ use Rattle.zk_model.specs.declared.reply.Reply.TheVariants as reply
 use Rattle.zk_model.specs.declared.request.Acl.{Acl}
 use Rattle.zk_model.specs.declared.request.Request.TheVariants as req
 use Rattle.zk_model.specs.declared.request.Part.TheVariants as part
-use Rattle.zk_transcript.specs.Answers.{refusal_of, tree_reply}
+use Rattle.zk_transcript.specs.Answers.{refusal_of, told, tree_reply}
 use Rattle.zk_model.specs.Codes.{node_exists}
-use Rattle.zk_transcript.specs.History.{State, IsSound, IsNodeWithin, Commit, commit, commit_single, committed}
+use Rattle.zk_transcript.specs.History.{State, IsSound, Commit, commit, commit_single, committed}
 use Rattle.zk_model.specs.Paths.{is_path, parent}
 use Rattle.zk_model.specs.Single.{Refused, Done, form_refusal, with_child, single}
 use Rattle.zk_model.specs.Watches.{no_watches}
 use Rattle.zk_model.specs.Znodes.{num_children, new_node}
 use Rattle.zk_transcript.proofs.Children.{create_tree}
-use Rattle.zk_transcript.proofs.Sound.{create_sound}
+use Rattle.zk_model.proofs.ValidPaths.{parent-valid}
 use Rattle.zn_layout.specs.declared.record.CountRec.{CountRec}
 use Rattle.zn_layout.specs.Fits.{Fits}
 use Rattle.zn_layout.specs.Keys.{HeadKey, DataKey, CountsKey}
@@ -40,10 +40,10 @@ use Rattle.zn_ops.specs.Choices.{Shows, create_choice, create_changes, create_tr
 use Rattle.zn_ops.specs.Steps.{IsStep, IsMade, AnswersCreate}
 use Rattle.zn_ops.specs.declared.requests.Answered.{Answered}
 use Rattle.zn_ops.specs.declared.requests.Answered.TheVariants.{Repeats, Looked, Updated}
-use Rattle.zn_ops.proofs.Bounds.{present-within}
+use Rattle.ev_types.proofs.Bounds.{present-within}
 use Rattle.zn_ops.proofs.Effects.{root-exists, made_under, single-made, chosen-refuses, IsMaking, chosen-makes}
 use Rattle.zn_ops.specs.Basis.{IsZxid, ShowsAt}
-use Rattle.zn_ops.proofs.Fitting.{create_fits, parent_fits}
+use Rattle.zn_ops.proofs.Fitting.{create_fits}
 use Rattle.zk_model.specs.Limits.{max_frame, max_moment, max_owned}
 
 -- ---- the head
@@ -61,7 +61,7 @@ zxid-is m zxid z s stands = z.is ∙ head-zxid m s z.head stands z.there
 -- ---- refusals
 
 reply_of_refusal : (s : State) (p content : Bytes) (acl : List Acl) (code : ℤ) → single s.tree max_owned (pos 0) (part.Create p content acl (pos 0)) (pos 0) 0 ≡ Refused code →
-    tree_reply s.tree (pos 0) no_watches (req.Create p content acl (pos 0)) ≡ Some (record { reply = reply.Refused code; notices = []; watches = no_watches })
+    tree_reply s.tree max_owned (pos 0) no_watches (req.Create p content acl (pos 0)) ≡ told no_watches (reply.Refused code)
 unfolding tree_reply
 reply_of_refusal s p content acl code e = ap (refusal_of no_watches) e
 
@@ -122,7 +122,7 @@ module _ (m : Keys) (p q content : Bytes) (o : Option Shown) (shows : ShowsAt m 
     counts_are = ap (λ (k : ℕ). record { creates = up.creates +ℤ pos 1; children = pos k +ℤ pos 1 }) shown.1 ∙ making.counts_are
 
     q_valid : IsTrue (is_path q)
-    q_valid = sound.valid q up shown.0
+    q_valid = (parent-valid p q valid below).0
 
     triggers_fit : IsHeadRec (create_triggers p q)
     triggers_fit = let P : Trigger → Type 0 = λ t. IsTrue (is_path (trigger_path t)) in record { count = omega arith; valid = All-cons P (Created p) (Children q ∷ []) valid (All-cons P (Children q) [] q_valid (All-nil P)) }
@@ -137,33 +137,6 @@ module _ (m : Keys) (p q content : Bytes) (o : Option Shown) (shows : ShowsAt m 
         (subst (λ (keys : Keys). StandsFor keys s) is_present stands)
         (subst (λ (c : CountRec). Fits zxid (create_changes p q content now c) s (committed s zxid (Some made))) counts_are
         (create_fits s p q content zxid now up (create_triggers p q) sound below shown.0 making.free making.plain making.room moment short)))
-
-    parent_within : IsNodeWithin (with_child up zxid) (num_children s.tree q + 1)
-    parent_within =
-        let w = sound.within q up shown.0 in
-        let fits = parent_fits s p q content zxid now up (create_triggers p q) sound below shown.0 making.free making.plain making.room moment short in
-        record {
-          counted = fits.fewer;
-          creates = fits.creates;
-          version_least = w.version_least;
-          version_most = w.version_most;
-          czxid = w.czxid;
-          pzxid = least;
-          owner = w.owner;
-          small = w.small;
-        }
-
-    new_within : IsNodeWithin (new_node content (pos 0) zxid now) 0
-    new_within = record {
-      counted = omega (arith, ints);
-      creates = omega (arith, ints);
-      version_least = omega (arith, ints);
-      version_most = omega (arith, ints);
-      czxid = least;
-      pzxid = least;
-      owner = omega (arith, ints);
-      small = short;
-    }
 
     above : s.zxid <ℤ zxid
     above =
@@ -180,7 +153,6 @@ module _ (m : Keys) (p q content : Bytes) (o : Option Shown) (shows : ShowsAt m 
       commits = commits;
       told = refl;
       stands = stands_new;
-      sound = create_sound s p q up (with_child up zxid) (new_node content (pos 0) zxid now) zxid (create_triggers p q) sound valid below shown.0 making.free making.plain making.plain refl parent_within new_within;
     }
 
 -- the update that was made, as the answer

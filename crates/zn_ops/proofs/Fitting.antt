@@ -110,9 +110,9 @@ module _ (s : State) (p q content : Bytes) (z : ℤ) (now : ℕ) (up : Node) (tr
 
   pub parent_fits : IsCountRec (counts_record above (num_children s.tree q + 1))
   parent_fits =
-      let within = sound.within q up there in
+      let within = sound.counted q up there in
       let counted = within.counted in
-      let most = within.creates in
+      let most = within.most in
       record { children = omega (arith, ints); fewer = omega (arith, ints); creates = below_most up.creates most not_most }
 
   new_counted : IsCountRec no_counts
@@ -168,7 +168,7 @@ module _ (s : State) (p q content : Bytes) (z : ℤ) (now : ℕ) (up : Node) (tr
   nodes_fit : (id : ℕ) → KeyFits z None (SessionKey id) s made
   nodes_fit id o was = nodes_along (session_at (pos id) s) (owned s.tree (pos id)) (owned made.tree (pos id)) o
       (λ h. closed_means (owned s.tree (pos id)) (owned made.tree (pos id)) o h)
-      (λ y e. nodes_kept id (sound.numbered (pos id) y e).least)
+      (λ y e. nodes_kept id (sound.numbered (pos id) y e))
       was
 
   each_fits : (k : Key) → KeyFits z (last (create_changes p q content now counts) k) k s made

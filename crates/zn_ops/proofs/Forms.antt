@@ -12,7 +12,8 @@ use Rattle.ev_types.specs.Store.{Store}
 use Rattle.zk_model.specs.declared.reply.Reply.TheVariants as reply
 use Rattle.zk_model.specs.declared.request.Request.{Request}
 use Rattle.zk_model.specs.declared.request.Request.TheVariants as req
-use Rattle.zk_transcript.specs.Answers.{plain_request, path_reply, refused_reply}
+use Rattle.zk_transcript.specs.Answers.{plain_request, told, told_of_path, told_refusal}
+use Rattle.zk_model.specs.Watches.{no_watches}
 use Rattle.zn_ops.specs.Answering.{Answers}
 use Rattle.zn_ops.specs.Steps.{AnswersByTree}
 use Rattle.zn_ops.specs.declared.requests.Answered.{Answered}
@@ -46,22 +47,22 @@ create-path p content acl h = valid_at (is_path p) (first_none _ _ (sym (create_
 
 -- ---- requests that need no tree
 
-pub plain-create : (p content : Bytes) (acl : List Acl) → plain_request (req.Create p content acl (pos 0)) ≡ refused_reply (form_refusal (Create p content acl (pos 0)))
+pub plain-create : (p content : Bytes) (acl : List Acl) → plain_request no_watches (req.Create p content acl (pos 0)) ≡ told_refusal no_watches (form_refusal (Create p content acl (pos 0)))
 unfolding plain_request
 plain-create p content acl = refl
 
-pub plain-data : (p : Bytes) → plain_request (req.GetData p false) ≡ path_reply p
+pub plain-data : (p : Bytes) → plain_request no_watches (req.GetData p false) ≡ told_of_path no_watches p
 unfolding plain_request
 plain-data p = refl
 
-pub data-valid : (p : Bytes) → is_path p ≡ true → plain_request (req.GetData p false) ≡ None
-data-valid p h = plain-data p ∙ ap (λ b. cond b None (Some (reply.Refused bad_arguments))) h
+pub data-valid : (p : Bytes) → is_path p ≡ true → plain_request no_watches (req.GetData p false) ≡ None
+data-valid p h = plain-data p ∙ ap (λ b. cond b None (told no_watches (reply.Refused bad_arguments))) h
 
-pub data-invalid : (p : Bytes) → is_path p ≡ false → plain_request (req.GetData p false) ≡ Some (reply.Refused bad_arguments)
-data-invalid p h = plain-data p ∙ ap (λ b. cond b None (Some (reply.Refused bad_arguments))) h
+pub data-invalid : (p : Bytes) → is_path p ≡ false → plain_request no_watches (req.GetData p false) ≡ told no_watches (reply.Refused bad_arguments)
+data-invalid p h = plain-data p ∙ ap (λ b. cond b None (told no_watches (reply.Refused bad_arguments))) h
 
 -- what the tree answers is the answer of a request that isn't refused by its form
-pub answers-by-tree : (old new : Store) (r : Request) (now : ℕ) (a : Answered) → plain_request r ≡ None → AnswersByTree old new r now a → Answers old new r now a
+pub answers-by-tree : (old new : Store) (r : Request) (now : ℕ) (a : Answered) → plain_request no_watches r ≡ None → AnswersByTree old new r now a → Answers old new r now a
 answers-by-tree old new r now (Repeats x) plain is = absurd is
 answers-by-tree old new r now (Looked x zxid) plain is = (is.0, plain, is.1)
 answers-by-tree old new r now (Updated x zxid) plain is = (is.0, is.1, plain, is.2)

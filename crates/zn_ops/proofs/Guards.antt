@@ -8,7 +8,8 @@ use Rattle.ev_types.specs.declared.ask.TxnReq.{TxnReq}
 use Rattle.ev_types.specs.Ranges.{Keys}
 use Rattle.ev_types.specs.Store.{mod_of}
 use Rattle.zx_base.specs.Maps.{Bytes}
-use Rattle.zn_ops.specs.Views.{reads_of, found_at, guard_at, guards_at, guards_from, update_ask}
+use Rattle.zn_ops.specs.Views.{found_at, guards_from}
+use Rattle.zn_layout.specs.Updates.{reads_of, guard_at, guards_at, update_ask}
 
 abbrev pub guard_of : Bytes → Option Kv → Guard
 guard_of k o = record { key = k; mod_revision = mod_of o }

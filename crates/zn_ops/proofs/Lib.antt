@@ -6,7 +6,6 @@ pub mod Looking
 pub mod Seen
 pub mod Effects
 pub mod Fitting
-pub mod Bounds
 pub mod Committing
 pub mod Creating
 pub mod Reading

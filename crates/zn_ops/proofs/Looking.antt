@@ -14,14 +14,14 @@ use Rattle.ev_types.specs.Ranges.{found}
 use Rattle.ev_types.specs.Store.{Store, Done, present, grown, looked_at, worked, txn_answer, txn_done, carried_out}
 use Rattle.ev_types.specs.Denials.{is_denied}
 use Rattle.zx_base.specs.Maps.{Bytes}
-use Rattle.zn_layout.specs.Begin.{read_key}
-use Rattle.zn_layout.specs.Commits.{are_present_reads, key_range, one_found}
+use Rattle.ev_types.specs.Reads.{read_key, are_present_reads, key_range, one_found}
 use Rattle.zn_layout.specs.Keys.{HeadKey, key_bytes}
-use Rattle.zn_layout.proofs.Denials.{reads-not_denied}
-use Rattle.zn_layout.proofs.Found.{found-key}
-use Rattle.zn_layout.proofs.Transactions.{worked-reads}
+use Rattle.ev_types.proofs.Allowed.{reads-not_denied}
+use Rattle.ev_types.proofs.Found.{found-key}
+use Rattle.ev_types.proofs.Transactions.{worked-reads}
 use Rattle.zn_ops.specs.Transacting.{is_txn, parts_of, kv_in}
-use Rattle.zn_ops.specs.Views.{with_head, reads_of, found_at, look_ask}
+use Rattle.zn_ops.specs.Views.{found_at, look_ask}
+use Rattle.zn_layout.specs.Updates.{with_head, reads_of}
 
 -- a transaction is answered as one
 pub answers-txn : (s : Store) (t : TxnReq) → is_txn (carried_out s (ask.Txn t)).1 ≡ true

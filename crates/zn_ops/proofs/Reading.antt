@@ -17,12 +17,13 @@ use Rattle.zn_ops.specs.declared.znode.Shown.{Shown}
 use Rattle.zn_ops.specs.Answering.{IsLooked}
 use Rattle.zn_ops.specs.Choices.{Shows, get_data_reply}
 use Rattle.zn_ops.specs.Basis.{ShowsAt}
+use Rattle.zk_model.specs.Limits.{max_owned}
 
 about-shown : (o : Option Shown) (n : Option Node) (k : ℕ) → Shows o n k → about no_watches no_watches n (λ x. body.Content x.content (stat x k)) ≡ told no_watches (get_data_reply o)
 about-shown None n k shows = ap (λ (x : Option Node). about no_watches no_watches x (λ y. body.Content y.content (stat y k))) shows
 about-shown (Some x) n k shows = λ i. about no_watches no_watches (shows.0 i) (λ y. body.Content y.content (stat y (shows.1 i)))
 
-replied : (s : State) (p : Bytes) (o : Option Shown) → Shows o (get s.tree p) (num_children s.tree p) → tree_reply s.tree (pos 0) no_watches (req.GetData p false) ≡ told no_watches (get_data_reply o)
+replied : (s : State) (p : Bytes) (o : Option Shown) → Shows o (get s.tree p) (num_children s.tree p) → tree_reply s.tree max_owned (pos 0) no_watches (req.GetData p false) ≡ told no_watches (get_data_reply o)
 unfolding tree_reply
 replied s p o shows = about-shown o (get s.tree p) (num_children s.tree p) shows
 

@@ -8,6 +8,7 @@ use Rattle.zk_model.specs.declared.request.Part.TheVariants as part
 use Rattle.zk_model.specs.declared.request.Acl.{Acl}
 use Rattle.zk_model.specs.Single.{form_refusal}
 use Rattle.zk_transcript.specs.Answers.{plain_request}
+use Rattle.zk_model.specs.Watches.{no_watches}
 use Rattle.zk_model.specs.declared.node.Trigger.{Trigger}
 use Rattle.zk_model.specs.declared.reply.Reply.TheVariants as replies
 use Rattle.zk_model.specs.declared.reply.Body.TheVariants as bodies
@@ -49,7 +50,7 @@ AnswersCreate old new path content now a =
 
 -- no state that the request could be answered for
 abbrev pub HasNoState : Keys → Request → Type 0
-HasNoState m r = (plain_request r ≡ None) × StandsForNone m
+HasNoState m r = (plain_request no_watches r ≡ None) × StandsForNone m
 
 -- the create's changes, with the parent's counts after it, were committed
 abbrev pub IsMade : Store → Store → Bytes → Bytes → Bytes → ℕ → CountRec → Answered → Type 0

@@ -11,8 +11,6 @@ mod fault;
 mod form;
 mod get_data;
 mod requests;
-#[cfg(test)]
-mod tests;
 mod transact;
 mod update;
 mod view;

@@ -5,7 +5,8 @@ ghost use Rattle.ev_types.specs.Answers.{revision_in};
 ghost use Rattle.ev_types.specs.Store.{present, carried_out};
 ghost use Rattle.ev_types.specs.Denials.{is_denied};
 ghost use Rattle.zn_ops.specs.Transacting.{kv_in};
-ghost use Rattle.zn_ops.specs.Views.{found_at, update_ask};
+ghost use Rattle.zn_ops.specs.Views.{found_at};
+ghost use Rattle.zn_layout.specs.Updates.{update_ask};
 
 use crate::transact::transact;
 use crate::view::View;

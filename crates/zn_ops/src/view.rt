@@ -5,7 +5,8 @@ ghost use Rattle.ev_types.specs.declared.answer.Kv.{Kv as KeyValue};
 ghost use Rattle.ev_types.specs.Store.{present, mod_of};
 ghost use Rattle.ev_types.specs.declared.ask.Ask.{Ask as SomeAsk};
 ghost use Rattle.zn_ops.specs.Transacting.{kv_in};
-ghost use Rattle.zn_ops.specs.Views.{reads_of, found_at, look_ask, guards_from};
+ghost use Rattle.zn_ops.specs.Views.{found_at, look_ask, guards_from};
+ghost use Rattle.zn_layout.specs.Updates.{reads_of};
 
 use crate::fault::Fault;
 use crate::transact::{into_parts, transact};

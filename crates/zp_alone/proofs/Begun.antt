@@ -18,4 +18,4 @@ same_store x y e = let same : x ≡ y = cc in ap (λ (p : Store × Answer). p.0)
 pub begun-carried : (s new : Store) (ask : Ask) (a : Answer) → Begins 0 → s ≡ new_store → ask ≡ begin_ask 0 → carry s ask ≡ Some (new, a) → IsBegun new
 begun-carried s new ask a b first is carried =
     let same : b.new ≡ new = same_store _ (new, a) (sym b.carried ∙ ap (λ (x : Store). carry x (begin_ask 0)) (sym first) ∙ ap (carry s) (sym is) ∙ carried) in
-    subst IsBegun same (record { stands = b.stands; sound = b.sound; revision = b.revision_is })
+    subst IsBegun same (record { stands = b.stands; revision = b.revision_is })

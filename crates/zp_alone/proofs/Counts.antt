@@ -6,15 +6,17 @@ use Rattle.std.proofs.lemmas.Bool.{and_parts}
 use Rattle.zk_transcript.specs.declared.transcript.TranscriptLine.{TranscriptLine}
 use Rattle.zk_transcript.specs.declared.transcript.TranscriptLine.TheVariants.{Update, Open, Frame, Send, Lapse, Close}
 use Rattle.zk_transcript.specs.History.{first_place}
-use Rattle.zk_transcript.specs.Conversations.{Due, packets, packets_from, are_sent, is_before, close_shown, are_before_close}
-use Rattle.zp_alone.specs.Runs.{counted, frames_of, sends_of}
-counted-add : (b : Bool) (m n : ℕ) → counted b (m + n) ≡ counted b m + n
-counted-add true m n = omega arith
-counted-add false m n = refl
+use Rattle.zk_transcript.specs.Conversations.{is_before, close_shown, are_before_close}
+use Rattle.zk_transcript.specs.Walks.{Due, packets, packets_from, are_sent}
+use Rattle.zp_alone.specs.Runs.{frames_of, one_more_if, sends_of}
+
+one_more_if-add : (b : Bool) (m n : ℕ) → one_more_if b (m + n) ≡ one_more_if b m + n
+one_more_if-add true m n = omega arith
+one_more_if-add false m n = refl
 
 pub frames_of-append : (c : ℕ) (ls more : List TranscriptLine) → frames_of c (ls ++ more) ≡ frames_of c ls + frames_of c more
 frames_of-append c [] more = sym (zero-add (frames_of c more))
-frames_of-append c (Frame d i z bytes ∷ ls) more = ap (counted (c == d)) (frames_of-append c ls more) ∙ counted-add (c == d) (frames_of c ls) (frames_of c more)
+frames_of-append c (Frame d i z bytes ∷ ls) more = ap (one_more_if (c == d)) (frames_of-append c ls more) ∙ one_more_if-add (c == d) (frames_of c ls) (frames_of c more)
 frames_of-append c (Update u ∷ ls) more = frames_of-append c ls more
 frames_of-append c (Open d p id pw ∷ ls) more = frames_of-append c ls more
 frames_of-append c (Send d bytes ∷ ls) more = frames_of-append c ls more
@@ -23,7 +25,7 @@ frames_of-append c (Close d end ∷ ls) more = frames_of-append c ls more
 
 pub sends_of-append : (c : ℕ) (ls more : List TranscriptLine) → sends_of c (ls ++ more) ≡ sends_of c ls + sends_of c more
 sends_of-append c [] more = sym (zero-add (sends_of c more))
-sends_of-append c (Send d bytes ∷ ls) more = ap (counted (c == d)) (sends_of-append c ls more) ∙ counted-add (c == d) (sends_of c ls) (sends_of c more)
+sends_of-append c (Send d bytes ∷ ls) more = ap (one_more_if (c == d)) (sends_of-append c ls more) ∙ one_more_if-add (c == d) (sends_of c ls) (sends_of c more)
 sends_of-append c (Frame d i z bytes ∷ ls) more = sends_of-append c ls more
 sends_of-append c (Update u ∷ ls) more = sends_of-append c ls more
 sends_of-append c (Open d p id pw ∷ ls) more = sends_of-append c ls more

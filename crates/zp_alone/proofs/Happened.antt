@@ -12,7 +12,7 @@ use Rattle.zk_transcript.specs.declared.transcript.UpdateKind.TheVariants.{Asked
 use Rattle.zk_transcript.specs.History.{after, state_at, first_place, frame_shown}
 use Rattle.zk_transcript.specs.Legal.{Tick, is_legal, lines_before, IsClockBetween, frame_place, IsPunctual}
 use Rattle.zk_transcript.specs.Conversations.{IsShownFresh}
-use Rattle.zp_alone.specs.Runs.{IsAnswerLine, Settles, Adds, clock_after, Run, run_after, Happens, RunsFrom, frames_of}
+use Rattle.zp_alone.specs.Runs.{IsAnswerLine, AnswersAllFrames, IsAddedBy, clock_after, Run, run_after, Happens, RunsFrom, frames_of}
 use Rattle.zk_transcript.proofs.Appending.{first_place-push}
 use Rattle.zk_transcript.proofs.Lookups.{Within, front, back, within, slice_get-front, slice_get-back}
 use Rattle.zk_transcript.proofs.Walks.{first_place-bound, state_at-push}
@@ -48,7 +48,7 @@ still_between ticks more first last now b =
     (b.0, b.1, slice_get-front ticks more b.0 short ∙ b.2, b.3, b.4, subst (λ (n : ℕ). n ≤ last) (sym (lines_before-front ticks more b.0 (omega arith))) b.5)
 
 now_of : (c clock : ℕ) (lines added : List TranscriptLine) (j : ℕ) (zxid : ℤ) (d i now : ℕ)
-    → Settles c clock lines added → slice_get added j ≡ Some (Update (record { zxid = zxid; kind = Asked d i now })) → now ≡ clock
+    → AnswersAllFrames c clock lines added → slice_get added j ≡ Some (Update (record { zxid = zxid; kind = Asked d i now })) → now ≡ clock
 now_of c clock lines added j zxid d i now s g =
     let l : TranscriptLine = Update (record { zxid = zxid; kind = Asked d i now }) in
     let is : IsAnswerLine c clock (slice_index_or added j l) = s.each j l (slice_get_within added j l g) in
@@ -65,7 +65,7 @@ none_in_none m added j e g = let f : slice_get [] j ≡ Some m = rw e at g in cc
 
 -- an update is planned at the clock that its happening leaves
 asked_now : (h : Happening) (clock : ℕ) (lines added : List TranscriptLine) (j : ℕ) (zxid : ℤ) (d i now : ℕ)
-    → Adds h clock lines added → slice_get added j ≡ Some (Update (record { zxid = zxid; kind = Asked d i now })) → now ≡ clock_after clock h
+    → IsAddedBy h clock lines added → slice_get added j ≡ Some (Update (record { zxid = zxid; kind = Asked d i now })) → now ≡ clock_after clock h
 asked_now (line.Open c p id pw) clock lines added j zxid d i now a g = let e = none_in_one _ _ added j a g in absurd (cc)
 asked_now (line.Frame c bytes) clock lines added j zxid d i now a g = let e = none_in_one _ _ added j a g in absurd (cc)
 asked_now (line.Tick millis) clock lines added j zxid d i now a g = absurd (none_in_none _ added j a g)
@@ -133,7 +133,7 @@ within-runs r r' (g ∷ hs) runs h = within-runs runs.0 r' hs runs.2 (within-hap
 
 -- ---- what frames show
 
-no_frame_of : (c clock : ℕ) (lines added : List TranscriptLine) (j d i : ℕ) (z : ℤ) (bytes : List ℕ) → Settles c clock lines added → slice_get added j ≡ Some (FrameLine d i z bytes) → ⊥
+no_frame_of : (c clock : ℕ) (lines added : List TranscriptLine) (j d i : ℕ) (z : ℤ) (bytes : List ℕ) → AnswersAllFrames c clock lines added → slice_get added j ≡ Some (FrameLine d i z bytes) → ⊥
 no_frame_of c clock lines added j d i z bytes s g =
     let l : TranscriptLine = FrameLine d i z bytes in
     let is : IsAnswerLine c clock (slice_index_or added j l) = s.each j l (slice_get_within added j l g) in
@@ -141,7 +141,7 @@ no_frame_of c clock lines added j d i z bytes s g =
     subst (IsAnswerLine c clock) same is
 
 shown_now : (h : Happening) (clock : ℕ) (lines added : List TranscriptLine) (j c i : ℕ) (z : ℤ) (bytes : List ℕ)
-    → Adds h clock lines added → slice_get added j ≡ Some (FrameLine c i z bytes) → (added ≡ FrameLine c i z bytes ∷ []) × (z ≡ (after lines).zxid)
+    → IsAddedBy h clock lines added → slice_get added j ≡ Some (FrameLine c i z bytes) → (added ≡ FrameLine c i z bytes ∷ []) × (z ≡ (after lines).zxid)
 shown_now (line.Open d p id pw) clock lines added j c i z bytes a g = let e = none_in_one _ _ added j a g in absurd (cc)
 shown_now (line.Frame d more) clock lines added j c i z bytes a g =
     let e : FrameLine d (frames_of d lines + 1) (after lines).zxid more ≡ FrameLine c i z bytes = none_in_one _ _ added j a g in

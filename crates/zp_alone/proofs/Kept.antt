@@ -11,14 +11,15 @@ use Rattle.zk_transcript.specs.declared.transcript.TranscriptLine.{TranscriptLin
 use Rattle.zk_transcript.specs.declared.transcript.TranscriptLine.TheVariants.{Open, Frame as FrameLine, Send}
 use Rattle.zk_jute.specs.Requests.{Asks, read_request}
 use Rattle.zk_jute.specs.Packets.{reply_packet}
-use Rattle.zk_transcript.specs.History.{State, IsSound, after}
-use Rattle.zk_transcript.specs.Answers.{plain_request}
+use Rattle.zk_transcript.specs.History.{State, after}
+use Rattle.zk_transcript.specs.Answers.{plain_request, told}
+use Rattle.zk_model.specs.Watches.{no_watches}
 use Rattle.zt_text.specs.Transcripts.{IsWellFormed}
-use Rattle.zp_alone.specs.Runs.{IsAnswerLine, AreNumbered, frames_of}
+use Rattle.zp_alone.specs.Runs.{IsAnswerLine, AreNumbered, AreOneByOne, frames_of, sends_of}
 use Rattle.zn_ops.specs.Built.{is_built_request}
 use Rattle.zk_jute.proofs.Lists.{both_of}
 use Rattle.zk_transcript.proofs.Quiet.{IsQuiet, open_quiet, frame_quiet, send_quiet, after-quiet, is_legal-quiet, is_ordered-quiet}
-use Rattle.zp_alone.proofs.Counts.{frames_of-append}
+use Rattle.zp_alone.proofs.Counts.{frames_of-append, sends_of-append}
 use Rattle.zn_layout.specs.StandsFor.{StandsFor}
 use Rattle.zn_ops.specs.declared.requests.Answered.{Answered}
 use Rattle.zn_ops.specs.declared.requests.Answered.TheVariants.{Repeats, Looked, Updated}
@@ -26,11 +27,13 @@ use Rattle.zn_ops.specs.Answering.{Answers, HasRoom, IsLooked, IsUpdated}
 use Rattle.zp_alone.specs.declared.waiting.Waiting.{Waiting}
 use Rattle.zp_alone.specs.World.{World, IsLinked}
 use Rattle.zp_alone.specs.Talking.{Talks}
-use Rattle.zp_alone.specs.Reached.{IsKeptIn, IsNew, IsTalking, KeepsTo, IsKept}
+use Rattle.zp_alone.specs.Reached.{AreSilent, IsKeptIn, IsNew, IsTalking, KeepsTo, IsKept}
 use Rattle.zp_alone.specs.Effects.{asked_line, opened, framed, ticked, answered, answer_lines, asked_next, AnswersOne, AnswersSome}
+use Rattle.zk_transcript.proofs.SoundHistories.{legal-sound}
 use Rattle.zp_alone.proofs.Linked.{linked-push, linked-open}
+use Rattle.zp_alone.proofs.Silent.{silent-push, silent-send, silent-open}
 use Rattle.zp_alone.proofs.Talked.{talks-open, talks-frame, talks-plain, talks-looked, talks-updated}
-use Rattle.zp_alone.proofs.Walked.{one_frame}
+use Rattle.zp_alone.proofs.Walked.{one_frame, same_number}
 use Rattle.zp_alone.proofs.Updated.{asked_commit-of, kept-asked}
 use Rattle.zk_model.specs.Limits.{max_frame, max_long}
 
@@ -40,7 +43,6 @@ kept_in-quiet store lines l q formed k =
     let same : after (lines ++ l ∷ []) ≡ after lines = after-quiet lines l q in
     record {
       stands = subst (StandsFor (present store)) (sym same) k.stands;
-      sound = subst IsSound (sym same) k.sound;
       revision = k.revision ∙ ap (λ (s : State). s.zxid) (sym same);
       legal = is_legal-quiet lines l q k.legal;
       ordered = is_ordered-quiet lines l q k.ordered;
@@ -61,6 +63,7 @@ kept-open w c p id pw linked formed k =
     record {
       kept = kept_in-quiet w.store w.lines (Open c p id pw) (open_quiet c p id pw) formed k.kept;
       linked = linked-open w.lines c p id pw (subst (λ (o : Option ℕ). IsLinked o w.lines) linked k.linked);
+      silent = silent-open w.connection w.lines c p id pw linked k.silent;
       keeps = record {
         talks = rw (n.lines, n.idle, n.told) (talks-open c p id pw);
         counts = rw (n.lines, n.none) refl;
@@ -82,11 +85,12 @@ kept-frame w c bytes xid r linked read small built formed k =
     record {
       kept = kept_in-quiet w.store w.lines l (frame_quiet c (w.frames + 1) (revision w.store) bytes) formed k.kept;
       linked = linked-push w.connection w.lines l (λ d. refl) refl k.linked;
+      silent = silent-push w.connection w.lines l (λ d other. refl) k.silent;
       keeps = subst (λ (o : Option ℕ). KeepsTo o (framed w c bytes xid r)) (sym linked) (record { talks = talks; counts = omega (arith, t.counts, frames_of-append c w.lines (l ∷ []), one_frame c (w.frames + 1) (revision w.store) bytes) });
     }
 
 pub kept-tick : (w : World) (millis : ℕ) → IsKept w → IsKept (ticked w millis)
-kept-tick w millis k = record { kept = k.kept; linked = k.linked; keeps = go w.connection k.keeps }
+kept-tick w millis k = record { kept = k.kept; linked = k.linked; silent = k.silent; keeps = go w.connection k.keeps }
   where
     go : (o : Option ℕ) → KeepsTo o w → KeepsTo o (ticked w millis)
     go None n = record { lines = n.lines; idle = n.idle; none = n.none; told = n.told }
@@ -96,13 +100,14 @@ kept-tick w millis k = record { kept = k.kept; linked = k.linked; keeps = go w.c
 
 -- without the tree
 kept-repeats : (c : ℕ) (w : World) (q : Waiting) (qs : List Waiting) (store : Store) (reply : Reply) → w.connection ≡ Some c → w.waiting ≡ q ∷ qs
-    → store ≡ w.store → plain_request q.request ≡ Some reply → AllByRecursion IsWellFormed (answer_lines c w.clock q w.told (Repeats reply)) → IsKept w → IsKept (answered w c q qs store (Repeats reply))
+    → store ≡ w.store → plain_request no_watches q.request ≡ told no_watches reply → AllByRecursion IsWellFormed (answer_lines c w.clock q w.told (Repeats reply)) → IsKept w → IsKept (answered w c q qs store (Repeats reply))
 kept-repeats c w q qs store reply linked oldest stays plain formed k =
     let t = talking c w linked k.keeps in
     let l : TranscriptLine = Send c (reply_packet q.xid w.told reply) in
     record {
       kept = subst (λ (s : Store). IsKeptIn s (w.lines ++ l ∷ [])) (sym stays) (kept_in-quiet w.store w.lines l (send_quiet c (reply_packet q.xid w.told reply)) formed.0 k.kept);
       linked = linked-push w.connection w.lines l (λ d. refl) refl k.linked;
+      silent = silent-send w.connection w.lines c (reply_packet q.xid w.told reply) linked k.silent;
       keeps = subst (λ (o : Option ℕ). KeepsTo o (answered w c q qs store (Repeats reply))) (sym linked) (record {
         talks = talks-plain c w.lines q qs w.told reply (subst (λ (ws : List Waiting). Talks c w.lines ws w.told) oldest t.talks) plain;
         counts = omega (arith, t.counts, frames_of-append c w.lines (l ∷ []));
@@ -111,7 +116,7 @@ kept-repeats c w q qs store reply linked oldest stays plain formed k =
 
 -- by the tree
 kept-looked : (c : ℕ) (w : World) (q : Waiting) (qs : List Waiting) (store : Store) (reply : Reply) (zxid : ℤ) → w.connection ≡ Some c → w.waiting ≡ q ∷ qs
-    → store ≡ w.store → plain_request q.request ≡ None → IsLooked (after w.lines) q.request reply zxid → AllByRecursion IsWellFormed (answer_lines c w.clock q w.told (Looked reply zxid)) → IsKept w → IsKept (answered w c q qs store (Looked reply zxid))
+    → store ≡ w.store → plain_request no_watches q.request ≡ None → IsLooked (after w.lines) q.request reply zxid → AllByRecursion IsWellFormed (answer_lines c w.clock q w.told (Looked reply zxid)) → IsKept w → IsKept (answered w c q qs store (Looked reply zxid))
 kept-looked c w q qs store reply zxid linked oldest stays plain looks formed k =
     let t = talking c w linked k.keeps in
     let l : TranscriptLine = Send c (reply_packet q.xid zxid reply) in
@@ -119,6 +124,7 @@ kept-looked c w q qs store reply zxid linked oldest stays plain looks formed k =
     record {
       kept = subst (λ (s : Store). IsKeptIn s (w.lines ++ l ∷ [])) (sym stays) (kept_in-quiet w.store w.lines l (send_quiet c (reply_packet q.xid zxid reply)) formed.0 k.kept);
       linked = linked-push w.connection w.lines l (λ d. refl) refl k.linked;
+      silent = silent-send w.connection w.lines c (reply_packet q.xid zxid reply) linked k.silent;
       keeps = subst (λ (o : Option ℕ). KeepsTo o (answered w c q qs store (Looked reply zxid))) (sym linked) (record {
         talks = subst (λ (z : ℤ). Talks c (w.lines ++ Send c (reply_packet q.xid z reply) ∷ []) qs z) (sym looks.at) talks;
         counts = omega (arith, t.counts, frames_of-append c w.lines (l ∷ []));
@@ -139,17 +145,18 @@ kept-updated c w q qs store answer zxid linked oldest room grown at updates form
     let commits = asked_commit-of c next w.clock zxid w.lines (after w.lines) h.place h.bytes q.xid q.request h.frame h.read ∙ updates.commits in
     let asked : IsWellFormed u = subst (λ (i : ℕ). IsWellFormed (asked_line c i w.clock zxid)) h.index formed.0 in
     let long : zxid ≤ℤ max_long = rw at (grind (arith, ints, grown, room)) in
-    let kept = kept-asked c next w.clock zxid w.lines updates.made q w.store store k.kept talks.stands.least h talks.below updates.above long commits (sym at) updates.stands updates.sound asked in
+    let kept = kept-asked c next w.clock zxid w.lines updates.made q w.store store k.kept talks.stands.least h talks.below updates.above long commits (sym at) updates.stands asked in
     let lines : (w.lines ++ u ∷ []) ++ l ∷ [] ≡ w.lines ++ (asked_line c q.index w.clock zxid ∷ l ∷ []) =
     append_assoc w.lines (u ∷ []) (l ∷ []) ∙ ap (λ i. w.lines ++ (asked_line c i w.clock zxid ∷ l ∷ [])) (sym h.index) in
     let after_u = linked-push w.connection w.lines u (λ d. refl) refl k.linked in
-    let told = subst (λ (r : Reply). Talks c ((w.lines ++ u ∷ []) ++ Send c (reply_packet q.xid zxid r) ∷ []) qs zxid) (sym updates.told)
+    let replied = subst (λ (r : Reply). Talks c ((w.lines ++ u ∷ []) ++ Send c (reply_packet q.xid zxid r) ∷ []) qs zxid) (sym updates.told)
     (talks-updated c w.lines q qs w.told w.clock zxid updates.made talks updates.above commits) in
     record {
       kept = subst (IsKeptIn store) lines (kept_in-quiet store (w.lines ++ u ∷ []) l (send_quiet c (reply_packet q.xid zxid answer)) formed.1.0 kept);
       linked = subst (IsLinked w.connection) lines (linked-push w.connection (w.lines ++ u ∷ []) l (λ d. refl) refl after_u);
+      silent = subst (AreSilent w.connection) lines (silent-send w.connection (w.lines ++ u ∷ []) c (reply_packet q.xid zxid answer) linked (silent-push w.connection w.lines u (λ d other. refl) k.silent));
       keeps = subst (λ (o : Option ℕ). KeepsTo o (answered w c q qs store (Updated answer zxid))) (sym linked) (record {
-        talks = subst (λ (ls : List TranscriptLine). Talks c ls qs zxid) lines told;
+        talks = subst (λ (ls : List TranscriptLine). Talks c ls qs zxid) lines replied;
         counts = omega (arith, t.counts, frames_of-append c w.lines (asked_line c q.index w.clock zxid ∷ l ∷ []));
       });
     }
@@ -158,9 +165,9 @@ kept-answered : (c : ℕ) (w : World) (q : Waiting) (qs : List Waiting) (store :
     → HasRoom w.store → Answers w.store store q.request w.clock a → AllByRecursion IsWellFormed (answer_lines c w.clock q w.told a) → IsKept w → IsKept (answered w c q qs store a)
 kept-answered c w q qs store (Repeats reply) linked oldest room answers formed k = kept-repeats c w q qs store reply linked oldest answers.0 answers.1 formed k
 kept-answered c w q qs store (Looked reply zxid) linked oldest room answers formed k =
-    kept-looked c w q qs store reply zxid linked oldest answers.0 answers.1 (answers.2 (after w.lines) k.kept.stands k.kept.sound) formed k
+    kept-looked c w q qs store reply zxid linked oldest answers.0 answers.1 (answers.2 (after w.lines) k.kept.stands (legal-sound w.lines k.kept.legal)) formed k
 kept-answered c w q qs store (Updated reply zxid) linked oldest room answers formed k =
-    kept-updated c w q qs store reply zxid linked oldest room answers.0 answers.1 (answers.3 (after w.lines) k.kept.stands k.kept.sound) formed k
+    kept-updated c w q qs store reply zxid linked oldest room answers.0 answers.1 (answers.3 (after w.lines) k.kept.stands (legal-sound w.lines k.kept.legal)) formed k
 
 -- ---- some answers, one after another
 
@@ -181,8 +188,30 @@ numbered-one c clock q told old new (Looked reply zxid) more answers h = subst (
 numbered-one c clock q told old new (Updated reply zxid) more answers h =
     (answers.1 ∙ ap pos answers.0, subst (λ (z : ℤ). AreNumbered z more) (sym answers.1) h)
 
+-- and carries out the request that is answered next
+sends-packet : (c : ℕ) (packet : List ℕ) → sends_of c (Send c packet ∷ []) ≡ 1
+sends-packet c packet = rw (same_number c) refl
+
+sends-more : (c : ℕ) (lines : List TranscriptLine) (packet : List ℕ) → sends_of c (lines ++ Send c packet ∷ []) ≡ sends_of c lines + 1
+sends-more c lines packet = omega (arith, sends_of-append c lines (Send c packet ∷ []), sends-packet c packet)
+
+sends-update : (c i now : ℕ) (zxid : ℤ) (lines : List TranscriptLine) (packet : List ℕ) → sends_of c (lines ++ (asked_line c i now zxid ∷ Send c packet ∷ [])) ≡ sends_of c lines + 1
+sends-update c i now zxid lines packet = omega (arith, sends_of-append c lines (asked_line c i now zxid ∷ Send c packet ∷ []), sends-packet c packet)
+
+index-next : (c : ℕ) (w : World) (q : Waiting) (qs : List Waiting) → w.connection ≡ Some c → w.waiting ≡ q ∷ qs → IsKept w → q.index ≡ sends_of c w.lines + 1
+index-next c w q qs linked oldest k =
+    let talks : Talks c w.lines (q ∷ qs) w.told = subst (λ (ws : List Waiting). Talks c w.lines ws w.told) oldest (talking c w linked k.keeps).talks in
+    talks.queued.0.index ∙ sym talks.counted.sent
+
+one_by_one-one : (c : ℕ) (w : World) (q : Waiting) (qs : List Waiting) (a : Answered) (more : List TranscriptLine) → w.connection ≡ Some c → w.waiting ≡ q ∷ qs → IsKept w
+    → AreOneByOne (sends_of c (w.lines ++ answer_lines c w.clock q w.told a)) more → AreOneByOne (sends_of c w.lines) (answer_lines c w.clock q w.told a ++ more)
+one_by_one-one c w q qs (Repeats reply) more linked oldest k h = subst (λ (n : ℕ). AreOneByOne n more) (sends-more c w.lines (reply_packet q.xid w.told reply)) h
+one_by_one-one c w q qs (Looked reply zxid) more linked oldest k h = subst (λ (n : ℕ). AreOneByOne n more) (sends-more c w.lines (reply_packet q.xid zxid reply)) h
+one_by_one-one c w q qs (Updated reply zxid) more linked oldest k h =
+    (index-next c w q qs linked oldest k, subst (λ (n : ℕ). AreOneByOne n more) (sends-update c q.index w.clock zxid w.lines (reply_packet q.xid zxid reply)) h)
+
 pub answers-none : (c : ℕ) (w : World) → AnswersSome c w w
-answers-none c w = record { kept = λ linked k. k; connection = refl; clock = refl; added = []; lines = sym (append-nil w.lines); each = All-nil (IsAnswerLine c w.clock); numbered = λ more h. h }
+answers-none c w = record { kept = λ linked k. k; connection = refl; clock = refl; added = []; lines = sym (append-nil w.lines); each = All-nil (IsAnswerLine c w.clock); numbered = λ more h. h; one_by_one = λ linked k more h. h }
 
 answers-then : (c : ℕ) (first mid : World) (q : Waiting) (qs : List Waiting) (store : Store) (a : Answered) → AnswersSome c first mid
     → mid.waiting ≡ q ∷ qs → HasRoom mid.store → Answers mid.store store q.request mid.clock a
@@ -197,6 +226,8 @@ answers-then c first mid q qs store a some oldest room answers formed = record {
       (subst (λ (n : ℕ). All (IsAnswerLine c n) (answer_lines c mid.clock q mid.told a)) some.clock (answer_lines-each c mid.clock q mid.told a));
   numbered = λ more h. subst (AreNumbered (revision first.store)) (sym (append_assoc some.added (answer_lines c mid.clock q mid.told a) more))
       (some.numbered (answer_lines c mid.clock q mid.told a ++ more) (numbered-one c mid.clock q mid.told mid.store store a more answers h));
+  one_by_one = λ linked k more h. subst (AreOneByOne (sends_of c first.lines)) (sym (append_assoc some.added (answer_lines c mid.clock q mid.told a) more))
+      (some.one_by_one linked k (answer_lines c mid.clock q mid.told a ++ more) (one_by_one-one c mid q qs a more (some.connection ∙ linked) oldest (some.kept linked k) h));
 }
 
 pub answers-more : (c : ℕ) (first mid last : World) → AnswersSome c first mid → AnswersOne c mid last → AnswersSome c first last

@@ -11,4 +11,5 @@ pub mod Worlds
 pub mod Answering
 pub mod Begun
 pub mod Counts
+pub mod Silent
 pub mod Happened

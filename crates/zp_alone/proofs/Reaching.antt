@@ -1,6 +1,6 @@
 -- Worlds that happenings lead to, one happening more.
 use Rattle.std.proofs.Common.{◌≡◌, ℕ, zero, suc, ◌+◌, ◌≤◌, List, [], ◌∷◌, ◌++◌, length, refl, sym, ap, ◌∙◌, subst, arith, lit<, append-nil, Bool, true, false, ℤ, pos}
-use Rattle.std.specs.Prelude.{Option, Some, None, not, nat_lt, slice_get}
+use Rattle.std.specs.Prelude.{Option, Some, None, is_some, not, nat_lt, slice_get}
 use Rattle.std.specs.List.{All, AllByRecursion, list_any}
 use Rattle.std.proofs.lemmas.Bool.{not-false}
 use Rattle.std.proofs.lemmas.Bool.Decides.{nat_tests}
@@ -16,27 +16,42 @@ use Rattle.zk_transcript.specs.declared.transcript.UpdateKind.TheVariants.{Begin
 use Rattle.zk_jute.specs.Requests.{Asks, read_request}
 use Rattle.zk_transcript.specs.History.{after, updated}
 use Rattle.zk_transcript.specs.Legal.{Tick, is_legal, is_ordered, may_update}
-use Rattle.zk_transcript.specs.Conversations.{IsLawfulAlone}
+use Rattle.zk_transcript.specs.Conversations.{IsServedAlone}
+use Rattle.zk_transcript.specs.Walks.{walk, packets, all_choices}
 use Rattle.zt_text.specs.Transcripts.{IsWellFormed}
-use Rattle.zp_alone.specs.Runs.{IsAnswerLine, AreNumbered, Adds, clock_after, why_not, is_open, is_opening, is_built, refused_if, frames_of, sends_of, begin_line, Run, new_run, run_after, Happens, Runs, IsOneRun}
+use Rattle.zp_alone.specs.Runs.{IsAnswerLine, AreNumbered, AreOneByOne, IsAddedBy, clock_after, why_not, is_open, is_opening, is_built, refused_if, frames_of, sends_of, begin_line, Run, new_run, run_after, Happens, Runs, IsOneRun}
 use Rattle.zn_ops.specs.Built.{is_built_request}
 use Rattle.zp_alone.proofs.Counts.{frames_of-append, before_close}
 use Rattle.zp_alone.proofs.Happened.{within-new, within-runs, RunsFrom-push, punctual-happens, shown-happens}
 use Rattle.zp_alone.specs.World.{World, IsLinked, is_number}
 use Rattle.zp_alone.specs.Talking.{AreQueued}
 use Rattle.zp_alone.specs.Reached.{IsKeptIn, IsTalking, IsKept, Reached}
-use Rattle.zp_alone.specs.Applying.{Plays}
+use Rattle.zp_alone.specs.Applying.{LeadsOn}
 use Rattle.zp_alone.specs.Effects.{IsBegun, begun, opened, framed, ticked, AnswersSome}
 use Rattle.zp_alone.proofs.Linked.{not_there}
 use Rattle.zp_alone.proofs.Kept.{talking, kept-open, kept-frame, kept-tick}
 use Rattle.zk_model.specs.Limits.{max_frame}
 
--- ---- what is kept says that each open connection was served lawfully
+-- ---- what is kept says that the connection was served, and that no other number was
 
-lawful-talks : (c : ℕ) (w : World) → IsTalking c w → IsLawfulAlone w.lines c
-lawful-talks c w t = record {
-  answered = (t.talks.walked.choices, rw t.talks.walked.walked t.talks.walked.sent);
+served-talks : (c : ℕ) (w : World) → IsTalking c w → is_open c w.lines ≡ true → IsServedAlone w.lines c
+served-talks c w t opens = record {
+  silent = λ none. (let shut : is_open c w.lines ≡ false = ap is_some none in absurd (cc));
+  walks = record {
+    choices = t.talks.walked.choices;
+    lawful = rw t.talks.walked.walked t.talks.walked.sent;
+    fresh = t.talks.walked.fresh;
+    in_turn = t.talks.walked.in_turn;
+  };
   in_time = before_close w.lines c t.talks.counted.unclosed;
+}
+
+served-silent : (lines : List TranscriptLine) (c : ℕ) → packets c lines ≡ [] → IsServedAlone lines c
+unfolding walk all_choices
+served-silent lines c none = record {
+  silent = λ unopened. none;
+  walks = record { choices = []; lawful = rw none refl; fresh = refl; in_turn = refl };
+  in_time = rw none refl;
 }
 
 number-same : (c : ℕ) (o : Option ℕ) → is_number c o ≡ true → o ≡ Some c
@@ -46,8 +61,12 @@ number-same c (Some d) h = ap (λ n. Some n) (grind (arith, nat_tests))
 linked_to : (w : World) (c : ℕ) → IsLinked w.connection w.lines → is_open c w.lines ≡ true → w.connection ≡ Some c
 linked_to w c l opens = number-same c w.connection (sym (l.each c) ∙ opens)
 
-pub lawful-kept : (w : World) → IsKept w → (c : ℕ) → is_open c w.lines ≡ true → IsLawfulAlone w.lines c
-lawful-kept w k c h = lawful-talks c w (talking c w (linked_to w c k.linked h) k.keeps)
+served-kept : (w : World) → IsKept w → (c : ℕ) → IsServedAlone w.lines c
+served-kept w k c = go (is_open c w.lines) refl
+  where
+    go : (b : Bool) → is_open c w.lines ≡ b → IsServedAlone w.lines c
+    go true opens = served-talks c w (talking c w (linked_to w c k.linked opens) k.keeps) opens
+    go false shut = served-silent w.lines c (k.silent c (sym (k.linked.each c) ∙ shut))
 
 -- ---- one happening more
 
@@ -68,7 +87,7 @@ happens-more hs h r r' w runs one happens lines clock k = record {
     legal = subst (λ (ls : List TranscriptLine). is_legal ls ≡ true) (sym lines) k.kept.legal;
     ordered = subst (λ (ls : List TranscriptLine). is_ordered ls ≡ true) (sym lines) k.kept.ordered;
     punctual = punctual-happens r r' h one.legal (within-runs new_run r hs runs (within-new (begin_line ∷ []))) one.punctual happens;
-    lawful = subst (λ (ls : List TranscriptLine). (c : ℕ) → is_open c ls ≡ true → IsLawfulAlone ls c) (sym lines) (lawful-kept w k);
+    served = subst (λ (ls : List TranscriptLine). (c : ℕ) → IsServedAlone ls c) (sym lines) (served-kept w k);
     shown = shown-happens r r' h one.shown happens;
     formed = subst (AllByRecursion IsWellFormed) (sym lines) k.kept.formed;
   };
@@ -76,7 +95,7 @@ happens-more hs h r r' w runs one happens lines clock k = record {
 }
 
 reached-more : (hs : List Happening) (h : Happening) (old new : World) (added : List TranscriptLine) → Reached hs old
-    → why_not old.lines old.clock h ≡ None → Adds h old.clock old.lines added → new.lines ≡ old.lines ++ added → new.clock ≡ clock_after old.clock h → IsKept new → Reached (hs ++ h ∷ []) new
+    → why_not old.lines old.clock h ≡ None → IsAddedBy h old.clock old.lines added → new.lines ≡ old.lines ++ added → new.clock ≡ clock_after old.clock h → IsKept new → Reached (hs ++ h ∷ []) new
 reached-more hs h old new added r possible adds lines clock k =
     let at : Run = record { clock = old.clock; lines = old.lines; ticks = r.run.ticks } in
     let same : r.run ≡ at = same_run hs old r in
@@ -111,13 +130,13 @@ built_as bytes xid q h read = rw read at h
 
 -- ---- each happening
 
-pub plays-open : (w : World) (c p : ℕ) (id : ℤ) (pw : List ℕ) → why_not w.lines w.clock (line.Open c p id pw) ≡ None → IsWellFormed (Open c p id pw) → Plays w (line.Open c p id pw) (opened w c p id pw)
+pub plays-open : (w : World) (c p : ℕ) (id : ℤ) (pw : List ℕ) → why_not w.lines w.clock (line.Open c p id pw) ≡ None → IsWellFormed (Open c p id pw) → LeadsOn w (line.Open c p id pw) (opened w c p id pw)
 plays-open w c p id pw possible formed = λ hs r.
     let linked = not_there w.connection (sym r.kept.linked.any ∙ may_open w.lines w.clock c p id pw possible) in
     reached-more hs (line.Open c p id pw) w (opened w c p id pw) (Open c p id pw ∷ []) r possible refl refl refl (kept-open w c p id pw linked formed r.kept)
 
 pub plays-frame : (w : World) (c : ℕ) (bytes : List ℕ) (xid : ℤ) (q : Request) → why_not w.lines w.clock (line.Frame c bytes) ≡ None → read_request bytes ≡ Asks xid q
-    → IsWellFormed (FrameLine c (w.frames + 1) (revision w.store) bytes) → Plays w (line.Frame c bytes) (framed w c bytes xid q)
+    → IsWellFormed (FrameLine c (w.frames + 1) (revision w.store) bytes) → LeadsOn w (line.Frame c bytes) (framed w c bytes xid q)
 plays-frame w c bytes xid q possible read formed = λ hs r.
     let may = may_frame w.lines w.clock c bytes possible in
     let small : length bytes ≤ max_frame = grind (arith, nat_tests) in
@@ -127,7 +146,7 @@ plays-frame w c bytes xid q possible read formed = λ hs r.
     reached-more hs (line.Frame c bytes) w (framed w c bytes xid q) (FrameLine c (w.frames + 1) (revision w.store) bytes ∷ []) r possible (ap (λ (l : TranscriptLine). l ∷ []) shows) refl refl
     (kept-frame w c bytes xid q linked read small (built_as bytes xid q may.2 read) formed r.kept)
 
-pub plays-tick : (w : World) (millis : ℕ) → why_not w.lines w.clock (line.Tick millis) ≡ None → Plays w (line.Tick millis) (ticked w millis)
+pub plays-tick : (w : World) (millis : ℕ) → why_not w.lines w.clock (line.Tick millis) ≡ None → LeadsOn w (line.Tick millis) (ticked w millis)
 plays-tick w millis possible = λ hs r. reached-more hs (line.Tick millis) w (ticked w millis) [] r possible refl (sym (append-nil w.lines)) refl (kept-tick w millis r.kept)
 
 -- ---- all requests that waited are answered
@@ -144,7 +163,7 @@ no_frames c clock (l ∷ ls) h =
     let rest = no_frames c clock ls (λ k d small. h (suc k) d (omega arith)) in
     omega (arith, frames_of-append c (l ∷ []) ls, first, rest)
 
-pub plays-settle : (old new : World) (c : ℕ) → why_not old.lines old.clock (line.Settle c) ≡ None → AnswersSome c old new → new.waiting ≡ [] → Plays old (line.Settle c) new
+pub plays-settle : (old new : World) (c : ℕ) → why_not old.lines old.clock (line.Settle c) ≡ None → AnswersSome c old new → new.waiting ≡ [] → LeadsOn old (line.Settle c) new
 plays-settle old new c possible some idle = λ hs r.
     let linked = linked_to old c r.kept.linked (may_settle old.lines old.clock c possible) in
     let k = some.kept linked r.kept in
@@ -154,7 +173,8 @@ plays-settle old new c possible some idle = λ hs r.
     omega (arith, queued, t.talks.counted.sent, ap (sends_of c) some.lines, ap (frames_of c) some.lines, frames_of-append c old.lines some.added, no_frames c old.clock some.added some.each) in
     let numbered : AreNumbered (after old.lines).zxid some.added =
     subst (λ (z : ℤ). AreNumbered z some.added) r.kept.kept.revision (subst (AreNumbered (revision old.store)) (append-nil some.added) (some.numbered [] tt)) in
-    reached-more hs (line.Settle c) old new some.added r possible (record { each = some.each; numbered = numbered; answered = answered }) some.lines some.clock k
+    let one_by_one : AreOneByOne (sends_of c old.lines) some.added = subst (AreOneByOne (sends_of c old.lines)) (append-nil some.added) (some.one_by_one linked r.kept [] tt) in
+    reached-more hs (line.Settle c) old new some.added r possible (record { each = some.each; numbered = numbered; one_by_one = one_by_one; answered = answered }) some.lines some.clock k
 
 -- ---- the world begins
 
@@ -189,7 +209,7 @@ one-begin = record {
   legal = begin-legal;
   ordered = begin-ordered;
   punctual = λ place first c i now zxid g f. absurd (no_asked place c i now zxid g);
-  lawful = λ c h. absurd (cc);
+  served = λ c. served-silent (begin_line ∷ []) c refl;
   shown = λ k c i z bytes g. absurd (no_shown k c i z bytes g);
   formed = begin-formed;
 }
@@ -199,7 +219,7 @@ unfolding after updated
 begin-zxid = refl
 
 begin-kept : (store : Store) → IsBegun store → IsKeptIn store (begin_line ∷ [])
-begin-kept store b = record { stands = b.stands; sound = b.sound; revision = b.revision ∙ sym begin-zxid; legal = begin-legal; ordered = begin-ordered; formed = begin-formed }
+begin-kept store b = record { stands = b.stands; revision = b.revision ∙ sym begin-zxid; legal = begin-legal; ordered = begin-ordered; formed = begin-formed }
 
 pub reached-begin : (store : Store) → IsBegun store → Reached [] (begun store)
 reached-begin store b = record {
@@ -211,6 +231,7 @@ reached-begin store b = record {
   kept = record {
     kept = begin-kept store b;
     linked = record { each = λ d. refl; any = refl };
+    silent = λ d other. refl;
     keeps = record { lines = refl; idle = refl; none = refl; told = refl };
   };
 }

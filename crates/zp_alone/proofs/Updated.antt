@@ -1,18 +1,18 @@
 -- An update that the oldest request asked: what its line does to the history, and the reply behind it.
 use Rattle.std.proofs.Common.{◌≡◌, ℕ, ◌≤◌, List, [], ◌∷◌, ◌++◌, refl, sym, ap, ◌∙◌, subst, arith, true, ℤ, pos, ◌<ℤ◌, ◌≤ℤ◌}
-use Rattle.std.specs.Prelude.{Some, nat_lt, int_lt, int_le, option_and_then}
+use Rattle.std.specs.Prelude.{Some, nat_lt, option_and_then}
 use Rattle.std.proofs.lemmas.Bool.{eq-eqb}
 use Rattle.std.proofs.lemmas.Bool.Decides.{nat_tests}
-use Rattle.std.proofs.lemmas.Int.{ints}
 use Rattle.ev_types.specs.Store.{Store, present, revision}
 use Rattle.zk_model.specs.declared.request.Request.{Request}
 use Rattle.zk_transcript.specs.declared.transcript.TranscriptLine.{TranscriptLine}
 use Rattle.zk_jute.specs.Requests.{Asks, read_request}
-use Rattle.zk_transcript.specs.History.{State, Commit, IsSound, commit, after, updated, committed, asked_commit, frame, frame_shown, request, asked_in}
+use Rattle.zk_transcript.specs.History.{State, Commit, commit, after, updated, committed, asked_commit, frame, frame_shown, request, asked_in}
 use Rattle.zk_transcript.specs.Legal.{is_legal_line, may_update, is_small_frame, is_within_parts}
-use Rattle.zk_transcript.specs.Conversations.{placed_frame}
+use Rattle.zk_transcript.specs.Walks.{placed_frame}
 use Rattle.zt_text.specs.Transcripts.{IsWellFormed}
 use Rattle.zk_jute.proofs.Lists.{both_of}
+use Rattle.zk_transcript.proofs.Histories.{next-above}
 use Rattle.zk_transcript.proofs.Appending.{after-push, is_legal-push, is_ordered-push}
 use Rattle.zk_transcript.proofs.Lookups.{first_shown-place}
 use Rattle.zn_layout.specs.StandsFor.{StandsFor}
@@ -50,19 +50,17 @@ legal-asked c i now zxid lines made q least h above small_zxid commits =
     let asks = request-of c i lines h.place h.bytes q.xid q.request h.frame h.read in
     let parts : is_within_parts (Some q.request) ≡ true = built-parts q.request h.built in
     let first : nat_lt 0 i ≡ true = grind (arith, nat_tests) in
-    let rises : int_lt (after lines).zxid zxid ≡ true = grind (arith, ints) in
-    let long : int_le zxid max_long ≡ true = grind (arith, ints) in
-    rw (commits, asks, shown, first, small, parts, rises, long) refl
+    let next = next-above (after lines) zxid above small_zxid in
+    rw (commits, asks, shown, first, small, parts, next) refl
 
 pub kept-asked : (c i now : ℕ) (zxid : ℤ) (lines : List TranscriptLine) (made : Commit) (q : Waiting) (old new : Store)
     → IsKeptIn old lines → 1 ≤ i → IsQueued c lines i q → AreBelow c lines i → (after lines).zxid <ℤ zxid → zxid ≤ℤ max_long → asked_commit lines (after lines) zxid c i now ≡ Some made
-    → revision new ≡ zxid → StandsFor (present new) (committed (after lines) zxid (Some made)) → IsSound (committed (after lines) zxid (Some made))
+    → revision new ≡ zxid → StandsFor (present new) (committed (after lines) zxid (Some made))
     → IsWellFormed (asked_line c i now zxid) → IsKeptIn new (lines ++ asked_line c i now zxid ∷ [])
-kept-asked c i now zxid lines made q old new k least h below above long commits at stands sound formed =
+kept-asked c i now zxid lines made q old new k least h below above long commits at stands formed =
     let leads = after-asked c i now zxid lines made commits in
     record {
       stands = subst (StandsFor (present new)) (sym leads) stands;
-      sound = subst IsSound (sym leads) sound;
       revision = at ∙ ap (λ (s : State). s.zxid) (sym leads);
       legal = is_legal-push lines (asked_line c i now zxid) k.legal (legal-asked c i now zxid lines made q least h above long commits);
       ordered = is_ordered-push lines (asked_line c i now zxid) k.ordered (rw (eq-eqb c c refl) below);

@@ -15,13 +15,15 @@ use Rattle.zk_transcript.specs.declared.transcript.UpdateKind.TheVariants.{Begin
 use Rattle.zk_jute.specs.Requests.{Asks, read_request}
 use Rattle.zk_transcript.specs.History.{State, after, state_at, first_place, frame_shown, when}
 use Rattle.zk_transcript.specs.Legal.{index_shown, index_in, is_below}
-use Rattle.zk_transcript.specs.Conversations.{Walker, Choice, Due, move, at_start, packets, packets_from, are_sent, placed_frame, carried, carried_in, carried_shown, close_shown}
+use Rattle.zk_transcript.specs.Conversations.{close_shown}
+use Rattle.zk_transcript.specs.Walks.{Walker, Choice, Due, move, at_start, packets, packets_from, are_sent, placed_frame, own_update, own_update_in, own_update_shown, is_fresh, are_fresh, is_in_turn, are_in_turn}
 use Rattle.zp_alone.specs.Runs.{frames_of, sends_of}
 use Rattle.zn_ops.specs.Built.{is_built_request}
 use Rattle.zk_transcript.proofs.Appending.{first_place-push}
 use Rattle.zk_transcript.proofs.Lookups.{first_place-skip, first_place-new}
 use Rattle.zk_transcript.proofs.Walks.{state_at-push}
 use Rattle.zk_transcript.proofs.Longer.{stays-line, walk-push, walk-more}
+use Rattle.zk_transcript.proofs.Choices.{choices-append, fresh-push, turn-push}
 use Rattle.zp_alone.proofs.Counts.{frames_of-append, sends_of-append, packets-append, are_sent-append}
 use Rattle.zp_alone.specs.declared.waiting.Waiting.{Waiting}
 use Rattle.zp_alone.specs.Talking.{IsQueued, AreQueued, IsWalked, StandsAt, AreCounted, AreBelow}
@@ -34,12 +36,14 @@ start-push lines more begun = ap (λ (s : State). at_start s.zxid 1) (state_at-p
 
 -- a line that sends nothing to c, and carries out no request that was answered
 pub walked-push : (c : ℕ) (lines : List TranscriptLine) (l : TranscriptLine) (w : Walker) → 1 ≤ length lines
-    → ((j : ℕ) → j < w.next → carried_shown c j l ≡ None) → packets_from c (length lines) (l ∷ []) ≡ [] → IsWalked c lines w → IsWalked c (lines ++ l ∷ []) w
+    → ((j : ℕ) → j < w.next → own_update_shown c j l ≡ None) → packets_from c (length lines) (l ∷ []) ≡ [] → IsWalked c lines w → IsWalked c (lines ++ l ∷ []) w
 walked-push c lines l w begun stays none k = record {
   choices = k.choices;
   dues = k.dues;
   walked = rw (start-push lines (l ∷ []) begun) (walk-push lines (l ∷ []) c (pos 0) (at_start (state_at lines 1).zxid 1) k.choices (w, k.dues) (stays-line lines l c w.next stays) k.walked);
   sent = rw (packets-append c lines (l ∷ []), none, append-nil (packets c lines)) k.sent;
+  fresh = fresh-push lines (l ∷ []) c (pos 0) (at_start (state_at lines 1).zxid 1) k.choices (w, k.dues) k.walked k.fresh;
+  in_turn = turn-push lines (l ∷ []) c (pos 0) (at_start (state_at lines 1).zxid 1) k.choices (w, k.dues) k.walked k.in_turn;
 }
 
 bytes_eq-refl : (bytes : List ℕ) → bytes_eq bytes bytes ≡ true
@@ -55,8 +59,9 @@ sent-now c k n packet small =
 
 -- one choice more, and the packet that it gives
 pub walked-send : (c : ℕ) (lines : List TranscriptLine) (w v : Walker) (x : Choice) (k : ℕ) (packet : List ℕ) → 1 ≤ length lines
-    → move lines c (pos 0) w x ≡ Some (v, (k, packet) ∷ []) → k ≤ length lines → IsWalked c lines w → IsWalked c (lines ++ Send c packet ∷ []) v
-walked-send c lines w v x k packet begun moves due h =
+    → move lines c (pos 0) w x ≡ Some (v, (k, packet) ∷ []) → k ≤ length lines → are_fresh lines c w.next (x ∷ []) ≡ true → are_in_turn lines c w.next (x ∷ []) ≡ true
+    → IsWalked c lines w → IsWalked c (lines ++ Send c packet ∷ []) v
+walked-send c lines w v x k packet begun moves due is_now is_next h =
     let start : Walker = at_start (state_at lines 1).zxid 1 in
     let dues : List Due = h.dues ++ (k, packet) ∷ [] in
     let more = walk-more lines c (pos 0) start h.choices x (w, h.dues) (v, (k, packet) ∷ []) h.walked moves in
@@ -66,6 +71,8 @@ walked-send c lines w v x k packet begun moves due h =
       walked = rw (start-push lines (Send c packet ∷ []) begun)
           (walk-push lines (Send c packet ∷ []) c (pos 0) start (h.choices ++ x ∷ []) (v, dues) (stays-line lines (Send c packet) c v.next (λ j small. refl)) more);
       sent = rw (packets-append c lines (Send c packet ∷ [])) (are_sent-append h.dues ((k, packet) ∷ []) (packets c lines) (packets_from c (length lines) (Send c packet ∷ [])) h.sent (sent-now c k (length lines) packet due));
+      fresh = fresh-push lines (Send c packet ∷ []) c (pos 0) start (h.choices ++ x ∷ []) (v, dues) more (choices-append (is_fresh lines c) lines c (pos 0) start h.choices (x ∷ []) (w, h.dues) h.walked h.fresh is_now);
+      in_turn = turn-push lines (Send c packet ∷ []) c (pos 0) start (h.choices ++ x ∷ []) (v, dues) more (choices-append (is_in_turn lines c) lines c (pos 0) start h.choices (x ∷ []) (w, h.dues) h.walked h.in_turn is_next);
     }
 
 -- ---- where the walker stands
@@ -190,7 +197,7 @@ apart_none true n i j u h above =
     let apart : (i == j) ≡ false = grind (arith, nat_tests) in
     rw apart refl
 
-kind_none : (c n i : ℕ) (u : UpdateRec) (kind : UpdateKind) → is_below n (index_in c kind) ≡ true → n ≤ i → carried_in c i u kind ≡ None
+kind_none : (c n i : ℕ) (u : UpdateRec) (kind : UpdateKind) → is_below n (index_in c kind) ≡ true → n ≤ i → own_update_in c i u kind ≡ None
 kind_none c n i u (Asked d j now) h above = apart_none (c == d) n i j u h above
 kind_none c n i u (Closed id d j) h above = apart_none (c == d) n i j u h above
 kind_none c n i u (Begin now) h above = refl
@@ -198,7 +205,7 @@ kind_none c n i u (NewSession id d) h above = refl
 kind_none c n i u (Attach id d) h above = refl
 kind_none c n i u (Reaped id) h above = refl
 
-line_none : (c n i : ℕ) (l : TranscriptLine) → is_below n (index_shown c l) ≡ true → n ≤ i → carried_shown c i l ≡ None
+line_none : (c n i : ℕ) (l : TranscriptLine) → is_below n (index_shown c l) ≡ true → n ≤ i → own_update_shown c i l ≡ None
 line_none c n i (Update u) h above = kind_none c n i u u.kind h above
 line_none c n i (Open d p id pw) h above = refl
 line_none c n i (FrameLine d j z bytes) h above = refl
@@ -206,12 +213,12 @@ line_none c n i (Send d bytes) h above = refl
 line_none c n i (Lapse revision id) h above = refl
 line_none c n i (Close d end) h above = refl
 
-uncarried_from : (c n i k : ℕ) (ls : List TranscriptLine) → AreBelow c ls n → n ≤ i → first_place (carried_shown c i) k ls ≡ None
+uncarried_from : (c n i k : ℕ) (ls : List TranscriptLine) → AreBelow c ls n → n ≤ i → first_place (own_update_shown c i) k ls ≡ None
 uncarried_from c n i k [] h above = refl
 uncarried_from c n i k (l ∷ ls) h above =
     let both = and_parts (is_below n (index_shown c l)) (list_all (λ x. is_below n (index_shown c x)) ls) h in
     rw (line_none c n i l both.0 above, first_place) (uncarried_from c n i (k + 1) ls both.1 above)
 
 -- the next request was not carried out
-pub uncarried : (c n i : ℕ) (ls : List TranscriptLine) → AreBelow c ls n → n ≤ i → carried c i ls ≡ None
+pub uncarried : (c n i : ℕ) (ls : List TranscriptLine) → AreBelow c ls n → n ≤ i → own_update c i ls ≡ None
 uncarried c n i ls h above = uncarried_from c n i 0 ls h above

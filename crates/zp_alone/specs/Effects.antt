@@ -7,9 +7,9 @@ use Rattle.zk_transcript.specs.declared.transcript.TranscriptLine.{TranscriptLin
 use Rattle.zk_transcript.specs.declared.transcript.TranscriptLine.TheVariants.{Update, Open, Frame, Send}
 use Rattle.zk_transcript.specs.declared.transcript.UpdateKind.TheVariants.{Asked}
 use Rattle.zk_jute.specs.Packets.{reply_packet}
-use Rattle.zk_transcript.specs.History.{IsSound, after}
+use Rattle.zk_transcript.specs.History.{after}
 use Rattle.zt_text.specs.Transcripts.{IsWellFormed}
-use Rattle.zp_alone.specs.Runs.{IsAnswerLine, AreNumbered, begin_line}
+use Rattle.zp_alone.specs.Runs.{IsAnswerLine, AreNumbered, AreOneByOne, begin_line, sends_of}
 use Rattle.zn_layout.specs.StandsFor.{StandsFor}
 use Rattle.zn_ops.specs.declared.requests.Answered.{Answered}
 use Rattle.zn_ops.specs.declared.requests.Answered.TheVariants.{Repeats, Looked, Updated}
@@ -21,7 +21,6 @@ use Rattle.zp_alone.specs.Reached.{IsKept}
 -- the store holds the root alone, made at moment 0 by its revision 2
 pub record IsBegun (store : Store) : Type 0 where
   pub stands : StandsFor (present store) (after (begin_line ∷ []))
-  pub sound : IsSound (after (begin_line ∷ []))
   pub revision : revision store ≡ pos 2
 
 -- the world over it, before anything happened
@@ -95,3 +94,4 @@ pub record AnswersSome (c : ℕ) (old new : World) : Type 0 where
   pub each : All (IsAnswerLine c old.clock) added
   -- the updates among them made the revisions between the two stores
   pub numbered : (more : List TranscriptLine) → AreNumbered (revision new.store) more → AreNumbered (revision old.store) (added ++ more)
+  pub one_by_one : old.connection ≡ Some c → IsKept old → (more : List TranscriptLine) → AreOneByOne (sends_of c new.lines) more → AreOneByOne (sends_of c old.lines) (added ++ more)

@@ -13,7 +13,7 @@ use Rattle.zk_transcript.specs.declared.transcript.UpdateKind.TheVariants.{Begin
 use Rattle.zk_jute.specs.Requests.{Frame, Asks, read_request}
 use Rattle.zk_transcript.specs.History.{after, opening}
 use Rattle.zk_transcript.specs.Legal.{Tick, is_id, is_legal, is_ordered, IsPunctual}
-use Rattle.zk_transcript.specs.Conversations.{IsLawfulAlone, IsShownFresh}
+use Rattle.zk_transcript.specs.Conversations.{IsServedAlone, IsShownFresh}
 use Rattle.zt_text.specs.Transcripts.{IsWellFormed}
 use Rattle.zk_model.specs.Limits.{max_frame, max_moment}
 use Rattle.zn_ops.specs.Built.{is_built_request}
@@ -27,18 +27,18 @@ abbrev pub is_opening : TranscriptLine → Bool
 is_opening (Open c p id pw) = true
 is_opening _ = false
 
-abbrev pub counted : Bool → ℕ → ℕ
-counted b n = if b then n + 1 else n
+abbrev pub one_more_if : Bool → ℕ → ℕ
+one_more_if b n = if b then n + 1 else n
 
 -- how many frames of c came, and how many packets it was sent
 abbrev pub frames_of : ℕ → List TranscriptLine → ℕ
 frames_of c [] = 0
-frames_of c (FrameLine d i zxid bytes ∷ lines) = counted (c == d) (frames_of c lines)
+frames_of c (FrameLine d i zxid bytes ∷ lines) = one_more_if (c == d) (frames_of c lines)
 frames_of c (_ ∷ lines) = frames_of c lines
 
 abbrev pub sends_of : ℕ → List TranscriptLine → ℕ
 sends_of c [] = 0
-sends_of c (Send d bytes ∷ lines) = counted (c == d) (sends_of c lines)
+sends_of c (Send d bytes ∷ lines) = one_more_if (c == d) (sends_of c lines)
 sends_of c (_ ∷ lines) = sends_of c lines
 
 -- ---- what isn't possible, by the first test that fails
@@ -81,18 +81,32 @@ AreNumbered last [] = ⊤
 AreNumbered last (Update u ∷ lines) = (u.zxid ≡ last +ℤ pos 1) × AreNumbered u.zxid lines
 AreNumbered last (_ ∷ lines) = AreNumbered last lines
 
+-- an update carries out the frame behind those that so many packets answered
+abbrev pub IsAskedNext : ℕ → UpdateKind → Type 0
+IsAskedNext sent (Asked c i now) = i ≡ sent + 1
+IsAskedNext sent _ = ⊥
+
+-- One request is out at a time: where so many packets were sent before these lines, no update stands before the answers to all
+-- earlier frames. Of frames 1 and 2, both creates, the lines are update, packet, update, packet.
+abbrev pub AreOneByOne : ℕ → List TranscriptLine → Type 0
+AreOneByOne sent [] = ⊤
+AreOneByOne sent (Update u ∷ lines) = IsAskedNext sent u.kind × AreOneByOne sent lines
+AreOneByOne sent (Send c bytes ∷ lines) = AreOneByOne (sent + 1) lines
+AreOneByOne sent (_ ∷ lines) = AreOneByOne sent lines
+
 -- all frames of c are answered
-pub record Settles (c clock : ℕ) (lines added : List TranscriptLine) : Type 0 where
+pub record AnswersAllFrames (c clock : ℕ) (lines added : List TranscriptLine) : Type 0 where
   pub each : All (IsAnswerLine c clock) added
   pub numbered : AreNumbered (after lines).zxid added
+  pub one_by_one : AreOneByOne (sends_of c lines) added
   pub answered : sends_of c (lines ++ added) ≡ frames_of c lines
 
-abbrev pub Adds : Happening → ℕ → List TranscriptLine → List TranscriptLine → Type 0
-Adds (line.Open c p id pw) clock lines added = added ≡ Open c p id pw ∷ []
-Adds (line.Frame c bytes) clock lines added = added ≡ FrameLine c (frames_of c lines + 1) (after lines).zxid bytes ∷ []
-Adds (line.Tick millis) clock lines added = added ≡ []
-Adds (line.Settle c) clock lines added = Settles c clock lines added
-Adds _ clock lines added = ⊥
+abbrev pub IsAddedBy : Happening → ℕ → List TranscriptLine → List TranscriptLine → Type 0
+IsAddedBy (line.Open c p id pw) clock lines added = added ≡ Open c p id pw ∷ []
+IsAddedBy (line.Frame c bytes) clock lines added = added ≡ FrameLine c (frames_of c lines + 1) (after lines).zxid bytes ∷ []
+IsAddedBy (line.Tick millis) clock lines added = added ≡ []
+IsAddedBy (line.Settle c) clock lines added = AnswersAllFrames c clock lines added
+IsAddedBy _ clock lines added = ⊥
 
 abbrev pub clock_after : ℕ → Happening → ℕ
 clock_after clock (line.Tick millis) = clock + millis
@@ -124,7 +138,7 @@ run_after r h added = record {
 pub record Happens (r : Run) (h : Happening) (r' : Run) : Type 0 where
   pub possible : why_not r.lines r.clock h ≡ None
   pub added : List TranscriptLine
-  pub adds : Adds h r.clock r.lines added
+  pub adds : IsAddedBy h r.clock r.lines added
   pub leaves : r' ≡ run_after r h added
 
 -- several, in order
@@ -142,8 +156,8 @@ pub record IsOneRun (r : Run) : Type 0 where
   pub legal : IsTrue (is_legal r.lines)
   pub ordered : IsTrue (is_ordered r.lines)
   pub punctual : IsPunctual r.ticks r.lines
-  -- what each connection was sent is what the machine gives it, never going back and never stale
-  pub lawful : (c : ℕ) → is_open c r.lines ≡ true → IsLawfulAlone r.lines c
+  -- what each number was sent is what the machine gives its connection, never going back and never stale, in the order of the requests
+  pub served : (c : ℕ) → IsServedAlone r.lines c
   pub shown : IsShownFresh r.lines
   -- the text of its lines has one reading
   pub formed : AllByRecursion IsWellFormed r.lines

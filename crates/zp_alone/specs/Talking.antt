@@ -6,7 +6,8 @@ use Rattle.zk_jute.specs.Requests.{Asks, read_request}
 use Rattle.zk_model.specs.Watches.{no_watches}
 use Rattle.zk_transcript.specs.History.{after, state_at, first_place}
 use Rattle.zk_transcript.specs.Legal.{index_shown, is_below}
-use Rattle.zk_transcript.specs.Conversations.{Walker, Choice, Due, walk, at_start, packets, are_sent, placed_frame, close_shown}
+use Rattle.zk_transcript.specs.Conversations.{close_shown}
+use Rattle.zk_transcript.specs.Walks.{Walker, Choice, Due, walk, at_start, packets, are_sent, placed_frame, are_fresh, are_in_turn}
 use Rattle.zp_alone.specs.Runs.{frames_of, sends_of}
 use Rattle.zn_ops.specs.Built.{is_built_request}
 use Rattle.zp_alone.specs.declared.waiting.Waiting.{Waiting}
@@ -33,6 +34,8 @@ pub record IsWalked (c : ℕ) (lines : List TranscriptLine) (w : Walker) : Type 
   pub dues : List Due
   pub walked : walk lines c (pos 0) (at_start (state_at lines 1).zxid 1) choices ≡ Some (w, dues)
   pub sent : are_sent dues (packets c lines) ≡ true
+  pub fresh : are_fresh lines c 1 choices ≡ true
+  pub in_turn : are_in_turn lines c 1 choices ≡ true
 
 -- where the walker stands: nothing is armed, and nothing is over
 pub record StandsAt (lines : List TranscriptLine) (w : Walker) : Type 0 where

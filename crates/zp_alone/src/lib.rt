@@ -7,13 +7,14 @@
 //! not built yet, is refused by its cause and changes nothing.
 //!
 //! What is proved of it is one sentence, `Reached` in `specs/Reached.antt`: the happenings that were applied make a run
-//! (`specs/Runs.antt` of zk_model), its lines and its clock are the world's, and all holds that is claimed of a run, so
+//! (`specs/Runs.antt`), its lines and its clock are the world's, and all holds that is claimed of a run, so
 //! the updates are one legal history, each request is carried out at most once and in order, and what the connection was
-//! sent is what the service's machine gives it, never going back and never stale.
+//! sent is what the service's machine gives it, never going back, never stale and in the order of its requests. Any other
+//! number was sent nothing.
 //!
 //! Applying costs what its own lines and its plan cost: a frame is decoded once, when it comes, and moved into its line.
 //!
-//! [`Happening`]: zk_model::Happening
+//! [`Happening`]: zt_text::Happening
 #![tactic(auto)]
 
 mod answers;
@@ -21,8 +22,6 @@ mod begin;
 mod fault;
 mod formed;
 mod request;
-#[cfg(test)]
-mod tests;
 mod waiting;
 mod world;
 

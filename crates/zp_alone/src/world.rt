@@ -21,11 +21,11 @@ use ev_store::Store;
 use std::alloc::Global;
 use std::collections::VecDeque;
 use std::marker::Model;
-use zk_model::limit::{MAX_MOMENT, MAX_FRAME};
 use zk_model::Request;
+use zk_model::limit::{MAX_FRAME, MAX_MOMENT};
 use zk_transcript::{TranscriptLine, UpdateKind, UpdateRec};
-use zt_text::{Happening, Why};
 use zn_ops::answer;
+use zt_text::{Happening, Why};
 use zx_base::{Bytes, Memory};
 
 /// More frames than any memory holds, since each has a line.

@@ -161,3 +161,10 @@ Finishes-from old text text' end last is written count = (
   written,
   λ seen lines f. record { shown = IsShown-whole seen lines old end f (is seen lines f); count = last_count old.progress last.lines lines count f.count (omega (arith, f.few, f.place, f.room)) },
 )
+
+-- the last line is added to a text behind other lines
+
+pub Finishes-appended : (end : Ending) (rest : List ℕ) (p : Progress) (failed : Bool) (new : Showing) (before added text text' : List ℕ) → failed ≡ false → before ≡ [] → Finishes end (showing rest p) before added new →
+    text' ≡ text ++ added → Finishes end (record { rest = rest; progress = p; has_failed = failed }) text text' new
+Finishes-appended end rest p failed new before added text text' good none finishes is =
+    rw good (is ∙ ap (λ (t : List ℕ). text ++ t) (finishes.0 ∙ ap (λ (t : List ℕ). t ++ ending_line end) none), finishes.1)

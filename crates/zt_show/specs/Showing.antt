@@ -7,14 +7,16 @@ use Rattle.zt_show.specs.declared.ending.Ending.TheVariants as ending
 use Rattle.zt_show.specs.declared.progress.Progress.{Progress}
 use Rattle.zt_show.specs.Shown.{Shown, joined, max_stream, ending_line, shown_from, IsShown, IsShownWhole, ending_before_more}
 
--- what is known of a stream that came in part: the bytes of a frame that is not whole, and how far it is shown
+-- what is known of a stream that came in part: the bytes of a frame that is not whole, how far it is shown, and whether memory
+-- was refused
 pub record Showing : Type 0 where
   pub rest : List ℕ
   pub progress : Progress
+  pub has_failed : Bool
 
 -- a stream of which nothing came
 abbrev pub unshown : Showing
-unshown = record { rest = []; progress = record { is_begun = false; place = 0; room = max_stream; lines = 0 } }
+unshown = record { rest = []; progress = record { is_begun = false; place = 0; room = max_stream; lines = 0 }; has_failed = false }
 
 -- what was shown before, and then
 abbrev pub behind : List (List ℕ) → Shown → Shown
@@ -109,7 +111,7 @@ Stands None seen lines s = Follows seen lines s
 Stands (Some end) seen lines s = Stops seen lines end s.progress
 
 abbrev pub showing : List ℕ → Progress → Showing
-showing rest progress = record { rest = rest; progress = progress }
+showing rest progress = record { rest = rest; progress = progress; has_failed = false }
 
 -- the lines of the frames that became whole
 abbrev pub AddsFrames : Option Ending → Showing → List ℕ → List ℕ → List ℕ → Showing → Type 0

@@ -3,7 +3,7 @@
 ghost use Rattle.std.specs.Prelude.{◌≡◌, ◌++◌, OnOk};
 ghost use Rattle.zt_show.specs.Shown.{at_place, ending_words, ending_line};
 
-use crate::lines::Lines;
+use crate::draft::Draft;
 use zx_base::Memory;
 
 /// How a stream ended. A place is an offset in the stream, that of a frame its length's.
@@ -22,14 +22,14 @@ pub enum Ending {
 }
 
 /// Adds the last line.
-pub(crate) fn push_ending(text: &mut Lines, ending: Ending) -> Result<(), Memory>
+pub(crate) fn push_ending(text: &mut Draft, ending: Ending) -> Result<(), Memory>
     ensures { OnOk result (text.new ≡ text.old ++ ending_line ending) }
 {
     push_words(text, ending)?;
     text.end_line()
 }
 
-fn push_words(text: &mut Lines, ending: Ending) -> Result<(), Memory>
+fn push_words(text: &mut Draft, ending: Ending) -> Result<(), Memory>
     ensures { OnOk result (text.new ≡ text.old ++ ending_words ending) }
 {
     match ending {
@@ -45,7 +45,7 @@ fn push_words(text: &mut Lines, ending: Ending) -> Result<(), Memory>
 }
 
 /// Adds a word and a place.
-fn push_at(text: &mut Lines, word: &[u8], place: u64) -> Result<(), Memory>
+fn push_at(text: &mut Draft, word: &[u8], place: u64) -> Result<(), Memory>
     ensures { OnOk result (text.new ≡ text.old ++ at_place word.now place) }
 {
     text.bytes(word)?;

@@ -7,7 +7,7 @@ ghost use Rattle.zk_jute.specs.Requests.{read_request as request_read};
 ghost use Rattle.zt_show.specs.FrameLines.{part_words, body_words, named, request_words, unreadable_words, unknown_words, frame_words, session_words, connect_words, read_only_words, words_of_connect, line, line_of_words, line_of_frame, IsAdded};
 ghost use Rattle.zt_show.specs.FieldWords.{hex_word, vector_words};
 
-use crate::lines::Lines;
+use crate::draft::Draft;
 use crate::name::{part_name, request_name};
 use std::alloc::Global;
 use zk_model::{ConnectRequest, Part, Request};
@@ -18,7 +18,7 @@ use zx_base::Memory;
 /// none. The first frame is a connect, each later one a request.
 pub(crate) fn push_frame(
     alloc: Global,
-    text: &mut Lines,
+    text: &mut Draft,
     is_begun: bool,
     place: u64,
     frame: &[u8],
@@ -32,7 +32,7 @@ pub(crate) fn push_frame(
     }
 }
 
-fn push_first(alloc: Global, text: &mut Lines, place: u64, frame: &[u8]) -> Result<bool, Memory>
+fn push_first(alloc: Global, text: &mut Draft, place: u64, frame: &[u8]) -> Result<bool, Memory>
     ensures { IfOk result (λ is_shown. IsAdded is_shown (line_of_words place (words_of_connect (connect_read frame.now))) text.old text.new) }
 {
     match read_connect(alloc, frame) {
@@ -45,7 +45,7 @@ fn push_first(alloc: Global, text: &mut Lines, place: u64, frame: &[u8]) -> Resu
     }
 }
 
-fn push_connect_line(text: &mut Lines, place: u64, request: &ConnectRequest) -> Result<(), Memory>
+fn push_connect_line(text: &mut Draft, place: u64, request: &ConnectRequest) -> Result<(), Memory>
     ensures { OnOk result (text.new ≡ text.old ++ line place (connect_words request.now)) }
 {
     text.number(place)?;
@@ -53,7 +53,7 @@ fn push_connect_line(text: &mut Lines, place: u64, request: &ConnectRequest) -> 
     text.end_line()
 }
 
-fn push_connect(text: &mut Lines, request: &ConnectRequest) -> Result<(), Memory>
+fn push_connect(text: &mut Draft, request: &ConnectRequest) -> Result<(), Memory>
     ensures { OnOk result (text.new ≡ text.old ++ connect_words request.now) }
 {
     text.word(b"connect")?;
@@ -63,7 +63,7 @@ fn push_connect(text: &mut Lines, request: &ConnectRequest) -> Result<(), Memory
     push_session_words(text, request)
 }
 
-fn push_session_words(text: &mut Lines, request: &ConnectRequest) -> Result<(), Memory>
+fn push_session_words(text: &mut Draft, request: &ConnectRequest) -> Result<(), Memory>
     ensures { OnOk result (text.new ≡ text.old ++ session_words request.now) }
 {
     push_session(text, request.session)?;
@@ -73,13 +73,13 @@ fn push_session_words(text: &mut Lines, request: &ConnectRequest) -> Result<(), 
 
 /// Adds a session's number as 16 hex digits.
 #[tactic(auto, unfolding(zk_jute::specs::JuteWriting::long_bytes))]
-fn push_session(text: &mut Lines, session: i64) -> Result<(), Memory>
+fn push_session(text: &mut Draft, session: i64) -> Result<(), Memory>
     ensures { OnOk result (text.new ≡ text.old ++ hex_word (long_bytes session)) }
 {
     text.buffer(&session.to_be_bytes())
 }
 
-fn push_read_only(text: &mut Lines, read_only: Option<bool>) -> Result<(), Memory>
+fn push_read_only(text: &mut Draft, read_only: Option<bool>) -> Result<(), Memory>
     ensures { OnOk result (text.new ≡ text.old ++ read_only_words read_only) }
 {
     match read_only {
@@ -88,7 +88,7 @@ fn push_read_only(text: &mut Lines, read_only: Option<bool>) -> Result<(), Memor
     }
 }
 
-fn push_later(alloc: Global, text: &mut Lines, place: u64, frame: &[u8]) -> Result<bool, Memory>
+fn push_later(alloc: Global, text: &mut Draft, place: u64, frame: &[u8]) -> Result<bool, Memory>
     ensures { IfOk result (λ is_shown. IsAdded is_shown (line_of_words place (frame_words (request_read frame.now))) text.old text.new) }
 {
     match read_request(alloc, frame) {
@@ -102,7 +102,7 @@ fn push_later(alloc: Global, text: &mut Lines, place: u64, frame: &[u8]) -> Resu
 }
 
 fn push_request_line(
-    text: &mut Lines,
+    text: &mut Draft,
     place: u64,
     xid: i32,
     request: &Request,
@@ -115,7 +115,7 @@ fn push_request_line(
 }
 
 /// Adds the words that begin the line of each request.
-fn push_named(text: &mut Lines, place: u64, xid: i32, name: &[u8]) -> Result<(), Memory>
+fn push_named(text: &mut Draft, place: u64, xid: i32, name: &[u8]) -> Result<(), Memory>
     ensures { OnOk result (text.new ≡ text.old ++ (decimal place ++ named xid name.now)) }
 {
     text.number(place)?;
@@ -124,7 +124,7 @@ fn push_named(text: &mut Lines, place: u64, xid: i32, name: &[u8]) -> Result<(),
 }
 
 /// Adds the fields of a request; of a multi the count of its parts, and the parts.
-fn push_body(text: &mut Lines, request: &Request) -> Result<(), Memory>
+fn push_body(text: &mut Draft, request: &Request) -> Result<(), Memory>
     ensures { OnOk result (text.new ≡ text.old ++ body_words request.now) }
 {
     match request {
@@ -133,7 +133,7 @@ fn push_body(text: &mut Lines, request: &Request) -> Result<(), Memory>
     }
 }
 
-fn push_parts(text: &mut Lines, parts: &[Part]) -> Result<(), Memory>
+fn push_parts(text: &mut Draft, parts: &[Part]) -> Result<(), Memory>
     ensures { OnOk result (text.new ≡ text.old ++ vector_words part_words parts.now) }
 {
     text.count(parts.len() as u64)?;
@@ -143,7 +143,7 @@ fn push_parts(text: &mut Lines, parts: &[Part]) -> Result<(), Memory>
     Ok(())
 }
 
-fn push_part(text: &mut Lines, part: &Part) -> Result<(), Memory>
+fn push_part(text: &mut Draft, part: &Part) -> Result<(), Memory>
     ensures { OnOk result (text.new ≡ text.old ++ part_words part.now) }
 {
     text.word(part_name(part))?;
@@ -151,7 +151,7 @@ fn push_part(text: &mut Lines, part: &Part) -> Result<(), Memory>
 }
 
 /// Adds the line of a request whose body cannot be read.
-fn push_unreadable(text: &mut Lines, place: u64, xid: i32, at: u64) -> Result<(), Memory>
+fn push_unreadable(text: &mut Draft, place: u64, xid: i32, at: u64) -> Result<(), Memory>
     ensures { OnOk result (text.new ≡ text.old ++ line place (unreadable_words xid at)) }
 {
     push_named(text, place, xid, b"unreadable")?;
@@ -160,7 +160,7 @@ fn push_unreadable(text: &mut Lines, place: u64, xid: i32, at: u64) -> Result<()
 }
 
 /// Adds the line of a request of no listed type.
-fn push_unknown(text: &mut Lines, place: u64, xid: i32, kind: i32) -> Result<(), Memory>
+fn push_unknown(text: &mut Draft, place: u64, xid: i32, kind: i32) -> Result<(), Memory>
     ensures { OnOk result (text.new ≡ text.old ++ line place (unknown_words xid kind)) }
 {
     push_named(text, place, xid, b"unknown")?;

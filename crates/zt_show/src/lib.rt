@@ -8,9 +8,11 @@
 //! # Cost
 //!
 //! Time in proportion to the stream and its text. What is kept is the front of a frame that is not whole yet, and while a
-//! piece is taken the frames in it; each frame is read as a record, one after the other, and the text is the caller's.
+//! piece is taken the frames in it; each frame is read as a record, one after the other. The lines of a piece are made apart
+//! and copied to the caller's text all at once, so that a call that is refused memory adds none; each later call is refused.
 #![tactic(auto)]
 
+mod draft;
 mod ending;
 mod frame_line;
 mod laws;
@@ -18,8 +20,6 @@ mod lines;
 mod name;
 mod progress;
 mod show;
-#[cfg(test)]
-mod tests;
 
 pub use ending::Ending;
 pub use laws::one_text;

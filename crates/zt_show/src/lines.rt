@@ -1,18 +1,12 @@
-//! The text of lines, which takes the fields of a record as words.
+//! The text of lines, which the caller holds.
 
-ghost use Rattle.std.specs.Prelude.{◌≡◌, ◌++◌, ◌∷◌, [], decimal, OnOk};
-ghost use Rattle.std.specs.Fmt.{signed_decimal};
-ghost use Rattle.zt_show.specs.FieldWords.{spaced, signed_word, hex_word, acl_words, value_words};
+ghost use Rattle.std.specs.Prelude.{◌≡◌, ◌++◌, [], OnOk, OnErr};
 
 use std::alloc::Global;
 use std::marker::Model;
-use zk_model::Acl;
-use zk_wire::FieldSink;
-use zt_text::{push_hex, push_number, push_signed};
-use zx_base::{Memory, Text};
+use zx_base::Memory;
 
-/// Text that grows at its end, and that contracts see as its bytes. After a refusal of memory a part of a line may stand at
-/// its end.
+/// Text that grows at its end by whole lines, and that contracts see as its bytes.
 #[derive(Debug, Drop)]
 pub struct Lines {
     text: Vec<u8>,
@@ -49,126 +43,12 @@ impl Lines {
         self.text.clear();
     }
 
-    pub(crate) fn bytes(&mut self, bytes: &[u8]) -> Result<(), Memory>
-        ensures { OnOk result (self.new ≡ self.old ++ bytes.now) }
+    /// Adds lines. Without memory the text stays as it was.
+    pub(crate) fn append(&mut self, lines: &[u8]) -> Result<(), Memory>
+        ensures ok { OnOk result (self.new ≡ self.old ++ lines.now) }
+        ensures err { OnErr result (self.new ≡ self.old) }
     {
-        self.text.extend_from_slice(bytes)?;
+        self.text.extend_from_slice(lines)?;
         Ok(())
-    }
-
-    fn blank(&mut self) -> Result<(), Memory>
-        ensures { OnOk result (self.new ≡ self.old ++ 32 ∷ []) }
-    {
-        self.text.push(b' ')?;
-        Ok(())
-    }
-
-    pub(crate) fn end_line(&mut self) -> Result<(), Memory>
-        ensures { OnOk result (self.new ≡ self.old ++ 10 ∷ []) }
-    {
-        self.text.push(b'\n')?;
-        Ok(())
-    }
-
-    /// Adds a number that begins a line.
-    pub(crate) fn number(&mut self, n: u64) -> Result<(), Memory>
-        ensures { OnOk result (self.new ≡ self.old ++ decimal n) }
-    {
-        push_number(&mut self.text, n)
-    }
-
-    /// Adds a name behind a blank.
-    pub(crate) fn word(&mut self, name: &[u8]) -> Result<(), Memory>
-        ensures { OnOk result (self.new ≡ self.old ++ spaced name.now) }
-    {
-        self.blank()?;
-        self.bytes(name)
-    }
-
-    /// Adds a place or a count behind a blank.
-    pub(crate) fn count(&mut self, n: u64) -> Result<(), Memory>
-        ensures { OnOk result (self.new ≡ self.old ++ spaced (decimal n)) }
-    {
-        self.blank()?;
-        push_number(&mut self.text, n)
-    }
-
-    /// Adds a number with a sign behind a blank.
-    pub(crate) fn signed(&mut self, n: i64) -> Result<(), Memory>
-        ensures { OnOk result (self.new ≡ self.old ++ signed_word n) }
-    {
-        self.blank()?;
-        push_signed(&mut self.text, n)
-    }
-
-    /// Adds bytes as hex behind a blank.
-    fn hex(&mut self, bytes: &[u8]) -> Result<(), Memory>
-        ensures { OnOk result (self.new ≡ self.old ++ hex_word bytes.now) }
-    {
-        self.blank()?;
-        push_hex(&mut self.text, bytes)
-    }
-
-    fn acl(&mut self, entry: &Acl) -> Result<(), Memory>
-        ensures { OnOk result (self.new ≡ self.old ++ acl_words entry.now) }
-    {
-        self.signed(i64::from(entry.perms))?;
-        self.hex(entry.scheme.as_slice())?;
-        self.hex(entry.id.as_slice())
-    }
-}
-
-impl FieldSink for Lines {
-    type Fault = Memory;
-
-    ghost can_put = { λ v. Unit {0} };
-
-    ghost put = { λ text v. text ++ value_words v };
-
-    fn int(&mut self, number: i32) -> Result<(), Memory> {
-        self.signed(i64::from(number))
-    }
-
-    fn long(&mut self, number: i64) -> Result<(), Memory> {
-        self.signed(number)
-    }
-
-    fn boolean(&mut self, flag: bool) -> Result<(), Memory> {
-        if flag {
-            self.bytes(b" 1")
-        } else {
-            self.bytes(b" 0")
-        }
-    }
-
-    fn buffer(&mut self, bytes: &[u8]) -> Result<(), Memory> {
-        self.hex(bytes)
-    }
-
-    fn ustring(&mut self, text: &[u8]) -> Result<(), Memory> {
-        self.hex(text)
-    }
-
-    fn ustrings(&mut self, texts: &[Text]) -> Result<(), Memory> {
-        self.count(texts.len() as u64)?;
-        for text in texts {
-            self.hex(text.as_slice())?;
-        }
-        Ok(())
-    }
-
-    fn acls(&mut self, entries: &[Acl]) -> Result<(), Memory> {
-        self.count(entries.len() as u64)?;
-        for entry in entries {
-            self.acl(entry)?;
-        }
-        Ok(())
-    }
-
-    fn open_acl(&mut self) -> Result<(), Memory> {
-        self.count(1)?;
-        self.signed(31)?;
-        self.hex(b"world")?;
-        self.hex(b"anyone")
     }
 }

@@ -1,19 +1,22 @@
 //! How far a stream is shown.
 
-ghost use Rattle.std.specs.Prelude.{◌≡◌, ◌+◌, ◌++◌, ◌≤◌, length, OnOk, IfOk};
+ghost use Rattle.std.specs.Prelude.{◌≡◌, ◌+◌, ◌++◌, ◌≤◌, length, None, OnOk, IfOk, ℕ, List};
 ghost use Rattle.zt_show.specs.Shown.{ending_line};
-ghost use Rattle.zt_show.specs.Showing.{passed, showing, AddsLines, AddsFrames};
+ghost use Rattle.zt_show.specs.Showing.{passed, showing, unshown, long_unless, Adds, AddsLines, AddsFrames, Finishes};
 ghost use Rattle.zk_wire.specs.Putting.{counted};
 
+use crate::draft::Draft;
 use crate::ending::{Ending, push_ending};
 use crate::frame_line::push_frame;
-use crate::lines::Lines;
 use std::alloc::Global;
 use zk_wire::{CutFault, Cutter};
 use zx_base::{Bytes, Memory};
 
 /// The bytes of a frame's length.
 const LENGTH: u64 = 4;
+
+/// The most bytes of a stream that are shown.
+const MAX_STREAM: u64 = 100_000_000;
 
 /// How far a stream is shown.
 #[derive(Clone, Copy, Debug)]
@@ -29,8 +32,20 @@ pub(crate) struct Progress {
 }
 
 impl Progress {
+    /// Of a stream of which nothing came yet.
+    pub(crate) fn new() -> Progress
+        ensures { result ≡ unshown.progress }
+    {
+        Progress {
+            is_begun: false,
+            place: 0,
+            room: MAX_STREAM,
+            lines: 0,
+        }
+    }
+
     /// Adds the last line.
-    pub(crate) fn end(&mut self, ending: Ending, text: &mut Lines) -> Result<(), Memory>
+    fn end(&mut self, ending: Ending, text: &mut Draft) -> Result<(), Memory>
         ensures text { OnOk result (text.new ≡ text.old ++ ending_line ending) }
         ensures lines { OnOk result (self.new.lines ≡ counted (self.old.lines + 1)) }
     {
@@ -56,7 +71,7 @@ impl Progress {
         &mut self,
         alloc: Global,
         frames: &[Bytes],
-        text: &mut Lines,
+        text: &mut Draft,
     ) -> Result<bool, Memory>
         ensures { IfOk result (λ are_all. AddsLines are_all frames.now self.old text.old text.new self.new) }
     {
@@ -70,12 +85,12 @@ impl Progress {
     }
 
     /// Adds the lines of the frames that are whole with these bytes, and says how the stream ends in them.
-    pub(crate) fn take_frames(
+    fn take_frames(
         &mut self,
         alloc: Global,
         cutter: &mut Cutter,
         bytes: &[u8],
-        text: &mut Lines,
+        text: &mut Draft,
     ) -> Result<Option<Ending>, Memory>
         requires { length bytes.now ≤ self.old.room }
         ensures adds { IfOk result (λ found. AddsFrames found (showing cutter.old.rest self.old) bytes.now text.old text.new (showing cutter.new.rest self.new)) }
@@ -108,5 +123,56 @@ impl Progress {
             Err(CutFault::Memory) => return Err(Memory),
         }
         Ok(None)
+    }
+
+    /// Adds the lines of the frames that are whole with this piece, and the last line where the stream ends in it.
+    pub(crate) fn take_piece(
+        &mut self,
+        alloc: Global,
+        cutter: &mut Cutter,
+        piece: &[u8],
+        text: &mut Draft,
+    ) -> Result<Option<Ending>, Memory>
+        ensures adds { IfOk result (λ ending. Adds ending (showing cutter.old.rest self.old) piece.now text.old text.new (showing cutter.new.rest self.new)) }
+        ensures room { IfOk result (λ ending. ending ≡ None → self.new.room + length piece.now ≡ self.old.room) }
+    {
+        let room = self.room;
+        if piece.len() as u64 > room {
+            let front = &piece[..room as usize];
+            let found = self.take_frames(alloc, cutter, front, text)?;
+            let ending = or_long(found);
+            self.end(ending, text)?;
+            return Ok(Some(ending));
+        }
+        let found = self.take_frames(alloc, cutter, piece, text)?;
+        let Some(ending) = found else {
+            return Ok(None);
+        };
+        self.end(ending, text)?;
+        Ok(Some(ending))
+    }
+
+    /// Adds the last line of a stream that came whole.
+    pub(crate) fn finish(&mut self, text: &mut Draft) -> Result<Ending, Memory>
+        ensures { IfOk result (λ ending. (rest : List ℕ) → Finishes ending (showing rest self.old) text.old text.new (showing rest self.new)) }
+    {
+        let place = MAX_STREAM.saturating_sub(self.room);
+        let ending = if place == self.place {
+            Ending::End { place }
+        } else {
+            Ending::Cut { place }
+        };
+        self.end(ending, text)?;
+        Ok(ending)
+    }
+}
+
+/// How a stream ends of which more bytes come than may be shown.
+fn or_long(found: Option<Ending>) -> Ending
+    ensures { result ≡ long_unless found }
+{
+    match found {
+        Some(ending) => ending,
+        None => Ending::Long,
     }
 }

@@ -1,8 +1,9 @@
 //! A stream that comes piece by piece.
 
-ghost use Rattle.std.specs.Prelude.{◌≡◌, ◌+◌, length, None, IfOk};
-ghost use Rattle.zt_show.specs.Showing.{Adds, Finishes, long_unless, unshown};
+ghost use Rattle.std.specs.Prelude.{◌≡◌, ◌+◌, length, None, IfOk, IsErr, IsTrue, OnErr};
+ghost use Rattle.zt_show.specs.Showing.{Adds, Finishes, unshown};
 
+use crate::draft::Draft;
 use crate::ending::Ending;
 use crate::lines::Lines;
 use crate::progress::Progress;
@@ -11,16 +12,16 @@ use std::marker::Model;
 use zk_wire::Cutter;
 use zx_base::Memory;
 
-/// The most bytes of a stream that are shown.
-const MAX_STREAM: u64 = 100_000_000;
-
 /// A stream of which some bytes came. The line of a frame is added once the frame is whole, so that no more than one
-/// frame is kept. After an ending, or a refusal of memory, nothing is said of what it adds.
+/// frame is kept. After an ending nothing is said of what it adds. From a refusal of memory on each call is refused.
 #[derive(Debug, Drop)]
 pub struct Show {
     alloc: Global,
     cutter: Cutter,
     progress: Progress,
+    /// The lines that a call adds, until all of them are made.
+    draft: Draft,
+    has_failed: bool,
 }
 
 impl Model for Show {
@@ -28,7 +29,7 @@ impl Model for Show {
 
     ghost Value = { Showing };
 
-    ghost view = { λ s. record { rest = s.cutter.rest; progress = s.progress } };
+    ghost view = { λ s. record { rest = s.cutter.rest; progress = s.progress; has_failed = s.has_failed } };
 }
 
 impl Show {
@@ -36,16 +37,12 @@ impl Show {
     pub fn new(alloc: Global) -> Show
         ensures { result ≡ unshown }
     {
-        let progress = Progress {
-            is_begun: false,
-            place: 0,
-            room: MAX_STREAM,
-            lines: 0,
-        };
         Show {
             alloc,
             cutter: Cutter::new(alloc),
-            progress,
+            progress: Progress::new(),
+            draft: Draft::new(alloc),
+            has_failed: false,
         }
     }
 
@@ -61,48 +58,42 @@ impl Show {
     pub fn take(&mut self, piece: &[u8], text: &mut Lines) -> Result<Option<Ending>, Memory>
         ensures adds { IfOk result (λ ending. Adds ending self.old piece.now text.old text.new self.new) }
         ensures room { IfOk result (λ ending. ending ≡ None → self.new.progress.room + length piece.now ≡ self.old.progress.room) }
+
+        // Without memory nothing is added, by this call and by each later one.
+        ensures adds_none { OnErr result (text.new ≡ text.old) }
+        ensures fails { OnErr result (IsTrue self.new.has_failed) }
+        ensures for_good { IsTrue self.old.has_failed → IsErr result }
     {
-        let room = self.progress.room;
-        if piece.len() as u64 > room {
-            let front = &piece[..room as usize];
-            let found = self
-                .progress
-                .take_frames(self.alloc, &mut self.cutter, front, text)?;
-            let ending = or_long(found);
-            self.progress.end(ending, text)?;
-            return Ok(Some(ending));
+        if self.has_failed {
+            return Err(Memory);
         }
-        let found = self
+        self.has_failed = true;
+        self.draft.clear();
+        let ending = self
             .progress
-            .take_frames(self.alloc, &mut self.cutter, piece, text)?;
-        let Some(ending) = found else {
-            return Ok(None);
-        };
-        self.progress.end(ending, text)?;
-        Ok(Some(ending))
+            .take_piece(self.alloc, &mut self.cutter, piece, &mut self.draft)?;
+        text.append(self.draft.as_slice())?;
+        self.has_failed = false;
+        Ok(ending)
     }
 
     /// Adds the last line of a stream that came whole.
     pub fn finish(&mut self, text: &mut Lines) -> Result<Ending, Memory>
-        ensures { IfOk result (λ ending. Finishes ending self.old text.old text.new self.new) }
-    {
-        let place = MAX_STREAM.saturating_sub(self.progress.room);
-        let ending = if place == self.progress.place {
-            Ending::End { place }
-        } else {
-            Ending::Cut { place }
-        };
-        self.progress.end(ending, text)?;
-        Ok(ending)
-    }
-}
+        ensures adds { IfOk result (λ ending. Finishes ending self.old text.old text.new self.new) }
 
-/// How a stream ends of which more bytes come than may be shown.
-fn or_long(found: Option<Ending>) -> Ending
-    ensures { result ≡ long_unless found }
-{
-    match found {
-        Some(ending) => ending,
-        None => Ending::Long,
+        // Without memory nothing is added, by this call and by each later one.
+        ensures adds_none { OnErr result (text.new ≡ text.old) }
+        ensures fails { OnErr result (IsTrue self.new.has_failed) }
+        ensures for_good { IsTrue self.old.has_failed → IsErr result }
+    {
+        if self.has_failed {
+            return Err(Memory);
+        }
+        self.has_failed = true;
+        self.draft.clear();
+        let ending = self.progress.finish(&mut self.draft)?;
+        text.append(self.draft.as_slice())?;
+        self.has_failed = false;
+        Ok(ending)
     }
 }

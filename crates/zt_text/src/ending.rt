@@ -2,6 +2,7 @@
 
 ghost use Rattle.std.specs.Prelude.{◌≡◌, ◌++◌, OnOk, OnErr};
 ghost use Rattle.zt_text.specs.Faults.{done_text, fault_text, unread_text, why_text};
+
 use crate::word::{Word, push_words};
 use crate::{Unread, Why};
 use zx_base::Memory;

@@ -4,10 +4,10 @@ ghost use Rattle.std.specs.Prelude.{◌≡◌, IfOk, bytes_eq};
 ghost use Rattle.zt_text.specs.Scripts.{number_and_bytes as number_and_bytes_of, numbered_line, of_number as of_number_of, open_line, frame_line, bytes_line, lapse_line, foreign_line, reap_line, line_of_form as line_of_form_of};
 ghost use Rattle.zt_text.specs.Words.{words_of};
 
+use crate::Happening;
 use crate::argument::{hex, number, password, session_id};
 use crate::words::{Words, four_words, one_word, three_words, two_words};
 use std::alloc::Global;
-use crate::Happening;
 use zx_base::{Bytes, Memory};
 
 /// What a line says, by its first word and the others.

@@ -1,7 +1,7 @@
 //! The text of scripts, which tell what is to happen in a run of the service, and of transcripts, which show what did.
 //!
-//! A script is read line by line: [`first_line`] cuts bytes at a line feed, [`read_line`] says what a line means. It reads
-//! each form exactly: a line that it answers None for is of no form. A transcript is written line by line by
+//! A script is read line by line: [`read_line`] says what a line means, without its line feed. It reads each form exactly:
+//! a line that it answers None for is of no form. A transcript is written line by line by
 //! [`push_line`], and its last line by [`push_done`], [`push_fault`] or [`push_unread`].
 //!
 //! Both formats are this project's own; they stand in `specs/Scripts` and `specs/Transcripts`. Reading a line takes
@@ -16,13 +16,10 @@ mod form;
 mod laws;
 mod script;
 mod script_line;
-#[cfg(test)]
-mod tests;
 mod transcript_line;
 mod word;
 mod words;
 
-pub use cut::first_line;
 pub use ending::{push_done, push_fault, push_unread};
 pub use laws::{one_line_feed, one_reading};
 pub use script::{Happening, Unread, Why};

@@ -3,10 +3,10 @@
 ghost use Rattle.std.specs.Prelude.{◌≡◌, IfOk};
 ghost use Rattle.zt_text.specs.Scripts.{line_read};
 
+use crate::Happening;
 use crate::form::line_of_form;
 use crate::words::first_word;
 use std::alloc::Global;
-use crate::Happening;
 use zx_base::Memory;
 
 /// The most bytes of a line, without its line feed.

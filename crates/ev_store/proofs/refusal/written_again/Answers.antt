@@ -2,7 +2,7 @@ use Rattle.std.proofs.Common.{◌≡◌, Bool, true, false, ap, sym, ◌∙◌, 
 use Rattle.std.specs.Bool.{then_some}
 use Rattle.std.specs.Option.{option_copied}
 use Rattle.zx_base.specs.Maps.{Bytes}
-use Rattle.ev_store.specs.Repeats.{again}
+use Rattle.ev_store.specs.FirstDenial.{written_again as again}
 use Rattle.ev_store.proofs.refusal.written_again.Goals as goal
 
 copied-then_some : (b : Bool) (k : Bor Bytes) → option_copied (then_some b k) ≡ cond b (Some k.now) None

@@ -1,6 +1,6 @@
 -- The reads so far.
 use Rattle.std.proofs.Common.{◌≡◌, map, take}
-use Rattle.zn_layout.specs.Begin.{read_key}
+use Rattle.ev_types.specs.Reads.{read_key}
 use Rattle.zn_ops.proofs.view.reads.Given as goal
 
 abbrev pub invariant-loop-key : goal.invariant-loop-key

@@ -2,9 +2,8 @@ use Rattle.std.proofs.Common.{◌≡◌, ◌+◌, ◌+ℤ◌, ◌∷◌, [], pos
 use Rattle.std.proofs.Math.ListN.{drop_of_length-le}
 use Rattle.ev_types.specs.Store.{Done, revision, present, after_changes}
 use Rattle.ev_store.specs.Changes.{put_keys, are_distinct}
-use Rattle.ev_store.specs.Repeats.{act_keys}
 use Rattle.ev_store.proofs.Places.{front_of}
-use Rattle.ev_store.proofs.Working.{done_with, done_step, done_all, keys_step, distinct-front, distinct-acts}
+use Rattle.ev_store.proofs.Working.{act_keys, done_with, done_step, done_all, keys_step, distinct-front, distinct-acts}
 use Rattle.ev_store.proofs.store.Store.work.Goals as goal
 
 pub loop-act-init : goal.loop-act-init

@@ -1,8 +1,7 @@
 use Rattle.std.proofs.Common.{◌≡◌, ◌+ℤ◌, ◌++◌, pos, drop, true}
 use Rattle.ev_types.specs.Store.{acts_from, present, revision}
 use Rattle.ev_store.specs.Changes.{put_keys, are_distinct}
-use Rattle.ev_store.specs.Repeats.{act_keys}
-use Rattle.ev_store.proofs.Working.{done_with}
+use Rattle.ev_store.proofs.Working.{act_keys, done_with}
 use Rattle.ev_store.proofs.store.Store.work.Given as goal
 
 abbrev pub invariant-loop-act : goal.invariant-loop-act

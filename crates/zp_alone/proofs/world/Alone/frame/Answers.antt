@@ -5,7 +5,7 @@ use Rattle.zk_transcript.specs.declared.transcript.TranscriptLine.TheVariants.{F
 use Rattle.zt_text.specs.Transcripts.{AreBytes, IsWellFormed}
 use Rattle.ev_types.specs.Store.{revision}
 use Rattle.zp_alone.specs.World.{IsReadBuilt}
-use Rattle.zp_alone.specs.Applying.{Plays}
+use Rattle.zp_alone.specs.Applying.{LeadsOn}
 use Rattle.zp_alone.specs.Effects.{framed}
 use Rattle.zp_alone.proofs.Reaching.{plays-frame}
 use Rattle.zp_alone.proofs.Refusals.{refuses, frame-unknown, frame-long, frame-unbuilt, frame-possible}
@@ -33,7 +33,7 @@ returns-in_ok-add_frame-in-Some c =
     let possible = frame-possible c.args.self.now.lines c.args.self.now.clock c.args.connection c.args.bytes c.in-Some.xid c.in-Some.request (sym c.is_open.ensures ∙ c.if-not-is_open.false) short read.0 read.1.built in
     let leaves : c.add_frame.new.self ≡ framed c.args.self.now c.args.connection c.args.bytes c.in-Some.xid c.in-Some.request = search rules in
     let formed : IsWellFormed (Frame c.args.connection (c.args.self.now.frames + 1) (revision c.args.self.now.store) c.args.bytes) = search rules in
-    (possible, subst (Plays c.args.self.now (line.Frame c.args.connection c.args.bytes)) (sym leaves) (plays-frame c.args.self.now c.args.connection c.args.bytes c.in-Some.xid c.in-Some.request possible read.0 formed))
+    (possible, subst (LeadsOn c.args.self.now (line.Frame c.args.connection c.args.bytes)) (sym leaves) (plays-frame c.args.self.now c.args.connection c.args.bytes c.in-Some.xid c.in-Some.request possible read.0 formed))
 
 pub returns-in-None : goal.returns-in-None
 returns-in-None c =

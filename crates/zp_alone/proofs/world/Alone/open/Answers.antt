@@ -2,7 +2,7 @@ use Rattle.std.proofs.Common.{◌≡◌, pos, true, false, w64, ◌≤ℤ◌, ar
 use Rattle.std.specs.Prelude.{int_lt}
 use Rattle.std.proofs.lemmas.Int.{ints, to_z-of_z}
 use Rattle.zt_text.specs.declared.script.Why.TheVariants as why
-use Rattle.zp_alone.specs.Applying.{Plays}
+use Rattle.zp_alone.specs.Applying.{LeadsOn}
 use Rattle.zp_alone.specs.Effects.{opened}
 use Rattle.zp_alone.proofs.Reaching.{plays-open}
 use Rattle.zp_alone.proofs.Refusals.{refuses, open-in_use, open-second, open-unnumbered, open-possible}
@@ -33,4 +33,4 @@ returns c =
     let formed = open_formed c.args.connection c.args.proxy c.args.id c.args.passwd (omega (arith, c.ranges.connection)) (omega (arith, c.ranges.proxy)) least most
     c.are_bytes.ensures in
     let leaves : c.add_connection.new.self ≡ opened c.args.self.now c.args.connection c.args.proxy c.args.id c.args.passwd = search rules in
-    (possible, subst (Plays c.args.self.now _) (sym leaves) (plays-open c.args.self.now c.args.connection c.args.proxy c.args.id c.args.passwd possible formed))
+    (possible, subst (LeadsOn c.args.self.now _) (sym leaves) (plays-open c.args.self.now c.args.connection c.args.proxy c.args.id c.args.passwd possible formed))

@@ -1,17 +1,10 @@
-use Rattle.std.proofs.Common.{arith, ◌∙◌}
+use Rattle.std.proofs.Common.{◌++◌, List, ℕ, ap, ◌∙◌}
 use Rattle.zt_show.specs.Showing.{showing}
-use Rattle.zt_show.proofs.Taking.{Finishes-from, ends_whole, ends_cut}
-use Rattle.zt_show.proofs.show.Show.finish.Goals.{then-place-self, else-place-self}
+use Rattle.zt_show.proofs.Taking.{Finishes-appended}
 use Rattle.zt_show.proofs.show.Show.finish.Goals as goal
 
-pub returns : goal.returns
-returns c =
-    let old = showing c.self.inside.cutter.rest c.self.inside.progress in
-    let place = c.saturating_sub-place.ensures in
+pub returns-clause-adds : goal.returns-clause-adds
+returns-clause-adds c =
     rw (← c.self.view_is)
-    (Finishes-from old c.args.text.now c.end.new.text c.if-place-self.ending c.end.new.self
-    (elim c.if-place-self.branch [
-      | then-place-self w ↦ λ seen lines f. w.ending-is ∙ ends_whole old c.saturating_sub-place.result (omega arith) (omega arith) seen lines f
-      | else-place-self w ↦ λ seen lines f. w.ending-is ∙ ends_cut old c.saturating_sub-place.result (omega arith) (λ e. omega arith) seen lines f
-    ])
-    c.in_ok-end.ensures.text c.in_ok-end.ensures.lines)
+    (Finishes-appended c.in_ok-ending.ending c.self.inside.cutter.rest c.self.inside.progress c.self.inside.has_failed (showing c.self.inside.cutter.rest c.finish.new.self) c.clear.new.self c.finish.new.text c.args.text.now c.append.new.self
+    c.if-self.false c.clear.ensures (c.in_ok-ending.ensures c.self.inside.cutter.rest) (c.in_ok-append.ensures.ok ∙ ap (λ (t : List ℕ). c.args.text.now ++ t) c.as_slice.ensures))

@@ -1,0 +1,10 @@
+pub mod Bodies
+pub mod Chunks
+pub mod Framings
+pub mod Heads
+pub mod Feeds
+pub mod Messages
+pub mod Places
+pub mod Reading
+pub mod Sending
+pub mod Takings

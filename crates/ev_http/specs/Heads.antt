@@ -1,0 +1,72 @@
+-- Heads of HTTP/1.1 messages (RFC 9112, sections 2 to 5), as the kit's parser reads them.
+use Rattle.std.specs.Prelude.{◌≡◌, ℕ, ◌<◌, ◌≤◌, ◌⊎◌, List, ◌++◌, length, ⊤, Result, Ok, Err}
+use Rattle.std.specs.Global.{Vec}
+use Rattle.httparse.specs.Grammar.{Field, RequestHead, IsRequestHead, print_request, ResponseHead, IsResponseHead, print_response}
+use Rattle.ev_http.specs.declared.fault.HttpFault.{HttpFault}
+use Rattle.ev_http.specs.declared.fault.HttpFault.TheVariants as fault
+use Rattle.ev_http.specs.declared.head.Kind.{Kind}
+use Rattle.ev_http.specs.declared.head.Kind.TheVariants as kind
+use Rattle.ev_http.specs.declared.taking.Tally.{Tally}
+use Rattle.ev_http.specs.Taking.{Told, Ends, counted}
+
+-- These bytes are a head with these fields.
+abbrev pub IsHead : Kind → List Field → List ℕ → Type 0
+IsHead kind.Request fields bytes = (h : RequestHead) × IsRequestHead h × (fields ≡ h.fields) × (bytes ≡ print_request h)
+IsHead kind.Response fields bytes = (h : ResponseHead) × IsResponseHead h × (fields ≡ h.fields) × (bytes ≡ print_response h)
+
+-- No front of the bytes is a head.
+abbrev pub HasNoHead : Kind → List ℕ → Type 0
+HasNoHead kind bytes = (fields : List Field) (head rest : List ℕ) → IsHead kind fields head → bytes ≡ head ++ rest → ⊥
+
+-- However the bytes go on, a head at their front has more than 64 fields or more than 16,384 bytes.
+abbrev pub NeverFits : Kind → List ℕ → Type 0
+NeverFits kind bytes =
+    (fields : List Field) (head more rest : List ℕ) → IsHead kind fields head → bytes ++ more ≡ head ++ rest → (64 < length fields) ⊎ (16384 < length head)
+
+-- A front of the bytes is a head of at most 64 fields.
+abbrev pub BeginsWithHead : Kind → List ℕ → Type 0
+BeginsWithHead kind bytes = (fields : List Field) × (head : List ℕ) × (rest : List ℕ) × IsHead kind fields head × (length fields ≤ 64) × (bytes ≡ head ++ rest)
+
+-- The bytes are one head that fits.
+pub record FitsHead (kind : Kind) (fields : List Field) (bytes : List ℕ) : Type 0 where
+  pub is_head : IsHead kind fields bytes
+  pub few : length fields ≤ 64
+  pub short : length bytes ≤ 16384
+
+-- The bytes are the front of a head that did not come whole.
+pub record IsOpenHead (kind : Kind) (bytes : List ℕ) : Type 0 where
+  pub none : HasNoHead kind bytes
+  pub short : length bytes ≤ 16384
+
+-- What the taking of a head came to, by its answer.
+abbrev pub TakesHead : Result (Unit {0}) HttpFault → Kind → List ℕ → List ℕ → List ℕ → Told → Tally → Type 0
+TakesHead (Ok _) kind old added new source tally = (new ≡ old ++ added) × (fields : List Field) × FitsHead kind fields new
+TakesHead (Err fault.Head) kind old added new source tally = (new ≡ old ++ added) × NeverFits kind new
+TakesHead (Err (fault.Ended n)) kind old added new source tally = (new ≡ old ++ added) × IsOpenHead kind new × Ends source × (n ≡ tally.taken)
+TakesHead (Err fault.Idle) kind old added new source tally = (new ≡ old ++ added) × IsOpenHead kind new × (tally.turns ≡ 6000)
+TakesHead (Err fault.ReadFault) kind old added new source tally = (new ≡ old ++ added) × IsOpenHead kind new
+TakesHead (Err fault.Memory) kind old added new source tally = ⊤
+TakesHead (Err (fault.Status n)) kind old added new source tally = ⊥
+TakesHead (Err fault.Route) kind old added new source tally = ⊥
+TakesHead (Err (fault.Body p)) kind old added new source tally = ⊥
+TakesHead (Err (fault.TooLong n)) kind old added new source tally = ⊥
+TakesHead (Err fault.WriteFault) kind old added new source tally = ⊥
+
+-- The reading of a message stopped in its head.
+abbrev pub StopsInHead : {A : Type 0} → Result A HttpFault → Kind → List ℕ → Told → Tally → Type 0
+StopsInHead (Ok message) k bytes source tally = ⊥
+StopsInHead (Err fault.Head) k bytes source tally = NeverFits k bytes
+StopsInHead (Err (fault.Ended n)) k bytes source tally = IsOpenHead k bytes × Ends source × (n ≡ counted (length bytes))
+StopsInHead (Err fault.Idle) k bytes source tally = IsOpenHead k bytes × (tally.turns ≡ 6000)
+StopsInHead (Err fault.ReadFault) k bytes source tally = IsOpenHead k bytes
+StopsInHead (Err fault.Memory) k bytes source tally = ⊤
+StopsInHead (Err (fault.Status n)) k bytes source tally = ⊥
+StopsInHead (Err fault.Route) k bytes source tally = ⊥
+StopsInHead (Err (fault.Body place)) k bytes source tally = ⊥
+StopsInHead (Err (fault.TooLong n)) k bytes source tally = ⊥
+StopsInHead (Err fault.WriteFault) k bytes source tally = ⊥
+
+-- What the reading of a head came to, by its answer.
+abbrev pub HeadAnswer : Result (Vec ℕ) HttpFault → Kind → List ℕ → Told → Tally → Type 0
+HeadAnswer (Ok head) k bytes source tally = (head.items ≡ bytes) × (fields : List Field) × FitsHead k fields bytes
+HeadAnswer (Err why) k bytes source tally = StopsInHead {A = Vec ℕ} (Err why) k bytes source tally

@@ -1,0 +1,6 @@
+pub mod Body
+pub mod Framing
+pub mod Heads
+pub mod Messages
+pub mod Sending
+pub mod Taking

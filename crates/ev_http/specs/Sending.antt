@@ -1,0 +1,52 @@
+-- What is sent: requests to a gateway, and the responses of one.
+use Rattle.std.specs.Prelude.{◌≡◌, ℕ, List, [], ◌++◌, Option, Result, Ok, Err, codes, unwrap_or, if◌then◌else◌, nat_le, nat_lt, ◌&&◌}
+use Rattle.std.specs.Fmt.{decimal}
+use Rattle.http.specs.StatusCode.{reason_phrase}
+use Rattle.ev_types.specs.declared.route.Route.{Route}
+use Rattle.zx_outside.specs.Counts.{OutputCounts, one_more}
+use Rattle.zx_outside.specs.Writing.{Takes, TakesFront}
+use Rattle.ev_http.specs.declared.send.Fixed.{Fixed}
+use Rattle.ev_http.specs.declared.send.Fixed.TheVariants as fixed
+use Rattle.ev_http.specs.declared.fault.HttpFault.{HttpFault}
+use Rattle.ev_http.specs.declared.fault.HttpFault.TheVariants as fault
+use Rattle.ev_http.specs.Messages.{path_of}
+
+-- The reason phrase of a status, empty where it has none.
+abbrev pub phrase_of : ℕ → List ℕ
+phrase_of status = if nat_le 100 status && nat_lt status 1000 then unwrap_or (reason_phrase status) [] else []
+
+-- The fixed texts of heads.
+unfoldable pub text_of : Fixed → List ℕ
+text_of fixed.Post = codes "POST "
+text_of fixed.Host = codes " HTTP/1.1\r\nhost: "
+text_of fixed.Version = codes "HTTP/1.1 "
+text_of fixed.Blank = codes " "
+text_of fixed.Fields = codes "\r\ncontent-type: application/json\r\ncontent-length: "
+text_of fixed.End = codes "\r\n\r\n"
+
+-- The head of a request to a host, with a body of so many bytes.
+abbrev pub request_head : List ℕ → Route → ℕ → List ℕ
+request_head host r n = text_of fixed.Post ++ (path_of r ++ (text_of fixed.Host ++ (host ++ (text_of fixed.Fields ++ (decimal n ++ text_of fixed.End)))))
+
+-- The head of a response with a body of so many bytes.
+abbrev pub response_head : ℕ → ℕ → List ℕ
+response_head status n = text_of fixed.Version ++ (decimal status ++ (text_of fixed.Blank ++ (phrase_of status ++ (text_of fixed.Fields ++ (decimal n ++ text_of fixed.End)))))
+
+-- The bytes were written, or a front of them up to a fault, by what the sink tells before and after.
+abbrev pub Wrote : Result (Unit {0}) HttpFault → List ℕ → Option (List ℕ) → Option (List ℕ) → OutputCounts → OutputCounts → ℕ → ℕ → Type 0
+Wrote (Ok _) bytes taken taken' counts counts' name name' = Takes bytes taken taken' × (counts' ≡ counts) × (name' ≡ name)
+Wrote (Err fault.WriteFault) bytes taken taken' counts counts' name name' = TakesFront bytes taken taken' × (counts'.faults ≡ one_more counts.faults) × (name' ≡ name)
+Wrote (Err fault.Memory) bytes taken taken' counts counts' name name' = ⊥
+Wrote (Err fault.Head) bytes taken taken' counts counts' name name' = ⊥
+Wrote (Err (fault.Status n)) bytes taken taken' counts counts' name name' = ⊥
+Wrote (Err fault.Route) bytes taken taken' counts counts' name name' = ⊥
+Wrote (Err (fault.Body p)) bytes taken taken' counts counts' name name' = ⊥
+Wrote (Err (fault.TooLong n)) bytes taken taken' counts counts' name name' = ⊥
+Wrote (Err (fault.Ended n)) bytes taken taken' counts counts' name name' = ⊥
+Wrote (Err fault.Idle) bytes taken taken' counts counts' name name' = ⊥
+Wrote (Err fault.ReadFault) bytes taken taken' counts counts' name name' = ⊥
+
+-- The same, or nothing was written for want of memory.
+abbrev pub Sends : Result (Unit {0}) HttpFault → List ℕ → Option (List ℕ) → Option (List ℕ) → OutputCounts → OutputCounts → ℕ → ℕ → Type 0
+Sends (Err fault.Memory) bytes taken taken' counts counts' name name' = (taken' ≡ taken) × (counts' ≡ counts) × (name' ≡ name)
+Sends result bytes taken taken' counts counts' name name' = Wrote result bytes taken taken' counts counts' name name'

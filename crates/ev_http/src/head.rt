@@ -1,0 +1,131 @@
+//! The head of a message.
+
+ghost use Rattle.std.specs.Prelude.{◌≡◌, ◌<◌, ◌≤◌, ◌++◌, List, ℕ, length};
+ghost use Rattle.ev_http.specs.Heads.{HasNoHead, NeverFits, BeginsWithHead, IsOpenHead, TakesHead, HeadAnswer};
+ghost use Rattle.ev_http.specs.Taking.{Took, told, failed};
+
+use crate::fault::HttpFault;
+use crate::taking::{Cut, Tally, take_line};
+use httparse::Status;
+use httparse::spans::{EMPTY_HEADER_SPAN, parse_request, parse_response};
+use std::alloc::Global;
+use zx_outside::Source;
+
+/// How many fields a head has at most.
+pub const MAX_FIELDS: usize = 64;
+
+/// How many bytes a head has at most, with the empty line that ends it.
+pub const MAX_HEAD: usize = 16384;
+
+/// Which message it is.
+#[derive(Clone, Copy)]
+pub enum Kind {
+    Request,
+    Response,
+}
+
+/// What the bytes so far come to.
+#[derive(Clone, Copy)]
+enum Judged {
+    /// They begin with a whole head.
+    Whole,
+    /// More bytes may make them one.
+    More,
+    /// They never become a head that fits.
+    Never,
+}
+
+fn judge_request(bytes: &[u8]) -> Judged
+    ensures whole { result ≡ Judged.Whole → BeginsWithHead Kind.Request bytes.now }
+    ensures more { result ≡ Judged.More → HasNoHead Kind.Request bytes.now }
+    ensures never { result ≡ Judged.Never → NeverFits Kind.Request bytes.now }
+{
+    let mut fields = [EMPTY_HEADER_SPAN; MAX_FIELDS];
+    match parse_request(bytes, &mut fields) {
+        Ok(Status::Complete(_)) => Judged::Whole,
+        Ok(Status::Partial) => Judged::More,
+        Err(_) => Judged::Never,
+    }
+}
+
+fn judge_response(bytes: &[u8]) -> Judged
+    ensures whole { result ≡ Judged.Whole → BeginsWithHead Kind.Response bytes.now }
+    ensures more { result ≡ Judged.More → HasNoHead Kind.Response bytes.now }
+    ensures never { result ≡ Judged.Never → NeverFits Kind.Response bytes.now }
+{
+    let mut fields = [EMPTY_HEADER_SPAN; MAX_FIELDS];
+    match parse_response(bytes, &mut fields) {
+        Ok(Status::Complete(_)) => Judged::Whole,
+        Ok(Status::Partial) => Judged::More,
+        Err(_) => Judged::Never,
+    }
+}
+
+fn judge(kind: Kind, bytes: &[u8]) -> Judged
+    ensures whole { result ≡ Judged.Whole → BeginsWithHead kind bytes.now }
+    ensures more { result ≡ Judged.More → HasNoHead kind bytes.now }
+    ensures never { result ≡ Judged.Never → NeverFits kind bytes.now }
+{
+    match kind {
+        Kind::Request => judge_request(bytes),
+        Kind::Response => judge_response(bytes),
+    }
+}
+
+/// Takes the rest of a head, and no byte behind it. It is judged once for each line. What was taken of it stays in
+/// `head`, whatever the answer.
+pub fn take_head<S: Source>(
+    source: &mut S,
+    tally: &mut Tally,
+    kind: Kind,
+    head: &mut Vec<u8>,
+) -> Result<(), HttpFault>
+    requires within { tally.old.turns ≤ 6000 }
+    ensures head { (added : List ℕ)
+        × Took added (failed result) tally.old tally.new
+        (told S.given S.left S.counts S.ended S.name source.old)
+        (told S.given S.left S.counts S.ended S.name source.new)
+        × (IsOpenHead kind head.old.items → TakesHead result kind head.old.items added head.new.items
+        (told S.given S.left S.counts S.ended S.name source.new) tally.new) }
+{
+    'lines: loop {
+        match take_line(source, tally, head, MAX_HEAD) {
+            Ok(Cut::LineFeed) => match judge(kind, head.as_slice()) {
+                Judged::Whole => return Ok(()),
+                Judged::More => {}
+                Judged::Never => return Err(HttpFault::Head),
+            },
+            Ok(Cut::Full) => return Err(HttpFault::Head),
+            Ok(Cut::End) => match judge(kind, head.as_slice()) {
+                Judged::Never => return Err(HttpFault::Head),
+                _ => {
+                    return Err(HttpFault::Ended { taken: tally.taken });
+                }
+            },
+            Err(fault) => return Err(fault),
+        }
+    }
+}
+
+/// Reads a whole head at the first byte of a message.
+pub fn read_head<S: Source>(
+    alloc: Global,
+    source: &mut S,
+    tally: &mut Tally,
+    kind: Kind,
+) -> Result<Vec<u8>, HttpFault>
+    requires within { tally.old.turns ≤ 6000 }
+    requires first { tally.old.taken ≡ 0 }
+    ensures head { (bytes : List ℕ)
+        × Took bytes (failed result) tally.old tally.new
+        (told S.given S.left S.counts S.ended S.name source.old)
+        (told S.given S.left S.counts S.ended S.name source.new)
+        × HeadAnswer result kind bytes
+        (told S.given S.left S.counts S.ended S.name source.new) tally.new }
+{
+    let mut head = Vec::new(alloc);
+    match take_head(source, tally, kind, &mut head) {
+        Ok(()) => Ok(head),
+        Err(fault) => Err(fault),
+    }
+}

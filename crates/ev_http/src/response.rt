@@ -1,0 +1,74 @@
+//! Reading of responses.
+
+ghost use Rattle.std.specs.Prelude.{◌≡◌, ◌≤◌, List, ℕ, length, IfSome};
+ghost use Rattle.httparse.specs.Grammar.{ResponseHead, IsResponseHead, print_response};
+ghost use Rattle.ev_http.specs.Messages.{FoundResponse, JudgesResponse, ResponseAnswer};
+ghost use Rattle.ev_http.specs.Taking.{Took, told, failed, fresh};
+ghost use Rattle.ev_http.specs.declared.taking.Tally.{Tally};
+ghost use Rattle.httparse.specs.Spans.{IsResponseWithin};
+
+use crate::body::read_body;
+use crate::fault::HttpFault;
+use crate::framing::{Framing, place_of, read_framing};
+use crate::head::{Kind, MAX_FIELDS, read_head};
+use crate::taking::Tally;
+use httparse::Status;
+use httparse::spans::{EMPTY_HEADER_SPAN, HeaderSpan, ResponseSpans, parse_response};
+use std::alloc::Global;
+use zx_outside::Source;
+
+/// The status of a response whose body is read.
+const OK: u16 = 200;
+
+/// Where the parts of a whole head lie.
+fn whole_response(head: &[u8], fields: &mut [HeaderSpan]) -> Option<ResponseSpans>
+    ensures within { IfSome result (IsResponseWithin head.now fields.new) }
+    ensures found { (h : ResponseHead) → IsResponseHead h → head.now ≡ print_response h → length h.fields ≤ length fields.old → FoundResponse result head.now fields.new h }
+{
+    match parse_response(head, fields) {
+        Ok(Status::Complete(spans)) => Some(spans),
+        Ok(Status::Partial) => None,
+        Err(_) => None,
+    }
+}
+
+/// How the body behind a whole head is framed.
+pub fn response_framing(head: &[u8]) -> Result<Framing, HttpFault>
+    ensures { (h : ResponseHead) → IsResponseHead h → head.now ≡ print_response h → length h.fields ≤ 64 → JudgesResponse result h head.now }
+{
+    let mut fields = [EMPTY_HEADER_SPAN; MAX_FIELDS];
+    let Some(spans) = whole_response(head, &mut fields) else {
+        return Err(HttpFault::Head);
+    };
+    if spans.code != OK {
+        return Err(HttpFault::Status(spans.code));
+    }
+    match read_framing(Kind::Response, head, &fields[..spans.headers]) {
+        Ok(framing) => Ok(framing),
+        Err(number) => Err(HttpFault::Body {
+            place: place_of(head, spans.headers, number),
+        }),
+    }
+}
+
+/// Reads one response of the gateway, and takes no byte behind it (RFC 9112). A body without a framing field lasts to
+/// the source's end.
+///
+/// The head is taken byte by byte, the body in pieces of up to 4,096 bytes, each of which is copied once.
+pub fn read_response<S: Source>(alloc: Global, source: &mut S) -> Result<Vec<u8>, HttpFault>
+    ensures { (bytes : List ℕ) × (tally : Tally)
+        × Took bytes (failed result) fresh tally
+        (told S.given S.left S.counts S.ended S.name source.old)
+        (told S.given S.left S.counts S.ended S.name source.new)
+        × ResponseAnswer result bytes
+        (told S.given S.left S.counts S.ended S.name source.new) tally }
+{
+    let mut tally = Tally::new();
+    match read_head(alloc, source, &mut tally, Kind::Response) {
+        Ok(head) => match response_framing(head.as_slice()) {
+            Ok(framing) => read_body(alloc, source, &mut tally, framing),
+            Err(fault) => Err(fault),
+        },
+        Err(fault) => Err(fault),
+    }
+}

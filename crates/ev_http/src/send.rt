@@ -1,0 +1,135 @@
+//! Sending of messages.
+
+ghost use Rattle.std.specs.Prelude.{◌≡◌, ◌++◌, List, ℕ, length, IfOk, IfSome, string_bytes};
+ghost use Rattle.http.specs.StatusCode.{reason_phrase};
+ghost use Rattle.zx_outside.specs.Counts.{OutputCounts};
+ghost use Rattle.ev_http.specs.Sending.{request_head, response_head, Wrote, Sends, phrase_of, text_of};
+
+use crate::fault::HttpFault;
+use crate::request::path_of;
+use ev_types::Route;
+use http::StatusCode;
+use std::alloc::{AllocError, Global};
+use zx_outside::{Sink, Took};
+
+/// Writes all of the bytes, or up to the first fault of the sink.
+fn write_all<K: Sink>(sink: &mut K, bytes: &[u8]) -> Result<(), HttpFault>
+    ensures { Wrote result bytes.now (K.taken sink.old) (K.taken sink.new) (K.counts sink.old) (K.counts sink.new) (K.name sink.old) (K.name sink.new) }
+{
+    let mut at = 0;
+    'pieces: while at < bytes.len() {
+        match sink.write(&bytes[at..]) {
+            Took::Bytes(count) => at += count,
+            Took::Failed => return Err(HttpFault::WriteFault),
+        }
+    }
+    Ok(())
+}
+
+/// Writes a head and then a body.
+fn write_message<K: Sink>(sink: &mut K, head: &[u8], body: &[u8]) -> Result<(), HttpFault>
+    ensures { Wrote result (head.now ++ body.now) (K.taken sink.old) (K.taken sink.new) (K.counts sink.old) (K.counts sink.new) (K.name sink.old) (K.name sink.new) }
+{
+    match write_all(sink, head) {
+        Ok(()) => write_all(sink, body),
+        Err(fault) => Err(fault),
+    }
+}
+
+/// The fixed texts of heads.
+#[derive(Clone, Copy)]
+enum Fixed {
+    Post,
+    Host,
+    Version,
+    Blank,
+    Fields,
+    End,
+}
+
+#[tactic(auto, unfolding(crate::specs::Sending::text_of))]
+fn text_of(fixed: Fixed) -> &'static str
+    ensures { result.now ≡ text_of fixed }
+{
+    match fixed {
+        Fixed::Post => "POST ",
+        Fixed::Host => " HTTP/1.1\r\nhost: ",
+        Fixed::Version => "HTTP/1.1 ",
+        Fixed::Blank => " ",
+        Fixed::Fields => "\r\ncontent-type: application/json\r\ncontent-length: ",
+        Fixed::End => "\r\n\r\n",
+    }
+}
+
+fn request_head(
+    alloc: Global,
+    host: &str,
+    route: Route,
+    length: usize,
+) -> Result<String, AllocError>
+    ensures { IfOk result (λ text. string_bytes text ≡ request_head host.now route length) }
+{
+    let post = text_of(Fixed::Post);
+    let path = path_of(route);
+    let to_host = text_of(Fixed::Host);
+    let fields = text_of(Fixed::Fields);
+    let end = text_of(Fixed::End);
+    format!(in alloc; "{post}{path}{to_host}{host}{fields}{length}{end}")
+}
+
+/// The reason phrase of a status (RFC 9110, section 15), empty where it has none.
+fn phrase_of(status: u16) -> &'static str
+    ensures { result.now ≡ phrase_of status }
+{
+    match StatusCode::from_u16(status) {
+        Ok(code) => match code.canonical_reason() {
+            Some(phrase) => phrase,
+            None => "",
+        },
+        Err(_) => "",
+    }
+}
+
+fn response_head(alloc: Global, status: u16, length: usize) -> Result<String, AllocError>
+    ensures { IfOk result (λ text. string_bytes text ≡ response_head status length) }
+{
+    let version = text_of(Fixed::Version);
+    let blank = text_of(Fixed::Blank);
+    let phrase = phrase_of(status);
+    let fields = text_of(Fixed::Fields);
+    let end = text_of(Fixed::End);
+    format!(in alloc; "{version}{status}{blank}{phrase}{fields}{length}{end}")
+}
+
+/// Sends a request to a gateway: its head in one write where the sink takes it whole, and its body. After a fault some
+/// front of the message was sent; without memory nothing was.
+pub fn send_request<K: Sink>(
+    alloc: Global,
+    sink: &mut K,
+    host: &str,
+    route: Route,
+    body: &[u8],
+) -> Result<(), HttpFault>
+    ensures { Sends result (request_head host.now route (length body.now) ++ body.now) (K.taken sink.old) (K.taken sink.new) (K.counts sink.old) (K.counts sink.new) (K.name sink.old) (K.name sink.new) }
+{
+    match request_head(alloc, host, route, body.len()) {
+        Ok(head) => write_message(sink, head.as_bytes(), body),
+        Err(_) => Err(HttpFault::Memory),
+    }
+}
+
+/// Sends a response of a gateway, of a status from 100 to 999. After a fault some front of the message was sent; without
+/// memory nothing was.
+pub fn send_response<K: Sink>(
+    alloc: Global,
+    sink: &mut K,
+    status: u16,
+    body: &[u8],
+) -> Result<(), HttpFault>
+    ensures { Sends result (response_head status (length body.now) ++ body.now) (K.taken sink.old) (K.taken sink.new) (K.counts sink.old) (K.counts sink.new) (K.name sink.old) (K.name sink.new) }
+{
+    match response_head(alloc, status, body.len()) {
+        Ok(head) => write_message(sink, head.as_bytes(), body),
+        Err(_) => Err(HttpFault::Memory),
+    }
+}

@@ -1,0 +1,14 @@
+pub mod Tokens
+pub mod Digits
+pub mod Loop
+pub mod Pairs
+pub mod Faults
+pub mod Lines
+pub mod Rising
+pub mod Backs
+pub mod KvBack
+pub mod AskBack
+pub mod AnswerBack
+pub mod LineBack
+pub mod Returns
+pub mod Broken

@@ -1,0 +1,17 @@
+use Rattle.std.proofs.lemmas.Result.{err_from_is_err_and}
+use Rattle.serde_json.specs.View.{items_view}
+use Rattle.ev_json.specs.Kinds.{each}
+use Rattle.ev_json.proofs.Loop.{goes_on, ends, is_done}
+use Rattle.ev_json.proofs.list.each.Goals as goal
+
+pub returns-in_err-read : goal.returns-in_err-read
+returns-in_err-read g c =
+    let p = err_from_is_err_and c.from_residual-in_err-read.result c.from_residual-in_err-read.ensures.1 in
+    rw (p.1, p.2) (ends g.T.Read.reading c.in_err-read.field-0.0 c.loop-value.list.items c.args.values.now c.loop-value.value-index c.value-item.result (each g.T.Read.reading (items_view c.args.values.now)) c.loop-value-test.true c.value-item.is c.in_err-read.ensures c.loop-value.invariant)
+
+pub loop-value-preserved : goal.loop-value-preserved
+loop-value-preserved g c =
+    rw c.in_ok-push.ensures.items (goes_on g.T.Read.reading c.loop-value.list.items c.args.values.now c.loop-value.value-index c.value-item.result c.in_ok-read.field-0 (each g.T.Read.reading (items_view c.args.values.now)) c.loop-value-test.true c.value-item.is c.in_ok-read.ensures c.loop-value.invariant)
+
+pub returns : goal.returns
+returns g c = is_done g.T.Read.reading c.loop-value.list.items c.args.values.now c.loop-value.value-index (each g.T.Read.reading (items_view c.args.values.now)) c.loop-value-test.false c.loop-value.invariant

@@ -1,0 +1,179 @@
+//! Asks read from JSON values.
+
+ghost use Rattle.std.specs.Prelude.{◌≡◌, Result, map, Ok, codes};
+ghost use Rattle.serde_json.specs.View.{view};
+ghost use Rattle.ev_json.specs.Asks.{guard_in, range_in, put_in, delete_in, range_act_in, act_in, txn_in, range_ask_in, txn_ask_in, grant_in, alive_in, ask_in, watch_in};
+ghost use Rattle.ev_json.specs.Bodies.{Gives, GivesAs};
+
+use crate::fault::JsonFault;
+use crate::field::Field;
+use crate::list::{Read, list};
+use crate::members::{
+    broken, bytes, count, flag, has, key, lease, message, positive_count, positive_lease, without,
+    word, word_or_none,
+};
+use ev_types::{Act, Ask, Guard, RangeReq, Route, TxnReq};
+use serde_json::Value;
+use std::alloc::Global;
+use zx_base::Bytes;
+
+impl Read for Guard {
+    ghost reading = { guard_in };
+
+    #[tactic(auto, unfolding(crate::specs::Asks::guard_in))]
+    fn read(alloc: Global, value: &Value) -> Result<Guard, JsonFault> {
+        let key = key(alloc, value)?;
+        let mod_revision = count(value, Field::ModRevision)?;
+        word_or_none(value, Field::Result, "EQUAL")?;
+        word(value, Field::Target, "MOD")?;
+        Ok(Guard { key, mod_revision })
+    }
+}
+
+impl Read for RangeReq {
+    ghost reading = { range_in };
+
+    #[tactic(auto, unfolding(crate::specs::Asks::range_in))]
+    fn read(alloc: Global, value: &Value) -> Result<RangeReq, JsonFault> {
+        let key = key(alloc, value)?;
+        let keys_only = flag(value, Field::KeysOnly)?;
+        let limit = count(value, Field::Limit)?;
+        let end = bytes(alloc, value, Field::RangeEnd)?;
+        let revision = count(value, Field::Revision)?;
+        Ok(RangeReq {
+            key,
+            end,
+            revision,
+            limit,
+            keys_only,
+        })
+    }
+}
+
+#[tactic(auto, unfolding(crate::specs::Asks::put_in))]
+fn put(alloc: Global, value: &Value) -> Result<Act, JsonFault>
+    ensures { Gives result (put_in (view value.now)) }
+{
+    let put = message(value, Field::RequestPut)?;
+    let key = key(alloc, put)?;
+    let lease = lease(put, Field::Lease)?;
+    let content = bytes(alloc, put, Field::Value)?;
+    without(value, Field::RequestDeleteRange)?;
+    without(value, Field::RequestRange)?;
+    Ok(Act::Put {
+        key,
+        value: content,
+        lease,
+    })
+}
+
+#[tactic(auto, unfolding(crate::specs::Asks::delete_in))]
+fn delete(alloc: Global, value: &Value) -> Result<Act, JsonFault>
+    ensures { Gives result (delete_in (view value.now)) }
+{
+    let delete = message(value, Field::RequestDeleteRange)?;
+    let key = key(alloc, delete)?;
+    without(value, Field::RequestRange)?;
+    Ok(Act::Delete { key })
+}
+
+#[tactic(auto, unfolding(crate::specs::Asks::range_act_in))]
+fn range(alloc: Global, value: &Value) -> Result<Act, JsonFault>
+    ensures { Gives result (range_act_in (view value.now)) }
+{
+    let range = message(value, Field::RequestRange)?;
+    let asked = RangeReq::read(alloc, range)?;
+    Ok(Act::Range(asked))
+}
+
+impl Read for Act {
+    ghost reading = { act_in };
+
+    #[tactic(auto, unfolding(crate::specs::Asks::act_in))]
+    fn read(alloc: Global, value: &Value) -> Result<Act, JsonFault> {
+        if has(value, Field::RequestPut) {
+            return put(alloc, value);
+        }
+        if has(value, Field::RequestDeleteRange) {
+            return delete(alloc, value);
+        }
+        range(alloc, value)
+    }
+}
+
+impl Read for TxnReq {
+    ghost reading = { txn_in };
+
+    #[tactic(auto, unfolding(crate::specs::Asks::txn_in))]
+    fn read(alloc: Global, value: &Value) -> Result<TxnReq, JsonFault> {
+        if value.as_object().is_none() {
+            return Err(broken(Field::Success));
+        }
+        let guards = list(alloc, value, Field::Compare)?;
+        let failure = list(alloc, value, Field::Failure)?;
+        let success = list(alloc, value, Field::Success)?;
+        Ok(TxnReq {
+            guards,
+            success,
+            failure,
+        })
+    }
+}
+
+#[tactic(auto, unfolding(crate::specs::Asks::txn_ask_in))]
+fn txn_ask(alloc: Global, value: &Value) -> Result<Ask, JsonFault>
+    ensures { Gives result (txn_ask_in (view value.now)) }
+{
+    let txn = TxnReq::read(alloc, value)?;
+    Ok(Ask::Txn(txn))
+}
+
+#[tactic(auto, unfolding(crate::specs::Asks::range_ask_in))]
+fn range_ask(alloc: Global, value: &Value) -> Result<Ask, JsonFault>
+    ensures { Gives result (range_ask_in (view value.now)) }
+{
+    let range = RangeReq::read(alloc, value)?;
+    Ok(Ask::Range(range))
+}
+
+#[tactic(auto, unfolding(crate::specs::Asks::grant_in))]
+fn grant(value: &Value) -> Result<Ask, JsonFault>
+    ensures { Gives result (grant_in (view value.now)) }
+{
+    let id = positive_lease(value, Field::Id)?;
+    let ttl = positive_count(value, Field::Ttl)?;
+    Ok(Ask::Grant { id, ttl })
+}
+
+#[tactic(auto, unfolding(crate::specs::Asks::alive_in))]
+fn alive(value: &Value) -> Result<Ask, JsonFault>
+    ensures { Gives result (alive_in (view value.now)) }
+{
+    let id = positive_lease(value, Field::Id)?;
+    Ok(Ask::Alive { id })
+}
+
+/// An ask that was posted there.
+#[tactic(auto, unfolding(crate::specs::Asks::ask_in))]
+pub fn ask(alloc: Global, route: Route, value: &Value) -> Result<Ask, JsonFault>
+    ensures { Gives result (ask_in route (view value.now)) }
+{
+    match route {
+        Route::Txn => txn_ask(alloc, value),
+        Route::Range => range_ask(alloc, value),
+        Route::Grant => grant(value),
+        Route::Alive => alive(value),
+        Route::Watch => Err(broken(Field::CreateRequest)),
+    }
+}
+
+/// A request to watch a key from a revision on.
+#[tactic(auto, unfolding(crate::specs::Asks::watch_in))]
+pub fn watch(alloc: Global, value: &Value) -> Result<(i64, Bytes), JsonFault>
+    ensures { Gives result (watch_in (view value.now)) }
+{
+    let request = message(value, Field::CreateRequest)?;
+    let key = key(alloc, request)?;
+    let from = positive_count(request, Field::StartRevision)?;
+    Ok((from, key))
+}

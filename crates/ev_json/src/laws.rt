@@ -1,0 +1,49 @@
+//! What is true of every message. These functions do nothing: each clause is a law of the definitions.
+
+ghost use Rattle.std.specs.Prelude.{◌≡◌, ◌++◌, ◌∷◌, ℕ, ℤ, List, Some, Ok, Err};
+ghost use Rattle.std.specs.List.{AllByRecursion};
+ghost use Rattle.serde_json.specs.Data.{Data};
+ghost use Rattle.serde_json.specs.Read.{read};
+ghost use Rattle.ev_types.specs.declared.answer.Answer.{Answer};
+ghost use Rattle.ev_types.specs.declared.answer.Kv.{Kv};
+ghost use Rattle.ev_types.specs.declared.ask.Ask.{Ask};
+ghost use Rattle.ev_types.specs.declared.route.Route.{Route};
+ghost use Rattle.ev_json.specs.Answers.{answer_in, line_in};
+ghost use Rattle.ev_json.specs.Asks.{ask_in, watch_in};
+ghost use Rattle.ev_json.specs.Bodies.{IsOneLine, first_line};
+ghost use Rattle.ev_json.specs.Breaks.{AskBreaks, AnswerBreaks, WatchBreaks, LineBreaks};
+ghost use Rattle.ev_json.specs.Messages.{ask_data, ask_text, route_of, answer_data, answer_text, watch_data, watch_text, line_data, line_text};
+ghost use Rattle.ev_json.specs.Ranges.{IsCount, IsKey, IsPositiveCount, KvFits, AskFits, AnswerFits, line_of};
+ghost use Rattle.ev_json.specs.declared.field.Field.{Field};
+
+/// Each written text is JSON, and its value has the members that were written: their names rise, and none stands twice.
+pub fn texts_are_json()
+    ensures asks { (a : Ask) → read (ask_text a) ≡ Some (ask_data a) }
+    ensures answers { (a : Answer) → read (answer_text a) ≡ Some (answer_data a) }
+    ensures watches { (from : ℤ) (key : List ℕ) → read (watch_text from key) ≡ Some (watch_data from key) }
+    ensures lines { (kvs : List Kv) (revision : ℤ) → read (line_text kvs revision) ≡ Some (line_data kvs revision) }
+{}
+
+/// Within the ranges each message reads as itself.
+pub fn messages_come_back()
+    ensures asks { (a : Ask) → AskFits a → ask_in (route_of a) (ask_data a) ≡ Ok a }
+    ensures answers { (asked : Ask) (a : Answer) → AnswerFits asked a → answer_in asked (answer_data a) ≡ Ok a }
+    ensures watches { (from : ℤ) (key : List ℕ) → IsPositiveCount from → IsKey key → watch_in (watch_data from key) ≡ Ok (from, key) }
+    ensures lines { (kvs : List Kv) (revision : ℤ) → AllByRecursion KvFits kvs → IsCount revision → line_in (line_data kvs revision) ≡ Ok (line_of kvs revision) }
+{}
+
+/// The texts of a stream have no line feed, so the line feed behind one ends it, whatever follows.
+pub fn texts_are_lines()
+    ensures answers { (a : Answer) → IsOneLine (answer_text a) }
+    ensures lines { (kvs : List Kv) (revision : ℤ) → IsOneLine (line_text kvs revision) }
+    ensures ended { (text rest : List ℕ) → IsOneLine text → first_line (text ++ 10 ∷ rest) ≡ text }
+{}
+
+/// A member that a reading names breaks a rule of its message: it is missing, of another kind, out of range, or there where
+/// it must not be.
+pub fn named_members_break_rules()
+    ensures asks { (to : Route) (f : Field) (d : Data) → ask_in to d ≡ Err f → AskBreaks to f d }
+    ensures answers { (asked : Ask) (f : Field) (d : Data) → answer_in asked d ≡ Err f → AnswerBreaks asked f d }
+    ensures watches { (f : Field) (d : Data) → watch_in d ≡ Err f → WatchBreaks f d }
+    ensures lines { (f : Field) (d : Data) → line_in d ≡ Err f → LineBreaks f d }
+{}

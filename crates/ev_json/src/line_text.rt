@@ -1,0 +1,106 @@
+//! The lines of a watch as they are written.
+
+ghost use Rattle.std.specs.Prelude.{◌≡◌, ◌++◌, map, IfOk};
+ghost use Rattle.std.specs.List.{flat_map};
+ghost use Rattle.serde_json.specs.Data.{array};
+ghost use Rattle.serde_json.specs.View.{items_of};
+ghost use Rattle.ev_json.specs.Members.{given, list_if};
+ghost use Rattle.ev_json.specs.Messages.{event_data, change_data, line_data};
+ghost use Rattle.ev_json.specs.Open.{Adds, data_tokens};
+ghost use Rattle.ev_json.specs.declared.field.Field.TheVariants.{Events};
+
+use crate::answer_text::Header;
+use crate::field::Field;
+use crate::room::about_list;
+use crate::text::{Message, Text};
+use ev_types::Kv;
+use std::alloc::AllocError;
+
+#[tactic(auto, unfolding(crate::specs::Messages::event_data))]
+fn write_event(out: Text, kv: &Kv) -> Result<Text, AllocError>
+    ensures { IfOk result (λ t. t ≡ out ++ data_tokens (event_data kv.now)) }
+{
+    let out = out.begin()?.kv(kv)?.end()?;
+    Ok(out)
+}
+
+fn write_events(out: Text, kvs: &[Kv]) -> Result<Text, AllocError>
+    ensures { IfOk result (λ t. t ≡ out ++ flat_map data_tokens (map event_data kvs.now)) }
+{
+    let mut text = out;
+    for kv in kvs {
+        text = write_event(text, kv)?;
+    }
+    Ok(text)
+}
+
+#[tactic(auto, using(crate::proofs::Tokens::nested))]
+fn events(out: Text, kvs: &[Kv]) -> Result<Text, AllocError>
+    ensures { IfOk result (λ t. Adds (given Events (array (items_of (map event_data kvs.now)))) out t) }
+{
+    let text = out.begin_list(Field::Events)?;
+    let text = write_events(text, kvs)?;
+    let text = text.end_list()?;
+    Ok(text)
+}
+
+fn events_if(out: Text, kvs: &[Kv]) -> Result<Text, AllocError>
+    ensures { IfOk result (λ t. Adds (list_if Events (map event_data kvs.now)) out t) }
+{
+    if kvs.is_empty() {
+        return Ok(out);
+    }
+    events(out, kvs)
+}
+
+/// What a line says of its watch.
+#[derive(Drop)]
+struct Change<'a> {
+    kvs: &'a [Kv],
+    revision: i64,
+}
+
+impl Message for Change<'_> {
+    ghost shape = { λ c. change_data c.kvs.now c.revision };
+
+    fn room(&self) -> usize {
+        about_list(80, self.kvs).saturating_add(self.kvs.len().saturating_mul(8))
+    }
+
+    #[tactic(auto, unfolding(crate::specs::Messages::change_data))]
+    fn write(&self, out: Text) -> Result<Text, AllocError> {
+        let header = Header {
+            revision: self.revision,
+        };
+        let out = out.begin()?.true_if(Field::Created, self.kvs.is_empty())?;
+        let out = events_if(out, self.kvs)?
+            .message(Field::Header, &header)?
+            .end()?;
+        Ok(out)
+    }
+}
+
+/// One line of a watch: that it stands, where there are no events.
+#[derive(Drop)]
+pub struct LineOf<'a> {
+    pub kvs: &'a [Kv],
+    pub revision: i64,
+}
+
+impl Message for LineOf<'_> {
+    ghost shape = { λ l. line_data l.kvs.now l.revision };
+
+    fn room(&self) -> usize {
+        about_list(100, self.kvs).saturating_add(self.kvs.len().saturating_mul(8))
+    }
+
+    #[tactic(auto, unfolding(crate::specs::Messages::line_data))]
+    fn write(&self, out: Text) -> Result<Text, AllocError> {
+        let change = Change {
+            kvs: self.kvs,
+            revision: self.revision,
+        };
+        let out = out.begin()?.message(Field::Result, &change)?.end()?;
+        Ok(out)
+    }
+}

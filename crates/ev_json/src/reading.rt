@@ -1,0 +1,101 @@
+//! Bodies as messages. The text is parsed once into a tree of values, of which keys and values are decoded once.
+
+ghost use Rattle.std.specs.Prelude.{◌≡◌, ◌≢◌, Some, None, IfOk, IfErr, IsUtf8};
+ghost use Rattle.serde_json.specs.Read.{read};
+ghost use Rattle.serde_json.specs.View.{view};
+ghost use Rattle.ev_types.specs.declared.route.Route.TheVariants as routes;
+ghost use Rattle.ev_json.specs.Answers.{answer_in, line_in};
+ghost use Rattle.ev_json.specs.Asks.{ask_in, watch_in};
+ghost use Rattle.ev_json.specs.Bodies.{IsUnparsed, FaultOf, first_line, message_body, reads, reads_ask, reads_line, reads_watch};
+
+use crate::answer_value::answer;
+use crate::ask_value::{ask, watch};
+use crate::fault::JsonFault;
+use crate::line::Line;
+use crate::line_value::line;
+use ev_types::{Answer, Ask, Route};
+use serde_json::{Category, Value};
+use std::alloc::Global;
+use zx_base::Bytes;
+
+fn parse(alloc: Global, body: &[u8]) -> Result<Value, JsonFault>
+    ensures ok { IfOk result (λ v. IsUtf8 body.now × (read body.now ≡ Some (view v))) }
+    ensures fault { IfErr result (λ e. IsUnparsed body.now e) }
+{
+    match Value::from_slice(alloc, body) {
+        Ok(value) => Ok(value),
+        Err(error) => {
+            if error.classify() == Category::Memory {
+                return Err(JsonFault::Memory);
+            }
+            Err(JsonFault::NotJson)
+        }
+    }
+}
+
+/// The ask in a body that was posted there. A request to watch is read by [`read_watch`].
+#[tactic(auto, using(crate::proofs::Faults::unparsed), unfolding(crate::specs::Bodies::ReadsAs, crate::specs::Bodies::FaultOf))]
+pub fn read_ask(alloc: Global, route: Route, body: &[u8]) -> Result<Ask, JsonFault>
+    requires { route ≢ routes.Watch }
+    ensures read { IfOk result (λ a. reads_ask route body.now a) }
+    ensures fault { IfErr result (λ e. FaultOf (ask_in route) body.now e) }
+{
+    let value = parse(alloc, body)?;
+    let ask = ask(alloc, route, &value)?;
+    Ok(ask)
+}
+
+/// The key that a body asks to watch, and the revision from which on.
+#[tactic(auto, using(crate::proofs::Faults::unparsed), unfolding(crate::specs::Bodies::ReadsAs, crate::specs::Bodies::FaultOf))]
+pub fn read_watch(alloc: Global, body: &[u8]) -> Result<(i64, Bytes), JsonFault>
+    ensures read { IfOk result (λ w. reads_watch body.now w.0 w.1) }
+    ensures fault { IfErr result (λ e. FaultOf watch_in body.now e) }
+{
+    let value = parse(alloc, body)?;
+    let watch = watch(alloc, &value)?;
+    Ok(watch)
+}
+
+fn first_line(bytes: &[u8]) -> &[u8]
+    ensures { result.now ≡ first_line bytes.now }
+{
+    for (i, b) in bytes.iter().enumerate() {
+        if *b == b'\n' {
+            return &bytes[..i];
+        }
+    }
+    bytes
+}
+
+#[tactic(auto, unfolding(crate::specs::Bodies::message_body))]
+fn message_body<'a>(ask: &Ask, body: &'a [u8]) -> &'a [u8]
+    ensures { result.now ≡ message_body ask.now body.now }
+{
+    match ask {
+        Ask::Alive { .. } => first_line(body),
+        _ => body,
+    }
+}
+
+/// The answer to an ask in the body of a response. The answer to a keepalive is the body's first line.
+#[tactic(auto, using(crate::proofs::Faults::unparsed), unfolding(crate::specs::Bodies::ReadsAs, crate::specs::Bodies::FaultOf))]
+pub fn read_answer(alloc: Global, ask: &Ask, body: &[u8]) -> Result<Answer, JsonFault>
+    ensures read { IfOk result (λ a. reads ask.now body.now a) }
+    ensures fault { IfErr result (λ e. FaultOf (answer_in ask.now) (message_body ask.now body.now) e) }
+{
+    let body = message_body(ask, body);
+    let value = parse(alloc, body)?;
+    let answer = answer(alloc, ask, &value)?;
+    Ok(answer)
+}
+
+/// One line of a watch.
+#[tactic(auto, using(crate::proofs::Faults::unparsed), unfolding(crate::specs::Bodies::ReadsAs, crate::specs::Bodies::FaultOf))]
+pub fn read_line(alloc: Global, bytes: &[u8]) -> Result<Line, JsonFault>
+    ensures read { IfOk result (λ l. reads_line bytes.now l) }
+    ensures fault { IfErr result (λ e. FaultOf line_in bytes.now e) }
+{
+    let value = parse(alloc, bytes)?;
+    let line = line(alloc, &value)?;
+    Ok(line)
+}

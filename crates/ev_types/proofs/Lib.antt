@@ -1,0 +1,6 @@
+pub mod Grown
+pub mod Lapsed
+pub mod Transactions
+pub mod Found
+pub mod Allowed
+pub mod Bounds

@@ -1,0 +1,34 @@
+//! A hub with one reader.
+
+use crate::publisher::Publisher;
+use std::alloc::Global;
+use std::io;
+use std::sync::Wait;
+use zw_hub::{Fed, Feed, HubReader};
+
+/// A hub and its one reader.
+#[derive(Drop)]
+pub struct Trial<R: Wait + Drop> {
+    pub publisher: Publisher<R>,
+    pub reader: HubReader,
+}
+
+impl<R: Wait + Drop> Trial<R> {
+    pub fn new(rt: R, alloc: Global, first: i64) -> io::Result<Trial<R>> {
+        let (publisher, mut readers) = Publisher::open(rt, alloc, first, 1)?;
+        match readers.pop() {
+            Some(reader) => Ok(Trial { publisher, reader }),
+            None => Err(io::Error::from(io::ErrorKind::OutOfMemory)),
+        }
+    }
+}
+
+/// The answer to a reader whose hub is gone.
+pub fn orphan<R: Wait + Drop>(rt: R, alloc: Global) -> io::Result<Fed> {
+    let Trial {
+        publisher,
+        mut reader,
+    } = Trial::new(rt, alloc, 0)?;
+    drop(publisher);
+    Ok(reader.next(0))
+}

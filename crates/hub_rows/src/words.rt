@@ -1,0 +1,54 @@
+//! The words of a line, and of an answer.
+
+use std::io;
+use zw_hub::{Fed, FeedEnd};
+
+/// A line's first word, and the rest behind a blank.
+pub fn split(line: &str) -> (&str, &str) {
+    match line.split_once(' ') {
+        Some(parts) => parts,
+        None => (line, ""),
+    }
+}
+
+pub fn number_of(word: &str) -> io::Result<i64> {
+    match word.parse::<i64>() {
+        Ok(number) => Ok(number),
+        Err(_) => Err(io::Error::from(io::ErrorKind::InvalidInput)),
+    }
+}
+
+pub fn end_of(rest: &str) -> io::Result<FeedEnd> {
+    let (word, rest) = split(rest);
+    match word {
+        "compacted" => Ok(FeedEnd::Compacted {
+            rev: number_of(rest)?,
+        }),
+        "gap" => {
+            let (expected, found) = split(rest);
+            Ok(FeedEnd::Gap {
+                expected: number_of(expected)?,
+                found: number_of(found)?,
+            })
+        }
+        "no" => Ok(FeedEnd::NoLine),
+        "memory" => Ok(FeedEnd::Memory),
+        _ => Err(io::Error::from(io::ErrorKind::InvalidInput)),
+    }
+}
+
+pub fn print_fed<R: Print>(rt: &R, asked: &str, fed: &Fed) -> io::Result<()> {
+    match fed {
+        Fed::Entry(entry) => {
+            let (number, zxid) = (entry.number, entry.zxid);
+            println!(rt; "{asked}: entry {number} zxid {zxid}")
+        }
+        Fed::None => println!(rt; "{asked}: none"),
+        Fed::Lagged { cursor, floor } => println!(rt; "{asked}: lagged {cursor} {floor}"),
+        Fed::Closed(end) => {
+            let end: &FeedEnd = end;
+            println!(rt; "{asked}: closed {end:?}")
+        }
+        Fed::Memory => println!(rt; "{asked}: memory"),
+    }
+}

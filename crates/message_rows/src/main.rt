@@ -1,0 +1,80 @@
+//! Tries each row of the tables of messages, and says on standard error which differ. A row is a line of a file; a line
+//! that is empty or begins with `#` is passed over. Nothing is written to standard output, so that a new row is a matter of
+//! its file alone.
+#![tactic(auto)]
+
+mod json;
+
+use anyhow::{Context, Result, bail};
+use std::process::ExitCode;
+use std::rt::Files;
+use std::{env, fs};
+use zx_base::Memory;
+
+/// The least number of rows that there are, so that a file that went missing is seen.
+const MIN_ROWS: u64 = 230;
+
+/// Looks in the folder that its first argument names, and without one where it runs.
+fn main(rt: HostRuntime) -> Result<ExitCode> {
+    let given = env::args(&rt)?.nth(1);
+    let root = match &given {
+        Some(folder) => folder.as_str(),
+        None => ".",
+    };
+    let mut passed = 0u64;
+    let mut failed = 0u64;
+    let folder = format!(in rt.alloc(); "{root}/json")?;
+    for name in &names_in(&rt, folder.as_str())? {
+        let counts = try_file(&rt, folder.as_str(), name.as_str())?;
+        passed = passed.saturating_add(counts.passed);
+        failed = failed.saturating_add(counts.failed);
+    }
+    eprintln!(rt; "{passed} passed, {failed} failed")?;
+    Ok(if failed == 0 && passed >= MIN_ROWS {
+        ExitCode::SUCCESS
+    } else {
+        ExitCode::FAILURE
+    })
+}
+
+#[derive(Clone, Copy)]
+struct Counts {
+    passed: u64,
+    failed: u64,
+}
+
+/// The names of a folder's files, in order.
+fn names_in<R: Files + AllocGlobal + Clone + Drop>(rt: &R, folder: &str) -> Result<Vec<String>> {
+    let mut names = Vec::new(rt.alloc());
+    for entry in fs::read_dir(rt, folder).context(format_args!("listing {folder}"))? {
+        let entry = entry?;
+        names.push(String::from_str(rt.alloc(), entry.file_name())?)?;
+    }
+    names.sort()?;
+    Ok(names)
+}
+
+/// Tries the rows of one file.
+fn try_file(rt: &HostRuntime, folder: &str, name: &str) -> Result<Counts> {
+    let alloc = rt.alloc();
+    let text = fs::read_to_string(rt, format!(in alloc; "{folder}/{name}")?)?;
+    let mut counts = Counts {
+        passed: 0,
+        failed: 0,
+    };
+    for (index, line) in text.lines().enumerate() {
+        if line.is_empty() || line.starts_with('#') {
+            continue;
+        }
+        match json::difference_in(alloc, line) {
+            Ok(None) => counts.passed = counts.passed.saturating_add(1),
+            Ok(Some(found)) => {
+                let number = index.saturating_add(1);
+                eprintln!(rt; "differs {name} line {number}: {found}")?;
+                counts.failed = counts.failed.saturating_add(1);
+            }
+            Err(Memory) => bail!("out of memory"),
+        }
+    }
+    Ok(counts)
+}

@@ -1,0 +1,303 @@
+//! Asks and their answers.
+
+use crate::words::{bytes_of, number, word_of};
+use ev_store::{Denied, Store, StoreFault};
+use ev_types::{Act, ActAns, Answer, Ask, Guard, Kv, RangeAns, RangeReq, TxnReq};
+use std::alloc::Global;
+use zx_base::{Memory, Seq};
+
+/// The seconds of a lease are below this.
+const MAX_SECONDS: i64 = 4_611_686_018_427_387_904;
+
+/// Carries out an ask over the store that the asks before left. `new` makes it a new one.
+pub fn carried_out(alloc: Global, store: &mut Store, left: &str) -> Result<Option<String>, Memory> {
+    if left == "new" {
+        *store = Store::new(alloc)?;
+        let revision = store.revision();
+        return Ok(Some(format!(in alloc; "{revision}")?));
+    }
+    let Some((kind, rest)) = left.split_once(' ') else {
+        return Ok(None);
+    };
+    match kind {
+        "grant" => grant(alloc, store, rest),
+        "alive" => alive(alloc, store, rest),
+        "range" => look(alloc, store, rest),
+        "txn" => transact(alloc, store, rest),
+        _ => Ok(None),
+    }
+}
+
+/// `grant ID TTL`
+fn grant(alloc: Global, store: &mut Store, rest: &str) -> Result<Option<String>, Memory> {
+    let Some((id, ttl)) = rest.split_once(' ') else {
+        return Ok(None);
+    };
+    let (Some(id), Some(ttl)) = (number(id), number(ttl)) else {
+        return Ok(None);
+    };
+    if id < 1 || ttl < 0 || ttl >= MAX_SECONDS {
+        return Ok(None);
+    }
+    text_of(alloc, store.carry_out(&Ask::Grant { id, ttl }))
+}
+
+/// `alive ID`
+fn alive(alloc: Global, store: &mut Store, rest: &str) -> Result<Option<String>, Memory> {
+    match number(rest) {
+        Some(id) => text_of(alloc, store.carry_out(&Ask::Alive { id })),
+        None => Ok(None),
+    }
+}
+
+/// `range KEY:END:REVISION:LIMIT:KEYS`, the last `keys` where values are left out
+fn look(alloc: Global, store: &mut Store, rest: &str) -> Result<Option<String>, Memory> {
+    match range(alloc, rest)? {
+        Some(range) => text_of(alloc, store.carry_out(&Ask::Range(range))),
+        None => Ok(None),
+    }
+}
+
+/// `txn GUARDS | SUCCESS | FAILURE`, words with blanks between them
+fn transact(alloc: Global, store: &mut Store, rest: &str) -> Result<Option<String>, Memory> {
+    match txn(alloc, rest)? {
+        Some(txn) => text_of(alloc, store.carry_out(&Ask::Txn(txn))),
+        None => Ok(None),
+    }
+}
+
+fn txn(alloc: Global, rest: &str) -> Result<Option<TxnReq>, Memory> {
+    let Some((given, lists)) = rest.split_once(" | ") else {
+        return Ok(None);
+    };
+    let Some((first, second)) = lists.split_once(" | ") else {
+        return Ok(None);
+    };
+    let Some(guards) = guards(alloc, given)? else {
+        return Ok(None);
+    };
+    let Some(success) = acts(alloc, first)? else {
+        return Ok(None);
+    };
+    let Some(failure) = acts(alloc, second)? else {
+        return Ok(None);
+    };
+    Ok(Some(TxnReq {
+        guards,
+        success,
+        failure,
+    }))
+}
+
+/// `KEY@REVISION`, or `-` for none
+fn guards(alloc: Global, words: &str) -> Result<Option<Seq<Guard>>, Memory> {
+    let mut guards = Seq::new(alloc);
+    if words == "-" {
+        return Ok(Some(guards));
+    }
+    for word in words.split(' ') {
+        match guard(alloc, word)? {
+            Some(guard) => guards.push(guard)?,
+            None => return Ok(None),
+        }
+    }
+    Ok(Some(guards))
+}
+
+fn guard(alloc: Global, word: &str) -> Result<Option<Guard>, Memory> {
+    let Some((key, revision)) = word.split_once('@') else {
+        return Ok(None);
+    };
+    let Some(mod_revision) = number(revision) else {
+        return Ok(None);
+    };
+    Ok(Some(Guard {
+        key: bytes_of(alloc, key)?,
+        mod_revision,
+    }))
+}
+
+/// Operations, each perhaps with `*COUNT` behind it, or `-` for none
+fn acts(alloc: Global, words: &str) -> Result<Option<Seq<Act>>, Memory> {
+    let mut acts = Seq::new(alloc);
+    if words == "-" {
+        return Ok(Some(acts));
+    }
+    for word in words.split(' ') {
+        if !push_acts(alloc, &mut acts, word)? {
+            return Ok(None);
+        }
+    }
+    Ok(Some(acts))
+}
+
+/// Adds an operation as often as its word says; false where it is no such word.
+fn push_acts(alloc: Global, acts: &mut Seq<Act>, word: &str) -> Result<bool, Memory> {
+    let (word, count) = match word.split_once('*') {
+        Some((word, count)) => (word, number(count)),
+        None => (word, Some(1)),
+    };
+    let Some(count) = count else {
+        return Ok(false);
+    };
+    for _ in 0..count {
+        match act(alloc, word)? {
+            Some(act) => acts.push(act)?,
+            None => return Ok(false),
+        }
+    }
+    Ok(true)
+}
+
+/// `put:KEY:VALUE:LEASE`, `delete:KEY`, `range:KEY:END:REVISION:LIMIT:KEYS`
+fn act(alloc: Global, word: &str) -> Result<Option<Act>, Memory> {
+    let Some((kind, rest)) = word.split_once(':') else {
+        return Ok(None);
+    };
+    match kind {
+        "put" => put(alloc, rest),
+        "delete" => Ok(Some(Act::Delete {
+            key: bytes_of(alloc, rest)?,
+        })),
+        "range" => match range(alloc, rest)? {
+            Some(range) => Ok(Some(Act::Range(range))),
+            None => Ok(None),
+        },
+        _ => Ok(None),
+    }
+}
+
+fn put(alloc: Global, rest: &str) -> Result<Option<Act>, Memory> {
+    let Some((key, rest)) = rest.split_once(':') else {
+        return Ok(None);
+    };
+    let Some((value, lease)) = rest.split_once(':') else {
+        return Ok(None);
+    };
+    let Some(lease) = number(lease) else {
+        return Ok(None);
+    };
+    Ok(Some(Act::Put {
+        key: bytes_of(alloc, key)?,
+        value: bytes_of(alloc, value)?,
+        lease,
+    }))
+}
+
+fn range(alloc: Global, rest: &str) -> Result<Option<RangeReq>, Memory> {
+    let Some((key, rest)) = rest.split_once(':') else {
+        return Ok(None);
+    };
+    let Some((end, rest)) = rest.split_once(':') else {
+        return Ok(None);
+    };
+    let Some((revision, rest)) = rest.split_once(':') else {
+        return Ok(None);
+    };
+    let Some((limit, keys)) = rest.split_once(':') else {
+        return Ok(None);
+    };
+    let (Some(revision), Some(limit)) = (number(revision), number(limit)) else {
+        return Ok(None);
+    };
+    Ok(Some(RangeReq {
+        key: bytes_of(alloc, key)?,
+        end: bytes_of(alloc, end)?,
+        revision,
+        limit,
+        keys_only: keys == "keys",
+    }))
+}
+
+/// An answer or a denial as it stands in a row.
+fn text_of(alloc: Global, answered: Result<Answer, StoreFault>) -> Result<Option<String>, Memory> {
+    match answered {
+        Ok(answer) => Ok(Some(answer_text(alloc, &answer)?)),
+        Err(StoreFault::Denied(denied)) => Ok(Some(denial_text(alloc, &denied)?)),
+        Err(StoreFault::Memory) => Err(Memory),
+    }
+}
+
+fn answer_text(alloc: Global, answer: &Answer) -> Result<String, Memory> {
+    match answer {
+        Answer::Txn {
+            revision,
+            succeeded,
+            parts,
+        } => {
+            let choice = if *succeeded { "success" } else { "failure" };
+            let mut text = format!(in alloc; "{revision} {choice}")?;
+            for part in parts.as_slice() {
+                push_part(alloc, &mut text, part)?;
+            }
+            Ok(text)
+        }
+        Answer::Range { revision, found } => {
+            let mut text = format!(in alloc; "{revision}")?;
+            push_found(alloc, &mut text, found)?;
+            Ok(text)
+        }
+        Answer::Granted { revision, id, ttl } => Ok(format!(in alloc;
+            "{revision} granted {id} {ttl}"
+        )?),
+        Answer::Alive { revision, id, ttl } => Ok(format!(in alloc;
+            "{revision} alive {id} {ttl}"
+        )?),
+    }
+}
+
+fn push_part(alloc: Global, text: &mut String, part: &ActAns) -> Result<(), Memory> {
+    match part {
+        ActAns::Put => {
+            text.push_str(" put")?;
+            Ok(())
+        }
+        ActAns::Deleted(count) => {
+            let word = format!(in alloc; " deleted:{count}")?;
+            text.push_str(word.as_str())?;
+            Ok(())
+        }
+        ActAns::Range(found) => push_found(alloc, text, found),
+    }
+}
+
+/// ` COUNT{KEY=VALUE@CREATE/MOD/VERSION/LEASE ..}`, with `+` behind the count where some were left out
+fn push_found(alloc: Global, text: &mut String, found: &RangeAns) -> Result<(), Memory> {
+    let count = found.count;
+    let more = if found.more { "+" } else { "" };
+    let front = format!(in alloc; " {count}{more}{{")?;
+    text.push_str(front.as_str())?;
+    for kv in found.kvs.as_slice() {
+        push_kv(alloc, text, kv)?;
+    }
+    text.push_str("}")?;
+    Ok(())
+}
+
+fn push_kv(alloc: Global, text: &mut String, kv: &Kv) -> Result<(), Memory> {
+    let key = word_of(kv.key.as_slice());
+    let value = word_of(kv.value.as_slice());
+    let (made, put, version, lease) = (kv.create_revision, kv.mod_revision, kv.version, kv.lease);
+    let word = format!(in alloc; "({key}={value}@{made}/{put}/{version}/{lease})")?;
+    text.push_str(word.as_str())?;
+    Ok(())
+}
+
+fn denial_text(alloc: Global, denied: &Denied) -> Result<String, Memory> {
+    Ok(match denied {
+        Denied::LeaseExists { id } => format!(in alloc; "denied: lease {id} exists")?,
+        Denied::NoLease { id } => format!(in alloc; "denied: no lease {id}")?,
+        Denied::Future { asked, revision } => format!(in alloc;
+            "denied: {asked} is above {revision}"
+        )?,
+        Denied::Compacted { asked, floor } => format!(in alloc;
+            "denied: {asked} is below {floor}"
+        )?,
+        Denied::TooMany { count } => format!(in alloc; "denied: {count} are too many")?,
+        Denied::Twice { key } => {
+            let key = word_of(key.as_slice());
+            format!(in alloc; "denied: {key} twice")?
+        }
+        Denied::Full { revision } => format!(in alloc; "denied: full at {revision}")?,
+    })
+}

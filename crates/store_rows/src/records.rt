@@ -1,0 +1,171 @@
+//! Records as they are read, and written again.
+
+use crate::words::{hex_of, word_of};
+use std::alloc::Global;
+use zk_model::{Path, Trigger};
+use zn_layout::{
+    CountRec, HeadRec, LeaseRec, NodeRec, RecordFault, SessionRec, read_counts, read_head,
+    read_lease, read_node, read_session, write_counts, write_head, write_lease, write_node,
+    write_session,
+};
+use zx_base::Memory;
+
+const KEY: &[u8] = b"zk/key";
+
+/// What a value is as a record of this kind. One that is a record has to be written as the same bytes.
+pub fn read(alloc: Global, left: &str) -> Result<Option<String>, Memory> {
+    let Some((kind, digits)) = left.split_once(' ') else {
+        return Ok(None);
+    };
+    let Ok(value) = hex::decode(alloc, digits) else {
+        return Ok(None);
+    };
+    let value = value.as_slice();
+    match kind {
+        "node" => node(alloc, value),
+        "counts" => counts(alloc, value),
+        "session" => session(alloc, value),
+        "life" => life(alloc, value),
+        "head" => head(alloc, value),
+        _ => Ok(None),
+    }
+}
+
+fn fault(alloc: Global, fault: RecordFault, value: &[u8]) -> Result<Option<String>, Memory> {
+    match fault {
+        RecordFault::Memory => Err(Memory),
+        RecordFault::Damaged { key, value: kept } => {
+            let text = if key.is(KEY) && kept.is(value) {
+                "damaged"
+            } else {
+                "damaged, and other bytes are given"
+            };
+            Ok(Some(String::from_str(alloc, text)?))
+        }
+    }
+}
+
+/// The record's text, or that it is written otherwise.
+fn same(alloc: Global, text: String, again: &[u8], value: &[u8]) -> Result<Option<String>, Memory> {
+    if again == value {
+        Ok(Some(text))
+    } else {
+        Ok(Some(String::from_str(alloc, "written otherwise")?))
+    }
+}
+
+fn node(alloc: Global, value: &[u8]) -> Result<Option<String>, Memory> {
+    match read_node(alloc, KEY, value) {
+        Ok(node) => {
+            let again = write_node(alloc, &node)?;
+            same(alloc, node_text(alloc, &node)?, again.as_slice(), value)
+        }
+        Err(read_fault) => fault(alloc, read_fault, value),
+    }
+}
+
+fn node_text(alloc: Global, node: &NodeRec) -> Result<String, Memory> {
+    let content = hex_of(alloc, node.content.as_slice())?;
+    let (czxid, version, ctime, mtime, owner) = (
+        node.czxid,
+        node.version,
+        node.ctime,
+        node.mtime,
+        node.owner,
+    );
+    Ok(format!(in alloc;
+        "czxid {czxid} version {version} ctime {ctime} mtime {mtime} owner {owner} data {content}"
+    )?)
+}
+
+fn counts(alloc: Global, value: &[u8]) -> Result<Option<String>, Memory> {
+    match read_counts(alloc, KEY, value) {
+        Ok(counts) => {
+            let again = write_counts(alloc, &counts)?;
+            same(alloc, counts_text(alloc, &counts)?, again.as_slice(), value)
+        }
+        Err(read_fault) => fault(alloc, read_fault, value),
+    }
+}
+
+fn counts_text(alloc: Global, counts: &CountRec) -> Result<String, Memory> {
+    let (creates, children) = (counts.creates, counts.children);
+    Ok(format!(in alloc; "creates {creates} children {children}")?)
+}
+
+fn session(alloc: Global, value: &[u8]) -> Result<Option<String>, Memory> {
+    match read_session(alloc, KEY, value) {
+        Ok(session) => {
+            let again = write_session(alloc, &session)?;
+            same(
+                alloc,
+                session_text(alloc, &session)?,
+                again.as_slice(),
+                value,
+            )
+        }
+        Err(read_fault) => fault(alloc, read_fault, value),
+    }
+}
+
+fn session_text(alloc: Global, session: &SessionRec) -> Result<String, Memory> {
+    let mut text = String::from_str(alloc, "paths")?;
+    for path in session.paths.as_slice() {
+        push_word(&mut text, path.bytes())?;
+    }
+    Ok(text)
+}
+
+fn push_word(text: &mut String, bytes: &[u8]) -> Result<(), Memory> {
+    text.push_str(" ")?;
+    text.push_str(word_of(bytes))?;
+    Ok(())
+}
+
+fn life(alloc: Global, value: &[u8]) -> Result<Option<String>, Memory> {
+    match read_lease(alloc, KEY, value) {
+        Ok(life) => {
+            let again = write_lease(alloc, &life)?;
+            same(alloc, life_text(alloc, &life)?, again.as_slice(), value)
+        }
+        Err(read_fault) => fault(alloc, read_fault, value),
+    }
+}
+
+fn life_text(alloc: Global, life: &LeaseRec) -> Result<String, Memory> {
+    let passwd = hex_of(alloc, &life.passwd)?;
+    let (timeout, attaches) = (life.timeout, life.attaches);
+    Ok(format!(in alloc; "timeout {timeout} attaches {attaches} passwd {passwd}")?)
+}
+
+fn head(alloc: Global, value: &[u8]) -> Result<Option<String>, Memory> {
+    match read_head(alloc, KEY, value) {
+        Ok(head) => {
+            let again = write_head(alloc, &head)?;
+            same(alloc, head_text(alloc, &head)?, again.as_slice(), value)
+        }
+        Err(read_fault) => fault(alloc, read_fault, value),
+    }
+}
+
+fn head_text(alloc: Global, head: &HeadRec) -> Result<String, Memory> {
+    let mut text = String::from_str(alloc, "triggers")?;
+    for trigger in head.triggers.as_slice() {
+        push_trigger(&mut text, trigger)?;
+    }
+    Ok(text)
+}
+
+fn push_trigger(text: &mut String, trigger: &Trigger) -> Result<(), Memory> {
+    match trigger {
+        Trigger::Created(path) => push_kind(text, " created", path),
+        Trigger::Deleted(path) => push_kind(text, " deleted", path),
+        Trigger::Changed(path) => push_kind(text, " changed", path),
+        Trigger::Children(path) => push_kind(text, " children", path),
+    }
+}
+
+fn push_kind(text: &mut String, kind: &str, path: &Path) -> Result<(), Memory> {
+    text.push_str(kind)?;
+    push_word(text, path.bytes())
+}

@@ -1,0 +1,94 @@
+//! Rows of connects, of their answers and of notifications.
+
+use crate::hexes::{bytes_of, frame_of, hex_of};
+use crate::words::Words;
+use std::alloc::Global;
+use zk_model::{ConnectRequest, ConnectResponse, Notice};
+use zk_wire::{WireFault, notice_can_be_sent, read_connect, write_connect, write_notice};
+use zx_base::{Memory, Text};
+
+/// The fields of a connect's packet, or that it is none.
+pub fn read(alloc: Global, packet: &str) -> Result<Option<String>, Memory> {
+    let Some(packet) = bytes_of(alloc, packet)? else {
+        return Ok(None);
+    };
+    let Some(frame) = frame_of(alloc, packet.as_slice())? else {
+        return Ok(None);
+    };
+    match read_connect(alloc, frame.as_slice()) {
+        Ok(connect) => Ok(Some(said_of(alloc, &connect)?)),
+        Err(WireFault::Memory) => Err(Memory),
+        Err(_) => Ok(Some(String::from_str(alloc, "no connect")?)),
+    }
+}
+
+fn said_of(alloc: Global, connect: &ConnectRequest) -> Result<String, Memory> {
+    let passwd = hex_of(alloc, connect.passwd.as_slice())?;
+    let read_only = match connect.read_only {
+        Some(true) => "true",
+        Some(false) => "false",
+        None => "-",
+    };
+    let protocol = connect.protocol;
+    let last_zxid = connect.last_zxid;
+    let timeout = connect.timeout;
+    let session = connect.session;
+    Ok(format!(in alloc;
+        "protocolVersion {protocol} lastZxidSeen {last_zxid} timeOut {timeout} sessionId {session} passwd {} readOnly {read_only}",
+        passwd.as_str()
+    )?)
+}
+
+/// The packet of a notification. On the left stand its type and its path.
+pub fn notice(alloc: Global, row: &str) -> Result<Option<String>, Memory> {
+    let mut words = Words::new(row);
+    let (Some(kind), Some(path)) = (words.int(), words.word()) else {
+        return Ok(None);
+    };
+    let notice = Notice {
+        kind,
+        path: Text::copy_of(alloc, path.as_bytes())?,
+    };
+    if !notice_can_be_sent(&notice) {
+        return Ok(None);
+    }
+    let packet = write_notice(alloc, &notice)?;
+    exact(alloc, &packet)
+}
+
+/// The packet of an answer to a connect. On the left stand its timeOut, sessionId, passwd and readOnly.
+pub fn answer(alloc: Global, row: &str) -> Result<Option<String>, Memory> {
+    let mut words = Words::new(row);
+    let (Some(timeout), Some(session)) = (words.int(), words.long()) else {
+        return Ok(None);
+    };
+    let (Some(digits), Some(flag)) = (words.word(), words.word()) else {
+        return Ok(None);
+    };
+    let mut passwd = [0u8; 16];
+    if hex::decode_to_slice(digits, &mut passwd).is_err() {
+        return Ok(None);
+    }
+    let read_only = match flag {
+        "true" => Some(true),
+        "false" => Some(false),
+        _ => None,
+    };
+    let response = ConnectResponse {
+        timeout,
+        session,
+        passwd,
+        read_only,
+    };
+    let packet = write_connect(alloc, &response)?;
+    exact(alloc, &packet)
+}
+
+/// A packet as hex; None where it has more room than it needs.
+fn exact(alloc: Global, packet: &Vec<u8>) -> Result<Option<String>, Memory> {
+    if packet.capacity() == packet.len() {
+        Ok(Some(hex_of(alloc, packet.as_slice())?))
+    } else {
+        Ok(None)
+    }
+}

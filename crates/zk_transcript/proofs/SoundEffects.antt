@@ -1,0 +1,356 @@
+-- What a request makes of a sound tree is sound: a create in each mode, a delete, a setData, several of them, and the removal of many nodes.
+use Rattle.std.proofs.Common.{◌≡◌, ◌≢◌, ℕ, ℤ, pos, ◌+◌, ◌<◌, ◌≤◌, Bool, true, false, not, ◌&&◌, ◌||◌, length, List, [], ◌∷◌, ◌++◌, Option, Some, None, refl, sym, ◌∙◌, ◌⊎◌, inl, inr, arith, ◌+ℤ◌}
+use Rattle.std.specs.Prelude.{◌≤ℤ◌, IsTrue, ⊤, nat_le, nat_lt, nat_abs, if◌then◌else◌, ◌==◌}
+use Rattle.std.specs.List.{AllByRecursion, flat_map}
+use Rattle.std.specs.Ordering.{int_eq}
+use Rattle.std.proofs.lemmas.Bool.{and_parts}
+use Rattle.std.proofs.lemmas.Bool.Decides.{Decides-int_eq, nat_tests}
+use Rattle.std.proofs.lemmas.Int.{ints}
+use Rattle.std.specs.FinMap.{get, insert, remove}
+use Rattle.zx_base.specs.Maps.{Bytes, same}
+use Rattle.zx_base.proofs.MapLaws.{get-insert_same, get-insert_other, get-remove_other, apart-from_same}
+use Rattle.zk_model.specs.Limits.{max_creates, max_frame, max_load, max_long, max_version}
+use Rattle.zk_model.specs.declared.node.Node.{Node}
+use Rattle.zk_model.specs.declared.node.Trigger.{Trigger}
+use Rattle.zk_model.specs.declared.reply.PartResult.{PartResult}
+use Rattle.zk_model.specs.declared.request.Acl.{Acl}
+use Rattle.zk_model.specs.declared.request.Part.{Part}
+use Rattle.zk_model.specs.declared.request.Part.TheVariants.{Create, Delete, SetData, Check}
+use Rattle.zk_model.specs.Paths.{root, parent, is_path, is_sequence_prefix, sequence_path}
+use Rattle.zk_jute.specs.Records.{part_contents}
+use Rattle.zk_model.specs.Znodes.{Tree, num_children, owned, new_node}
+use Rattle.zk_model.specs.Single.{Outcome, Refused, Done, form_refusal, path_refusal, or_else, with_child, without_child, named, made_path, is_full, is_ephemeral, is_sequential, create_node, create_under, create_at, create, removed_under, at_parent, removed, delete, with_content, set_data, check, matches, effect, unless_refused, single}
+use Rattle.zk_model.specs.Multi.{Parts, Stopped, Passed, then_parts, touched_by, parts_of, Several, Denied, Codes, All as AllDone, settled, several, load}
+use Rattle.zk_transcript.specs.History.{Session, Sessions, IsCounted, IsSoundTree, IsPast, IsBoundedNode, limit_of}
+use Rattle.zk_model.specs.Codes.{bad_arguments}
+use Rattle.zk_jute.proofs.Lists.{first_of_both, second_of_both}
+use Rattle.zk_model.proofs.Paths.{apart_from_parent}
+use Rattle.zk_model.proofs.SequencePaths.{sequence-valid}
+use Rattle.zk_model.proofs.SequenceParents.{parent-sequence}
+use Rattle.zk_transcript.proofs.Children.{num_children-change, none-from_count}
+use Rattle.zk_transcript.proofs.Owned.{num_owned-change}
+use Rattle.zk_transcript.proofs.SoundTrees.{Each, each-put, each-gone, MayOwn, sound-change, sound-new, sound-gone}
+
+-- a tree of the updates from the first zxid to z, under these open sessions
+pub record Stands (opened : Sessions) (first z : ℤ) (t : Tree) : Type 0 where
+  pub sound : IsSoundTree opened t
+  pub bounded : Each (IsBoundedNode first z) t
+
+-- ---- outcomes
+
+abbrev pub Leads : (Tree → Type 0) → Outcome → Type 0
+Leads P (Refused code) = ⊤
+Leads P (Done r u g) = P u
+
+unless : (P : Tree → Type 0) (b : Bool) (code : ℤ) (o : Outcome) → (b ≡ false → Leads P o) → Leads P (if b then Refused code else o)
+unless P true code o leads = tt
+unless P false code o leads = leads refl
+
+not_false : (b : Bool) → not b ≡ false → b ≡ true
+not_false true h = refl
+not_false false h = absurd (cc)
+
+or_false : (a b : Bool) → (a || b) ≡ false → (a ≡ false) × (b ≡ false)
+or_false true b h = absurd (cc)
+or_false false b h = (refl, h)
+
+false_true : {b : Bool} → b ≡ false → b ≡ true → ⊥
+false_true e f = cc
+
+not_equal : (x y : ℤ) → int_eq x y ≡ false → x ≢ y
+not_equal x y h e = false_true h ((Decides-int_eq x y).1 e)
+
+-- ---- the session of a request: none, or an open begun with this limit
+
+pub record Acts (opened : Sessions) (limit : ℕ) (session : ℤ) : Type 0 where
+  pub whose : (session ≡ pos 0) ⊎ ((x : Session) × (get opened session ≡ Some x) × (limit ≡ limit_of x))
+  pub least : pos 0 ≤ℤ session
+  pub most : session ≤ℤ max_long
+
+pub past_now : (first z : ℤ) → first ≤ℤ z → IsPast first z z
+past_now first z h = record { least = h; most = omega (arith, ints) }
+
+-- ---- a node changes, and stays whose it was
+
+stands-change : (opened : Sessions) (first z : ℤ) (t : Tree) (k : Bytes) (old v : Node) → Stands opened first z t → get t k ≡ Some old → v.owner ≡ old.owner → IsCounted v (num_children t k)
+    → length v.content ≤ max_frame → (IsBoundedNode first z k old → IsBoundedNode first z k v) → Stands opened first z (insert t k v)
+stands-change opened first z t k old v st there same counted small within = record {
+  sound = sound-change opened t k old v st.sound there same counted small;
+  bounded = each-put (IsBoundedNode first z) t k v st.bounded (within (st.bounded k old there));
+}
+
+-- ---- create
+
+module _ (opened : Sessions) (t : Tree) (limit : ℕ) (session flags : ℤ) (content : Bytes) (first z : ℤ) (now : ℕ) (path : Bytes) (st : Stands opened first z t) (begun : first ≤ℤ z)
+    (acts : Acts opened limit session) (small : length content ≤ max_frame) (form : (if is_sequential flags then is_sequence_prefix path else is_path path) ≡ true) where
+  abbrev owner : ℤ
+  owner = if is_ephemeral flags then session else pos 0
+
+  abbrev fresh : Node
+  fresh = new_node content owner z now
+
+  module _ (q : Bytes) (up : Node) (below : parent (named flags path) ≡ Some q) (there : get t q ≡ Some up) (none : get t (made_path flags path up) ≡ None)
+      (plain : int_eq up.owner (pos 0) ≡ true) (room : is_full t limit session flags up ≡ false) where
+    abbrev p : Bytes
+    p = made_path flags path up
+
+    abbrev above : Node
+    above = with_child up z
+
+    abbrev between : Tree
+    between = insert t q above
+
+    below_q : parent p ≡ Some q
+    below_q = by_mode (is_sequential flags) below
+      where
+        by_mode : (b : Bool) → parent (if b then path ++ 49 ∷ [] else path) ≡ Some q → parent (if b then sequence_path path (nat_abs up.creates) else path) ≡ Some q
+        by_mode true e = parent-sequence path (nat_abs up.creates) ∙ e
+        by_mode false e = e
+
+    valid : IsTrue (is_path p)
+    valid = by_mode (is_sequential flags) form
+      where
+        by_mode : (b : Bool) → (if b then is_sequence_prefix path else is_path path) ≡ true → IsTrue (is_path (if b then sequence_path path (nat_abs up.creates) else path))
+        by_mode true e = sequence-valid path (nat_abs up.creates) e
+        by_mode false e = e
+
+    creates_below : (up.creates +ℤ pos 1) ≤ℤ max_creates
+    creates_below =
+        let apart = not_equal up.creates max_creates (or_false (int_eq up.creates max_creates) (is_ephemeral flags && nat_le limit (length (owned t session))) room).0 in
+        let most = (st.sound.counted q up there).most in
+        omega (arith, ints)
+
+    counts_above : (n : ℕ) → n ≤ num_children t q + 1 → IsCounted above n
+    counts_above n le = let counted = (st.sound.counted q up there).counted in record { counted = omega (arith, ints); most = creates_below }
+
+    is_plain : up.owner ≡ pos 0
+    is_plain = (Decides-int_eq up.owner (pos 0)).0 plain
+
+    in_between : Stands opened first z between
+    in_between = stands-change opened first z t q up above st there refl (counts_above (num_children t q) (omega arith)) (st.sound.small q up there)
+        (λ w. record {
+          valid = w.valid;
+          made = w.made;
+          changed = w.changed;
+          children_changed = past_now first z begun;
+          made_at = w.made_at;
+          changed_at = w.changed_at;
+          version_least = w.version_least;
+          version_most = w.version_most;
+          owner_least = w.owner_least;
+          owner_most = w.owner_most;
+        })
+
+    owned_still : length (owned between session) ≡ length (owned t session)
+    owned_still = num_owned-change t q above up session there refl
+
+    may_own : MayOwn opened between owner
+    may_own = by_mode (is_ephemeral flags) (or_false (int_eq up.creates max_creates) (is_ephemeral flags && nat_le limit (length (owned t session))) room).1 acts.whose
+      where
+        by_mode : (b : Bool) → (b && nat_le limit (length (owned t session))) ≡ false → (session ≡ pos 0) ⊎ ((x : Session) × (get opened session ≡ Some x) × (limit ≡ limit_of x))
+            → MayOwn opened between (if b then session else pos 0)
+        by_mode false h whose = inl refl
+        by_mode true h (inl e) = inl e
+        by_mode true h (inr x) = let few : length (owned t session) < limit = grind (arith, nat_tests) in inr (x.0, x.1, omega (arith, few, owned_still, x.2))
+
+    owner_bounds : (pos 0 ≤ℤ owner) × (owner ≤ℤ max_long)
+    owner_bounds = by_mode (is_ephemeral flags)
+      where
+        by_mode : (b : Bool) → (pos 0 ≤ℤ (if b then session else pos 0)) × ((if b then session else pos 0) ≤ℤ max_long)
+        by_mode true = (acts.least, acts.most)
+        by_mode false = (omega (arith, ints), omega (arith, ints))
+
+    pub stands-made : Stands opened first z (insert between p fresh)
+    stands-made = record {
+      sound = sound-new opened between p q above fresh in_between.sound (get-insert_other t q p above (apart_from_parent p q below_q) ∙ none) below_q (get-insert_same t q above) is_plain
+          (counts_above (num_children between q + 1) (let e = num_children-change t q above up q there in omega (arith, e)))
+          (record { counted = omega (arith, ints); most = omega (arith, ints) }) may_own small;
+      bounded = each-put (IsBoundedNode first z) between p fresh in_between.bounded (record {
+        valid = valid;
+        made = past_now first z begun;
+        changed = past_now first z begun;
+        children_changed = past_now first z begun;
+        made_at = omega (arith, ints);
+        changed_at = omega (arith, ints);
+        version_least = omega (arith, ints);
+        version_most = omega (arith, ints);
+        owner_least = owner_bounds.0;
+        owner_most = owner_bounds.1;
+      });
+    }
+
+  made_node : (q : Bytes) (up : Node) (o : Option Node) → parent (named flags path) ≡ Some q → get t q ≡ Some up → get t (made_path flags path up) ≡ o
+      → Leads (Stands opened first z) (create_node t limit session flags content z now q up (made_path flags path up) o)
+  made_node q up (Some old) below there is = tt
+  made_node q up None below there is =
+      unless (Stands opened first z) (not (int_eq up.owner (pos 0))) _ _ (λ h.
+      unless (Stands opened first z) (is_full t limit session flags up) _ _ (λ room. stands-made q up below there is (not_false _ h) room))
+
+  made_under : (q : Bytes) (o : Option Node) → parent (named flags path) ≡ Some q → get t q ≡ o → Leads (Stands opened first z) (create_under t limit session flags content z now path q o)
+  made_under q None below is = tt
+  made_under q (Some up) below is = made_node q up (get t (made_path flags path up)) below is refl
+
+  made_at : (o : Option Bytes) → parent (named flags path) ≡ o → Leads (Stands opened first z) (create_at t limit session flags content z now path o)
+  made_at None is = tt
+  made_at (Some q) is = made_under q (get t q) is refl
+
+  pub create-leads : Leads (Stands opened first z) (create t limit session flags content z now path)
+  create-leads = made_at (parent (named flags path)) refl
+
+-- ---- the removal of a node without children
+
+stands-gone : (opened : Sessions) (first z : ℤ) (t : Tree) (k : Bytes) → Stands opened first z t → k ≢ root → ((r : Bytes) → parent r ≡ Some k → get t r ≡ None) → Stands opened first z (remove t k)
+stands-gone opened first z t k st inner childless = record { sound = sound-gone opened t k st.sound inner childless; bounded = each-gone (IsBoundedNode first z) t k st.bounded }
+
+module _ (opened : Sessions) (first z : ℤ) (t : Tree) (p : Bytes) (st : Stands opened first z t) (begun : first ≤ℤ z) (inner : p ≢ root) (childless : (r : Bytes) → parent r ≡ Some p → get t r ≡ None) where
+  gone : Stands opened first z (remove t p)
+  gone = stands-gone opened first z t p st inner childless
+
+  without : (q : Bytes) (o : Option Node) → parent p ≡ Some q → get t q ≡ o → Stands opened first z (removed_under t p z (Some q) o)
+  without q None below is = gone
+  without q (Some up) below is =
+      let there : get (remove t p) q ≡ Some up = get-remove_other t p q (λ e. apart_from_parent p q below (sym e)) ∙ is in
+      let counted = gone.sound.counted q up there in
+      stands-change opened first z (remove t p) q up (without_child up z) gone there refl (record { counted = counted.counted; most = counted.most }) (gone.sound.small q up there)
+      (λ w. record {
+        valid = w.valid;
+        made = w.made;
+        changed = w.changed;
+        children_changed = past_now first z begun;
+        made_at = w.made_at;
+        changed_at = w.changed_at;
+        version_least = w.version_least;
+        version_most = w.version_most;
+        owner_least = w.owner_least;
+        owner_most = w.owner_most;
+      })
+
+  at_its_parent : (o : Option Bytes) → parent p ≡ o → Stands opened first z (removed_under t p z o (at_parent t o))
+  at_its_parent None is = gone
+  at_its_parent (Some q) is = without q (get t q) is refl
+
+  pub stands-removed : Stands opened first z (removed t p z)
+  stands-removed = at_its_parent (parent p) refl
+
+-- ---- delete, setData and check
+
+zero_is : (n : ℕ) → not (n == 0) ≡ false → n ≡ 0
+zero_is n h = grind (arith, nat_tests, not_false (n == 0) h)
+
+delete-leads : (opened : Sessions) (first z : ℤ) (t : Tree) (p : Bytes) (version : ℤ) (o : Option Node) → Stands opened first z t → first ≤ℤ z → p ≢ root → Leads (Stands opened first z) (delete t p version z o)
+delete-leads opened first z t p version None st begun inner = tt
+delete-leads opened first z t p version (Some n) st begun inner =
+    unless (Stands opened first z) (not (matches version n.version)) _ _ (λ _.
+    unless (Stands opened first z) (not (num_children t p == 0)) _ _ (λ h. stands-removed opened first z t p st begun inner (λ r up. none-from_count t p r (zero_is (num_children t p) h) up)))
+
+set_data-leads : (opened : Sessions) (first z : ℤ) (t : Tree) (p content : Bytes) (version : ℤ) (now : ℕ) (o : Option Node) → Stands opened first z t → first ≤ℤ z → length content ≤ max_frame → get t p ≡ o
+    → Leads (Stands opened first z) (set_data t p content version z now o)
+set_data-leads opened first z t p content version now None st begun small is = tt
+set_data-leads opened first z t p content version now (Some n) st begun small is =
+    unless (Stands opened first z) (not (matches version n.version)) _ _ (λ _.
+    unless (Stands opened first z) (int_eq n.version max_version) _ _ (λ h.
+    let counted = st.sound.counted p n is in
+    let apart = not_equal n.version max_version h in
+    stands-change opened first z t p n (with_content n content z now) st is refl (record { counted = counted.counted; most = counted.most }) small
+    (λ w.
+    let low = w.version_least in
+    let high = w.version_most in
+    record {
+      valid = w.valid;
+      made = w.made;
+      changed = past_now first z begun;
+      children_changed = w.children_changed;
+      made_at = w.made_at;
+      changed_at = omega (arith, ints);
+      version_least = omega (arith, ints);
+      version_most = omega (arith, ints);
+      owner_least = w.owner_least;
+      owner_most = w.owner_most;
+    })))
+
+check-leads : (opened : Sessions) (first z : ℤ) (t : Tree) (version : ℤ) (o : Option Node) → Stands opened first z t → Leads (Stands opened first z) (check t version o)
+check-leads opened first z t version None st = tt
+check-leads opened first z t version (Some n) st = unless (Stands opened first z) (not (matches version n.version)) _ _ (λ _. st)
+
+-- ---- begun request
+
+leads-unrefused : (P : Tree → Type 0) (refusal : Option ℤ) (o : Outcome) → (refusal ≡ None → Leads P o) → Leads P (unless_refused refusal o)
+leads-unrefused P (Some code) o leads = tt
+leads-unrefused P None o leads = leads refl
+
+none_else : (a b : Option ℤ) → or_else a b ≡ None → a ≡ None
+none_else (Some c) b h = absurd (cc)
+none_else None b h = refl
+
+no_refusal : (b : Bool) → path_refusal b ≡ None → b ≡ true
+no_refusal true h = refl
+no_refusal false h = absurd (cc)
+
+form_create : (path content : Bytes) (acl : List Acl) (flags : ℤ) → form_refusal (Create path content acl flags) ≡ None → (if is_sequential flags then is_sequence_prefix path else is_path path) ≡ true
+unfolding form_refusal
+form_create path content acl flags h = no_refusal _ (none_else (path_refusal (if is_sequential flags then is_sequence_prefix path else is_path path)) _ h)
+
+form_delete : (path : Bytes) (version : ℤ) → form_refusal (Delete path version) ≡ None → path ≢ root
+unfolding form_refusal
+form_delete path version h = apart-from_same path root (is_false (same path root) (and_parts (is_path path) (not (same path root)) (no_refusal _ h)).1)
+  where
+    is_false : (b : Bool) → not b ≡ true → b ≡ false
+    is_false true e = absurd (cc)
+    is_false false e = refl
+
+-- data no longer than a frame
+abbrev pub IsShort : Bytes → Type 0
+IsShort content = length content ≤ max_frame
+
+abbrev pub IsSmallPart : Part → Type 0
+IsSmallPart p = AllByRecursion IsShort (part_contents p)
+
+module _ (opened : Sessions) (limit : ℕ) (session first z : ℤ) (now : ℕ) (begun : first ≤ℤ z) (acts : Acts opened limit session) where
+  effect-leads : (t : Tree) (p : Part) → Stands opened first z t → IsSmallPart p → form_refusal p ≡ None → Leads (Stands opened first z) (effect t limit session p z now)
+  unfolding effect
+  effect-leads t (Create path content acl flags) st small form = create-leads opened t limit session flags content first z now path st begun acts small.0 (form_create path content acl flags form)
+  effect-leads t (Delete path version) st small form = delete-leads opened first z t path version (get t path) st begun (form_delete path version form)
+  effect-leads t (SetData path content version) st small form = set_data-leads opened first z t path content version now (get t path) st begun small.0 refl
+  effect-leads t (Check path version) st small form = check-leads opened first z t version (get t path) st
+
+  pub single-leads : (t : Tree) (p : Part) → Stands opened first z t → IsSmallPart p → Leads (Stands opened first z) (single t limit session p z now)
+  unfolding single
+  single-leads t p st small = leads-unrefused (Stands opened first z) (form_refusal p) (effect t limit session p z now) (λ form. effect-leads t p st small form)
+
+  -- ---- several
+
+  abbrev PartsLead : Parts → Type 0
+  PartsLead (Stopped place code) = ⊤
+  PartsLead (Passed results t triggers touched) = Stands opened first z t
+
+  then-lead : (r : PartResult) (g : List Trigger) (touched : List ℤ) (ps : Parts) → PartsLead ps → PartsLead (then_parts r g touched ps)
+  then-lead r g touched (Stopped place code) lead = tt
+  then-lead r g touched (Passed results t triggers more) lead = lead
+
+  parts-lead : (t : Tree) (ps : List Part) → Stands opened first z t → AllByRecursion IsShort (flat_map part_contents ps) → PartsLead (parts_of t limit session ps z now)
+  unfolding parts_of
+  parts-lead t [] st small = st
+  parts-lead t (p ∷ ps) st small =
+      next (single t limit session p z now) (single-leads t p st (first_of_both IsShort (part_contents p) (flat_map part_contents ps) small)) (λ u here. parts-lead u ps here (second_of_both IsShort (part_contents p) (flat_map part_contents ps) small))
+    where
+      next : (o : Outcome) → Leads (Stands opened first z) o → ((u : Tree) → Stands opened first z u → PartsLead (parts_of u limit session ps z now))
+          → PartsLead (elim o [ Refused code ↦ Stopped 0 code | Done r u g ↦ then_parts r g (touched_by t session p) (parts_of u limit session ps z now) ])
+      next (Refused code) lead more = tt
+      next (Done r u g) lead more = then-lead r g (touched_by t session p) (parts_of u limit session ps z now) (more u lead)
+
+  abbrev pub SeveralLead : Several → Type 0
+  SeveralLead (Denied code) = ⊤
+  SeveralLead (Codes row) = ⊤
+  SeveralLead (AllDone results t triggers) = Stands opened first z t
+
+  settled-lead : (t : Tree) (ps : List Part) (done : Parts) → PartsLead done → SeveralLead (settled t ps done)
+  settled-lead t ps (Stopped place code) lead = tt
+  settled-lead t ps (Passed results u triggers touched) lead = by_load (nat_lt max_load (load t ps touched))
+    where
+      by_load : (b : Bool) → SeveralLead (if b then Denied bad_arguments else AllDone results u triggers)
+      by_load true = tt
+      by_load false = lead
+
+  pub several-lead : (t : Tree) (ps : List Part) → Stands opened first z t → AllByRecursion IsShort (flat_map part_contents ps) → SeveralLead (several t limit session ps z now)
+  unfolding several
+  several-lead t ps st small = settled-lead t ps (parts_of t limit session ps z now) (parts-lead t ps st small)

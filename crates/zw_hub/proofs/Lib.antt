@@ -1,0 +1,3 @@
+pub mod Newest
+pub mod Keeping
+pub mod Growing

@@ -1,0 +1,57 @@
+-- The list of the published entries: what is in it, and how it grows.
+use Rattle.std.specs.Prelude.{◌≡◌, ℕ, ◌+◌, ◌-◌, ℤ, pos, ◌+ℤ◌, Bool, ◌&&◌, is_none, [], ◌∷◌, ◌++◌, length, slice_get, Some, None, if◌then◌else◌}
+use Rattle.std.specs.Ordering.{int_eq}
+use mathlib.Core.List.{IsPrefix}
+use Rattle.zn_layout.specs.declared.entry.Entry.{Entry}
+use Rattle.zw_hub.specs.declared.feed.FeedEnd.{FeedEnd}
+use Rattle.zw_hub.specs.declared.published.Published.{Published}
+
+-- a list that nothing was published to
+abbrev pub empty : ℤ → Published
+empty first = record { first = first; entries = []; end = None }
+
+-- the number of its last entry, or the number before the first where there is none
+abbrev pub last_number : Published → ℤ
+last_number list = list.first +ℤ pos (length list.entries)
+
+-- so many of the newest entries are kept
+abbrev pub max_kept : ℕ
+max_kept = 4096
+
+-- the number before that of the oldest entry that is kept
+abbrev pub floor : Published → ℤ
+floor list = list.first +ℤ pos (length list.entries - max_kept)
+
+-- this entry of the list has this number, and stands in its place
+abbrev pub IsAt : Published → ℤ → Entry → Type 0
+IsAt list number entry = (k : ℕ) × (slice_get list.entries k ≡ Some entry) × (number ≡ list.first +ℤ pos (k + 1)) × (entry.number ≡ number)
+
+-- the numbers of its entries are consecutive
+abbrev pub IsNumbered : Published → Type 0
+IsNumbered list = (k : ℕ) (entry : Entry) → slice_get list.entries k ≡ Some entry → entry.number ≡ list.first +ℤ pos (k + 1)
+
+-- the later list begins with all of the earlier one, and is the same where that was closed
+pub record Extends (later earlier : Published) : Type 0 where
+  pub first : later.first ≡ earlier.first
+  pub entries : IsPrefix earlier.entries later.entries
+  pub closed : (end : FeedEnd) → earlier.end ≡ Some end → later ≡ earlier
+
+-- the list with one more entry
+abbrev pub with_entry : Published → Entry → Published
+with_entry list entry = record list { entries = list.entries ++ entry ∷ [] }
+
+-- the list, closed
+abbrev pub with_end : Published → FeedEnd → Published
+with_end list end = record list { end = Some end }
+
+-- whether the entry may be published: the list is not closed, and the number is the next
+abbrev pub is_next : Published → Entry → Bool
+is_next list entry = is_none list.end && int_eq entry.number (last_number list +ℤ pos 1)
+
+-- the list after an entry was published. Where that is not the next, the list stays as it is
+abbrev pub added : Published → Entry → Published
+added list entry = if is_next list entry then with_entry list entry else list
+
+-- the list after it was closed. One that is closed stays as it is
+abbrev pub closed_by : Published → FeedEnd → Published
+closed_by list end = if is_none list.end then with_end list end else list

@@ -1,0 +1,18 @@
+-- The newest entries as they are kept, and the list that they are the end of.
+use Rattle.std.specs.Prelude.{◌≡◌, map}
+use Rattle.std.specs.Arc.{arc_value}
+use Rattle.circular_buffer.specs.Buffer.{keep_last}
+use Rattle.zw_hub.specs.declared.published.Published.{Published}
+use Rattle.zw_hub.specs.declared.window.Window.TheInside.{Inside}
+use Rattle.zw_hub.specs.Lists.{max_kept, last_number, IsNumbered}
+
+-- the list that was published
+abbrev pub published : Inside → Published
+published w = record { first = w.first; entries = w.all.items; end = w.end }
+
+-- the ring has the newest entries of the list, and the last number is the list's
+pub record IsWindow (w : Inside) : Type 0 where
+  pub newest : map arc_value w.ring.items ≡ keep_last max_kept w.all.items
+  pub room : w.ring.capacity ≡ max_kept
+  pub last : w.last ≡ last_number (published w)
+  pub numbered : IsNumbered (published w)

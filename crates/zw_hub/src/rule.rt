@@ -1,0 +1,33 @@
+//! The rule by which threads know of the list: it only grows.
+
+use crate::published::Published;
+use crate::window::Window;
+use crossbeam_utils::rule::{Outcome, Protocol};
+
+/// What one thread knows. No value of it is made.
+pub struct View {
+    /// For a reader the list that it read last, for the writer the one that it published last.
+    pub list: Published,
+    /// How many reads, or publishes and closes, it has made.
+    pub steps: u64,
+}
+
+/// The list extends each that a thread has seen.
+pub struct Growing;
+
+impl Protocol<Window, View> for Growing {
+    ghost use Rattle.zw_hub.specs.Steps.{Keeps, nothing_seen};
+
+    ghost holds = { Keeps };
+
+    ghost first = { nothing_seen };
+}
+
+/// A reader enters the list, or the writer shows a longer one.
+pub struct Sees;
+
+impl Outcome<Window, View> for Sees {
+    ghost use Rattle.zw_hub.specs.Steps.{SeesOnce};
+
+    ghost then = { SeesOnce };
+}

@@ -1,0 +1,152 @@
+//! What lies behind `left_right`: the newest entries, and whether more will come.
+
+ghost use Rattle.std.specs.Prelude.{◌≡◌, ◌≢◌, ◌↔◌, ◌<◌, ℕ, ◌+◌, ◌-◌, ◌+ℤ◌, ◌-ℤ◌, ◌≤ℤ◌, ◌<ℤ◌, pos, length, Some, None, IfOk, OnOk, OnErr, IsTrue, slice_get, if◌then◌else◌};
+ghost use Rattle.std.specs.Arc.{arc_value};
+
+use crate::change::{Change, Ending};
+use crate::feed::Fed;
+use crate::published::{MAX_KEPT, Published};
+use circular_buffer::HeapCircularBuffer;
+use left_right::Absorb;
+use std::alloc::{AllocError, Global};
+use std::marker::Model;
+use std::sync::Arc;
+use zn_layout::Entry;
+use zx_history::GhostHistory;
+
+/// The newest entries. Contracts see it as the whole list that was published.
+#[derive(Drop)]
+pub struct Window {
+    ring: HeapCircularBuffer<Arc<Entry, Global>>,
+    first: i64,
+    last: i64,
+    end: Option<Ending>,
+    all: GhostHistory<Entry>,
+}
+
+impl Model for Window {
+    ghost use Rattle.zw_hub.specs.declared.published.Published.{Published};
+
+    ghost Value = { Published };
+
+    ghost use Rattle.zw_hub.specs.Windows.{published, IsWindow};
+
+    ghost view = { published };
+
+    ghost invariant = { IsWindow };
+}
+
+impl Window {
+    ghost use Rattle.std.specs.Prelude.{◌≡◌, ◌≢◌, ◌↔◌, ◌<◌, ℕ, ◌+◌, ◌-◌, ◌+ℤ◌, ◌-ℤ◌, ◌≤ℤ◌, ◌<ℤ◌, ℤ, pos, length, Some, None, IfOk, OnOk, OnErr, IsTrue, slice_get};
+    ghost use Rattle.std.specs.Arc.{arc_value};
+    ghost use Rattle.zw_hub.specs.Lists.{empty, last_number, floor, IsAt, is_next, added, closed_by};
+    ghost use Rattle.zw_hub.specs.Feeds.{IsFed, IsLagged};
+
+    pub fn new(alloc: Global, first: i64) -> Result<Window, AllocError>
+        ensures { IfOk result (λ w. w ≡ empty first) }
+    {
+        let ring = HeapCircularBuffer::with_capacity(alloc, MAX_KEPT)?;
+        Ok(Window {
+            ring,
+            first,
+            last: first,
+            end: None,
+            all: GhostHistory::new(),
+        })
+    }
+
+    fn floor(&self) -> i64
+        ensures { result ≡ floor self.now }
+    {
+        let _first = self.first;
+        self.last - self.ring.len() as i64
+    }
+
+    fn is_next(&self, entry: &Entry) -> bool
+        ensures { result ≡ is_next self.now entry.now }
+    {
+        self.end.is_none() && entry.number > self.last && entry.number - 1 == self.last
+    }
+
+    /// What a reader with this cursor is answered.
+    pub fn look(&self, cursor: i64) -> Fed
+        ensures answer { IsFed self.now cursor result }
+        ensures below { cursor <ℤ floor self.now → IsLagged result }
+    {
+        let floor = self.floor();
+        if cursor < floor {
+            return Fed::Lagged { cursor, floor };
+        }
+        if cursor < self.last {
+            return self.kept(cursor);
+        }
+        self.above()
+    }
+
+    /// The entry behind the cursor, which is kept.
+    fn kept(&self, cursor: i64) -> Fed
+        requires least { floor self.now ≤ℤ cursor }
+        requires most { cursor <ℤ last_number self.now }
+        ensures { IsFed self.now cursor result }
+    {
+        let place = (cursor - self.floor()) as usize;
+        let entry = self.ring.get(place).unwrap();
+        match Arc::try_clone(entry) {
+            Ok(entry) => Fed::Entry(entry),
+            Err(AllocError) => Fed::Memory,
+        }
+    }
+
+    /// What is above the last entry.
+    fn above(&self) -> Fed
+        ensures { (cursor : ℤ) → last_number self.now ≤ℤ cursor → IsFed self.now cursor result }
+    {
+        match &self.end {
+            None => Fed::None,
+            Some(end) => end.answer(),
+        }
+    }
+
+    /// Puts an entry behind the others, if it is the next.
+    fn add(&mut self, entry: &Arc<Entry, Global>) -> Result<(), AllocError>
+        ensures ok { OnOk result (self.new ≡ added self.old (arc_value entry.now)) }
+        ensures err { OnErr result (self.new ≡ self.old) }
+    {
+        if !self.is_next(entry) {
+            return Ok(());
+        }
+        let mine = Arc::try_clone(entry)?;
+        self.last = entry.number;
+        self.all = self.all.and(&**entry);
+        drop(self.ring.push_back(mine));
+        Ok(())
+    }
+
+    /// Closes the list, if it is open.
+    fn close(&mut self, end: &Ending) -> Result<(), AllocError>
+        ensures ok { OnOk result (self.new ≡ closed_by self.old end.now) }
+        ensures err { OnErr result (self.new ≡ self.old) }
+    {
+        if self.end.is_none() {
+            self.end = Some(end.another()?);
+        }
+        Ok(())
+    }
+}
+
+impl Absorb<Change> for Window {
+    type State = Published;
+
+    ghost use Rattle.zw_hub.specs.ListChanges.{list_after};
+
+    ghost state = { λ list. list };
+
+    ghost applied = { list_after };
+
+    fn absorb_first(&mut self, change: &Change, _other: &Window) -> Result<(), AllocError> {
+        match change {
+            Change::Entry(entry) => self.add(entry),
+            Change::End(end) => self.close(end),
+        }
+    }
+}

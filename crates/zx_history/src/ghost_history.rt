@@ -1,0 +1,38 @@
+//! A list that only proofs read.
+
+ghost use Rattle.std.specs.Prelude.{◌≡◌, List, [], ◌∷◌, ◌++◌};
+ghost use Rattle.std.specs.Borrow.{ftrue};
+
+use std::marker::{Model, PhantomData};
+
+/// Items in the order in which they came. A clause reads them as `items`.
+#[derive(Drop)]
+pub struct GhostHistory<T> {
+    of: PhantomData<T>,
+    pub ghost items: { List T },
+}
+
+impl<T> Model for GhostHistory<T> {
+    ghost also_owns = { λ _. ftrue };
+}
+
+// It has no bytes.
+unsafe impl<T: Send> Send for GhostHistory<T> {}
+
+unsafe impl<T: Send> Sync for GhostHistory<T> {}
+
+impl<T> GhostHistory<T> {
+    /// Nothing happened yet.
+    pub fn new() -> GhostHistory<T>
+        ensures { result.items ≡ [] }
+    {
+        GhostHistory { of: PhantomData }
+    }
+
+    /// The history with one more item, which stays the caller's.
+    pub fn and(&self, item: &T) -> GhostHistory<T>
+        ensures { result.items ≡ self.now.items ++ item.now ∷ [] }
+    {
+        GhostHistory { of: PhantomData }
+    }
+}

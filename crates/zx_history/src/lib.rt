@@ -1,0 +1,10 @@
+//! What happened so far, for proofs alone.
+//!
+//! A shared value often keeps less than a contract has to speak of: a ring keeps the newest items, and the contract is
+//! about all that were ever put in. A [`GhostHistory`] beside it is the whole list. It has no bytes, takes no memory and
+//! does nothing at run time, and it may cross threads and be shared by them, as what it is a history of may.
+#![tactic(auto)]
+
+mod ghost_history;
+
+pub use ghost_history::GhostHistory;
