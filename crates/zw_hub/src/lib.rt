@@ -10,7 +10,7 @@
 //! a read costs one step into its place and one out, and one owner more of the entry. Entries are shared and never copied.
 //!
 //! Contracts speak of the whole list that was ever published ([`Published`]), of which the rings are the end
-//! (`specs/Windows`). `specs/Lists` has what a list is and what it is to read it, `specs/Feeds` what a read answers, and
+//! (`specs/Windows`). `specs/Lists` has what a list is and how it grows, `specs/Feeds` what a read answers, and
 //! `specs/Steps` which steps threads make and what each of them leaves known.
 #![tactic(auto)]
 
