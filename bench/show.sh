@@ -1,7 +1,8 @@
 #!/usr/bin/env bash
 # How fast `zetcd show` is, and how much memory it takes: a stream of 95 MB of mixed requests, beside `xxd -p` of the same
 # file. Prints the best of five runs of each in seconds, and the peak kilobytes; then a stream of 100,000,001 bytes. Fails where
-# our peak is above its bound: a frame, a piece and the text of a piece, and not the stream. Of time it asserts nothing.
+# our peak is above its bound: a frame, a piece and the text of a piece are kept, and not the stream. Of time it asserts
+# nothing. A peak is never below that of the Python that starts the program, some 14,000 kB.
 set -eu
 here=$(cd "$(dirname "$0")/.." && pwd)
 program=$here/crates/zetcd/out/zetcd
@@ -79,10 +80,10 @@ P
 }
 
 stream 95000000
-measure "zetcd show" 8192 "$program" show
+measure "zetcd show" 20480 "$program" show
 measure "xxd -p" 1000000 xxd -p
 "$program" show <"$work/stream" | tail -n 1
 stream 100000001
-measure "one byte too long" 8192 "$program" show
+measure "one byte too long" 20480 "$program" show
 "$program" show <"$work/stream" | tail -n 1
 exit "$failed"
