@@ -146,18 +146,25 @@ fn runs_of(rt: &HostRuntime, root: &str, tally: &mut Tally) -> Result<()> {
 fn outcome_of<R: Files + AllocGlobal>(rt: &R, path: &str) -> Result<Option<String>> {
     let alloc = rt.alloc();
     let text = bytes_of(rt, path)?;
-    let run = Run::read(alloc, text.as_slice())?;
+    let Run {
+        words: owned,
+        input,
+        pieces,
+        failing,
+        sink_failing,
+        status: wanted,
+        output,
+    } = Run::read(alloc, text.as_slice())?;
     let mut words = Vec::new(alloc);
-    for word in &run.words {
+    for word in &owned {
         words.push(word.as_str())?;
     }
-    let mut source = MemSource::new(run.input, run.pieces, run.failing);
-    let mut out = MemSink::new(alloc, run.sink_failing);
+    let mut source = MemSource::new(input, pieces, failing);
+    let mut out = MemSink::new(alloc, sink_failing);
     let status = zetcd(alloc, words.as_slice(), &mut source, &mut out).number();
-    if let Some(at) = first_difference(out.bytes(), run.output.as_slice()) {
+    if let Some(at) = first_difference(out.bytes(), output.as_slice()) {
         return Ok(Some(format!(in alloc; "at byte {at}")?));
     }
-    let wanted = run.status;
     if u64::from(status) != wanted {
         return Ok(Some(format!(in alloc; "in its status, {status} for {wanted}")?));
     }
