@@ -10,6 +10,7 @@ use Rattle.ev_types.specs.Ranges.{Keys}
 use Rattle.ev_types.specs.Store.{Store, Change, Puts, Removes, revision, present, put_over, changed, after_changes, keys_from}
 use Rattle.zx_base.specs.Maps.{Bytes}
 use Rattle.zx_base.proofs.MapLaws.{either, get-insert_same, get-insert_other, get-remove_same, get-remove_other}
+use Rattle.zx_base.proofs.Options.{none_some}
 use Rattle.ev_types.proofs.Grown.{present-is}
 
 pub record IsPutWithin (r : ℤ) (kv : Kv) : Type 0 where
@@ -18,9 +19,6 @@ pub record IsPutWithin (r : ℤ) (kv : Kv) : Type 0 where
 
 abbrev Within : Keys → ℤ → Type 0
 Within m r = (k : Bytes) (kv : Kv) → get m k ≡ Some kv → IsPutWithin r kv
-
-none_some : {x : Kv} → None ≡ Some x → ⊥
-none_some e = cc
 
 same_kv : {x y : Kv} → Some x ≡ Some y → x ≡ y
 same_kv e = cc

@@ -2,6 +2,7 @@
 use Rattle.std.proofs.Common.{◌≡◌, ℕ, Bool, true, false, cond, eqb, Option, Some, None, List, [], ◌∷◌, ◌++◌, length, Ok, Err, refl, sym, ap, subst, ◌∙◌}
 use Rattle.std.proofs.lemmas.Bool.{eqb-true}
 use Rattle.std.proofs.lemmas.List.{append-nil, nil_from_length}
+use Rattle.zx_base.proofs.Options.{some_is}
 use Rattle.zk_model.specs.declared.connect.ConnectRequest.{ConnectRequest}
 use Rattle.zk_jute.specs.JuteValues.{Value, int, long, buffer, IsBoolean, Spelled, Spells}
 use Rattle.zk_jute.specs.JuteReading.{Read, ◌>>=◌, boolean_at, values_at, ended}
@@ -81,9 +82,6 @@ only frame r is =
     let fields : values_at connect_fields (s.front ++ s.rest) ≡ Ok (five r, s.rest) = values_again (five r) s.front s.rest s.first in
     ap (λ (z : List ℕ). connect_of (connect_at z)) s.parts ∙ rw (fields, flag_again r.read_only s.rest s.second) refl
 
-some_is : (r other : ConnectRequest) → Some r ≡ Some other → r ≡ other
-some_is r other e = cc
-
 -- a frame has one reading
 pub one : (frame : List ℕ) (r other : ConnectRequest) → IsConnect r frame → IsConnect other frame → r ≡ other
-one frame r other is also = some_is r other (sym (only frame r is) ∙ only frame other also)
+one frame r other is also = some_is (sym (only frame r is) ∙ only frame other also)

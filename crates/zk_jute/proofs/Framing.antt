@@ -2,6 +2,7 @@
 use Rattle.std.proofs.Common.{◌≡◌, ℕ, ◌<◌, ◌≤◌, Bool, true, false, cond, ltb, Some, None, List, [], ◌∷◌, ◌++◌, length, take, drop, Result, Ok, Err, refl, sym, ap, subst, ◌∙◌, append_assoc, arith, ℤ, pos, negsuc, IsErr}
 use Rattle.std.proofs.lemmas.Bool.{ltb-false, le-ltb}
 use Rattle.std.proofs.lemmas.List.{append-nil, take_at, drop_at, take-append-drop, length-append, length-take}
+use Rattle.zx_base.proofs.Options.{some_none}
 use Rattle.zk_jute.specs.JuteValues.{IsInt, Spelled}
 use Rattle.zk_jute.specs.JuteReading.{Read, int_at}
 use Rattle.zk_jute.specs.Frames.{IsFrame, IsRest, Framed, out_of_range, out_of_range_in, bad_length, frame_of, frame_at}
@@ -102,9 +103,6 @@ bad_read (Ok x) bytes more n e is =
 pub bad_stays : (bytes more : List ℕ) (n : ℤ) → bad_length bytes ≡ Some n → bad_length (bytes ++ more) ≡ Some n
 bad_stays bytes more n e = bad_read (int_at bytes) bytes more n refl e
 
-pub some_none : (n : ℤ) → Some n ≡ None → ⊥
-some_none n e = absurd cc
-
 in_range : (n : ℕ) → n ≤ max_frame → out_of_range (pos n) ≡ None
 in_range n le = rw (le-ltb _ _ le) refl
 
@@ -112,4 +110,4 @@ pub bad_rest : (bytes : List ℕ) (n : ℤ) → bad_length bytes ≡ Some n → 
 bad_rest bytes n bad frame front after is e =
     let grouped : bytes ≡ is.0 ++ (frame ++ after) = e ∙ ap (λ (z : List ℕ). z ++ after) is.3 ∙ append_assoc is.0 frame after in
     let good : bad_length bytes ≡ None = ap bad_length grouped ∙ ap out_of_range_in (int_field.again (pos (length frame)) is.0 (frame ++ after) is.1) ∙ in_range (length frame) is.2 in
-    some_none n (sym bad ∙ good)
+    some_none (sym bad ∙ good)

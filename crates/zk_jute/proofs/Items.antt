@@ -2,6 +2,7 @@
 use Rattle.std.proofs.Common.{◌≡◌, ℕ, zero, suc, ◌<◌, ◌≤◌, cond, Option, Some, None, List, [], ◌∷◌, ◌++◌, length, Ok, Err, refl, sym, ap, ◌∙◌, append_assoc, arith, ℤ}
 use Rattle.std.specs.Ordering.{int_eq}
 use Rattle.std.proofs.lemmas.List.{append-nil, length-append}
+use Rattle.zx_base.proofs.Options.{none_some}
 use Rattle.zk_jute.specs.declared.opcode.PartKind.{PartKind}
 use Rattle.zk_model.specs.declared.reply.PartResult.{PartResult}
 use Rattle.zk_model.specs.declared.reply.PartResult.TheVariants as results
@@ -89,11 +90,8 @@ header_shorter bytes part rest e =
     let last : d.0.1 ≡ rest = ap (λ (x : Option PartKind × List ℕ). x.1) (ok_is (c.0, d.0.1) (part, rest) d.2) in
     omega (arith, ap length t.parts, ap length u.parts, ap length v.parts, length-append t.front a.0.1, length-append u.front b.0.1, length-append v.front d.0.1, v.spelled.0, ap length last)
 
-none_some : {A : Type 0} (x : A) → ◌≡◌ {A = Option A} None (Some x) → ⊥
-none_some x e = absurd cc
-
 part_no_longer : (begun : Option PartKind) (bytes : List ℕ) (x : Part) (rest : List ℕ) → part_after begun bytes ≡ Ok (Some x, rest) → length rest ≤ length bytes
-part_no_longer None bytes x rest e = absurd (none_some x (ap (λ (y : Option Part × List ℕ). y.0) (ok_is (None, bytes) (Some x, rest) e)))
+part_no_longer None bytes x rest e = absurd (none_some (ap (λ (y : Option Part × List ℕ). y.0) (ok_is (None, bytes) (Some x, rest) e)))
 part_no_longer (Some kind) bytes x rest e = values_no_longer (part_fields kind) bytes (λ vs. Some (part_from kind vs)) (Some x) rest e
 
 pub part_shorter : Shortens part_at
@@ -102,7 +100,7 @@ part_shorter bytes x rest e =
     omega (arith, header_shorter bytes a.0.0 a.0.1 a.1, part_no_longer a.0.0 a.0.1 x rest a.2)
 
 result_no_longer : (left : ℕ) (err : ℤ) (form : Form) (bytes : List ℕ) (x : PartResult) (rest : List ℕ) → result_after left err form bytes ≡ Ok (Some x, rest) → length rest ≤ length bytes
-result_no_longer left err last bytes x rest e = absurd (none_some x (ap (λ (y : Option PartResult × List ℕ). y.0) (ok_is (None, bytes) (Some x, rest) e)))
+result_no_longer left err last bytes x rest e = absurd (none_some (ap (λ (y : Option PartResult × List ℕ). y.0) (ok_is (None, bytes) (Some x, rest) e)))
 result_no_longer left err (good kind) bytes x rest e = values_no_longer (result_fields kind) bytes (λ vs. Some (result_from kind vs)) (Some x) rest e
 result_no_longer left err refused bytes x rest e =
     let a = bind_ok (int_at bytes) (λ code. cond (int_eq code.0 err) (Ok (Some (results.Code code.0), code.1)) (Err left)) (Some x, rest) e in

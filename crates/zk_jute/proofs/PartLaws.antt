@@ -1,6 +1,7 @@
 -- The parts of a multi are read exactly where they are spelled.
 use Rattle.std.proofs.Common.{◌≡◌, ℕ, ◌≤◌, Bool, true, false, Option, Some, None, List, [], ◌∷◌, ◌++◌, length, Ok, refl, sym, ap, subst, ◌∙◌, append_assoc, arith, ℤ}
 use Rattle.std.proofs.lemmas.List.{append-nil, length-append}
+use Rattle.zx_base.proofs.Options.{none_some, some_none, some_is}
 use Rattle.zk_jute.specs.declared.opcode.PartKind.{PartKind}
 use Rattle.zk_model.specs.declared.request.Part.{Part}
 use Rattle.zk_jute.specs.JuteValues.{Value, int, boolean, Kind, Spelled, Spells}
@@ -90,22 +91,13 @@ begins_part left kind = ap (listed left) (part_numbered-part_number kind)
 
 -- ---- parts
 
-none_some : {A : Type 0} (x : A) → ◌≡◌ {A = Option A} None (Some x) → ⊥
-none_some x e = absurd cc
-
-some_none : {A : Type 0} (x : A) → ◌≡◌ {A = Option A} (Some x) None → ⊥
-some_none x e = absurd cc
-
-some_is : {A : Type 0} (x y : A) → ◌≡◌ {A = Option A} (Some x) (Some y) → x ≡ y
-some_is x y e = cc
-
 part_after_takes : (begun : Option PartKind) (bytes after : List ℕ) (x : Part) (rest : List ℕ) → Takes Heads bytes begun after → part_after begun after ≡ Ok (Some x, rest) → Takes IsPart bytes x rest
-part_after_takes None bytes after x rest t e = absurd (none_some x (ap (λ (y : Option Part × List ℕ). y.0) (ok_is (None, after) (Some x, rest) e)))
+part_after_takes None bytes after x rest t e = absurd (none_some (ap (λ (y : Option Part × List ℕ). y.0) (ok_is (None, after) (Some x, rest) e)))
 part_after_takes (Some kind) bytes after x rest t e =
     let a = bind_ok (values_at (part_fields kind) after) (λ y. Ok (Some (part_from kind y.0), y.1)) (Some x, rest) e in
     let u = values_take (part_fields kind) after a.0.0 a.0.1 a.1 in
     let same = ok_is (Some (part_from kind a.0.0), a.0.1) (Some x, rest) a.2 in
-    let part : part_from kind a.0.0 ≡ x = some_is _ x (ap (λ (y : Option Part × List ℕ). y.0) same) in
+    let part : part_from kind a.0.0 ≡ x = some_is (ap (λ (y : Option Part × List ℕ). y.0) same) in
     let last : a.0.1 ≡ rest = ap (λ (y : Option Part × List ℕ). y.1) same in
     let kind_is : kind ≡ part_kind x = sym (part_with-kind kind (value_in a.0.0)) ∙ ap part_kind part in
     let values_are : a.0.0 ≡ part_values x = sym (part_with-values kind (value_in a.0.0) ∙ normals_are (part_fields kind) a.0.0 u.kinds) ∙ ap part_values part in
@@ -126,7 +118,7 @@ last_after_takes None bytes after rest t e =
     record { front = t.front; spelled = t.spelled; parts = t.parts ∙ ap (λ (z : List ℕ). t.front ++ z) last }
 last_after_takes (Some kind) bytes after rest t e =
     let a = bind_ok (values_at (part_fields kind) after) (λ y. Ok (Some (part_from kind y.0), y.1)) (None, rest) e in
-    absurd (some_none (part_from kind a.0.0) (ap (λ (y : Option Part × List ℕ). y.0) (ok_is (Some (part_from kind a.0.0), a.0.1) (None, rest) a.2)))
+    absurd (some_none (ap (λ (y : Option Part × List ℕ). y.0) (ok_is (Some (part_from kind a.0.0), a.0.1) (None, rest) a.2)))
 
 last_takes : (bytes rest : List ℕ) → part_at bytes ≡ Ok (None, rest) → TakesLast IsLastHeader bytes rest
 last_takes bytes rest e =

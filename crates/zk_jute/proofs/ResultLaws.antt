@@ -5,6 +5,7 @@ use Rattle.std.specs.Ordering.{int_eq}
 use Rattle.std.proofs.lemmas.Bool.{and_parts}
 use Rattle.std.proofs.lemmas.Bool.Decides.{Decides-int_eq}
 use Rattle.std.proofs.lemmas.List.{append-nil, length-append}
+use Rattle.zx_base.proofs.Options.{none_some, some_none, some_is}
 use Rattle.zk_jute.specs.declared.opcode.PartKind.{PartKind}
 use Rattle.zk_jute.specs.declared.opcode.PartKind.TheVariants as kinds
 use Rattle.zk_model.specs.declared.reply.PartResult.{PartResult}
@@ -83,21 +84,12 @@ record Headed (bytes : List ℕ) (form : Form) (err : ℤ) (after : List ℕ) : 
   parts : bytes ≡ front ++ after
   says : Says form type is_last err
 
-none_some : {A : Type 0} (x : A) → ◌≡◌ {A = Option A} None (Some x) → ⊥
-none_some x e = absurd cc
-
-some_none : {A : Type 0} (x : A) → ◌≡◌ {A = Option A} (Some x) None → ⊥
-some_none x e = absurd cc
-
-some_is : {A : Type 0} (x y : A) → ◌≡◌ {A = Option A} (Some x) (Some y) → x ≡ y
-some_is x y e = cc
-
 good_takes : (kind : PartKind) (bytes after : List ℕ) (err : ℤ) (x : PartResult) (rest : List ℕ) → Headed bytes (good kind) err after → good_at kind after ≡ Ok (Some x, rest) → Takes IsResult bytes x rest
 good_takes kind bytes after err x rest h e =
     let a = bind_ok (values_at (result_fields kind) after) (λ y. Ok (Some (result_from kind y.0), y.1)) (Some x, rest) e in
     let u = values_take (result_fields kind) after a.0.0 a.0.1 a.1 in
     let same = ok_is (Some (result_from kind a.0.0), a.0.1) (Some x, rest) a.2 in
-    let made : result_from kind a.0.0 ≡ x = some_is _ x (ap (λ (y : Option PartResult × List ℕ). y.0) same) in
+    let made : result_from kind a.0.0 ≡ x = some_is (ap (λ (y : Option PartResult × List ℕ). y.0) same) in
     let rest_is : a.0.1 ≡ rest = ap (λ (y : Option PartResult × List ℕ). y.1) same in
     let values : good_result kind a.0.0 ≡ result_values x = ap (good_result kind) (sym (normals_are (result_fields kind) a.0.0 u.kinds)) ∙ sym (result_with-values kind (value_in a.0.0)) ∙ ap result_values made in
     let header : Spelled Spells (result_header (part_number kind) false (pos 0)) h.front =
@@ -115,7 +107,7 @@ code_takes left bytes after err x rest h e =
     let g = ended_ok (int_eq a.0.0 err) left (Some (results.Code a.0.0), a.0.1) (Some x, rest) a.2 in
     let t = int_field.takes after a.0.0 a.0.1 a.1 in
     let code : a.0.0 ≡ err = int_is a.0.0 err g.0 in
-    let made : results.Code a.0.0 ≡ x = some_is _ x (ap (λ (y : Option PartResult × List ℕ). y.0) g.1) in
+    let made : results.Code a.0.0 ≡ x = some_is (ap (λ (y : Option PartResult × List ℕ). y.0) g.1) in
     let rest_is : a.0.1 ≡ rest = ap (λ (y : Option PartResult × List ℕ). y.1) g.1 in
     let header : Spelled Spells (result_header (negsuc 0) false a.0.0) h.front =
     subst (λ (n : ℤ). Spelled Spells (result_header (negsuc 0) false n) h.front) (sym code)
@@ -128,7 +120,7 @@ code_takes left bytes after err x rest h e =
     }
 
 after_takes : (left : ℕ) (form : Form) (bytes after : List ℕ) (err : ℤ) (x : PartResult) (rest : List ℕ) → Headed bytes form err after → result_after left err form after ≡ Ok (Some x, rest) → Takes IsResult bytes x rest
-after_takes left last bytes after err x rest h e = absurd (none_some x (ap (λ (y : Option PartResult × List ℕ). y.0) (ok_is (None, after) (Some x, rest) e)))
+after_takes left last bytes after err x rest h e = absurd (none_some (ap (λ (y : Option PartResult × List ℕ). y.0) (ok_is (None, after) (Some x, rest) e)))
 after_takes left (good kind) bytes after err x rest h e = good_takes kind bytes after err x rest h e
 after_takes left refused bytes after err x rest h e = code_takes left bytes after err x rest h e
 after_takes left none bytes after err x rest h e = absurd cc
@@ -142,10 +134,10 @@ last_after left last bytes after err rest h e =
     record { front = h.front; spelled = header; parts = h.parts ∙ ap (λ (z : List ℕ). h.front ++ z) rest_is }
 last_after left (good kind) bytes after err rest h e =
     let a = bind_ok (values_at (result_fields kind) after) (λ y. Ok (Some (result_from kind y.0), y.1)) (None, rest) e in
-    absurd (some_none _ (ap (λ (y : Option PartResult × List ℕ). y.0) (ok_is (Some (result_from kind a.0.0), a.0.1) (None, rest) a.2)))
+    absurd (some_none (ap (λ (y : Option PartResult × List ℕ). y.0) (ok_is (Some (result_from kind a.0.0), a.0.1) (None, rest) a.2)))
 last_after left refused bytes after err rest h e =
     let a = bind_ok (int_at after) (λ code. cond (int_eq code.0 err) (Ok (Some (results.Code code.0), code.1)) (Err left)) (None, rest) e in
-    absurd (some_none _ (ap (λ (y : Option PartResult × List ℕ). y.0) (ended_ok (int_eq a.0.0 err) left (Some (results.Code a.0.0), a.0.1) (None, rest) a.2).1))
+    absurd (some_none (ap (λ (y : Option PartResult × List ℕ). y.0) (ended_ok (int_eq a.0.0 err) left (Some (results.Code a.0.0), a.0.1) (None, rest) a.2).1))
 last_after left none bytes after err rest h e = absurd cc
 
 -- the header that a reading begins with, and what is read behind it

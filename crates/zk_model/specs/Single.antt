@@ -33,7 +33,6 @@ is_ephemeral f = int_eq f (pos 1) || int_eq f (pos 3)
 abbrev pub is_sequential : ℤ → Bool
 is_sequential f = int_eq f (pos 2) || int_eq f (pos 3)
 
--- `OPEN_ACL_UNSAFE`, the one access list that there is
 -- a version of -1 matches any
 abbrev pub matches : ℤ → ℤ → Bool
 matches asked version = int_eq asked (negsuc 0) || int_eq asked version

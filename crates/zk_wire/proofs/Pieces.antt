@@ -2,8 +2,9 @@
 use Rattle.std.proofs.Common.{◌≡◌, ℕ, ◌+◌, ◌-◌, ◌<◌, ◌^◌, min, Bool, true, false, eqb, Some, None, List, [], ◌∷◌, ◌++◌, length, Result, Ok, Err, refl, sym, ap, subst, ◌∙◌, append_assoc, arith, ℤ, ◌⊎◌, inl, inr}
 use Rattle.std.proofs.lemmas.List.{append-nil}
 use Rattle.std.specs.Global.{Vec}
+use Rattle.zx_base.proofs.Options.{some_none}
 use Rattle.zk_jute.specs.Frames.{Framed, bad_length}
-use Rattle.zk_jute.proofs.Framing.{no_frame, framed_join, bad_stays, bad_rest, some_none}
+use Rattle.zk_jute.proofs.Framing.{no_frame, framed_join, bad_stays, bad_rest}
 use Rattle.zk_wire.specs.Cutting.{Stream, unread, Hands, Refuses, Takes, Stands, Call, Calls, taken, taken_by, handed, handed_by, all_taken, all_handed}
 use Rattle.zk_wire.specs.declared.cutter.CutFault.{CutFault}
 use Rattle.zk_wire.specs.declared.cutter.CutFault.TheVariants.{BadLength, Memory}
@@ -43,7 +44,7 @@ still_bad rest held piece n (inr b) bad = bad_stays rest piece b.0 b.1 ∙ sym (
 frames_none : (old : Stream) (piece : List ℕ) (n : ℤ) (frames : List (List ℕ)) (new : Stream) → bad_length old.rest ≡ Some n → Hands old piece frames new → ⊥
 frames_none old piece n [] new bad h =
     let whole : old.rest ++ piece ≡ new.rest = h.framed.2 ∙ ap (λ (z : List ℕ). z ++ new.rest) h.framed.1 in
-    some_none n (sym (bad_stays old.rest piece n bad) ∙ ap bad_length whole ∙ h.bad refl)
+    some_none (sym (bad_stays old.rest piece n bad) ∙ ap bad_length whole ∙ h.bad refl)
 frames_none old piece n (f ∷ fs) new bad h =
     let x = h.framed.1 in
     bad_rest (old.rest ++ piece) n (bad_stays old.rest piece n bad) f x.0 (x.1 ++ new.rest) x.2 (h.framed.2 ∙ ap (λ (z : List ℕ). z ++ new.rest) x.4 ∙ append_assoc x.0 x.1 new.rest)
