@@ -1,10 +1,16 @@
 -- A sorted map of std as the finite map of the open sessions.
-use Rattle.std.proofs.Common.{◌≡◌, ℤ, cond, Option, Some, None, List, [], ◌∷◌, refl, sym, ap, ◌∙◌}
-use Rattle.std.specs.Ordering.{int_cmp, eq_by_cmp}
+use Rattle.std.proofs.Common.{◌≡◌, ℤ, Bool, true, false, ◌&&◌, cond, Option, Some, None, List, [], ◌∷◌, refl, sym, ap, ◌∙◌, subst}
+use Rattle.std.specs.Prelude.{T}
+use Rattle.std.specs.declared.cmp.Ordering.{Ordering}
+use Rattle.std.specs.declared.cmp.Ordering.TheVariants.{Less}
+use Rattle.std.specs.List.{AllByRecursion}
+use Rattle.std.specs.List.Sorted.{IsStrictlySortedBy}
+use Rattle.std.specs.FinMap.Entries.{below_all}
+use Rattle.std.specs.Ordering.{int_cmp, is_lt, eq_by_cmp}
 use Rattle.std.specs.Cmp.{int_cmp_total, eq_by_cmp_equiv}
-use Rattle.std.specs.Map.{lookup}
+use Rattle.std.specs.Map.{lookup, keys_of}
 use Rattle.std.specs.BTreeMap.{is_at}
-use Rattle.std.specs.FinMap.{find, get, insert, remove, from_entries, same_map, int_cmp-IsAntisymmetric, get-from_entries, get-insert, get-remove}
+use Rattle.std.specs.FinMap.{find, is_sorted, get, insert, remove, entries, from_entries, from_sorted, same_map, int_cmp-IsAntisymmetric, get-from_entries, get-from_sorted, get-insert, get-remove, entries-from_sorted}
 use Rattle.zk_transcript.specs.History.{Session, Sessions}
 
 abbrev pub Entries : Type 0
@@ -36,3 +42,24 @@ pub numbered-remove : (es fs : Entries) (id : ℤ) → ((q : ℤ) → lookup (is
     → numbered fs ≡ remove (numbered es) id
 numbered-remove es fs id updates =
     same_map int_cmp_total int_cmp-IsAntisymmetric _ _ (λ q. updated es fs id None updates q ∙ sym (get-remove int_cmp_total (numbered es) id q))
+
+-- ---- the sessions in the order of their numbers
+
+both : (a b : Bool) → T a → T b → T (a && b)
+both true b p q = q
+both false b p q = p
+
+below_all-from_sorted : (id : ℤ) (es : Entries) → AllByRecursion (λ y. int_cmp id y ≡ Less) (keys_of es) → T (below_all int_cmp id es)
+below_all-from_sorted id [] h = tt
+below_all-from_sorted id (e ∷ es) h = both _ _ (subst (λ (o : Ordering). T (is_lt o)) (sym h.0) tt) (below_all-from_sorted id es h.1)
+
+is_sorted-from_keys : (es : Entries) → IsStrictlySortedBy int_cmp (keys_of es) → T (is_sorted int_cmp es)
+unfolding IsStrictlySortedBy
+is_sorted-from_keys [] h = tt
+is_sorted-from_keys (e ∷ es) h = both _ _ (below_all-from_sorted e.0 es h.0) (is_sorted-from_keys es h.1)
+
+pub entries-numbered : (es : Entries) → IsStrictlySortedBy int_cmp (keys_of es) → entries (numbered es) ≡ es
+entries-numbered es ordered =
+    let sorted : T (is_sorted int_cmp es) = is_sorted-from_keys es ordered in
+    let same : numbered es ≡ from_sorted es = same_map int_cmp_total int_cmp-IsAntisymmetric _ _ (λ q. get-from_entries int_cmp_total es q ∙ sym (get-from_sorted int_cmp es q sorted)) in
+    ap (λ (m : Sessions). entries m) same ∙ entries-from_sorted int_cmp es sorted

@@ -17,9 +17,10 @@ mod state;
 #[cfg(test)]
 mod tests;
 
-pub use lines::change;
+pub use lines::{asked_commit, attached_to, change};
 pub use moments::{after, state_at};
+pub use outcome::Commit;
 pub use session::Session;
-pub use shown::{connect, frame, opening, request};
+pub use shown::{connect, frame, frame_shown, opening, request};
 pub use state::State;
 pub use zk_plain::Fault;

@@ -2,7 +2,7 @@
 
 ghost use Rattle.std.specs.Prelude.{◌≡◌, ℕ, List, option_map, IfOk, IfErr};
 ghost use Rattle.zk_transcript.specs.declared.transcript.UpdateKind.TheVariants as kind;
-ghost use Rattle.zk_transcript.specs.History.{State, attached_anew, asked_commit, change, committed, lapsed_in, request, session_at, session_of, updated};
+ghost use Rattle.zk_transcript.specs.History.{State, attached as attached_as, attached_anew, asked_commit, change, committed, lapsed_in, request, session_at, session_of, updated};
 ghost use Rattle.zk_plain.specs.Faults.{BeyondUnless};
 ghost use Rattle.zk_history.specs.Commits.{commit_of};
 ghost use Rattle.zk_history.specs.Fits.{AskedFits, Fits, IsCountable, IsMoment, UpdateFits};
@@ -11,7 +11,7 @@ use crate::ended::session_ended;
 use crate::outcome::Commit;
 use crate::requests::commit;
 use crate::session::Session;
-use crate::shown::{connect, opening, request};
+use crate::shown::{connect, frame, opening, request};
 use crate::state::State;
 use std::alloc::Global;
 use zk_plain::{Fault, Turn, begin};
@@ -43,11 +43,22 @@ fn turn(session: i64, zxid: i64, moment: u64) -> Result<Turn, Fault>
     })
 }
 
-/// The session of the requests of a connection. Each connection counts as attached to a session of number 0.
-fn session_of(_connection: u32, _state: &State) -> Option<i64>
-    ensures { result ≡ session_of _connection _state.now }
+/// The session that a connection acts for behind these lines, and whether it has lapsed: 0 where they show no connect of it.
+pub fn attached_to(before: &[TranscriptLine], connection: u32, state: &State) -> Option<(i64, bool)>
+    ensures { result ≡ option_map (λ e. (e.0, e.1.lapsed)) (attached_as before.now connection state.now) }
 {
-    Some(0)
+    match frame(before, connection, 0) {
+        Some(_) => state.attached_to(connection),
+        None => Some((0, false)),
+    }
+}
+
+/// The session that the requests of a connection are made under.
+fn session_of(before: &[TranscriptLine], connection: u32, state: &State) -> Option<i64>
+    ensures { result ≡ session_of before.now connection state.now }
+{
+    let (session, _) = attached_to(before, connection, state)?;
+    Some(session)
 }
 
 /// The state after the first update.
@@ -114,8 +125,8 @@ fn attached(
     with_attached(alloc, state, zxid, id, connection)?.advanced(zxid, Seq::new(alloc))
 }
 
-/// What the request of a frame does, where it is not refused.
-fn asked_commit(
+/// What the request of a frame does at this zxid and moment, in milliseconds, where it is not refused; faults as in [`change`].
+pub fn asked_commit(
     alloc: Global,
     before: &[TranscriptLine],
     state: &State,
@@ -125,9 +136,9 @@ fn asked_commit(
     moment: u64,
 ) -> Result<Option<Commit>, Fault>
     ensures ok { IfOk result (λ o. option_map commit_of o ≡ asked_commit before.now state.now zxid connection index moment) }
-    ensures beyond { IfErr result (BeyondUnless (IsMoment moment × AskedFits state.now.tree (session_of connection state.now) (request connection index before.now) zxid moment)) }
+    ensures beyond { IfErr result (BeyondUnless (IsMoment moment × AskedFits state.now.tree (session_of before.now connection state.now) (request connection index before.now) zxid moment)) }
 {
-    let Some(session) = session_of(connection, state) else {
+    let Some(session) = session_of(before, connection, state) else {
         return Ok(None);
     };
     let Some(asked) = request(alloc, before, connection, index)? else {
@@ -160,7 +171,7 @@ fn asked(
     moment: u64,
 ) -> Result<State, Fault>
     ensures ok { IfOk result (λ s. s ≡ updated before.now state zxid (kind.Asked connection index moment)) }
-    ensures beyond { IfErr result (BeyondUnless (IsCountable state × IsMoment moment × AskedFits state.tree (session_of connection state) (request connection index before.now) zxid moment)) }
+    ensures beyond { IfErr result (BeyondUnless (IsCountable state × IsMoment moment × AskedFits state.tree (session_of before.now connection state) (request connection index before.now) zxid moment)) }
 {
     let done = asked_commit(alloc, before, &state, zxid, connection, index, moment)?;
     Ok(committed(state, zxid, done)?)

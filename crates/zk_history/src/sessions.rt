@@ -1,7 +1,8 @@
 //! The open sessions.
 
 ghost use Rattle.std.specs.Prelude.{◌≡◌, option_map, IfOk};
-ghost use Rattle.std.specs.FinMap.{empty, get, insert, remove};
+ghost use Rattle.std.specs.FinMap.{empty, entries, get, insert, remove};
+ghost use Rattle.zk_transcript.specs.History.{attached_in};
 
 use crate::session::Session;
 use std::alloc::Global;
@@ -42,6 +43,18 @@ impl Sessions {
         ensures { option_map (λ s. s.now) result ≡ get self.now id }
     {
         self.open.get(&id)
+    }
+
+    /// The session that is attached to a connection, and whether it has lapsed.
+    pub fn attached_to(&self, connection: u32) -> Option<(i64, bool)>
+        ensures { result ≡ option_map (λ e. (e.0, e.1.lapsed)) (attached_in connection (entries self.now)) }
+    {
+        for (id, session) in self.open.iter() {
+            if connection == session.connection() {
+                return Some((*id, session.is_lapsed()));
+            }
+        }
+        None
     }
 
     /// The sessions with this one under its number.

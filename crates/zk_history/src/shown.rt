@@ -37,7 +37,8 @@ pub fn opening(lines: &[TranscriptLine], connection: u32) -> Option<(i64, [u8; 1
     None
 }
 
-fn frame_shown(line: &TranscriptLine, connection: u32, index: u64) -> Option<&[u8]>
+/// The bytes of a frame, where this is its line.
+pub fn frame_shown(line: &TranscriptLine, connection: u32, index: u64) -> Option<&[u8]>
     ensures { option_map (λ b. b.now) result ≡ frame_shown connection index line.now }
 {
     match line {

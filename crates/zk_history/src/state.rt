@@ -2,7 +2,7 @@
 
 ghost use Rattle.std.specs.Prelude.{◌≡◌, [], ◌+◌, ◌<◌, option_map, IfOk, IfErr};
 ghost use Rattle.std.specs.FinMap.{empty, insert, remove};
-ghost use Rattle.zk_transcript.specs.History.{advanced, nothing_yet, session_at};
+ghost use Rattle.zk_transcript.specs.History.{advanced, attached_session, nothing_yet, session_at};
 ghost use Rattle.zk_plain.specs.Faults.{BeyondUnless};
 
 use crate::session::Session;
@@ -152,6 +152,13 @@ impl State {
         ensures { result.now ≡ self.now.triggers }
     {
         self.triggers.as_slice()
+    }
+
+    /// The session that is attached to a connection, and whether it has lapsed.
+    pub fn attached_to(&self, connection: u32) -> Option<(i64, bool)>
+        ensures { result ≡ option_map (λ e. (e.0, e.1.lapsed)) (attached_session connection self.now) }
+    {
+        self.sessions.attached_to(connection)
     }
 
     /// The open session of this number.

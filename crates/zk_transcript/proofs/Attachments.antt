@@ -7,6 +7,7 @@ use Rattle.std.proofs.lemmas.Bool.{and_parts}
 use Rattle.std.proofs.lemmas.Bool.Decides.{Decides-int_eq, nat_tests}
 use Rattle.std.proofs.lemmas.Int.{ints}
 use Rattle.std.specs.FinMap.{insert, entries, get-entries, find, get-empty}
+use Rattle.zx_base.proofs.Options.{none_some}
 use Rattle.zk_model.specs.declared.connect.ConnectRequest.{ConnectRequest}
 use Rattle.zk_model.specs.Limits.{max_long}
 use Rattle.zk_transcript.specs.declared.transcript.UpdateKind.{UpdateKind}
@@ -247,9 +248,6 @@ lined-ended lines l s z id nobody ends alive above was =
     lined-skip lines l s (session_ended s z id) nobody
     (λ other x is. let still = still_open s.sessions id other x is in ((ends other ∙ apart other id still.0, λ lives. alive other), was.all other x still.1))
     (omega (arith, ints)) was
-
-none_some : {A : Type 0} {x : A} → None ≡ Some x → ⊥
-none_some e = cc
 
 lined-updated : (lines : List TranscriptLine) (s : State) (z : ℤ) (kind : UpdateKind) → Lined lines s → 1 ≤ s.updates → may_update lines s z kind ≡ true → s.zxid <ℤ z
     → Lined (lines ++ Update (record { zxid = z; kind = kind }) ∷ []) (updated lines s z kind)

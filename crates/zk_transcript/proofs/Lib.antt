@@ -21,3 +21,4 @@ pub mod SoundSessions
 pub mod SoundHistories
 pub mod Attachments
 pub mod Requests
+pub mod Conditions

@@ -13,6 +13,7 @@ use Rattle.std.proofs.lemmas.Map.Lookups.{exact_bytes}
 use Rattle.std.specs.FinMap.{get, insert, remove, empty, len-empty, get-empty, contains_key-keys, len}
 use Rattle.zx_base.specs.Maps.{Bytes}
 use Rattle.zx_base.proofs.MapLaws.{ext}
+use Rattle.zx_base.proofs.Options.{some_is, some_none}
 use Rattle.zk_model.specs.declared.node.Node.{Node}
 use Rattle.zk_model.specs.Paths.{root, parent}
 use Rattle.zk_model.specs.Znodes.{Tree, owned, owned_by}
@@ -22,7 +23,7 @@ use Rattle.zk_model.proofs.Paths.{apart_from_parent}
 use Rattle.zk_transcript.proofs.Children.{some_or_none, not_root}
 use Rattle.zk_transcript.proofs.Owned.{num_owned, get-owned_as}
 use Rattle.zk_transcript.proofs.SessionMaps.{either_id, at-insert_same, at-insert_other, at-remove_other, each_session-put, each_session-gone}
-use Rattle.zk_transcript.proofs.SoundTrees.{Each, each-put, still_there, some_is, some_none}
+use Rattle.zk_transcript.proofs.SoundTrees.{Each, each-put, still_there}
 use Rattle.zk_transcript.proofs.SoundEffects.{Stands, stands-removed}
 
 -- ---- a session changes, and may own what it might

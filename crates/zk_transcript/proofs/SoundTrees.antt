@@ -6,6 +6,7 @@ use Rattle.std.proofs.lemmas.Int.{ints}
 use Rattle.std.specs.FinMap.{get, insert, remove}
 use Rattle.zx_base.specs.Maps.{Bytes}
 use Rattle.zx_base.proofs.MapLaws.{either, get-insert_same, get-insert_other, get-remove_same, get-remove_other}
+use Rattle.zx_base.proofs.Options.{some_is, some_none}
 use Rattle.zk_model.specs.Limits.{max_frame}
 use Rattle.zk_model.specs.declared.node.Node.{Node}
 use Rattle.zk_model.specs.Paths.{root, parent}
@@ -14,12 +15,6 @@ use Rattle.zk_transcript.specs.History.{Session, Sessions, HasPlain, HasParent, 
 use Rattle.zk_model.proofs.Paths.{apart_from_parent, is_child-no}
 use Rattle.zk_transcript.proofs.Children.{num_children-change, num_children-new, num_children-new_other, num_children-gone, no_children-absent}
 use Rattle.zk_transcript.proofs.Owned.{num_owned-change, num_owned-new, num_owned-new_other, num_owned-gone}
-
-pub some_is : {X : Type 0} {x y : X} → Some x ≡ Some y → x ≡ y
-some_is e = cc
-
-pub some_none : {X : Type 0} {x : X} → Some x ≡ None → ⊥
-some_none e = cc
 
 pub same_node : (t : Tree) (p : Bytes) (x y : Node) → get t p ≡ Some x → get t p ≡ Some y → x ≡ y
 same_node t p x y a b = some_is (sym a ∙ b)

@@ -1,12 +1,13 @@
 //! What holds of every legal history.
 
-ghost use Rattle.std.specs.Prelude.{◌≡◌, ◌<◌, ◌≤ℤ◌, ◌<ℤ◌, true, false, ℕ, ℤ, List, [], ◌∷◌, Some, length, slice_get};
+ghost use Rattle.std.specs.Prelude.{◌≡◌, ◌<◌, ◌≤ℤ◌, ◌<ℤ◌, true, false, ℕ, ℤ, pos, List, [], ◌∷◌, Some, None, length, slice_get, take};
 ghost use Rattle.zk_transcript.specs.declared.transcript.TranscriptLine.{TranscriptLine};
 ghost use Rattle.zk_transcript.specs.declared.transcript.TranscriptLine.TheVariants.{Update, Open, Lapse};
-ghost use Rattle.zk_transcript.specs.declared.transcript.UpdateKind.TheVariants.{Begin};
+ghost use Rattle.zk_transcript.specs.declared.transcript.UpdateKind.TheVariants.{Begin, Session as NewSession, Attach, Reaped};
+ghost use Rattle.zk_model.specs.declared.connect.ConnectRequest.{ConnectRequest as SomeConnect};
 ghost use Rattle.zk_model.specs.Limits.{max_long};
 ghost use Rattle.zk_transcript.specs.declared.transcript.UpdateRec.{UpdateRec};
-ghost use Rattle.zk_transcript.specs.History.{Session, IsSound, IsBounded, after, session_at, attached_session, first_shown, state_at, update_in, updates};
+ghost use Rattle.zk_transcript.specs.History.{Session, IsSound, IsBounded, after, session_at, attached_session, connect, first_shown, opening, state_at, update_in, updates};
 ghost use Rattle.zk_transcript.specs.Legal.{Attachment, attach_of, index_shown, is_legal, is_ordered, changes_session, lapses_session};
 
 /// Begin may have any zxid, and lines that are no update or lapse may stand before it.
@@ -62,6 +63,23 @@ pub fn attached_since_own_line()
 /// And while it lives no such line lapses it.
 pub fn alive_since_own_line()
     ensures { (lines : List TranscriptLine) (c k moment : ℕ) (own : Attachment) (id : ℤ) (x : Session) → is_legal lines ≡ true → attach_of c lines ≡ Some (k, own) → k < moment → attached_session c (state_at lines moment) ≡ Some (id, x) → x.lapsed ≡ false → (j : ℕ) (l : TranscriptLine) → k < j → j < moment → slice_get lines j ≡ Some l → lapses_session id l ≡ false }
+{}
+
+/// A new session has the number that its connection offered, which no open session had, and the connect asked for no other.
+pub fn sessions_begin_as_offered()
+    ensures { (lines : List TranscriptLine) (k c : ℕ) (z id : ℤ) → is_legal lines ≡ true → slice_get lines k ≡ Some (Update (record { zxid = z; kind = NewSession id c })) → (o : ℤ × List ℕ) × (r : SomeConnect) × (opening c (take k lines) ≡ Some o) × (connect c (take k lines) ≡ Some r) × (o.0 ≡ id) × (r.session ≡ pos 0) × (session_at id (state_at lines k) ≡ None) }
+{}
+
+/// A session is attached to a connection whose connect names it and shows its password, while it is open and has not lapsed,
+/// and at a zxid above the last that the client has seen.
+pub fn attaches_show_the_password()
+    ensures shown { (lines : List TranscriptLine) (k c : ℕ) (z id : ℤ) → is_legal lines ≡ true → slice_get lines k ≡ Some (Update (record { zxid = z; kind = Attach id c })) → (r : SomeConnect) × (x : Session) × (connect c (take k lines) ≡ Some r) × (session_at id (state_at lines k) ≡ Some x) × (r.session ≡ id) × (r.passwd ≡ x.passwd) × (x.lapsed ≡ false) }
+    ensures after { (lines : List TranscriptLine) (k c : ℕ) (z id : ℤ) (r : SomeConnect) → is_legal lines ≡ true → slice_get lines k ≡ Some (Update (record { zxid = z; kind = Attach id c })) → connect c (take k lines) ≡ Some r → r.last_zxid <ℤ z }
+{}
+
+/// Only a session that has lapsed is reaped.
+pub fn reaped_sessions_had_lapsed()
+    ensures { (lines : List TranscriptLine) (k : ℕ) (z id : ℤ) → is_legal lines ≡ true → slice_get lines k ≡ Some (Update (record { zxid = z; kind = Reaped id })) → (x : Session) × (session_at id (state_at lines k) ≡ Some x) × (x.lapsed ≡ true) }
 {}
 
 /// What is carried out later for a connection is a later request of it.

@@ -3,8 +3,8 @@ use Rattle.std.proofs.Common.{◌≡◌, ℕ, List, ◌∷◌, ◌++◌, subst}
 use Rattle.std.specs.List.{AllByRecursion}
 use Rattle.ev_types.specs.Store.{Store}
 use Rattle.zt_text.specs.Transcripts.{IsWellFormed}
-use Rattle.zn_ops.specs.declared.requests.Answered.{Answered}
-use Rattle.zn_ops.specs.Answering.{Answers, HasRoom}
+use Rattle.zn_alone.specs.declared.requests.Answered.{Answered}
+use Rattle.zn_alone.specs.Answering.{Answers, HasRoom}
 use Rattle.zp_alone.specs.declared.waiting.Waiting.{Waiting}
 use Rattle.zp_alone.specs.World.{World}
 use Rattle.zp_alone.specs.Effects.{AnswersOne, answer_lines, zxid_of}

@@ -14,7 +14,7 @@ use Rattle.zk_model.specs.Watches.{no_watches}
 use Rattle.zk_transcript.specs.Legal.{is_within_parts}
 use Rattle.zk_transcript.specs.Walks.{is_auth_refusal}
 use Rattle.zp_alone.specs.Runs.{is_built}
-use Rattle.zn_ops.specs.Built.{is_built_request}
+use Rattle.zn_alone.specs.Built.{is_built_request}
 use Rattle.zk_jute.specs.Records.{contents_of}
 use Rattle.zk_jute.specs.Requests.{Asks, read_request}
 use Rattle.zk_transcript.specs.History.{when}

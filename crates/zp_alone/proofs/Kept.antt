@@ -16,14 +16,14 @@ use Rattle.zk_transcript.specs.Answers.{plain_request, told}
 use Rattle.zk_model.specs.Watches.{no_watches}
 use Rattle.zt_text.specs.Transcripts.{IsWellFormed}
 use Rattle.zp_alone.specs.Runs.{IsAnswerLine, AreNumbered, AreOneByOne, frames_of, sends_of}
-use Rattle.zn_ops.specs.Built.{is_built_request}
+use Rattle.zn_alone.specs.Built.{is_built_request}
 use Rattle.zk_jute.proofs.Lists.{both_of}
 use Rattle.zk_transcript.proofs.Quiet.{IsQuiet, open_quiet, frame_quiet, send_quiet, after-quiet, is_legal-quiet, is_ordered-quiet}
 use Rattle.zp_alone.proofs.Counts.{frames_of-append, sends_of-append}
 use Rattle.zn_layout.specs.StandsFor.{StandsFor}
-use Rattle.zn_ops.specs.declared.requests.Answered.{Answered}
-use Rattle.zn_ops.specs.declared.requests.Answered.TheVariants.{Repeats, Looked, Updated}
-use Rattle.zn_ops.specs.Answering.{Answers, HasRoom, IsLooked, IsUpdated}
+use Rattle.zn_alone.specs.declared.requests.Answered.{Answered}
+use Rattle.zn_alone.specs.declared.requests.Answered.TheVariants.{Repeats, Looked, Updated}
+use Rattle.zn_alone.specs.Answering.{Answers, HasRoom, IsLooked, IsUpdated}
 use Rattle.zp_alone.specs.declared.waiting.Waiting.{Waiting}
 use Rattle.zp_alone.specs.World.{World, IsLinked}
 use Rattle.zp_alone.specs.Talking.{Talks}
@@ -142,10 +142,10 @@ kept-updated c w q qs store answer zxid linked oldest room grown at updates form
     let next : ℕ = talks.walker.next in
     let u : TranscriptLine = asked_line c next w.clock zxid in
     let l : TranscriptLine = Send c (reply_packet q.xid zxid answer) in
-    let commits = asked_commit-of c next w.clock zxid w.lines (after w.lines) h.place h.bytes q.xid q.request h.frame h.read ∙ updates.commits in
+    let commits = asked_commit-of c next w.clock zxid w.lines (after w.lines) h.place h.bytes q.xid q.request talks.counted.unconnected h.frame h.read ∙ updates.commits in
     let asked : IsWellFormed u = subst (λ (i : ℕ). IsWellFormed (asked_line c i w.clock zxid)) h.index formed.0 in
     let long : zxid ≤ℤ max_long = rw at (grind (arith, ints, grown, room)) in
-    let kept = kept-asked c next w.clock zxid w.lines updates.made q w.store store k.kept talks.stands.least h talks.below updates.above long commits (sym at) updates.stands asked in
+    let kept = kept-asked c next w.clock zxid w.lines updates.made q w.store store k.kept talks.stands.least talks.counted.unconnected h talks.below updates.above long commits (sym at) updates.stands asked in
     let lines : (w.lines ++ u ∷ []) ++ l ∷ [] ≡ w.lines ++ (asked_line c q.index w.clock zxid ∷ l ∷ []) =
     append_assoc w.lines (u ∷ []) (l ∷ []) ∙ ap (λ i. w.lines ++ (asked_line c i w.clock zxid ∷ l ∷ [])) (sym h.index) in
     let after_u = linked-push w.connection w.lines u (λ d. refl) refl k.linked in

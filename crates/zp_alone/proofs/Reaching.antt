@@ -20,7 +20,7 @@ use Rattle.zk_transcript.specs.Conversations.{IsServedAlone}
 use Rattle.zk_transcript.specs.Walks.{walk, packets, all_choices}
 use Rattle.zt_text.specs.Transcripts.{IsWellFormed}
 use Rattle.zp_alone.specs.Runs.{IsAnswerLine, AreNumbered, AreOneByOne, IsAddedBy, clock_after, why_not, is_open, is_opening, is_built, refused_if, frames_of, sends_of, begin_line, Run, new_run, run_after, Happens, Runs, IsOneRun}
-use Rattle.zn_ops.specs.Built.{is_built_request}
+use Rattle.zn_alone.specs.Built.{is_built_request}
 use Rattle.zp_alone.proofs.Counts.{frames_of-append, before_close}
 use Rattle.zp_alone.proofs.Happened.{within-new, within-runs, RunsFrom-push, punctual-happens, shown-happens}
 use Rattle.zp_alone.specs.World.{World, IsLinked, is_number}

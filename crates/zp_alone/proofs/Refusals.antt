@@ -11,7 +11,7 @@ use Rattle.zt_text.specs.declared.script.Why.TheVariants as why
 use Rattle.zk_transcript.specs.declared.transcript.TranscriptLine.{TranscriptLine}
 use Rattle.zk_jute.specs.Requests.{Asks, read_request}
 use Rattle.zp_alone.specs.Runs.{why_not, is_open, is_opening, is_built}
-use Rattle.zn_ops.specs.Built.{is_built_request}
+use Rattle.zn_alone.specs.Built.{is_built_request}
 use Rattle.zk_model.specs.declared.request.Request.{Request}
 use Rattle.zp_alone.specs.declared.fault.ApplyFault.{ApplyFault}
 use Rattle.zp_alone.specs.declared.fault.ApplyFault.TheVariants as fault

@@ -17,7 +17,7 @@ use Rattle.zk_transcript.specs.Answers.{only, plain_request, tree_reply}
 use Rattle.zk_transcript.specs.History.{State, Commit, after, updated, asked_commit}
 use Rattle.zk_transcript.specs.Walks.{Walker, Choice, Plain, Answer, at_start, walk, move, later_of, response_at, own_update, own_update_shown, all_choices, are_fresh, are_in_turn}
 use Rattle.zp_alone.specs.Runs.{frames_of, begin_line}
-use Rattle.zn_ops.specs.Built.{is_built_request}
+use Rattle.zn_alone.specs.Built.{is_built_request}
 use Rattle.zk_transcript.proofs.Quiet.{frame_quiet, send_quiet, after-quiet}
 use Rattle.zk_transcript.proofs.Unarmed.{MayAnswer, AsksNext, answered_now, answered_plainly, answer-looked, answer-own, answer-plain, answer-due, answer-fresh, answer-in_turn, plain-due, plain-fresh, plain-in_turn, after_update-bound}
 use Rattle.zp_alone.specs.declared.waiting.Waiting.{Waiting}
@@ -41,7 +41,7 @@ talks-open c p id pw = record {
   walked = record { choices = []; dues = []; walked = refl; sent = refl; fresh = refl; in_turn = refl };
   stands = record { zxid = ≤ℤ_refl (pos 2); since = omega arith; moment = omega arith; watches = refl; goes_on = refl; least = omega arith };
   queued = refl;
-  counted = record { sent = refl; later = λ i above. refl; unclosed = refl };
+  counted = record { sent = refl; later = λ i above. refl; unconnected = refl; unclosed = refl };
   below = refl;
 }
 

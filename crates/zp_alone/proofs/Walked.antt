@@ -18,9 +18,9 @@ use Rattle.zk_transcript.specs.Legal.{index_shown, index_in, is_below}
 use Rattle.zk_transcript.specs.Conversations.{close_shown}
 use Rattle.zk_transcript.specs.Walks.{Walker, Choice, Due, move, at_start, packets, packets_from, are_sent, placed_frame, own_update, own_update_in, own_update_shown, is_fresh, are_fresh, is_in_turn, are_in_turn}
 use Rattle.zp_alone.specs.Runs.{frames_of, sends_of}
-use Rattle.zn_ops.specs.Built.{is_built_request}
+use Rattle.zn_alone.specs.Built.{is_built_request}
 use Rattle.zk_transcript.proofs.Appending.{first_place-push}
-use Rattle.zk_transcript.proofs.Lookups.{first_place-skip, first_place-new}
+use Rattle.zk_transcript.proofs.Lookups.{first_place-skip, first_place-new, first_shown-skip}
 use Rattle.zk_transcript.proofs.Walks.{state_at-push}
 use Rattle.zk_transcript.proofs.Longer.{stays-line, walk-push, walk-more}
 use Rattle.zk_transcript.proofs.Choices.{choices-append, fresh-push, turn-push}
@@ -116,6 +116,7 @@ pub counted-push : (c : ℕ) (lines : List TranscriptLine) (l : TranscriptLine) 
 counted-push c lines l next no_frame no_send shows_none no_close h = record {
   sent = omega (arith, sends_of-append c lines (l ∷ []), h.sent);
   later = λ i above. first_place-skip (frame_shown c i) 0 lines l (shows_none i) ∙ h.later i (omega (arith, frames_of-append c lines (l ∷ [])));
+  unconnected = first_shown-skip (frame_shown c 0) lines l (shows_none 0) ∙ h.unconnected;
   unclosed = first_place-skip (close_shown c) 0 lines l no_close ∙ h.unclosed;
 }
 
@@ -126,6 +127,7 @@ pub counted-send : (c : ℕ) (lines : List TranscriptLine) (packet : List ℕ) (
 counted-send c lines packet next h = record {
   sent = omega (arith, sends_of-append c lines (Send c packet ∷ []), one_send c packet, h.sent);
   later = λ i above. first_place-skip (frame_shown c i) 0 lines (Send c packet) refl ∙ h.later i (omega (arith, frames_of-append c lines (Send c packet ∷ [])));
+  unconnected = first_shown-skip (frame_shown c 0) lines (Send c packet) refl ∙ h.unconnected;
   unclosed = first_place-skip (close_shown c) 0 lines (Send c packet) refl ∙ h.unclosed;
 }
 
@@ -139,6 +141,11 @@ shown-frame c i z bytes = rw (same_number c, same_number i) refl
 
 shown-other_frame : (c i j : ℕ) (z : ℤ) (bytes : List ℕ) → j < i → frame_shown c i (FrameLine c j z bytes) ≡ None
 shown-other_frame c i j z bytes small =
+    let apart : (i == j) ≡ false = grind (arith, nat_tests) in
+    rw (same_number c, apart) refl
+
+shown-later_frame : (c i j : ℕ) (z : ℤ) (bytes : List ℕ) → i < j → frame_shown c i (FrameLine c j z bytes) ≡ None
+shown-later_frame c i j z bytes small =
     let apart : (i == j) ≡ false = grind (arith, nat_tests) in
     rw (same_number c, apart) refl
 
@@ -170,6 +177,7 @@ counted-frame c lines z bytes next h =
     record {
       sent = omega (arith, sends_of-append c lines (l ∷ []), h.sent);
       later = λ i above. first_place-skip (frame_shown c i) 0 lines l (shown-other_frame c i (frames_of c lines + 1) z bytes (omega (arith, more))) ∙ h.later i (omega (arith, more));
+      unconnected = first_shown-skip (frame_shown c 0) lines l (shown-later_frame c 0 (frames_of c lines + 1) z bytes (omega arith)) ∙ h.unconnected;
       unclosed = first_place-skip (close_shown c) 0 lines l refl ∙ h.unclosed;
     }
 

@@ -8,9 +8,9 @@ use Rattle.ev_types.specs.Store.{Store}
 use Rattle.zk_model.specs.declared.request.Request.{Request}
 use Rattle.zk_transcript.specs.declared.transcript.TranscriptLine.{TranscriptLine}
 use Rattle.zk_transcript.specs.declared.transcript.TranscriptLine.TheVariants.{Open, Frame as FrameLine}
-use Rattle.zn_ops.specs.declared.requests.Answered.{Answered}
-use Rattle.zn_ops.specs.declared.requests.Answered.TheVariants.{Repeats, Looked, Updated}
-use Rattle.zn_ops.specs.Answering.{Answers, HasRoom}
+use Rattle.zn_alone.specs.declared.requests.Answered.{Answered}
+use Rattle.zn_alone.specs.declared.requests.Answered.TheVariants.{Repeats, Looked, Updated}
+use Rattle.zn_alone.specs.Answering.{Answers, HasRoom}
 use Rattle.zp_alone.specs.declared.waiting.Waiting.{Waiting}
 use Rattle.zp_alone.specs.World.{World, IsWorld, IsLinked, IsAnswerable, max_frames}
 use Rattle.zp_alone.proofs.Linked.{not_there, linked-push, linked-open}

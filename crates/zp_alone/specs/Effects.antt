@@ -11,9 +11,9 @@ use Rattle.zk_transcript.specs.History.{after}
 use Rattle.zt_text.specs.Transcripts.{IsWellFormed}
 use Rattle.zp_alone.specs.Runs.{IsAnswerLine, AreNumbered, AreOneByOne, begin_line, sends_of}
 use Rattle.zn_layout.specs.StandsFor.{StandsFor}
-use Rattle.zn_ops.specs.declared.requests.Answered.{Answered}
-use Rattle.zn_ops.specs.declared.requests.Answered.TheVariants.{Repeats, Looked, Updated}
-use Rattle.zn_ops.specs.Answering.{Answers, HasRoom}
+use Rattle.zn_alone.specs.declared.requests.Answered.{Answered}
+use Rattle.zn_alone.specs.declared.requests.Answered.TheVariants.{Repeats, Looked, Updated}
+use Rattle.zn_alone.specs.Answering.{Answers, HasRoom}
 use Rattle.zp_alone.specs.declared.waiting.Waiting.{Waiting}
 use Rattle.zp_alone.specs.World.{World}
 use Rattle.zp_alone.specs.Reached.{IsKept}

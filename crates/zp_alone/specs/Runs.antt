@@ -16,7 +16,7 @@ use Rattle.zk_transcript.specs.Legal.{Tick, is_id, is_legal, is_ordered, IsPunct
 use Rattle.zk_transcript.specs.Conversations.{IsServedAlone, IsShownFresh}
 use Rattle.zt_text.specs.Transcripts.{IsWellFormed}
 use Rattle.zk_model.specs.Limits.{max_frame, max_moment}
-use Rattle.zn_ops.specs.Built.{is_built_request}
+use Rattle.zn_alone.specs.Built.{is_built_request}
 
 -- ---- what of the transcript a happening looks at
 

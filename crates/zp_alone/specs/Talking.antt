@@ -4,12 +4,12 @@ use Rattle.std.specs.List.{list_all}
 use Rattle.zk_transcript.specs.declared.transcript.TranscriptLine.{TranscriptLine}
 use Rattle.zk_jute.specs.Requests.{Asks, read_request}
 use Rattle.zk_model.specs.Watches.{no_watches}
-use Rattle.zk_transcript.specs.History.{after, state_at, first_place}
+use Rattle.zk_transcript.specs.History.{after, state_at, first_place, frame}
 use Rattle.zk_transcript.specs.Legal.{index_shown, is_below}
 use Rattle.zk_transcript.specs.Conversations.{close_shown}
 use Rattle.zk_transcript.specs.Walks.{Walker, Choice, Due, walk, at_start, packets, are_sent, placed_frame, are_fresh, are_in_turn}
 use Rattle.zp_alone.specs.Runs.{frames_of, sends_of}
-use Rattle.zn_ops.specs.Built.{is_built_request}
+use Rattle.zn_alone.specs.Built.{is_built_request}
 use Rattle.zp_alone.specs.declared.waiting.Waiting.{Waiting}
 use Rattle.zk_model.specs.Limits.{max_frame}
 
@@ -46,10 +46,12 @@ pub record StandsAt (lines : List TranscriptLine) (w : Walker) : Type 0 where
   pub goes_on : w.over ≡ false
   pub least : 1 ≤ w.next
 
--- the lines of a connection, apart from updates: each frame below the next was answered by one packet, and it is open still
+-- the lines of a connection, apart from updates: it sent no connect, each frame below the next was answered by one packet, and
+-- it is open still
 pub record AreCounted (c : ℕ) (lines : List TranscriptLine) (next : ℕ) : Type 0 where
   pub sent : sends_of c lines + 1 ≡ next
   pub later : (i : ℕ) → frames_of c lines < i → placed_frame c i lines ≡ None
+  pub unconnected : frame c 0 lines ≡ None
   pub unclosed : first_place (close_shown c) 0 lines ≡ None
 
 -- no update carries out a request from the next on

@@ -6,7 +6,7 @@ use Rattle.zk_model.specs.declared.request.Request.{Request}
 use Rattle.zk_transcript.specs.declared.transcript.TranscriptLine.{TranscriptLine}
 use Rattle.zk_jute.specs.Requests.{Asks, read_request}
 use Rattle.zp_alone.specs.Runs.{is_open, is_opening, is_built}
-use Rattle.zn_ops.specs.Built.{is_built_request}
+use Rattle.zn_alone.specs.Built.{is_built_request}
 use Rattle.zk_jute.specs.Records.{contents_of}
 use Rattle.zp_alone.specs.declared.waiting.Waiting.{Waiting}
 use Rattle.zk_model.specs.Limits.{max_frame, max_moment}

@@ -4,7 +4,7 @@ ghost use Rattle.std.specs.Prelude.{◌≡◌, ◌++◌, ◌∷◌, [], ℕ, Opt
 ghost use Rattle.std.specs.List.{AllByRecursion};
 ghost use Rattle.zk_jute.specs.Packets.{CanBeSent, reply_packet};
 ghost use Rattle.zt_text.specs.Transcripts.{IsWellFormed};
-ghost use Rattle.zn_ops.specs.Answering.{reply_in};
+ghost use Rattle.zn_alone.specs.Answering.{reply_in};
 ghost use Rattle.zp_alone.specs.Effects.{asked_line, answer_lines, zxid_of};
 ghost use Rattle.zp_alone.specs.World.{IsLinked};
 
@@ -14,7 +14,7 @@ use std::alloc::Global;
 use zk_model::Reply;
 use zk_transcript::{TranscriptLine, UpdateKind, UpdateRec};
 use zk_wire::write_reply;
-use zn_ops::Answered;
+use zn_alone::Answered;
 use zx_base::{Bytes, Memory};
 
 fn push_reply(

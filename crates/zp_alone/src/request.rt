@@ -2,7 +2,7 @@
 
 ghost use Rattle.std.specs.Prelude.{◌≡◌, ◌≤◌, length, IfOk};
 ghost use Rattle.zk_transcript.specs.History.{when as keep_if};
-ghost use Rattle.zn_ops.specs.Built.{is_built_request};
+ghost use Rattle.zn_alone.specs.Built.{is_built_request};
 ghost use Rattle.zp_alone.specs.World.{IsReadBuilt};
 ghost use Rattle.zk_model.specs.Limits.{max_frame};
 

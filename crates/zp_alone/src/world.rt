@@ -24,7 +24,7 @@ use std::marker::Model;
 use zk_model::Request;
 use zk_model::limit::{MAX_FRAME, MAX_MOMENT};
 use zk_transcript::{TranscriptLine, UpdateKind, UpdateRec};
-use zn_ops::answer;
+use zn_alone::answer;
 use zt_text::{Happening, Why};
 use zx_base::{Bytes, Memory};
 

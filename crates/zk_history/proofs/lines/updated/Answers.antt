@@ -1,0 +1,25 @@
+use Rattle.std.proofs.Common.{◌≡◌, ℕ, ℤ, List, w64, to_z, of_z, rules}
+use Rattle.std.proofs.lemmas.Int.{to_z-of_z}
+use Rattle.std.proofs.lemmas.Result.{err_from_is_err_and}
+use Rattle.zk_transcript.specs.declared.transcript.UpdateKind.{UpdateKind}
+use Rattle.zk_transcript.specs.declared.transcript.UpdateKind.TheVariants.{Asked}
+use Rattle.zk_transcript.specs.declared.transcript.TranscriptLine.{TranscriptLine}
+use Rattle.zk_transcript.specs.History.{State, request, session_of}
+use Rattle.zk_plain.specs.declared.fault.Fault.{Fault}
+use Rattle.zk_plain.specs.Faults.{BeyondUnless}
+use Rattle.zk_plain.proofs.FaultLaws.{beyond-weaker}
+use Rattle.zk_history.specs.Fits.{AskedFits, IsCountable, IsMoment, UpdateFits}
+use Rattle.zk_history.proofs.lines.updated.Goals as goal
+
+-- the request of an update fits where the update does
+asked_beyond : (before : List TranscriptLine) (s : State) (zxid : ℤ) (kind : UpdateKind) (c i now : ℕ) (e : Fault) → kind ≡ Asked c i now →
+    BeyondUnless (IsCountable s × IsMoment now × AskedFits s.tree (session_of before c s) (request c i before) zxid now) e → BeyondUnless (IsCountable s × UpdateFits before s zxid kind) e
+asked_beyond before s zxid kind c i now e is beyond =
+    rw is (beyond-weaker (IsCountable s × IsMoment now × AskedFits s.tree (session_of before c s) (request c i before) zxid now) (IsCountable s × UpdateFits before s zxid (Asked c i now)) e
+    (λ fits. (fits.0, fits.1.0, fits.1.1)) beyond)
+
+pub returns-in_err-asked-in-Asked-clause-beyond : goal.returns-in_err-asked-in-Asked-clause-beyond
+returns-in_err-asked-in-Asked-clause-beyond c =
+    let p = err_from_is_err_and c.from_residual-in_err-asked-in-Asked.result c.from_residual-in_err-asked-in-Asked.ensures.1 in
+    let back : to_z w64 (of_z w64 c.args.update.now.zxid) ≡ c.args.update.now.zxid = to_z-of_z w64 c.args.update.now.zxid (search rules) in
+    rw (p.1, p.2) (asked_beyond c.args.before.now c.args.state c.args.update.now.zxid c.args.update.now.kind c.in-Asked.connection c.in-Asked.index c.in-Asked.now c.in_err-asked-in-Asked.field-0.0 c.in-Asked.is (rw back at c.in_err-asked-in-Asked.ensures.beyond))

@@ -1,0 +1,12 @@
+pub mod Carried
+pub mod Forms
+pub mod Guards
+pub mod Shown
+pub mod Looking
+pub mod Seen
+pub mod Effects
+pub mod Fitting
+pub mod Committing
+pub mod Creating
+pub mod Reading
+pub mod Sizes
