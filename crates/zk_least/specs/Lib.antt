@@ -1,0 +1,5 @@
+pub mod LeastWalk
+pub mod LeastSteps
+pub mod LeastMoments
+pub mod LeastQueues
+pub mod LeastReplies
