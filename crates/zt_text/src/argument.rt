@@ -1,4 +1,4 @@
-//! What the words of a script's line say.
+//! What the words of a line say.
 
 ghost use Rattle.std.specs.Prelude.{◌≡◌, ◌+◌, ◌*◌, ◌∷◌, [], length, Some, None, IfOk, MatchBool, option_map, List, ℕ};
 ghost use Rattle.zt_text.specs.Scripts.{decimal_digit as decimal_digit_of, hex_digit as hex_digit_of, hex_byte as hex_byte_of, hex_pairs as hex_pairs_of, number as number_of, hex as hex_of, session_id as session_id_of, password as password_of};
@@ -7,7 +7,7 @@ use std::alloc::Global;
 use zx_base::{Bytes, Memory};
 
 /// The value of a decimal digit.
-fn decimal_digit(byte: u8) -> Option<u8>
+pub fn decimal_digit(byte: u8) -> Option<u8>
     ensures { result ≡ decimal_digit_of byte }
 {
     match byte {
@@ -39,7 +39,7 @@ fn hex_byte(high: u8, low: u8) -> Option<u8>
 
 /// A decimal number without sign or leading zero, up to 4294967295.
 #[tactic(auto, unfolding(crate::specs::Scripts::number))]
-pub(crate) fn number(word: &[u8]) -> Option<u32>
+pub fn number(word: &[u8]) -> Option<u32>
     ensures { result ≡ number_of word.now }
 {
     if word.is_empty() || (word.len() > 1 && word[0] == b'0') {
@@ -58,7 +58,7 @@ pub(crate) fn number(word: &[u8]) -> Option<u32>
 
 /// A session's number: 16 hex digits, from 1 to 2^63 - 1.
 #[tactic(auto, unfolding(crate::specs::Scripts::session_id))]
-pub(crate) fn session_id(word: &[u8]) -> Option<i64>
+pub fn session_id(word: &[u8]) -> Option<i64>
     ensures { result ≡ session_id_of word.now }
 {
     if word.len() != 16 {
@@ -92,7 +92,7 @@ fn fill_from_hex(word: &[u8], out: &mut [u8]) -> bool
 
 /// A session's password: 32 hex digits.
 #[tactic(auto, unfolding(crate::specs::Scripts::password))]
-pub(crate) fn password(word: &[u8]) -> Option<[u8; 16]>
+pub fn password(word: &[u8]) -> Option<[u8; 16]>
     ensures { result ≡ password_of word.now }
 {
     if word.len() != 32 {
@@ -108,7 +108,7 @@ pub(crate) fn password(word: &[u8]) -> Option<[u8; 16]>
 
 /// Bytes: an even number of hex digits in lower case, or `-` for none.
 #[tactic(auto, unfolding(crate::specs::Scripts::hex))]
-pub(crate) fn hex(alloc: Global, word: &[u8]) -> Result<Option<Bytes>, Memory>
+pub fn hex(alloc: Global, word: &[u8]) -> Result<Option<Bytes>, Memory>
     ensures { IfOk result (λ bytes. bytes ≡ hex_of word.now) }
 {
     match word {

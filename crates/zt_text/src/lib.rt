@@ -10,7 +10,7 @@
 #![tactic(auto)]
 
 mod argument;
-mod cut;
+mod cuts;
 mod ending;
 mod form;
 mod laws;
@@ -20,9 +20,12 @@ mod transcript_line;
 mod word;
 mod words;
 
+pub use argument::{decimal_digit, hex, number, password, session_id};
+pub use cuts::cut;
 pub use ending::{push_done, push_fault, push_unread};
 pub use laws::{one_line_feed, one_reading};
 pub use script::{Happening, Unread, Why};
 pub use script_line::{MAX_LINE, MAX_SCRIPT, read_line};
 pub use transcript_line::push_line;
 pub use word::{push_hex, push_number, push_signed};
+pub use words::{Words, first_word, four_words, one_word, three_words, two_words};

@@ -4,16 +4,16 @@ ghost use Rattle.std.specs.Prelude.{◌≡◌, ◌∷◌, option_copied};
 ghost use Rattle.zt_text.specs.Scripts.{pieces, one_word as one_word_of, two_words as two_words_of, three_words as three_words_of, four_words as four_words_of};
 ghost use Rattle.zt_text.specs.Words.{words_of, seen_two, seen_three, seen_four};
 
-use crate::cut::cut;
+use crate::cuts::cut;
 
 const BLANK: u8 = b' ';
 
-/// What stands behind a blank: one word or more. None, where there is no blank, is no word.
-pub(crate) type Words<'a> = Option<&'a [u8]>;
+/// What stands behind a blank, one word or more; None where the line has no further word.
+pub type Words<'a> = Option<&'a [u8]>;
 
 /// The first word of a line, and the words behind it.
 #[tactic(auto, using(crate::proofs::WordCounts::words_of_cut))]
-pub(crate) fn first_word(line: &[u8]) -> (&[u8], Words<'_>)
+pub fn first_word(line: &[u8]) -> (&[u8], Words<'_>)
     ensures { pieces 32 line.now ≡ result.0.now ∷ words_of result.1 }
 {
     cut(line, BLANK)
@@ -21,7 +21,7 @@ pub(crate) fn first_word(line: &[u8]) -> (&[u8], Words<'_>)
 
 /// The word, if it is one.
 #[tactic(auto, using(crate::proofs::WordCounts::one_word_and_more))]
-pub(crate) fn one_word(words: Words<'_>) -> Option<&[u8]>
+pub fn one_word(words: Words<'_>) -> Option<&[u8]>
     ensures { option_copied result ≡ one_word_of (words_of words.entry) }
 {
     let (a, rest) = first_word(words?);
@@ -33,7 +33,7 @@ pub(crate) fn one_word(words: Words<'_>) -> Option<&[u8]>
 
 /// The words, if they are two.
 #[tactic(auto, using(crate::proofs::WordCounts::two_words_and_more))]
-pub(crate) fn two_words(words: Words<'_>) -> Option<(&[u8], &[u8])>
+pub fn two_words(words: Words<'_>) -> Option<(&[u8], &[u8])>
     ensures { seen_two result ≡ two_words_of (words_of words.entry) }
 {
     let (a, rest) = first_word(words?);
@@ -46,7 +46,7 @@ pub(crate) fn two_words(words: Words<'_>) -> Option<(&[u8], &[u8])>
 
 /// The words, if they are three.
 #[tactic(auto, using(crate::proofs::WordCounts::three_words_and_more))]
-pub(crate) fn three_words(words: Words<'_>) -> Option<(&[u8], &[u8], &[u8])>
+pub fn three_words(words: Words<'_>) -> Option<(&[u8], &[u8], &[u8])>
     ensures { seen_three result ≡ three_words_of (words_of words.entry) }
 {
     let (a, rest) = first_word(words?);
@@ -60,7 +60,7 @@ pub(crate) fn three_words(words: Words<'_>) -> Option<(&[u8], &[u8], &[u8])>
 
 /// The words, if they are four.
 #[tactic(auto, using(crate::proofs::WordCounts::four_words_and_more))]
-pub(crate) fn four_words(words: Words<'_>) -> Option<(&[u8], &[u8], &[u8], &[u8])>
+pub fn four_words(words: Words<'_>) -> Option<(&[u8], &[u8], &[u8], &[u8])>
     ensures { seen_four result ≡ four_words_of (words_of words.entry) }
 {
     let (a, rest) = first_word(words?);

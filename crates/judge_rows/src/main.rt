@@ -1,0 +1,127 @@
+//! Judges transcripts, and compares each verdict with the one that stands beside it.
+//!
+//! `transcripts/NAME.transcript` is a transcript, and `transcripts/NAME.verdict` its verdict, in the words of the command `judge`.
+//! Each is spelled from the records of zookeeper.jute and the rules of the Programmer's Guide, without this project's code; a
+//! name that has another in front is that transcript with one thing spoiled. `count` says how many there are, so that none gets lost.
+//!
+//! So far the faults of lines that can't be read and the verdicts on the history and on the order are compared; of any other
+//! verdict, that there is none of these.
+//!
+//! Nothing is written to standard output. What differs is told on standard error, and the status is then 1.
+#![tactic(auto)]
+
+use anyhow::{Context, Result, bail};
+use std::alloc::Global;
+use std::process::ExitCode;
+use std::rt::Files;
+use std::{env, fs};
+use zk_legal::{history_fault, order_fault};
+use zk_lines::{TranscriptFault, read_transcript};
+use zk_transcript::TranscriptLine;
+use zx_base::Memory;
+
+/// Looks in the folder that its first argument names, and without one in the present one.
+fn main(rt: HostRuntime) -> Result<ExitCode> {
+    let given = env::args(&rt)?.nth(1);
+    let root = match &given {
+        Some(folder) => folder.as_str(),
+        None => ".",
+    };
+    let folder = format!(in rt.alloc(); "{root}/transcripts")?;
+    let (mut passed, mut failed) = (0u64, 0u64);
+    for name in &names_in(&rt, folder.as_str())? {
+        let path = format!(in rt.alloc(); "{folder}/{name}")?;
+        match problem_of(&rt, path.as_str()) {
+            Ok(None) => passed = passed.saturating_add(1),
+            Ok(Some(found)) => {
+                eprintln!(rt; "{name} is judged {found}")?;
+                failed = failed.saturating_add(1);
+            }
+            Err(error) => {
+                eprintln!(rt; "{name}: {error}")?;
+                failed = failed.saturating_add(1);
+            }
+        }
+    }
+    let wanted = text_of(&rt, format!(in rt.alloc(); "{root}/count")?.as_str())?;
+    eprintln!(rt;
+        "{passed} passed, {failed} failed, {} wanted",
+        wanted.trim()
+    )?;
+    Ok(if failed == 0 && wanted.trim().parse::<u64>() == Ok(passed) {
+        ExitCode::SUCCESS
+    } else {
+        ExitCode::FAILURE
+    })
+}
+
+/// The names in a folder without their endings, each once and in order.
+fn names_in<R: Files + AllocGlobal + Clone + Drop>(rt: &R, folder: &str) -> Result<Vec<String>> {
+    let mut names = Vec::new(rt.alloc());
+    for entry in fs::read_dir(rt, folder).context(format_args!("listing {folder}"))? {
+        let entry = entry?;
+        names.push(String::from_str(rt.alloc(), stem(entry.file_name()))?)?;
+    }
+    names.sort()?;
+    names.dedup();
+    Ok(names)
+}
+
+/// A file's name without its ending.
+fn stem(name: &str) -> &str {
+    match name.rsplit_once('.') {
+        Some((stem, _)) => stem,
+        None => name,
+    }
+}
+
+/// The text of a file.
+fn text_of<R: Files + AllocGlobal>(rt: &R, path: &str) -> Result<String> {
+    let text = fs::read_to_string(rt, path).context(format_args!("reading {path}"))?;
+    Ok(text)
+}
+
+/// The verdict on a transcript, where it isn't the one beside it.
+fn problem_of<R: Files + AllocGlobal>(rt: &R, path: &str) -> Result<Option<String>> {
+    let alloc = rt.alloc();
+    let transcript = text_of(rt, format!(in alloc; "{path}.transcript")?.as_str())?;
+    let verdict = text_of(rt, format!(in alloc; "{path}.verdict")?.as_str())?;
+    let Ok(found) = verdict_on(alloc, transcript.as_bytes()) else {
+        bail!("out of memory");
+    };
+    let wanted = verdict.trim();
+    let is_passed = if is_compared(wanted) {
+        found.as_str() == wanted
+    } else {
+        found.as_str() == "a history in order"
+    };
+    Ok(if is_passed { None } else { Some(found) })
+}
+
+/// Whether a verdict is on a line that can't be read, on the history or on the order.
+fn is_compared(wanted: &str) -> bool {
+    wanted.starts_with("fault")
+        || wanted.starts_with("unlawful history")
+        || wanted.starts_with("unlawful order")
+}
+
+/// The verdict on a transcript's text, as far as its history and order go.
+fn verdict_on(alloc: Global, text: &[u8]) -> Result<String, Memory> {
+    match read_transcript(alloc, text) {
+        Ok(lines) => verdict_of(alloc, lines.as_slice()),
+        Err(TranscriptFault::Unreadable { line }) => {
+            Ok(format!(in alloc; "fault {line} unreadable line")?)
+        }
+        Err(TranscriptFault::Memory) => Err(Memory),
+    }
+}
+
+fn verdict_of(alloc: Global, lines: &[TranscriptLine]) -> Result<String, Memory> {
+    if let Some(line) = history_fault(alloc, lines)? {
+        return Ok(format!(in alloc; "unlawful history {line}")?);
+    }
+    if let Some(line) = order_fault(lines) {
+        return Ok(format!(in alloc; "unlawful order {line}")?);
+    }
+    Ok(String::from_str(alloc, "a history in order")?)
+}

@@ -1,0 +1,64 @@
+-- The first line at which a transcript is no run of the service: by its form and its updates, and by the order of each
+-- connection's requests.
+use Rattle.std.specs.Prelude.{ℕ, ◌+◌, Bool, true, false, not, ◌&&◌, ◌||◌, List, [], ◌∷◌, ◌++◌, length, nat_le, int_le, pos, Option, Some, None, if◌then◌else◌}
+use Rattle.zk_transcript.specs.declared.transcript.UpdateKind.{UpdateKind}
+use Rattle.zk_transcript.specs.declared.transcript.UpdateKind.TheVariants.{Begin, Asked}
+use Rattle.zk_transcript.specs.declared.transcript.TranscriptLine.{TranscriptLine}
+use Rattle.zk_transcript.specs.declared.transcript.TranscriptLine.TheVariants as line
+use Rattle.zk_transcript.specs.History.{State, nothing_yet, change}
+use Rattle.zk_transcript.specs.Legal.{is_begin, is_legal_line, is_in_order}
+use Rattle.zk_legal.specs.Formed.{has_begun, is_formed_line}
+
+-- the greatest moment of the clock, in milliseconds
+abbrev pub max_moment : ℕ
+max_moment = 9000000000000000
+
+abbrev pub is_moment : UpdateKind → Bool
+is_moment (Begin now) = nat_le now max_moment
+is_moment (Asked c i now) = nat_le now max_moment
+is_moment _ = true
+
+-- Begin is the first of the updates and lapses
+abbrev pub comes_after_begin : State → TranscriptLine → Bool
+comes_after_begin s (line.Update u) = has_begun s || is_begin u.kind
+comes_after_begin s (line.Lapse revision id) = has_begun s
+comes_after_begin s _ = true
+
+-- no zxid is below 0, and moments are those of the clock
+abbrev pub is_in_range : TranscriptLine → Bool
+is_in_range (line.Update u) = int_le (pos 0) u.zxid && is_moment u.kind
+is_in_range _ = true
+
+-- a line that stands behind these, in the state that they lead to
+unfoldable pub is_history_line : List TranscriptLine → State → TranscriptLine → Bool
+is_history_line before s l = is_formed_line before s l && comes_after_begin s l && is_in_range l && is_legal_line before s l
+
+abbrev pub history_fault_from : List TranscriptLine → State → List TranscriptLine → Option ℕ
+history_fault_from before s [] = None
+history_fault_from before s (l ∷ ls) = if is_history_line before s l then history_fault_from (before ++ l ∷ []) (change before s l) ls else Some (length before + 1)
+
+abbrev pub is_event : TranscriptLine → Bool
+is_event (line.Update u) = true
+is_event (line.Lapse revision id) = true
+is_event _ = false
+
+abbrev pub has_event : List TranscriptLine → Bool
+has_event [] = false
+has_event (l ∷ ls) = is_event l || has_event ls
+
+-- a transcript without an update or a lapse fails behind its last line
+abbrev pub or_empty : List TranscriptLine → Option ℕ → Option ℕ
+or_empty lines (Some n) = Some n
+or_empty lines None = if has_event lines then None else Some (length lines + 1)
+
+-- the number of the first such line, from 1
+unfoldable pub history_fault : List TranscriptLine → Option ℕ
+history_fault lines = or_empty lines (history_fault_from [] nothing_yet lines)
+
+abbrev pub order_fault_from : List TranscriptLine → List TranscriptLine → Option ℕ
+order_fault_from before [] = None
+order_fault_from before (l ∷ ls) = if is_in_order before l then order_fault_from (before ++ l ∷ []) ls else Some (length before + 1)
+
+-- the number of the first line that carries out a request out of its connection's order
+unfoldable pub order_fault : List TranscriptLine → Option ℕ
+order_fault lines = order_fault_from [] lines

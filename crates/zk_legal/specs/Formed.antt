@@ -1,0 +1,58 @@
+-- Formed transcripts: each line stands where a run of the service can have written it, whatever the tree.
+use Rattle.std.specs.Prelude.{ℕ, ℤ, ◌+◌, Bool, true, false, not, ◌&&◌, List, [], ◌∷◌, length, nat_le, ◌==◌, Option, Some, None, is_some, if◌then◌else◌}
+use Rattle.std.specs.Ordering.{int_eq}
+use Rattle.zk_transcript.specs.declared.transcript.UpdateKind.{UpdateKind}
+use Rattle.zk_transcript.specs.declared.transcript.UpdateKind.TheVariants.{Begin, Session as NewSession, Attach, Asked, Closed, Reaped}
+use Rattle.zk_transcript.specs.declared.transcript.TranscriptLine.{TranscriptLine}
+use Rattle.zk_transcript.specs.declared.transcript.TranscriptLine.TheVariants as line
+use Rattle.zk_transcript.specs.History.{State, opening, first_shown}
+use Rattle.zk_transcript.specs.Conversations.{close_shown}
+use Rattle.zk_transcript.specs.Legal.{Attachment}
+use Rattle.zk_model.specs.Limits.{max_frame}
+
+unfoldable pub is_opened : List TranscriptLine → ℕ → Bool
+is_opened before c = is_some (opening c before)
+
+unfoldable pub is_closed : List TranscriptLine → ℕ → Bool
+is_closed before c = is_some (first_shown (close_shown c) before)
+
+abbrev pub is_frame_of : ℕ → TranscriptLine → Bool
+is_frame_of c (line.Frame connection index zxid bytes) = c == connection
+is_frame_of c _ = false
+
+-- how many frames of c stand among these lines
+abbrev pub frames_of : ℕ → List TranscriptLine → ℕ
+frames_of c [] = 0
+frames_of c (l ∷ ls) = if is_frame_of c l then frames_of c ls + 1 else frames_of c ls
+
+-- there was an update
+abbrev pub has_begun : State → Bool
+has_begun s = not (s.updates == 0)
+
+-- the connection of an update is open; what was on its way may be carried out behind the close
+abbrev pub is_kind_formed : List TranscriptLine → UpdateKind → Bool
+is_kind_formed before (NewSession id c) = is_opened before c
+is_kind_formed before (Attach id c) = is_opened before c
+is_kind_formed before (Asked c i now) = is_opened before c
+is_kind_formed before (Closed id c i) = is_opened before c
+is_kind_formed before _ = true
+
+-- Each number is opened once, and what it receives and is sent stands between its open and its close, of which there is one; a
+-- close without an open is a reaper's. Frames are numbered from 0 by one, have at most 1,048,575 bytes, and show the zxid of
+-- the last update.
+unfoldable pub is_formed_line : List TranscriptLine → State → TranscriptLine → Bool
+is_formed_line before s (line.Open c proxy id passwd) = not (is_opened before c)
+is_formed_line before s (line.Frame c i zxid bytes) =
+    is_opened before c && not (is_closed before c) && i == frames_of c before && nat_le (length bytes) max_frame && has_begun s && int_eq zxid s.zxid
+is_formed_line before s (line.Send c bytes) = is_opened before c && not (is_closed before c)
+is_formed_line before s (line.Close c end) = not (is_closed before c)
+is_formed_line before s (line.Update u) = is_kind_formed before u.kind
+is_formed_line before s (line.Lapse revision id) = true
+
+-- ---- attachments as pairs of a zxid and a session
+
+abbrev pub attachment_of : ℤ × ℤ → Attachment
+attachment_of a = record { zxid = a.0; session = a.1 }
+
+abbrev pub placed_attachment : ℕ × (ℤ × ℤ) → ℕ × Attachment
+placed_attachment x = (x.0, attachment_of x.1)

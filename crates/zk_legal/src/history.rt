@@ -1,0 +1,135 @@
+//! The first line that no run of the service can have written there.
+
+ghost use Rattle.std.specs.Prelude.{◌≡◌, [], IfOk};
+ghost use Rattle.zk_transcript.specs.History.{change as change_of, nothing_yet};
+ghost use Rattle.zk_transcript.specs.Legal.{is_begin as is_begin_of};
+ghost use Rattle.zk_legal.specs.Faults.{comes_after_begin as comes_after_begin_of, has_event as has_event_of, history_fault as history_fault_of, history_fault_from, is_event as is_event_of, is_history_line as is_history_line_of, is_in_range as is_in_range_of, is_moment as is_moment_of};
+
+use crate::formed::{has_begun, is_formed_line};
+use crate::legal::is_legal_line;
+use std::alloc::Global;
+use zk_history::{State, change};
+use zk_model::limit::MAX_MOMENT;
+use zk_transcript::{TranscriptLine, UpdateKind};
+use zx_base::Memory;
+
+fn is_moment(kind: UpdateKind) -> bool
+    ensures { result ≡ is_moment_of kind }
+{
+    match kind {
+        UpdateKind::Begin { now } => now <= MAX_MOMENT,
+        UpdateKind::Asked { now, .. } => now <= MAX_MOMENT,
+        _ => true,
+    }
+}
+
+/// Whether no zxid is below 0, and a moment is one of the clock.
+fn is_in_range(line: &TranscriptLine) -> bool
+    ensures { result ≡ is_in_range_of line.now }
+{
+    match line {
+        TranscriptLine::Update(update) => 0 <= update.zxid && is_moment(update.kind),
+        _ => true,
+    }
+}
+
+fn is_begin(kind: UpdateKind) -> bool
+    ensures { result ≡ is_begin_of kind }
+{
+    match kind {
+        UpdateKind::Begin { .. } => true,
+        _ => false,
+    }
+}
+
+fn comes_after_begin(state: &State, line: &TranscriptLine) -> bool
+    ensures { result ≡ comes_after_begin_of state.now line.now }
+{
+    match line {
+        TranscriptLine::Update(update) => has_begun(state) || is_begin(update.kind),
+        TranscriptLine::Lapse { .. } => has_begun(state),
+        _ => true,
+    }
+}
+
+/// Whether a run can have written this line behind these, which led to this state.
+#[tactic(auto, unfolding(crate::specs::Faults::is_history_line))]
+fn is_history_line(
+    alloc: Global,
+    before: &[TranscriptLine],
+    state: &State,
+    line: &TranscriptLine,
+) -> Result<bool, Memory>
+    ensures { IfOk result (λ b. b ≡ is_history_line_of before.now state.now line.now) }
+{
+    if is_formed_line(before, state, line) && comes_after_begin(state, line) && is_in_range(line) {
+        is_legal_line(alloc, before, state, line)
+    } else {
+        Ok(false)
+    }
+}
+
+fn is_event(line: &TranscriptLine) -> bool
+    ensures { result ≡ is_event_of line.now }
+{
+    match line {
+        TranscriptLine::Update(_) => true,
+        TranscriptLine::Lapse { .. } => true,
+        _ => false,
+    }
+}
+
+/// Whether there is an update or a lapse.
+fn has_event(lines: &[TranscriptLine]) -> bool
+    ensures { result ≡ has_event_of lines.now }
+{
+    for line in lines {
+        if is_event(line) {
+            return true;
+        }
+    }
+    false
+}
+
+/// The state after a line. Without memory, and where a number is beyond its field, there is no answer.
+fn changed(
+    alloc: Global,
+    before: &[TranscriptLine],
+    state: State,
+    line: &TranscriptLine,
+) -> Result<State, Memory>
+    ensures { IfOk result (λ s. s ≡ change_of before.now state line.now) }
+{
+    match change(alloc, before, state, line) {
+        Ok(state) => Ok(state),
+        Err(_) => Err(Memory),
+    }
+}
+
+/// The number of the first line, from 1, that no run can have written there.
+fn first_fault(alloc: Global, lines: &[TranscriptLine]) -> Result<Option<u64>, Memory>
+    ensures { IfOk result (λ n. n ≡ history_fault_from [] nothing_yet lines.now) }
+{
+    let mut state = State::new(alloc);
+    for (place, line) in lines.iter().enumerate() {
+        if !is_history_line(alloc, &lines[..place], &state, line)? {
+            return Ok(Some(place as u64 + 1));
+        }
+        state = changed(alloc, &lines[..place], state, line)?;
+    }
+    Ok(None)
+}
+
+/// The number of the first line, from 1, at which the transcript is not formed or its update could not be made; behind the last
+/// line, where there is neither an update nor a lapse. Without memory, and where a count of the tree is beyond its field, as in
+/// no run, there is no answer.
+#[tactic(auto, unfolding(crate::specs::Faults::history_fault))]
+pub fn history_fault(alloc: Global, lines: &[TranscriptLine]) -> Result<Option<u64>, Memory>
+    ensures { IfOk result (λ n. n ≡ history_fault_of lines.now) }
+{
+    match first_fault(alloc, lines)? {
+        Some(number) => Ok(Some(number)),
+        None if has_event(lines) => Ok(None),
+        None => Ok(Some(lines.len() as u64 + 1)),
+    }
+}

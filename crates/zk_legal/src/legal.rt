@@ -1,0 +1,309 @@
+//! Updates that the service could make in the state before them.
+
+ghost use Rattle.std.specs.Prelude.{◌≡◌, ◌&&◌, is_none, is_some, IfOk};
+ghost use Rattle.zk_transcript.specs.History.{asked_commit as asked_commit_of, attached, frame as frame_of, opening as opening_of, session_at};
+ghost use Rattle.zk_transcript.specs.Legal.{asks_anew as asks_anew_of, is_close as is_close_of, is_id as is_id_of, is_lapsed as is_lapsed_of, is_legal_line as is_legal_line_of, is_live as is_live_of, is_live_as as is_live_as_of, is_next_zxid as is_next_zxid_of, is_resumed_by as is_resumed_by_of, is_small_frame as is_small_frame_of, is_within_parts as is_within_parts_of, may_attach as may_attach_of, may_update as may_update_of, offers as offers_of};
+ghost use Rattle.zk_transcript.specs.declared.transcript.UpdateKind.TheVariants as kind;
+
+use crate::attaching::attach_of;
+use std::alloc::Global;
+use zk_history::{State, asked_commit, attached_to, connect, frame, opening, request};
+use zk_model::limit::{MAX_FRAME, MAX_PARTS};
+use zk_model::{ConnectRequest, Request};
+use zk_transcript::{TranscriptLine, UpdateKind};
+use zx_base::Memory;
+
+/// Whether a frame is there, within the limit.
+fn is_small_frame(before: &[TranscriptLine], connection: u32, index: u64) -> bool
+    ensures { result ≡ is_small_frame_of (frame_of connection index before.now) }
+{
+    match frame(before, connection, index) {
+        None => false,
+        Some(bytes) => bytes.len() <= MAX_FRAME,
+    }
+}
+
+/// Whether a connection has no own line yet, and its connect has seen less than this zxid.
+fn may_attach(
+    before: &[TranscriptLine],
+    connection: u32,
+    zxid: i64,
+    asked: &Option<ConnectRequest>,
+) -> bool
+    ensures { result ≡ may_attach_of before.now connection zxid asked.now }
+{
+    match asked {
+        None => false,
+        Some(request) => {
+            attach_of(before, connection).is_none()
+                && is_small_frame(before, connection, 0)
+                && request.last_zxid < zxid
+        }
+    }
+}
+
+fn offers(id: i64, opened: Option<(i64, [u8; 16])>) -> bool
+    ensures { result ≡ offers_of id opened }
+{
+    match opened {
+        None => false,
+        Some((offered, _)) => id == offered,
+    }
+}
+
+fn asks_anew(asked: &Option<ConnectRequest>) -> bool
+    ensures { result ≡ asks_anew_of asked.now }
+{
+    match asked {
+        None => false,
+        Some(request) => request.session == 0,
+    }
+}
+
+/// Whether a number is one that sessions have.
+fn is_id(id: i64) -> bool
+    ensures { result ≡ is_id_of id }
+{
+    0 < id
+}
+
+/// Whether the session of this number is open, has not lapsed, and the connect names it with its password.
+fn is_resumed_by(id: i64, asked: &Option<ConnectRequest>, state: &State) -> bool
+    ensures { result ≡ is_resumed_by_of id asked.now (session_at id state.now) }
+{
+    let Some(request) = asked else {
+        return false;
+    };
+    match state.session(id) {
+        None => false,
+        Some(session) => {
+            id == request.session && request.passwd.is(session.passwd()) && !session.is_lapsed()
+        }
+    }
+}
+
+/// Whether a live session is attached to the connection.
+fn is_live(before: &[TranscriptLine], connection: u32, state: &State) -> bool
+    ensures { result ≡ is_live_of (attached before.now connection state.now) }
+{
+    match attached_to(before, connection, state) {
+        None => false,
+        Some((_, is_lapsed)) => !is_lapsed,
+    }
+}
+
+/// Whether this session is attached to the connection and live.
+fn is_live_as(id: i64, before: &[TranscriptLine], connection: u32, state: &State) -> bool
+    ensures { result ≡ is_live_as_of id (attached before.now connection state.now) }
+{
+    match attached_to(before, connection, state) {
+        None => false,
+        Some((session, is_lapsed)) => id == session && !is_lapsed,
+    }
+}
+
+fn is_within_parts(asked: &Option<Request>) -> bool
+    ensures { result ≡ is_within_parts_of asked.now }
+{
+    match asked {
+        Some(Request::Multi { parts }) => parts.len() <= MAX_PARTS,
+        _ => true,
+    }
+}
+
+fn is_close(asked: &Option<Request>) -> bool
+    ensures { result ≡ is_close_of asked.now }
+{
+    match asked {
+        Some(Request::Close) => true,
+        _ => false,
+    }
+}
+
+fn is_lapsed(id: i64, state: &State) -> bool
+    ensures { result ≡ is_lapsed_of (session_at id state.now) }
+{
+    match state.session(id) {
+        None => false,
+        Some(session) => session.is_lapsed(),
+    }
+}
+
+/// Whether a connect asks for a new session, and one may be attached to its connection.
+fn may_attach_anew(
+    before: &[TranscriptLine],
+    connection: u32,
+    zxid: i64,
+    asked: &Option<ConnectRequest>,
+) -> bool
+    ensures { result ≡ (asks_anew_of asked.now && may_attach_of before.now connection zxid asked.now) }
+{
+    asks_anew(asked) && may_attach(before, connection, zxid, asked)
+}
+
+/// Whether a number is free, and the one that a connection offers.
+fn is_offered(before: &[TranscriptLine], state: &State, id: i64, connection: u32) -> bool
+    ensures { result ≡ (is_none (session_at id state.now) && is_id_of id && offers_of id (opening_of connection before.now)) }
+{
+    state.session(id).is_none() && is_id(id) && offers(id, opening(before, connection))
+}
+
+/// Whether a new session may begin on a connection.
+#[tactic(auto, unfolding(zk_transcript::specs::Legal::may_update))]
+fn may_begin_session(
+    alloc: Global,
+    before: &[TranscriptLine],
+    state: &State,
+    zxid: i64,
+    id: i64,
+    connection: u32,
+) -> Result<bool, Memory>
+    ensures { IfOk result (λ b. b ≡ may_update_of before.now state.now zxid (kind.Session id connection)) }
+{
+    let asked = connect(alloc, before, connection)?;
+    Ok(
+        is_offered(before, state, id, connection)
+            && may_attach_anew(before, connection, zxid, &asked),
+    )
+}
+
+/// Whether a session may be attached to a connection.
+#[tactic(auto, unfolding(zk_transcript::specs::Legal::may_update))]
+fn may_attach_session(
+    alloc: Global,
+    before: &[TranscriptLine],
+    state: &State,
+    zxid: i64,
+    id: i64,
+    connection: u32,
+) -> Result<bool, Memory>
+    ensures { IfOk result (λ b. b ≡ may_update_of before.now state.now zxid (kind.Attach id connection)) }
+{
+    let asked = connect(alloc, before, connection)?;
+    Ok(is_resumed_by(id, &asked, state) && may_attach(before, connection, zxid, &asked))
+}
+
+/// Whether a request does something. Without memory, and where a number is beyond its field, there is no answer.
+fn is_committed(
+    alloc: Global,
+    before: &[TranscriptLine],
+    state: &State,
+    zxid: i64,
+    connection: u32,
+    index: u64,
+    now: u64,
+) -> Result<bool, Memory>
+    ensures { IfOk result (λ b. b ≡ is_some (asked_commit_of before.now state.now zxid connection index now)) }
+{
+    match asked_commit(alloc, before, state, zxid, connection, index, now) {
+        Ok(None) => Ok(false),
+        Ok(Some(_)) => Ok(true),
+        Err(_) => Err(Memory),
+    }
+}
+
+/// Whether a request may be carried out.
+#[tactic(auto, unfolding(zk_transcript::specs::Legal::may_update))]
+fn may_ask(
+    alloc: Global,
+    before: &[TranscriptLine],
+    state: &State,
+    zxid: i64,
+    connection: u32,
+    index: u64,
+    now: u64,
+) -> Result<bool, Memory>
+    ensures { IfOk result (λ b. b ≡ may_update_of before.now state.now zxid (kind.Asked connection index now)) }
+{
+    let asked = request(alloc, before, connection, index)?;
+    if is_live(before, connection, state)
+        && 0 < index
+        && is_small_frame(before, connection, index)
+        && is_within_parts(&asked)
+    {
+        is_committed(alloc, before, state, zxid, connection, index, now)
+    } else {
+        Ok(false)
+    }
+}
+
+/// Whether a session may be closed.
+#[tactic(auto, unfolding(zk_transcript::specs::Legal::may_update))]
+fn may_close(
+    alloc: Global,
+    before: &[TranscriptLine],
+    state: &State,
+    zxid: i64,
+    id: i64,
+    connection: u32,
+    index: u64,
+) -> Result<bool, Memory>
+    ensures { IfOk result (λ b. b ≡ may_update_of before.now state.now zxid (kind.Closed id connection index)) }
+{
+    let asked = request(alloc, before, connection, index)?;
+    Ok(
+        is_id(id)
+            && is_live_as(id, before, connection, state)
+            && 0 < index
+            && is_small_frame(before, connection, index)
+            && is_close(&asked),
+    )
+}
+
+/// Whether an update may be made in this state.
+#[tactic(auto, unfolding(zk_transcript::specs::Legal::may_update))]
+fn may_update(
+    alloc: Global,
+    before: &[TranscriptLine],
+    state: &State,
+    zxid: i64,
+    kind: UpdateKind,
+) -> Result<bool, Memory>
+    ensures { IfOk result (λ b. b ≡ may_update_of before.now state.now zxid kind) }
+{
+    match kind {
+        UpdateKind::Begin { .. } => Ok(state.updates() == 0),
+        UpdateKind::Session { id, connection } => {
+            may_begin_session(alloc, before, state, zxid, id, connection)
+        }
+        UpdateKind::Attach { id, connection } => {
+            may_attach_session(alloc, before, state, zxid, id, connection)
+        }
+        UpdateKind::Asked {
+            connection,
+            index,
+            now,
+        } => may_ask(alloc, before, state, zxid, connection, index, now),
+        UpdateKind::Closed {
+            id,
+            connection,
+            index,
+        } => may_close(alloc, before, state, zxid, id, connection, index),
+        UpdateKind::Reaped { id } => Ok(is_lapsed(id, state)),
+    }
+}
+
+/// Whether a zxid is above that of the last update.
+fn is_next_zxid(state: &State, zxid: i64) -> bool
+    ensures { result ≡ is_next_zxid_of state.now zxid }
+{
+    state.updates() == 0 || state.zxid() < zxid
+}
+
+/// Whether the service could make the update of this line behind these, which led to this state.
+pub fn is_legal_line(
+    alloc: Global,
+    before: &[TranscriptLine],
+    state: &State,
+    line: &TranscriptLine,
+) -> Result<bool, Memory>
+    ensures { IfOk result (λ b. b ≡ is_legal_line_of before.now state.now line.now) }
+{
+    match line {
+        TranscriptLine::Update(update) => {
+            let may = may_update(alloc, before, state, update.zxid, update.kind)?;
+            Ok(may && is_next_zxid(state, update.zxid))
+        }
+        _ => Ok(true),
+    }
+}

@@ -1,0 +1,4 @@
+pub mod Parting
+pub mod Naturals
+pub mod EndWords
+pub mod LineLaws
