@@ -10,7 +10,6 @@ use Rattle.ev_types.specs.declared.ask.TxnReq.{TxnReq}
 use Rattle.ev_types.specs.declared.ask.RangeReq.{RangeReq}
 use Rattle.ev_types.specs.declared.ask.Ask.{Ask}
 use Rattle.ev_types.specs.declared.ask.Ask.TheVariants as ask
-use Rattle.ev_types.specs.declared.answer.Answer.{Answer}
 use Rattle.ev_types.specs.declared.answer.Answer.TheVariants as answer
 use Rattle.ev_types.specs.declared.answer.ActAns.{ActAns}
 use Rattle.ev_types.specs.declared.answer.RangeAns.{RangeAns}
@@ -89,7 +88,7 @@ form-there t =
     or-there (long_list t) (option_or (twice t.success) (twice t.failure)) ∙ (λ i. long-there t i || or-there (twice t.success) (twice t.failure) i)
     ∙ (λ i. has_long_list t || (twice-there t.success i || twice-there t.failure i)) ∙ regroup (has_long_list t) (writes_twice t.success) (writes_twice t.failure)
 
-full-there : (s : Store) (cs : List Change) → is_some (full s cs) ≡ is_full s cs
+pub full-there : (s : Store) (cs : List Change) → is_some (full s cs) ≡ is_full s cs
 full-there s cs = if-there (is_full s cs) (denied.Full (revision s))
 
 txn-there : (s : Store) (t : TxnReq) → is_some (txn_denial s t) ≡ is_denied s (ask.Txn t)
@@ -171,5 +170,5 @@ alive_carried s id ttl is = carry-done s (ask.Alive id) refl ∙ (λ i. Some (s,
 
 -- ---- what the result of a store's call says
 
-pub named : (s : Store) (a : Ask) (r : Result Answer StoreFault) → IfErr r (Names (first_denial s a)) → (d : Denied) → r ≡ Err (fault.Denied d) → first_denial s a ≡ Some d
-named s a r h d is = subst (λ (x : Result Answer StoreFault). IfErr x (Names (first_denial s a))) is h
+pub named : {A : Type 0} (o : Option Denied) (r : Result A StoreFault) → IfErr r (Names o) → (d : Denied) → r ≡ Err (fault.Denied d) → o ≡ Some d
+named {A} o r h d is = subst (λ (x : Result A StoreFault). IfErr x (Names o)) is h

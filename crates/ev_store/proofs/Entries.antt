@@ -10,7 +10,7 @@ use Rattle.std.specs.List.{AllByRecursion}
 use Rattle.std.specs.List.Sorted.{IsStrictlySortedBy}
 use Rattle.std.specs.Map.{lookup, keys_of, values_of}
 use Rattle.std.specs.BTreeMap.{is_at}
-use Rattle.std.specs.FinMap.{FinMap, IsAntisymmetric, find, is_sorted, get, insert, entries, retain_keys, from_entries, from_sorted, same_map, get-from_entries, get-insert, get-from_sorted, entries-from_sorted}
+use Rattle.std.specs.FinMap.{FinMap, IsAntisymmetric, find, is_sorted, get, insert, remove, entries, retain_keys, from_entries, from_sorted, same_map, get-from_entries, get-insert, get-remove, get-from_sorted, entries-from_sorted}
 use Rattle.std.specs.FinMap.Entries.{below_all}
 use Rattle.std.proofs.lemmas.Map.Lookups.{exact_bytes}
 use Rattle.zx_base.specs.Maps.{Bytes}
@@ -47,6 +47,13 @@ module _ {K X : Type 0} {R : K → K → Ordering} (o : IsTotalOrder R) where
   from_entries-update exact es fs k v updates = same_map o exact _ _ (λ q.
       get-lookup fs q ∙ updates q ∙ ap (λ b. cond b (Some v) (lookup (is_at (R q)) es)) ((eq_by_cmp_equiv o).symm k q)
       ∙ ap (cond (eq_by_cmp R q k) (Some v)) (sym (get-lookup es q)) ∙ sym (get-insert o (from_entries es) k v q))
+
+  -- a key that was taken away
+  pub from_entries-without : IsAntisymmetric R → (es fs : List (K × X)) (k : K) →
+      ((q : K) → lookup (is_at (R q)) fs ≡ cond (is_at (R k) q) None (lookup (is_at (R q)) es)) → from_entries {R = R} fs ≡ remove (from_entries es) k
+  from_entries-without exact es fs k updates = same_map o exact _ _ (λ q.
+      get-lookup fs q ∙ updates q ∙ ap (λ b. cond b None (lookup (is_at (R q)) es)) ((eq_by_cmp_equiv o).symm k q)
+      ∙ ap (cond (eq_by_cmp R q k) None) (sym (get-lookup es q)) ∙ sym (get-remove o (from_entries es) k q))
 
   -- entries in order that answer as a map does are the map's
   pub entries_from_gets : IsAntisymmetric R → (m : FinMap R X) (es : List (K × X)) → IsStrictlySortedBy R (keys_of es) →

@@ -41,7 +41,7 @@ abbrev pub IsBounded : ℕ → Option Kv → Type 0
 IsBounded n None = Unit {0}
 IsBounded n (Some kv) = (v : ℕ) × (kv.version ≡ pos v) × (v ≤ n)
 
-bounded-more : (m n : ℕ) (o : Option Kv) → m ≤ n → IsBounded m o → IsBounded n o
+pub bounded-more : (m n : ℕ) (o : Option Kv) → m ≤ n → IsBounded m o → IsBounded n o
 bounded-more m n None h b = tt
 bounded-more m n (Some kv) h b = (b.0, b.1, omega (arith, h, b.2))
 
@@ -81,7 +81,7 @@ next_version-is : (z : ℤ) (v n : ℕ) → z ≡ pos v → v ≤ n → n + 1 �
 next_version-is z v n e h k =
     ap (λ x. saturate_signed w64 (x +ℤ pos 1)) e ∙ ap pos (next_version v n h k) ∙ ap (λ x. x +ℤ pos 1) (sym e)
 
-kv_after_put-is : (r : ℤ) (k v : Bytes) (lease : ℤ) (o : Option Kv) (n : ℕ) → IsBounded n o → n + 1 ≤ 2 ^ 62 → kv_after_put r k v lease o ≡ put_over r k v lease o
+pub kv_after_put-is : (r : ℤ) (k v : Bytes) (lease : ℤ) (o : Option Kv) (n : ℕ) → IsBounded n o → n + 1 ≤ 2 ^ 62 → kv_after_put r k v lease o ≡ put_over r k v lease o
 kv_after_put-is r k v lease None n b h = refl
 kv_after_put-is r k v lease (Some old) n b h = λ i. record (put_over r k v lease (Some old)) { version = next_version-is old.version b.0 n b.1 b.2 h i }
 
@@ -89,7 +89,7 @@ put_over-bounded : (r : ℤ) (k v : Bytes) (lease : ℤ) (o : Option Kv) (n : �
 put_over-bounded r k v lease None n b = (1, refl, omega arith)
 put_over-bounded r k v lease (Some old) n b = (b.0 + 1, ap (λ x. x +ℤ pos 1) b.1, omega (arith, b.2))
 
-abbrev FollowsChange : ℤ → Keys → Change → Bytes → ℕ → Type 0
+abbrev pub FollowsChange : ℤ → Keys → Change → Bytes → ℕ → Type 0
 FollowsChange r m c q n = (get (changed r m c) q ≡ key_after_change r q (get m q) c) × IsBounded (n + put_count q c) (key_after_change r q (get m q) c)
 
 after_put : (r : ℤ) (m : Keys) (k v : Bytes) (lease : ℤ) (q : Bytes) (n : ℕ) (b : Bool) → same k q ≡ b → IsBounded n (get m q) → n + cond b 1 0 ≤ 2 ^ 62 →
@@ -109,7 +109,7 @@ after_remove : (r : ℤ) (m : Keys) (k q : Bytes) (n : ℕ) (b : Bool) → same 
 after_remove r m k q n true e bound = (get-remove_at m k q ∙ ap (λ b. cond b None (get m q)) e, tt)
 after_remove r m k q n false e bound = (get-remove_at m k q ∙ ap (λ b. cond b None (get m q)) e, bounded-more n (n + 0) (get m q) (omega arith) bound)
 
-follows_change : (r : ℤ) (m : Keys) (c : Change) (q : Bytes) (n : ℕ) → IsBounded n (get m q) → n + put_count q c ≤ 2 ^ 62 → FollowsChange r m c q n
+pub follows_change : (r : ℤ) (m : Keys) (c : Change) (q : Bytes) (n : ℕ) → IsBounded n (get m q) → n + put_count q c ≤ 2 ^ 62 → FollowsChange r m c q n
 follows_change r m (Puts k v lease) q n bound room = after_put r m k v lease q n (same k q) refl bound room
 follows_change r m (Removes k) q n bound room = after_remove r m k q n (same k q) refl bound
 

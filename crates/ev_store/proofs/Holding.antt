@@ -1,5 +1,5 @@
 -- What a walk over the changes keeps of the keys of a range, key by key.
-use Rattle.std.proofs.Common.{◌≡◌, ℕ, ◌+◌, ◌<◌, ◌^◌, length, Bool, true, false, cond, ℤ, pos, List, ◌∷◌, Option, Some, None, refl, sym, ap, ◌∙◌, subst}
+use Rattle.std.proofs.Common.{◌≡◌, ℕ, ◌+◌, ◌<◌, ◌^◌, length, Bool, true, false, cond, ℤ, pos, List, [], ◌∷◌, Option, Some, None, refl, sym, ap, ◌∙◌, subst}
 use Rattle.std.specs.declared.cmp.Ordering.{Ordering}
 use Rattle.std.specs.declared.cmp.Ordering.TheVariants.{Less, Equal, Greater}
 use Rattle.std.specs.Ordering.{nat_cmp, is_eq}
@@ -38,6 +38,17 @@ tied-same k q =
         | false ↦ λ t. refl
       ] refl
     ] refl
+
+-- the range of all keys
+pub is_within_all : (k : Bytes) → is_within [] (0 ∷ []) k ≡ true
+unfolding is_within
+is_within_all [] = refl
+is_within_all (x ∷ k) = refl
+
+-- what is held of it is what each key has
+pub held_all : (range : RangeReq) (css : List (List Change)) (f : Bytes → Option Kv) → ((k : Bytes) → is_within range.key range.end k ≡ true) →
+    ((q : Bytes) → f q ≡ within_revisions range 1 q None css) → (q : Bytes) → f q ≡ key_after_revisions 1 q None css
+held_all range css f all gets q = gets q ∙ ap (λ b. cond b (key_after_revisions 1 q None css) None) (all q)
 
 either_way : {A : Type 0} (b : Bool) (x : A) → cond b x x ≡ x
 either_way true x = refl

@@ -18,3 +18,8 @@ pub all-take : {A : Type 0} (p : A → Bool) (n : ℕ) (xs : List A) → list_al
 all-take p zero xs h = refl
 all-take p (suc n) [] h = refl
 all-take p (suc n) (x ∷ xs) h = let parts = and_parts (p x) (list_all p xs) h in and_from (p x) (list_all p (take n xs)) parts.0 (all-take p n xs parts.1)
+
+pub all-drop : {A : Type 0} (p : A → Bool) (n : ℕ) (xs : List A) → list_all p xs ≡ true → list_all p (drop n xs) ≡ true
+all-drop p zero xs h = h
+all-drop p (suc n) [] h = refl
+all-drop p (suc n) (x ∷ xs) h = all-drop p n xs (and_parts (p x) (list_all p xs) h).1

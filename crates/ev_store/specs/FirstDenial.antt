@@ -1,5 +1,5 @@
--- The denial that a store names: where several causes stand, the first in the order in which `first_denial` lists them.
-use Rattle.std.specs.Prelude.{ℕ, ℤ, List, [], ◌∷◌, length, nat_lt, if◌then◌else◌, ◌≡◌, Option, Some, None}
+-- The denial that a store names: where several causes stand, the first in the order in which these definitions list them.
+use Rattle.std.specs.Prelude.{ℕ, ℤ, pos, int_lt, List, [], ◌∷◌, length, nat_lt, if◌then◌else◌, ◌≡◌, Option, Some, None}
 use Rattle.std.specs.List.{list_any}
 use Rattle.std.specs.Option.{option_or, option_map}
 use Rattle.ev_types.specs.declared.ask.Act.{Act}
@@ -8,8 +8,9 @@ use Rattle.ev_types.specs.declared.ask.TxnReq.{TxnReq}
 use Rattle.ev_types.specs.declared.ask.RangeReq.{RangeReq}
 use Rattle.ev_types.specs.declared.ask.Ask.{Ask}
 use Rattle.ev_types.specs.declared.ask.Ask.TheVariants as ask
-use Rattle.ev_types.specs.Store.{Store, Change, revision, worked}
+use Rattle.ev_types.specs.Store.{Store, Change, Puts, revision, worked}
 use Rattle.ev_types.specs.Denials.{has_lease, lacks_lease, is_future, is_compacted, writes, puts, max_operations, is_full, chosen_acts}
+use Rattle.ev_types.specs.Lapses.{leased_keys, removals}
 use Rattle.ev_store.specs.declared.fault.Denied.{Denied}
 use Rattle.ev_store.specs.declared.fault.Denied.TheVariants as denied
 use Rattle.ev_store.specs.declared.fault.StoreFault.{StoreFault}
@@ -82,6 +83,24 @@ first_denial s (ask.Txn t) = txn_denial s t
 first_denial s (ask.Range q) = range_denial s q
 first_denial s (ask.Grant id ttl) = grant_denial s id
 first_denial s (ask.Alive id) = None
+
+-- ---- of the calls beside an ask
+
+-- a lapse: the lease isn't there; then, that the store is full
+unfoldable pub lapse_denial : Store → ℤ → Option Denied
+lapse_denial s id = if has_lease s id then full s (removals (leased_keys s id)) else Some (denied.NoLease id)
+
+-- a put of another user: that the store is full
+abbrev pub foreign_denial : Store → Bytes → Bytes → Option Denied
+foreign_denial s k v = full s (Puts k v (pos 0) ∷ [])
+
+-- the events above a revision: it is below the floor, 0 too
+abbrev pub events_denial : Store → ℤ → Option Denied
+events_denial s r = if int_lt r s.floor then Some (denied.Compacted r s.floor) else None
+
+-- a compaction: the store has no such revision yet
+abbrev pub compact_denial : Store → ℤ → Option Denied
+compact_denial s r = if is_future s r then Some (denied.Future r (revision s)) else None
 
 -- ---- as a fault
 

@@ -2,4 +2,6 @@ pub mod Asks
 pub mod FirstDenial
 pub mod Changes
 pub mod Codes
+pub mod Compaction
+pub mod Events
 pub mod Folds

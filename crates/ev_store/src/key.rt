@@ -44,6 +44,12 @@ impl<'a> Found<'a> {
         self.mod_revision
     }
 
+    pub fn lease(&self) -> i64
+        ensures { result ≡ self.now.lease }
+    {
+        self.lease
+    }
+
     /// A copy to hand out, without the value where only keys are asked for.
     pub fn to_kv(&self, alloc: Global, keys_only: bool) -> Result<Kv, Memory>
         ensures { IfOk result (λ kv. kv ≡ shown keys_only self.now) }

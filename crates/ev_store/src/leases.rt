@@ -1,7 +1,7 @@
 //! The leases that are there.
 
 ghost use Rattle.std.specs.Prelude.{◌≡◌, OnOk, OnErr};
-ghost use Rattle.std.specs.FinMap.{get, insert, empty};
+ghost use Rattle.std.specs.FinMap.{get, insert, remove, empty};
 
 use std::alloc::Global;
 use std::collections::BTreeMap;
@@ -50,5 +50,12 @@ impl Leases {
     {
         self.seconds.insert(id, seconds)?;
         Ok(())
+    }
+
+    /// The lease is no longer there.
+    pub fn remove(&mut self, id: i64)
+        ensures { self.new ≡ remove self.old id }
+    {
+        self.seconds.remove(&id);
     }
 }

@@ -69,14 +69,14 @@ impl Store {
     {
         match act {
             Act::Put { key, value, lease } => {
-                changes.push(put(self.alloc(), key, value, *lease)?)?;
+                changes.push(put(self.alloc(), key.as_slice(), value.as_slice(), *lease)?)?;
                 Ok(ActAns::Put)
             }
             Act::Delete { key } => {
                 if !self.has_key(changes.as_slice(), key.as_slice()) {
                     return Ok(ActAns::Deleted(0));
                 }
-                changes.push(removal(self.alloc(), key)?)?;
+                changes.push(removal(self.alloc(), key.as_slice())?)?;
                 Ok(ActAns::Deleted(1))
             }
             Act::Range(range) => Ok(ActAns::Range(self.find(changes.as_slice(), range)?)),
@@ -132,21 +132,21 @@ fn first(history: &[Seq<Change>], revision: i64) -> &[Seq<Change>]
     &history[..count.min(history.len())]
 }
 
-fn put(alloc: Global, key: &Bytes, value: &Bytes, lease: i64) -> Result<Change, Memory>
+pub(crate) fn put(alloc: Global, key: &[u8], value: &[u8], lease: i64) -> Result<Change, Memory>
     ensures { IfOk result (λ c. c ≡ etcd.Puts key.now value.now lease) }
 {
-    let value = Bytes::copy_of(alloc, value.as_slice())?;
+    let value = Bytes::copy_of(alloc, value)?;
     Ok(Change {
-        key: Bytes::copy_of(alloc, key.as_slice())?,
+        key: Bytes::copy_of(alloc, key)?,
         content: Some(Content { value, lease }),
     })
 }
 
-fn removal(alloc: Global, key: &Bytes) -> Result<Change, Memory>
+pub(crate) fn removal(alloc: Global, key: &[u8]) -> Result<Change, Memory>
     ensures { IfOk result (λ c. c ≡ etcd.Removes key.now) }
 {
     Ok(Change {
-        key: Bytes::copy_of(alloc, key.as_slice())?,
+        key: Bytes::copy_of(alloc, key)?,
         content: None,
     })
 }

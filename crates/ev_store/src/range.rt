@@ -22,7 +22,7 @@ use std::collections::BTreeMap;
 use zx_base::{Bytes, Memory, Seq};
 
 /// The keys of a range that are there.
-type Held<'a> = BTreeMap<Name<'a>, Found<'a>>;
+pub type Held<'a> = BTreeMap<Name<'a>, Found<'a>>;
 
 /// Whether a key is below the end of a range; the one byte 0 is no end.
 fn is_below(end: &Bytes, key: &[u8]) -> bool
@@ -43,8 +43,23 @@ fn has(range: &RangeReq, key: &[u8]) -> bool
     }
 }
 
+/// The range of all keys.
+pub fn all_keys(alloc: Global) -> Result<RangeReq, Memory>
+    ensures { IfOk result (λ range. (k : ByteList) → is_within range.key range.end k ≡ true) }
+{
+    let mut end = Seq::new(alloc);
+    end.push(0)?;
+    Ok(RangeReq {
+        key: Seq::new(alloc),
+        end,
+        revision: 0,
+        limit: 0,
+        keys_only: false,
+    })
+}
+
 /// Takes one change into what is held of the range.
-fn hold<'a>(
+pub fn hold<'a>(
     held: &mut Held<'a>,
     range: &RangeReq,
     revision: i64,
@@ -86,7 +101,7 @@ fn hold_changes<'a>(
 }
 
 /// The keys of the range after these revisions, of which the first is revision 1.
-fn held_after<'a>(
+pub fn held_after<'a>(
     alloc: Global,
     revisions: &'a [Seq<Change>],
     range: &RangeReq,

@@ -2,7 +2,8 @@
 
 ghost use Rattle.std.specs.Prelude.{◌≡◌, ◌≤◌, ◌+◌, pos, true, length, Option, None, IfOk, IfErr, OnOk, OnErr, Result};
 ghost use Rattle.std.specs.List.{list_all};
-ghost use Rattle.std.specs.FinMap.{get};
+ghost use Rattle.std.specs.FinMap.{get, remove};
+ghost use Rattle.std.specs.Int.{int_max};
 ghost use Rattle.ev_types.specs.Store as etcd;
 ghost use Rattle.ev_types.specs.Denials.{has_lease, carry};
 ghost use Rattle.ev_store.specs.declared.fault.Denied.{Denied as Denial};
@@ -116,6 +117,22 @@ impl Store {
         }
         self.revisions.push(changes)?;
         Ok(())
+    }
+
+    /// A lease is no longer there; its keys are as they were.
+    pub(crate) fn drop_lease(&mut self, id: i64)
+        ensures { self.new ≡ record self.old { leases = remove self.old.leases id } }
+    {
+        self.leases.remove(id);
+    }
+
+    /// The floor rises to a revision above it.
+    pub(crate) fn raise_floor(&mut self, revision: i64)
+        ensures { self.new ≡ record self.old { floor = int_max revision self.old.floor } }
+    {
+        if self.floor < revision {
+            self.floor = revision;
+        }
     }
 
     /// A range outside a transaction.

@@ -1,8 +1,9 @@
+use Rattle.ev_store.specs.FirstDenial.{first_denial}
 use Rattle.ev_store.proofs.Denying.{carry-denied, named}
 use Rattle.ev_store.proofs.store.Store.carry_out.Goals as goal
 
 pub returns-clause-denied : goal.returns-clause-denied
-returns-clause-denied c d is = carry-denied c.args.self.now c.args.ask.now d (named c.args.self.now c.args.ask.now c.answer_to.result c.answer_to.ensures.named d is)
+returns-clause-denied c d is = carry-denied c.args.self.now c.args.ask.now d (named (first_denial c.args.self.now c.args.ask.now) c.answer_to.result c.answer_to.ensures.named d is)
 
 pub returns-clause-first : goal.returns-clause-first
-returns-clause-first c = named c.args.self.now c.args.ask.now c.answer_to.result c.answer_to.ensures.named
+returns-clause-first c = named (first_denial c.args.self.now c.args.ask.now) c.answer_to.result c.answer_to.ensures.named

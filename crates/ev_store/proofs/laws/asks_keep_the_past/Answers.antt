@@ -1,0 +1,5 @@
+use Rattle.ev_store.proofs.History.{carry-earlier}
+use Rattle.ev_store.proofs.laws.asks_keep_the_past.Goals as goal
+
+pub returns : goal.returns
+returns c = carry-earlier
