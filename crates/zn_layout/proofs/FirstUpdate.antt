@@ -23,7 +23,7 @@ use Rattle.zk_model.specs.Znodes.{num_children, owned, new_node}
 use Rattle.zk_transcript.specs.History.{State, Session, nothing_yet, after}
 use Rattle.zx_base.specs.Maps.{Bytes, same}
 use Rattle.zx_base.proofs.MapLaws.{same-true, apart-from_same}
-use Rattle.zn_layout.proofs.Absent.{none_some}
+use Rattle.zx_base.proofs.Options.{none_some}
 use Rattle.zn_layout.specs.Keys.{Key, HeadKey, DataKey, CountsKey, SessionKey, LeaseKey, key_bytes, front}
 use Rattle.zn_layout.specs.Records.{node_value, counts_value, head_value, IsLongCount, IsNodeRec}
 use Rattle.zn_layout.specs.StandsFor.{Stored, stored_of, at, Means, IsData, IsCounts, DataMeans, CountsMean, NodesMean, LifeMeans, IsHead, AreLayout, StandsFor}

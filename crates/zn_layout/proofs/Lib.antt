@@ -19,4 +19,8 @@ pub mod Again
 pub mod ListRecords
 pub mod Rising
 pub mod Lapses
-pub mod Absent
+pub mod Foreign
+pub mod Readings
+pub mod Ranges
+pub mod Listing
+pub mod Values

@@ -10,7 +10,7 @@ use Rattle.zk_model.specs.declared.node.Trigger.{Trigger}
 use Rattle.zk_transcript.specs.History.{State}
 use Rattle.zx_base.specs.Maps.{Bytes}
 use Rattle.zx_base.proofs.MapLaws.{either, get-insert_same}
-use Rattle.zn_layout.proofs.Absent.{none_some}
+use Rattle.zx_base.proofs.Options.{none_some}
 use Rattle.zn_layout.specs.Keys.{Key, HeadKey, key_bytes, front}
 use Rattle.zn_layout.specs.Records.{head_value, IsHeadRec}
 use Rattle.zn_layout.specs.StandsFor.{Stored, stored_of, at, Means, IsHead, HeadMeans, AreLayout, StandsFor}

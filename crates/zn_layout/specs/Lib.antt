@@ -8,3 +8,4 @@ pub mod Fits
 pub mod Commits
 pub mod Reading
 pub mod ReadingSteps
+pub mod Listing

@@ -4,12 +4,18 @@ use Rattle.zx_base.specs.Maps.{Bytes}
 use Rattle.zn_layout.specs.declared.record.HeadRec.{HeadRec}
 use Rattle.zn_layout.specs.declared.fault.RecordFault.{RecordFault}
 use Rattle.zn_layout.specs.declared.fault.RecordFault.TheVariants.{Damaged, Memory}
+use Rattle.zn_layout.specs.declared.record.NodeRec.{NodeRec}
 use Rattle.zn_layout.specs.declared.record.SessionRec.{SessionRec}
+use Rattle.zn_layout.specs.declared.test.NodeNumbers.{NodeNumbers}
 use Rattle.zn_layout.specs.Records.{head_value, session_value, IsHeadRec, IsSessionRec}
 
 -- a record within its bounds, whose value this is
 abbrev pub IsValueOf : {R : Type 0} → (R → Bytes) → (R → Type 0) → Bytes → R → Type 0
 IsValueOf value_of IsWithin v r = IsWithin r × (v ≡ value_of r)
+
+-- a record within its bounds has this value
+abbrev pub IsSomeValue : {R : Type 0} → (R → Bytes) → (R → Type 0) → Bytes → Type 0
+IsSomeValue {R = R} value_of IsWithin v = (r : R) × IsValueOf value_of IsWithin v r
 
 -- no record within its bounds has this value
 abbrev pub IsNoValue : {R : Type 0} → (R → Bytes) → (R → Type 0) → Bytes → Type 0
@@ -29,6 +35,11 @@ IsFault value_of IsWithin key v Memory = Unit {0}
 abbrev pub IsReadAs : {R : Type 0} → (R → Bytes) → (R → Type 0) → Bytes → Option R → Type 0
 IsReadAs value_of IsWithin v (Some r) = IsValueOf value_of IsWithin v r
 IsReadAs value_of IsWithin v None = IsNoValue value_of IsWithin v
+
+-- ---- a node's numbers, and its data
+
+abbrev pub node_record : NodeNumbers → Bytes → NodeRec
+node_record n content = record { czxid = n.czxid; version = n.version; ctime = n.ctime; mtime = n.mtime; owner = n.owner; content = content }
 
 -- ---- the head, as a record with its list
 

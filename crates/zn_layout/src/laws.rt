@@ -1,23 +1,29 @@
 //! The laws of the layout. Each function does nothing, and its contract is the law.
 
-ghost use Rattle.std.specs.Prelude.{◌≡◌, ℕ, ◌+◌, ◌^◌, ◌<◌, ◌≤◌, ℤ, pos, ◌≤ℤ◌, ◌<ℤ◌, List, ◌∷◌, [], ◌++◌, length, map, sum_by, Some, None, true, false};
-ghost use Rattle.std.specs.FinMap.{get};
+ghost use Rattle.std.specs.Prelude.{◌≡◌, ℕ, ◌+◌, ◌^◌, ◌<◌, ◌≤◌, ℤ, pos, ◌≤ℤ◌, ◌<ℤ◌, List, ◌∷◌, [], ◌++◌, length, map, sum_by, Some, None, true, false, IsTrue};
+ghost use Rattle.std.specs.FinMap.{get, keys as map_keys};
 ghost use Rattle.std.specs.List.{list_all, All};
 ghost use Rattle.ev_types.specs.declared.answer.Kv.{Kv as KeyValue};
 ghost use Rattle.ev_types.specs.declared.answer.ActAns.{ActAns};
 ghost use Rattle.ev_types.specs.declared.answer.ActAns.TheVariants as part;
+ghost use Rattle.ev_types.specs.declared.answer.Answer.{Answer};
 ghost use Rattle.ev_types.specs.declared.answer.Answer.TheVariants as answer;
 ghost use Rattle.ev_types.specs.declared.ask.Act.{Act};
+ghost use Rattle.ev_types.specs.declared.ask.Act.TheVariants as act;
 ghost use Rattle.ev_types.specs.declared.ask.Ask.TheVariants as ask;
 ghost use Rattle.ev_types.specs.declared.ask.Guard.{Guard};
-ghost use Rattle.ev_types.specs.Denials.{max_operations, is_denied, carry};
-ghost use Rattle.ev_types.specs.Lapses.{lapse};
+ghost use Rattle.ev_types.specs.declared.ask.RangeReq.{RangeReq};
+ghost use Rattle.ev_types.specs.declared.ask.TxnReq.{TxnReq};
+ghost use Rattle.ev_types.specs.Denials.{max_operations, chosen_acts, is_denied, carry};
+ghost use Rattle.ev_types.specs.Lapses.{lapse, foreign};
 ghost use Rattle.ev_types.specs.Ranges.{Keys};
 ghost use Rattle.ev_types.specs.Reads.{are_present_reads, one_found};
 ghost use Rattle.ev_types.specs.Sizes.{act_size, guard_size, txn_size, max_txn_size, IsSendable};
-ghost use Rattle.ev_types.specs.Store.{Store, revision, last_revision, present, holds, acts_applied};
+ghost use Rattle.ev_types.specs.Store.{Store, revision, last_revision, present, holds, worked, acts_applied};
 ghost use Rattle.zk_model.specs.declared.node.Trigger.{Trigger as AnyTrigger};
-ghost use Rattle.zk_transcript.specs.History.{State, session_at, lapsed_in};
+ghost use Rattle.zk_model.specs.Paths.{is_path, parent};
+ghost use Rattle.zk_model.specs.Znodes.{children};
+ghost use Rattle.zk_transcript.specs.History.{State, IsSound, IsBounded, session_at, lapsed_in};
 ghost use Rattle.zx_base.specs.Maps.{Bytes};
 ghost use Rattle.zn_layout.specs.declared.record.CountRec.{CountRec};
 ghost use Rattle.zn_layout.specs.declared.record.LeaseRec.{LeaseRec};
@@ -26,7 +32,8 @@ ghost use Rattle.zn_layout.specs.Begin.{begin_ask as first_ask, Begins};
 ghost use Rattle.zn_layout.specs.Changes.{Change, head_put, update_acts, last, are_distinct, have_leases, change_size};
 ghost use Rattle.zn_layout.specs.Commits.{IsCommitted};
 ghost use Rattle.zn_layout.specs.Fits.{Fits, IsNext};
-ghost use Rattle.zn_layout.specs.Keys.{Key, HeadKey, key_bytes};
+ghost use Rattle.zn_layout.specs.Keys.{Key, DataKey, HeadKey, front, key_bytes};
+ghost use Rattle.zn_layout.specs.Listing.{child_front, children_found, HasValidPaths};
 ghost use Rattle.zn_layout.specs.Records.{node_value, counts_value, session_value, lease_value, head_value, IsNodeRec, IsCountRec, IsSessionRec, IsLeaseRec, IsHeadRec};
 ghost use Rattle.zn_layout.specs.StandsFor.{at, StandsFor};
 ghost use Rattle.zn_layout.specs.Updates.{with_head, guards_at, update_ask, update_txn, IsAsSeen};
@@ -82,6 +89,21 @@ pub fn lapse_stands()
     ensures { (s new : Store) (id : ℤ) (state : State) → StandsFor (present s) state → lapse s id ≡ Some new → StandsFor (present new) (lapsed_in state id (session_at id state)) }
 {}
 
+/// A put of another user outside `zk/` leaves keys that stand for the same state.
+pub fn foreign_stands()
+    ensures { (s new : Store) (k v : Bytes) (state : State) → ((rest : Bytes) → k ≡ front ++ rest → ⊥) → StandsFor (present s) state → foreign s k v ≡ Some new → StandsFor (present new) state }
+{}
+
+/// A range, a keepalive, a grant, and a transaction that only reads or changes nothing leave keys that stand for the same
+/// state.
+pub fn reading_stands()
+    ensures range { (s new : Store) (q : RangeReq) (a : Answer) (state : State) → StandsFor (present s) state → carry s (ask.Range q) ≡ Some (new, a) → StandsFor (present new) state }
+    ensures alive { (s new : Store) (id : ℤ) (a : Answer) (state : State) → StandsFor (present s) state → carry s (ask.Alive id) ≡ Some (new, a) → StandsFor (present new) state }
+    ensures grant { (s new : Store) (id ttl : ℤ) (a : Answer) (state : State) → StandsFor (present s) state → carry s (ask.Grant id ttl) ≡ Some (new, a) → StandsFor (present new) state }
+    ensures reads { (s new : Store) (guards : List Guard) (qs rs : List RangeReq) (a : Answer) (state : State) → StandsFor (present s) state → carry s (ask.Txn (record { guards = guards; success = map act.Range qs; failure = map act.Range rs })) ≡ Some (new, a) → StandsFor (present new) state }
+    ensures unchanged { (s new : Store) (t : TxnReq) (a : Answer) (state : State) → StandsFor (present s) state → (worked s (chosen_acts s t)).changes ≡ [] → carry s (ask.Txn t) ≡ Some (new, a) → StandsFor (present new) state }
+{}
+
 /// The first transaction stands: on a new store it isn't denied, succeeds at revision 2, answers the head that it put, and
 /// leaves keys that stand for the state after the line of the first update.
 pub fn begin_stands()
@@ -120,4 +142,12 @@ pub fn guards_tell_what_was_seen()
 /// Where a guard fails an update changes nothing, and answers what the same keys and the head have now.
 pub fn update_looks_again()
     ensures { (s : Store) (seen : Keys) (keys : List Bytes) (acts : List Act) → is_denied s (update_ask seen keys acts) ≡ false → list_all (holds (present s)) (guards_at seen keys) ≡ false → carry s (update_ask seen keys acts) ≡ Some (s, answer.Txn (revision s) false (map (λ k. part.Range (one_found (get (present s) k))) (with_head keys))) }
+{}
+
+/// The keys that are found in the range of a node's children are the data keys of its children, in the order of the paths'
+/// bytes, where each path of the tree is valid, as in the state after each legal history.
+pub fn children_listed()
+    ensures found { (keys : Keys) (s : State) (p : Bytes) → StandsFor keys s → IsSound s → HasValidPaths s.tree → IsTrue (is_path p) → map_keys (children_found keys p) ≡ map (λ q. child_front p ++ q) (children s.tree p) }
+    ensures valid { (first : ℤ) (s : State) → IsBounded first s → HasValidPaths s.tree }
+    ensures data_keys { (p q : Bytes) → parent q ≡ Some p → child_front p ++ q ≡ key_bytes (DataKey q) }
 {}

@@ -24,6 +24,7 @@ mod laws;
 mod list;
 mod read;
 mod record;
+mod test;
 mod write;
 mod writer;
 
@@ -33,12 +34,16 @@ pub use entry::Entry;
 pub use fault::RecordFault;
 pub use key::{counts_key, data_key, head_key, lease_key, session_key};
 pub use laws::{
-    begin_again_changes_nothing, begin_stands, counts_value_is_injective, fits_append, fits_same,
-    guards_tell_what_was_seen, head_value_is_injective, key_bytes_is_injective, lapse_stands,
-    lease_value_is_injective, node_value_is_injective, session_value_is_injective, stands_after,
-    update_commits, update_is_allowed, update_is_sendable, update_looks_again,
+    begin_again_changes_nothing, begin_stands, children_listed, counts_value_is_injective,
+    fits_append, fits_same, foreign_stands, guards_tell_what_was_seen, head_value_is_injective,
+    key_bytes_is_injective, lapse_stands, lease_value_is_injective, node_value_is_injective,
+    reading_stands, session_value_is_injective, stands_after, update_commits, update_is_allowed,
+    update_is_sendable, update_looks_again,
 };
-pub use list::{read_head, read_session};
-pub use read::{read_counts, read_lease, read_node};
+pub use list::{head_in, read_head, read_session, session_in};
+pub use read::{counts_in, lease_in, read_counts, read_lease, read_node};
 pub use record::{CountRec, HeadRec, LeaseRec, NodeRec, SessionRec};
+pub use test::{
+    NodeNumbers, is_counts_record, is_lease_record, is_node_record, node_content, node_numbers,
+};
 pub use write::{write_counts, write_head, write_lease, write_node, write_session};

@@ -33,7 +33,8 @@ pub fn read_head(alloc: Global, key: &[u8], value: &[u8]) -> Result<HeadRec, Rec
     }
 }
 
-fn head_in(alloc: Global, value: &[u8]) -> Result<Option<HeadRec>, Memory>
+/// The head's record of which this is the value, none where it is no record's.
+pub fn head_in(alloc: Global, value: &[u8]) -> Result<Option<HeadRec>, Memory>
     ensures { IfOk result (IsReadAs head_bytes IsHeadWithin value.now) }
 {
     let Some(numbers) = behind_first(value) else {
@@ -63,7 +64,8 @@ pub fn read_session(alloc: Global, key: &[u8], value: &[u8]) -> Result<SessionRe
     }
 }
 
-fn session_in(alloc: Global, value: &[u8]) -> Result<Option<SessionRec>, Memory>
+/// The record of a session's nodes of which this is the value, none where it is no record's.
+pub fn session_in(alloc: Global, value: &[u8]) -> Result<Option<SessionRec>, Memory>
     ensures { IfOk result (IsReadAs session_bytes IsSessionWithin value.now) }
 {
     let Some(numbers) = behind_first(value) else {

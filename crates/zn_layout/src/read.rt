@@ -18,7 +18,7 @@ use zk_model::limit::{MAX_CREATES, MAX_FRAME};
 use zx_base::{Bytes, Memory};
 
 /// How many bytes of a node's record stand between the first and the data.
-const NODE_NUMBERS: usize = 36;
+pub(crate) const NODE_NUMBERS: usize = 36;
 
 /// The range of a session's timeout, in milliseconds.
 const MIN_TIMEOUT: i32 = 4_000;
@@ -119,13 +119,14 @@ fn bounded_node(node: NodeRec) -> Option<NodeRec>
 }
 
 /// Whether neither number is negative.
-fn are_counts(m: i64, n: i64) -> bool
+pub(crate) fn are_counts(m: i64, n: i64) -> bool
     ensures { IsTrue result ↔ (IsLongCount m × IsLongCount n) }
 {
     m >= 0 && n >= 0
 }
 
-fn counts_in(value: &[u8]) -> Option<CountRec>
+/// The record of counts of which this is the value, none where it is no record's.
+pub fn counts_in(value: &[u8]) -> Option<CountRec>
     ensures { IsReadAs counts_value IsCountRec value.now result }
 {
     let Some(numbers) = behind_first(value) else {
@@ -158,7 +159,8 @@ fn bounded_counts(counts: CountRec) -> Option<CountRec>
     Some(counts)
 }
 
-fn lease_in(value: &[u8]) -> Option<LeaseRec>
+/// The record of a session's life of which this is the value, none where it is no record's.
+pub fn lease_in(value: &[u8]) -> Option<LeaseRec>
     ensures { IsReadAs lease_value IsLeaseRec value.now result }
 {
     let Some(numbers) = behind_first(value) else {
@@ -208,7 +210,7 @@ pub(crate) fn split_int(bytes: &[u8]) -> (i32, &[u8])
 }
 
 /// Eight bytes as a number, and what stands behind them.
-fn split_long(bytes: &[u8]) -> (i64, &[u8])
+pub(crate) fn split_long(bytes: &[u8]) -> (i64, &[u8])
     requires { 8 ≤ length bytes.now }
     ensures parts { bytes.now ≡ long_bytes result.0 ++ result.1.now }
     ensures fits { FitsSigned w64 result.0 }

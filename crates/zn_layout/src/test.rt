@@ -1,0 +1,106 @@
+//! Tests of values, and what is read of a node without its data. None copies anything.
+
+ghost use Rattle.std.specs.Prelude.{◌≡◌, ◌↔◌, ◌+◌, ◌≤◌, ◌∷◌, length, drop, IsTrue, MatchOption};
+ghost use Rattle.zk_model.specs.Limits.{max_frame};
+ghost use Rattle.zn_layout.specs.Records.{node_value, counts_value, lease_value, IsNodeRec, IsCountRec, IsLeaseRec};
+ghost use Rattle.zn_layout.specs.Reading.{IsSomeValue, IsNoValue, IsValueOf, node_record};
+ghost use Rattle.zn_layout.specs.ReadingSteps.{HasNumbers};
+
+use crate::read::{
+    NODE_NUMBERS, are_counts, behind_first, counts_in, lease_in, split_int, split_long,
+};
+use zk_model::limit::MAX_FRAME;
+
+/// How many bytes stand before a node's data.
+const BEFORE_DATA: usize = 37;
+
+/// A znode's record without its data.
+#[derive(Clone, Copy, Debug)]
+pub struct NodeNumbers {
+    /// The zxid of its create, or 0 where that is the revision of this record.
+    pub czxid: i64,
+    pub version: i32,
+    /// Milliseconds since 1970.
+    pub ctime: i64,
+    pub mtime: i64,
+    /// The session that owns it, or 0.
+    pub owner: i64,
+}
+
+/// Whether this is the value of a node's record.
+pub fn is_node_record(value: &[u8]) -> bool
+    ensures { IsTrue result ↔ IsSomeValue node_value IsNodeRec value.now }
+{
+    node_numbers(value).is_some()
+}
+
+/// Whether this is the value of a record of counts.
+pub fn is_counts_record(value: &[u8]) -> bool
+    ensures { IsTrue result ↔ IsSomeValue counts_value IsCountRec value.now }
+{
+    counts_in(value).is_some()
+}
+
+/// Whether this is the value of the record of a session's life.
+pub fn is_lease_record(value: &[u8]) -> bool
+    ensures { IsTrue result ↔ IsSomeValue lease_value IsLeaseRec value.now }
+{
+    lease_in(value).is_some()
+}
+
+/// The numbers of the node's record of which this is the value, none where it is no record's. The data stand behind them
+/// ([`node_content`]).
+pub fn node_numbers(value: &[u8]) -> Option<NodeNumbers>
+    ensures { MatchOption result (IsNoValue node_value IsNodeRec value.now) (λ n. IsValueOf node_value IsNodeRec value.now (node_record n (drop BEFORE_DATA value.now))) }
+{
+    let Some(numbers) = behind_first(value) else {
+        return None;
+    };
+    if numbers.len() < NODE_NUMBERS {
+        return None;
+    }
+    let (node, content) = numbers_of(numbers);
+    bounded_numbers(node, content)
+}
+
+/// The data in the value of a node's record.
+pub fn node_content(value: &[u8]) -> &[u8]
+    requires { BEFORE_DATA ≤ length value.now }
+    ensures { result.now ≡ drop BEFORE_DATA value.now }
+{
+    &value[BEFORE_DATA..]
+}
+
+/// The numbers, and the data behind them.
+fn numbers_of(numbers: &[u8]) -> (NodeNumbers, &[u8])
+    requires { NODE_NUMBERS ≤ length numbers.now }
+    ensures value { 1 ∷ numbers.now ≡ node_value (node_record result.0 result.1.now) }
+    ensures fits { HasNumbers (node_record result.0 result.1.now) }
+{
+    let (czxid, rest) = split_long(numbers);
+    let (version, rest) = split_int(rest);
+    let (ctime, rest) = split_long(rest);
+    let (mtime, rest) = split_long(rest);
+    let (owner, content) = split_long(rest);
+    let node = NodeNumbers {
+        czxid,
+        version,
+        ctime,
+        mtime,
+        owner,
+    };
+    (node, content)
+}
+
+/// The numbers, if the record with this data keeps its bounds.
+fn bounded_numbers(numbers: NodeNumbers, content: &[u8]) -> Option<NodeNumbers>
+    ensures { MatchOption result (IsNodeRec (node_record numbers content.now) → ⊥) (λ n. (n ≡ numbers) × IsNodeRec (node_record n content.now)) }
+{
+    if !are_counts(numbers.czxid, numbers.owner) || !are_counts(numbers.ctime, numbers.mtime) {
+        return None;
+    }
+    if numbers.version < 0 || content.len() > MAX_FRAME {
+        return None;
+    }
+    Some(numbers)
+}
