@@ -10,45 +10,26 @@ use Rattle.ev_http.specs.declared.taking.Tally.{Tally}
 use Rattle.httparse.specs.Grammar.{print_chunk_line}
 use Rattle.ev_http.proofs.Takings.{no_feed-nil}
 use Rattle.ev_http.specs.Taking.{Told, HasNoFeed}
+use Rattle.std.specs.Prelude.{Option, Result}
 use Rattle.ev_http.specs.Body.{Chunk, print_chunks, contents, Behind, AtContent, Came, EndsWhole, TakesBytes, TakesPart, after_content, Framed}
 
 nothing : (bytes added : List ℕ) → added ≡ [] → bytes ++ added ≡ bytes
 nothing bytes added e = ap (λ (x : List ℕ). bytes ++ x) e ∙ append-nil bytes
 
--- a part of which nothing came in the call
-pub came_same : (start : ℕ) (f : Framing) (p : Part) (line bytes added body body' : List ℕ) → added ≡ [] → body' ≡ body → Came start f p line bytes body → Came start f p line (bytes ++ added) body'
-came_same start f p line bytes added body body' none same came =
-    subst (λ (x : List ℕ). Came start f p line x body') (sym (nothing bytes added none)) (subst (λ (x : List ℕ). Came start f p line bytes x) (sym same) came)
-
--- why no piece was taken
-pub part_stops : (e : HttpFault) (p : Part) (body added body' : List ℕ) (most : ℕ) (source : Told) (tally : Tally) → TakesBytes (Err e) body added body' most source tally
-    → (line : List ℕ) → TakesPart (Err e) p line body added line body' source tally
-part_stops fault.Idle p body added body' most source tally got line start f bytes came taken = (came_same start f p line bytes added body body' got.0 got.1 came, got.2)
-part_stops fault.ReadFault p body added body' most source tally got line start f bytes came taken = came_same start f p line bytes added body body' got.0 got.1 came
-part_stops fault.Memory p body added body' most source tally got line start f bytes came taken = tt
-part_stops fault.Head p body added body' most source tally got line start f bytes came taken = absurd got
-part_stops (fault.Status n) p body added body' most source tally got line start f bytes came taken = absurd got
-part_stops fault.Route p body added body' most source tally got line start f bytes came taken = absurd got
-part_stops (fault.Body n) p body added body' most source tally got line start f bytes came taken = absurd got
-part_stops (fault.TooLong n) p body added body' most source tally got line start f bytes came taken = absurd got
-part_stops (fault.Ended n) p body added body' most source tally got line start f bytes came taken = absurd got
-part_stops fault.WriteFault p body added body' most source tally got line start f bytes came taken = absurd got
-
--- the source ended in a piece
-pub part_ends : (n : ℕ) (p : Part) (body added body' : List ℕ) (most : ℕ) (source : Told) (tally : Tally) → TakesBytes (Ok None) body added body' most source tally → n ≡ tally.taken
-    → (line : List ℕ) → TakesPart (Err (fault.Ended n)) p line body added line body' source tally
-part_ends n p body added body' most source tally got is line start f bytes came taken = (came_same start f p line bytes added body body' got.0 got.1 came, got.2, is)
-
-pub counted_more : (n left : ℕ) (body added body' : List ℕ) (source : Told) (tally : Tally) → TakesBytes (Ok (Some n)) body added body' left source tally
-    → (line : List ℕ) → TakesPart (Ok (part.Counted (left - n))) (part.Counted left) line body added line body' source tally
-counted_more n left body added body' source tally got line start f bytes came taken =
-    let size : length body' + (left - n) ≡ length body + left = omega (arith, ap length got.0, length-append body added, got.1, got.3) in (
-      (came.0 ∙ ap framing.Counted (sym size), ap (λ (x : List ℕ). x ++ added) came.1 ∙ sym got.0),
-      counted_ends f (part.Counted (left - n)) source (length body + left) came.0,
-    )
-  where
-    counted_ends : (f : Framing) (p : Part) (source : Told) (m : ℕ) → f ≡ framing.Counted m → EndsWhole f p source
-    counted_ends f p source m e = subst (λ (x : Framing). EndsWhole x p source) (sym e) tt
+-- a piece behind a front of the body
+pub takes_bytes-before : (r : Result (Option ℕ) HttpFault) (before old added new : List ℕ) (most : ℕ) (source : Told) (tally : Tally) → TakesBytes r old added new most source tally → TakesBytes r (before ++ old) added (before ++ new) most source tally
+takes_bytes-before (Ok (Some n)) before old added new most source tally got = (ap (λ (x : List ℕ). before ++ x) got.0 ∙ sym (append_assoc before old added), got.1, got.2, got.3)
+takes_bytes-before (Ok None) before old added new most source tally got = (got.0, ap (λ (x : List ℕ). before ++ x) got.1, got.2)
+takes_bytes-before (Err fault.Idle) before old added new most source tally got = (got.0, ap (λ (x : List ℕ). before ++ x) got.1, got.2)
+takes_bytes-before (Err fault.ReadFault) before old added new most source tally got = (got.0, ap (λ (x : List ℕ). before ++ x) got.1)
+takes_bytes-before (Err fault.Memory) before old added new most source tally got = tt
+takes_bytes-before (Err fault.Head) before old added new most source tally got = absurd got
+takes_bytes-before (Err (fault.Status n)) before old added new most source tally got = absurd got
+takes_bytes-before (Err fault.Route) before old added new most source tally got = absurd got
+takes_bytes-before (Err (fault.Body n)) before old added new most source tally got = absurd got
+takes_bytes-before (Err (fault.TooLong n)) before old added new most source tally got = absurd got
+takes_bytes-before (Err (fault.Ended n)) before old added new most source tally got = absurd got
+takes_bytes-before (Err fault.WriteFault) before old added new most source tally got = absurd got
 
 pub counted_whole : (left : ℕ) (body added body' : List ℕ) (source : Told) (tally : Tally) → left ≡ 0 → added ≡ [] → body' ≡ body
     → (line : List ℕ) → TakesPart (Ok part.Whole) (part.Counted left) line body added line body' source tally
@@ -57,18 +38,6 @@ counted_whole left body added body' source tally none nil same line start f byte
       subst (λ (x : Framing). Framed x body' (bytes ++ added)) (sym is) (nothing bytes added nil ∙ came.1 ∙ sym same, ap length same),
       subst (λ (x : Framing). EndsWhole x part.Whole source) (sym is) tt,
     )
-
-pub to_end_more : (n most : ℕ) (body added body' : List ℕ) (source : Told) (tally : Tally) → TakesBytes (Ok (Some n)) body added body' most source tally
-    → (line : List ℕ) → TakesPart (Ok part.ToEnd) part.ToEnd line body added line body' source tally
-to_end_more n most body added body' source tally got line start f bytes came taken =
-    ((came.0, ap (λ (x : List ℕ). x ++ added) came.1 ∙ sym got.0), subst (λ (x : Framing). EndsWhole x part.ToEnd source) (sym came.0) tt)
-
-pub to_end_whole : (most : ℕ) (body added body' : List ℕ) (source : Told) (tally : Tally) → TakesBytes (Ok None) body added body' most source tally
-    → (line : List ℕ) → TakesPart (Ok part.Whole) part.ToEnd line body added line body' source tally
-to_end_whole most body added body' source tally got line start f bytes came taken = (
-  subst (λ (x : Framing). Framed x body' (bytes ++ added)) (sym came.0) (nothing bytes added got.0 ∙ came.1 ∙ sym got.1),
-  subst (λ (x : Framing). EndsWhole x part.Whole source) (sym came.0) got.2,
-)
 
 pub behind_more : (start place : ℕ) (f : Framing) (chunks : List Chunk) (tail bytes added tail' : List ℕ) → Behind start place f chunks tail bytes → tail ++ added ≡ tail' → Behind start place f chunks tail' (bytes ++ added)
 behind_more start place f chunks tail bytes added tail' behind joined = record {

@@ -14,7 +14,7 @@ use Rattle.ev_http.specs.declared.body.Part.{Part}
 use Rattle.ev_http.specs.declared.body.Part.TheVariants as part
 use Rattle.ev_http.specs.declared.taking.Tally.{Tally}
 use Rattle.ev_http.specs.Taking.{Told, Ends, counted, HasNoFeed, IsLine, Grows, TakesLine}
-use Rattle.ev_http.specs.Body.{Chunk, IsChunk, print_chunk, IsSizeLine, print_chunks, contents, IsFieldLine, AreFields, InChunks, Behind, AtSize, AtGap, AtTrailer, Came, IsNoChunk, IsNoTrailer, BreaksAt, TakesPart, SizeAnswer, TrailerAnswer, Framed}
+use Rattle.ev_http.specs.Body.{Chunk, IsChunk, print_chunk, IsSizeLine, print_chunks, contents, IsFieldLine, AreFields, InChunks, Behind, AtSize, AtGap, AtTrailer, Came, IsOpen, IsNoChunk, IsNoTrailer, BreaksAt, TakesPart, SizeAnswer, TrailerAnswer, Framed}
 use Rattle.ev_http.proofs.Takings.{no_feed-nil}
 use Rattle.ev_http.proofs.Feeds.{same_line, text_short, no_feed-append, no_feed-cons, no_chunk-long, no_chunk-never}
 use Rattle.ev_http.proofs.Bodies.{behind_more, chunk_goes}
@@ -125,12 +125,12 @@ size_cut place limit line added new body source tally grows never =
 
 pub line_ends : (n : ℕ) (p : Part) (line added new body : List ℕ) (limit : ℕ) (source : Told) (tally : Tally)
     → ((start : ℕ) (f : Framing) (bytes : List ℕ) → Came start f p line bytes body → Grows line added new limit → Came start f p new (bytes ++ added) body)
-    → Grows line added new limit → Ends source → n ≡ tally.taken → TakesPart (Err (fault.Ended n)) p line body added new body source tally
-line_ends n p line added new body limit source tally goes grows ends same start f bytes came taken = (goes start f bytes came grows, ends, same)
+    → Grows line added new limit → Ends source → n ≡ tally.taken → IsOpen p new → TakesPart (Err (fault.Ended n)) p line body added new body source tally
+line_ends n p line added new body limit source tally goes grows ends same more start f bytes came taken = (goes start f bytes came grows, more, ends, same)
 
 -- ---- behind a chunk
 
-same_front : (a b x y : List ℕ) → length a ≡ length b → a ++ x ≡ b ++ y → x ≡ y
+pub same_front : (a b x y : List ℕ) → length a ≡ length b → a ++ x ≡ b ++ y → x ≡ y
 same_front a b x y same e = sym (drop-append_seam a x) ∙ ap (λ n. drop n (a ++ x)) same ∙ ap (drop (length b)) e ∙ drop-append_seam b y
 
 -- a chunk whose content is not followed by CR LF
@@ -220,20 +220,20 @@ gap_whole place limit line added new body source tally got same start f bytes ca
 
 -- ---- trailers
 
-end_text : (end : LineEnd) → (text : List ℕ) × HasNoFeed text × (print_end end ≡ text ++ 10 ∷ []) × (length text ≤ 1)
+pub end_text : (end : LineEnd) → (text : List ℕ) × HasNoFeed text × (print_end end ≡ text ++ 10 ∷ []) × (length text ≤ 1)
 end_text crlf = (13 ∷ [], no_feed-cons 13 [] (λ e. cc) no_feed-nil, refl, omega arith)
 end_text lf = ([], no_feed-nil, refl, omega arith)
 
-not_end : (line : List ℕ) (end : LineEnd) → IsFieldLine line → line ≡ print_end end → ⊥
+pub not_end : (line : List ℕ) (end : LineEnd) → IsFieldLine line → line ≡ print_end end → ⊥
 not_end line crlf is e = is.not_crlf e
 not_end line lf is e = is.not_lf e
 
-first_line : (l m x y : List ℕ) → IsLine l → IsLine m → l ++ x ≡ m ++ y → l ≡ m
+pub first_line : (l m x y : List ℕ) → IsLine l → IsLine m → l ++ x ≡ m ++ y → l ≡ m
 first_line l m x y a b e =
     a.2 ∙ ap (λ (t : List ℕ). t ++ 10 ∷ []) (same_line a.0 b.0 x y a.1 b.1 (ap (λ (t : List ℕ). t ++ x) (sym a.2) ∙ e ∙ ap (λ (t : List ℕ). t ++ y) b.2)) ∙ sym b.2
 
 -- field lines in front are the first of the field lines of a trailer
-peel : (ls ms : List (List ℕ)) (end : LineEnd) (x rest : List ℕ) → All IsFieldLine ls → All IsFieldLine ms
+pub peel : (ls ms : List (List ℕ)) (end : LineEnd) (x rest : List ℕ) → All IsFieldLine ls → All IsFieldLine ms
     → flat_map (λ (line : List ℕ). line) ls ++ x ≡ flat_map (λ (line : List ℕ). line) ms ++ (print_end end ++ rest)
     → (ns : List (List ℕ)) × All IsFieldLine ns × (length (flat_map (λ (line : List ℕ). line) ls) + length (flat_map (λ (line : List ℕ). line) ns) ≡ length (flat_map (λ (line : List ℕ). line) ms))
     × (x ≡ flat_map (λ (line : List ℕ). line) ns ++ (print_end end ++ rest))

@@ -1,7 +1,7 @@
 -- Lines end with their first line feed, and so do the lines before chunks.
 use Rattle.std.proofs.Common.{◌≡◌, ◌≢◌, ℕ, ◌≤◌, Bool, true, false, List, [], ◌∷◌, ◌++◌, length, refl, sym, ap, ◌∙◌, append_assoc, append-nil, length-append, Option, Some, None, arith}
 use Rattle.std.proofs.lemmas.List.Elements.{All-weaker, All-append, All-cons, All-nil, All-head, All-tail}
-use Rattle.httparse.specs.Grammar.{AllPass, is_ows, is_extension_byte, ChunkLine, IsChunkLine, IsExtension, print_chunk_line, print_extension, chunk_size, HasNoChunkLine, NeverHasChunkLine}
+use Rattle.httparse.specs.Grammar.{AllPass, is_ows, is_extension_byte, ChunkLine, IsChunkLine, IsExtension, print_chunk_line, print_extension, chunk_size, HasNoChunkLine, NeverHasChunkLine, MayBecomeChunkLine}
 use Rattle.httparse.specs.Spans.{IsChunkLineAt}
 use Rattle.std.specs.Char.{is_ascii_hexdigit}
 use Rattle.ev_http.specs.Taking.{HasNoFeed, IsLine}
@@ -45,7 +45,7 @@ extension_no_feed : (e : Option (List ℕ)) → IsExtension e → HasNoFeed (pri
 extension_no_feed None is = All-nil (λ x. x ≢ 10)
 extension_no_feed (Some text) is = no_feed-cons 59 text (λ e. cc) (pass_no_feed is_extension_byte refl text is)
 
-abbrev size_text : ChunkLine → List ℕ
+abbrev pub size_text : ChunkLine → List ℕ
 size_text l = (l.digits ++ l.pad ++ print_extension l.extension) ++ 13 ∷ []
 
 pub size_line : (l : ChunkLine) → print_chunk_line l ≡ size_text l ++ 10 ∷ []
@@ -92,3 +92,10 @@ no_chunk-long bytes none long = record {
 
 pub size_read : (line : List ℕ) (len n : ℕ) → IsLine line → (l : ChunkLine) × IsChunkLineAt line len n l → (l : ChunkLine) × IsChunkLine l × (line ≡ print_chunk_line l) × (chunk_size l ≡ n)
 size_read line len n is at = (at.0, at.1.reads.0, size_is_all line _ at.0 is at.1.reads.1, sym at.1.size_is)
+
+-- bytes that are a line before a chunk, or may become one, are not refused
+pub size_there : (bytes : List ℕ) (len n : ℕ) → (l : ChunkLine) × IsChunkLineAt bytes len n l → NeverHasChunkLine bytes → ⊥
+size_there bytes len n at never = never [] at.0 _ (at.1.reads.0, append-nil bytes ∙ at.1.reads.1)
+
+pub size_may : (bytes : List ℕ) → MayBecomeChunkLine bytes → NeverHasChunkLine bytes → ⊥
+size_may bytes may never = never may.0 may.1 [] may.2

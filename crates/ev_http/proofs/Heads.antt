@@ -6,13 +6,15 @@ use Rattle.std.specs.List.{flat_map}
 use Rattle.httparse.specs.Grammar.{LineEnd, crlf, lf, Field, print_end, print_blank, print_version, print_reason, print_field, ResponseHead, print_response, RequestHead, print_request}
 use Rattle.ev_http.specs.declared.head.Kind.{Kind}
 use Rattle.ev_http.specs.declared.head.Kind.TheVariants as kind
+use Rattle.ev_http.specs.declared.head.Judged.{Judged}
+use Rattle.ev_http.specs.declared.head.Judged.TheVariants as judged
 use Rattle.std.specs.Prelude.{Err}
 use Rattle.ev_http.specs.declared.fault.HttpFault.{HttpFault}
 use Rattle.ev_http.specs.declared.fault.HttpFault.TheVariants as fault
 use Rattle.ev_http.specs.declared.taking.Tally.{Tally}
 use Rattle.ev_http.specs.Taking.{HasNoFeed, IsLine, Grows, TakesLine, Told}
 use Rattle.ev_http.proofs.Takings.{grown_twice}
-use Rattle.ev_http.specs.Heads.{IsHead, HasNoHead, NeverFits, FitsHead, IsOpenHead, BeginsWithHead, TakesHead}
+use Rattle.ev_http.specs.Heads.{IsHead, HasNoHead, NeverFits, FitsHead, IsOpenHead, BeginsWithHead, MayBecome, TakesHead}
 
 -- what lies in front of the longer part
 pub front_of : (a x p r : List ℕ) → a ++ x ≡ p ++ r → length p ≤ length a → (q : List ℕ) × (a ≡ p ++ q)
@@ -120,6 +122,12 @@ head_stops (fault.Body p) k old first mid second new source tally early begun li
 head_stops (fault.TooLong n) k old first mid second new source tally early begun line = absurd line
 head_stops (fault.Ended n) k old first mid second new source tally early begun line = absurd line
 head_stops fault.WriteFault k old first mid second new source tally early begun line = absurd line
+
+-- what has no head, and is not refused, may become one
+pub may_become : (j : Judged) (k : Kind) (bytes : List ℕ) → HasNoHead k bytes → (j ≡ judged.Whole → BeginsWithHead k bytes) → (j ≡ judged.More → MayBecome k bytes) → (j ≡ judged.Never → ⊥) → MayBecome k bytes
+may_become judged.Whole k bytes none whole may other = let begins = whole refl in absurd (none begins.0 begins.1 begins.2 begins.3 begins.5)
+may_become judged.More k bytes none whole may other = may refl
+may_become judged.Never k bytes none whole may other = absurd (other refl)
 
 pub IsOpenHead-nil : (k : Kind) → IsOpenHead k []
 IsOpenHead-nil k = record { none = no_head-nil k; short = omega arith }

@@ -3,8 +3,12 @@ pub mod Chunks
 pub mod Framings
 pub mod Heads
 pub mod Feeds
+pub mod Holds
 pub mod Messages
+pub mod NextLines
 pub mod Places
 pub mod Reading
 pub mod Sending
+pub mod Streams
 pub mod Takings
+pub mod Wholes

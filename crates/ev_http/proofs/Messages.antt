@@ -12,14 +12,14 @@ use Rattle.ev_http.specs.declared.head.Kind.{Kind}
 use Rattle.ev_http.specs.declared.head.Kind.TheVariants as kind
 use Rattle.ev_http.specs.declared.taking.Tally.{Tally}
 use Rattle.ev_http.specs.Taking.{Told, Took, failed, fresh, risen}
-use Rattle.ev_http.specs.Heads.{TakesHead, FitsHead, NeverFits, IsOpenHead, StopsInHead}
+use Rattle.ev_http.specs.Heads.{TakesHead, FitsHead, NeverFits, IsOpenHead, MayBecome, StopsInHead}
 use Rattle.ev_http.specs.Body.{BodyAnswer}
 use Rattle.ev_http.specs.Messages.{JudgesResponse, JudgesRequest, ResponseAnswer, RequestAnswer, with_route}
 
 -- a reading that stopped in the head
 pub stops_in_head : (A : Type 0) (e : HttpFault) (k : Kind) (bytes head : List ℕ) (source' : Told) (tally : Tally) → TakesHead (Err e) k [] bytes head source' tally → (start : ℕ) → start ≡ 0 → tally.taken ≡ risen (length bytes) start → StopsInHead {A = A} (Err e) k bytes source' tally
 stops_in_head A fault.Head k bytes head source' tally got start none taken = subst (λ (x : List ℕ). NeverFits k x) got.0 got.1
-stops_in_head A (fault.Ended n) k bytes head source' tally got start none taken = (subst (λ (x : List ℕ). IsOpenHead k x) got.0 got.1, got.2, omega (arith, got.3, taken, none))
+stops_in_head A (fault.Ended n) k bytes head source' tally got start none taken = (subst (λ (x : List ℕ). IsOpenHead k x) got.0 got.1, got.2, omega (arith, got.3, taken, none), subst (λ (x : List ℕ). MayBecome k x) got.0 got.4)
 stops_in_head A fault.Idle k bytes head source' tally got start none taken = (subst (λ (x : List ℕ). IsOpenHead k x) got.0 got.1, got.2)
 stops_in_head A fault.ReadFault k bytes head source' tally got start none taken = subst (λ (x : List ℕ). IsOpenHead k x) got.0 got.1
 stops_in_head A fault.Memory k bytes head source' tally got start none taken = tt

@@ -128,4 +128,5 @@ stands k fields head number lines place is le count begins =
       cut.4,
       begins cut.0 ls (cut.4 ∙ ap (λ (x : List ℕ). cut.0 ++ x) (sym (section_lines rest cut.1)))
           (All-append IsLine (lines_of rest) (print_end cut.1 ∷ []) (field_lines rest (All-drop IsField number fields cut.3)) (All-cons IsLine (print_end cut.1) [] (end_line cut.1) (All-nil IsLine))) size cut.2,
+      cut.2,
     )

@@ -1,10 +1,11 @@
 -- What was taken of a source, over calls in a row.
-use Rattle.std.proofs.Common.{◌≡◌, ◌≢◌, ℕ, ◌+◌, ◌-◌, ◌<◌, ◌≤◌, Bool, false, cond, List, [], ◌∷◌, ◌++◌, length, refl, sym, ap, ◌∙◌, append_assoc, append-nil, length-append, arith}
+use Rattle.std.proofs.Common.{◌≡◌, ◌≢◌, ℕ, ◌+◌, ◌-◌, ◌<◌, ◌≤◌, Bool, false, cond, List, [], ◌∷◌, ◌++◌, length, Result, Ok, Err, IfErr, refl, sym, ap, ◌∙◌, subst, append_assoc, append-nil, length-append, arith}
 use Rattle.std.proofs.lemmas.List.Elements.{All-cons, All-nil, All-append}
 use Rattle.zx_outside.specs.Counts.{one_more}
 use Rattle.zx_outside.proofs.Streams.{Gives-nil, Gives-append}
+use Rattle.ev_http.specs.declared.fault.HttpFault.{HttpFault}
 use Rattle.ev_http.specs.declared.taking.Tally.{Tally}
-use Rattle.ev_http.specs.Taking.{Told, Took, risen, HasNoFeed, Grows}
+use Rattle.ev_http.specs.Taking.{Told, Took, risen, is_read_fault, failed, HasNoFeed, Grows}
 
 risen-risen : (a b c x : ℕ) → a ≤ b → b ≤ c → risen (c - b) (risen (b - a) x) ≡ risen (c - a) x
 risen-risen a b c x ab bc = omega arith
@@ -36,6 +37,13 @@ Took-append a b faulty t t' t'' s s' s'' early late = record {
   faults = faults_join faulty s.counts.faults s'.counts.faults s''.counts.faults early.faults late.faults;
   named = late.named ∙ early.named;
 }
+
+pub Took-same : (added : List ℕ) (faulty : Bool) (t t' t'' : Tally) (s s' s'' : Told) → faulty ≡ false → t'' ≡ t' → s'' ≡ s' → Took added false t t' s s' → Took added faulty t t'' s s''
+Took-same added faulty t t' t'' s s' s'' calm tally source took = subst (λ (f : Bool). Took added f t t'' s s'') (sym calm) (subst (λ (x : Tally). Took added false t x s s'') (sym tally) (subst (λ (x : Told). Took added false t t' s x) (sym source) took))
+
+pub failed-calm : {A : Type 0} (r : Result A HttpFault) → IfErr r (λ e. is_read_fault e ≡ false) → failed r ≡ false
+failed-calm (Ok x) calm = refl
+failed-calm (Err e) calm = calm
 
 pub no_feed-nil : HasNoFeed []
 no_feed-nil = All-nil (λ b. b ≢ 10)

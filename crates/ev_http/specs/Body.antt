@@ -2,7 +2,7 @@
 use Rattle.std.specs.Prelude.{◌≡◌, ◌≢◌, ℕ, ◌+◌, ◌-◌, ◌*◌, ◌<◌, ◌≤◌, ◌⊎◌, List, [], ◌∷◌, ◌++◌, length, drop, All, ⊤, Option, Some, None, Result, Ok, Err, zero, suc}
 use Rattle.std.specs.Global.{Vec}
 use Rattle.std.specs.List.{flat_map}
-use Rattle.httparse.specs.Grammar.{LineEnd, print_end, ChunkLine, IsChunkLine, print_chunk_line, chunk_size}
+use Rattle.httparse.specs.Grammar.{LineEnd, print_end, ChunkLine, IsChunkLine, print_chunk_line, chunk_size, NeverHasChunkLine}
 use Rattle.ev_http.specs.declared.fault.HttpFault.{HttpFault}
 use Rattle.ev_http.specs.declared.fault.HttpFault.TheVariants as fault
 use Rattle.ev_http.specs.declared.framing.Framing.{Framing}
@@ -159,15 +159,15 @@ first_part (framing.Counted n) head = part.Counted n
 first_part framing.ToEnd head = part.ToEnd
 first_part framing.Chunked head = part.Size head
 
--- More bytes of a message come in this part.
-abbrev pub IsOpen : Part → Type 0
-IsOpen part.Whole = ⊥
-IsOpen (part.Content place left) = 0 < left
-IsOpen (part.Counted left) = ⊤
-IsOpen part.ToEnd = ⊤
-IsOpen (part.Size place) = ⊤
-IsOpen (part.Gap place) = ⊤
-IsOpen (part.Trailer place fields) = ⊤
+-- The message is not whole where its source ends in this part, and what came of its line may go on to be one.
+abbrev pub IsOpen : Part → List ℕ → Type 0
+IsOpen part.Whole line = ⊥
+IsOpen part.ToEnd line = ⊥
+IsOpen (part.Counted left) line = 0 < left
+IsOpen (part.Content place left) line = 0 < left
+IsOpen (part.Size place) line = NeverHasChunkLine line → ⊥
+IsOpen (part.Gap place) line = (line ≡ []) ⊎ (line ≡ 13 ∷ [])
+IsOpen (part.Trailer place fields) line = ⊤
 
 -- What comes next, where so many bytes are left of a chunk.
 abbrev pub after_content : ℕ → ℕ → Part
@@ -231,7 +231,7 @@ abbrev pub PartAnswer : Result Part HttpFault → ℕ → Framing → Part → L
 PartAnswer (Ok next) start f p line bytes body source tally = Came start f next line bytes body × EndsWhole f next source
 PartAnswer (Err fault.Idle) start f p line bytes body source tally = Came start f p line bytes body × (tally.turns ≡ 6000)
 PartAnswer (Err fault.ReadFault) start f p line bytes body source tally = Came start f p line bytes body
-PartAnswer (Err (fault.Ended n)) start f p line bytes body source tally = Came start f p line bytes body × Ends source × (n ≡ tally.taken)
+PartAnswer (Err (fault.Ended n)) start f p line bytes body source tally = Came start f p line bytes body × IsOpen p line × Ends source × (n ≡ tally.taken)
 PartAnswer (Err (fault.Body place)) start f p line bytes body source tally = BreaksAt start place f bytes
 PartAnswer (Err fault.Memory) start f p line bytes body source tally = ⊤
 PartAnswer (Err fault.Head) start f p line bytes body source tally = ⊥
@@ -254,6 +254,12 @@ TakesBytes (Err (fault.Body p)) old added new most source tally = ⊥
 TakesBytes (Err (fault.TooLong n)) old added new most source tally = ⊥
 TakesBytes (Err (fault.Ended n)) old added new most source tally = ⊥
 TakesBytes (Err fault.WriteFault) old added new most source tally = ⊥
+
+-- Without a piece the body stays as it was.
+abbrev pub StaysAtEnd : Result (Option ℕ) HttpFault → List ℕ → List ℕ → Type 0
+StaysAtEnd (Ok (Some n)) old new = ⊤
+StaysAtEnd (Ok None) old new = new ≡ old
+StaysAtEnd (Err e) old new = new ≡ old
 
 -- A part took these bytes, whatever came before them.
 abbrev pub TakesPart : Result Part HttpFault → Part → List ℕ → List ℕ → List ℕ → List ℕ → List ℕ → Told → Tally → Type 0
@@ -278,13 +284,24 @@ pub record IsTooMuch (start : ℕ) (f : Framing) (bytes : List ℕ) : Type 0 whe
   pub came : Came start f part line bytes body
   pub more : 8388608 < length body + announced part
 
--- The bytes behind a head are the front of a body, of which more is to come.
+-- The bytes behind a head are the front of a body that keeps its limit, with the bytes that are announced, and the
+-- message is not whole.
+pub record IsUnfinished (start : ℕ) (f : Framing) (bytes : List ℕ) : Type 0 where
+  pub next : Part
+  pub line : List ℕ
+  pub body : List ℕ
+  pub came : Came start f next line bytes body
+  pub more : next ≢ part.Whole
+  pub fits : length body + announced next ≤ 8388608
+
+-- The same, where the source ended: more is to come.
 pub record IsCut (start : ℕ) (f : Framing) (bytes : List ℕ) : Type 0 where
   pub part : Part
   pub line : List ℕ
   pub body : List ℕ
   pub came : Came start f part line bytes body
-  pub more : IsOpen part
+  pub more : IsOpen part line
+  pub fits : length body + announced part ≤ 8388608
 
 -- What the reading of a body behind a head of so many bytes came to, by its answer.
 abbrev pub BodyAnswer : Result (Vec ℕ) HttpFault → ℕ → Framing → List ℕ → Told → Tally → Type 0
@@ -292,10 +309,31 @@ BodyAnswer (Ok body) start f bytes source tally = Framed f body.items bytes × E
 BodyAnswer (Err (fault.Body place)) start f bytes source tally = BreaksAt start place f bytes
 BodyAnswer (Err (fault.TooLong limit)) start f bytes source tally = (limit ≡ 8388608) × IsTooMuch start f bytes
 BodyAnswer (Err (fault.Ended n)) start f bytes source tally = IsCut start f bytes × Ends source × (n ≡ tally.taken)
-BodyAnswer (Err fault.Idle) start f bytes source tally = tally.turns ≡ 6000
-BodyAnswer (Err fault.ReadFault) start f bytes source tally = ⊤
+BodyAnswer (Err fault.Idle) start f bytes source tally = IsUnfinished start f bytes × (tally.turns ≡ 6000)
+BodyAnswer (Err fault.ReadFault) start f bytes source tally = IsUnfinished start f bytes
 BodyAnswer (Err fault.Memory) start f bytes source tally = ⊤
 BodyAnswer (Err fault.Head) start f bytes source tally = ⊥
 BodyAnswer (Err (fault.Status n)) start f bytes source tally = ⊥
 BodyAnswer (Err fault.Route) start f bytes source tally = ⊥
 BodyAnswer (Err fault.WriteFault) start f bytes source tally = ⊥
+
+-- These bytes may stand behind a body: none behind one that lasts to the source's end.
+abbrev pub LastsTo : Framing → List ℕ → Type 0
+LastsTo framing.ToEnd rest = rest ≡ []
+LastsTo (framing.Counted n) rest = ⊤
+LastsTo framing.Chunked rest = ⊤
+
+-- The reading of a body that is there and keeps its limit: it is read, and the rest is left behind it. No fault is
+-- named but those of the source and want of memory.
+abbrev pub ReadsBody : Result (Vec ℕ) HttpFault → List ℕ → List ℕ → Option (List ℕ) → Type 0
+ReadsBody (Ok v) body rest left = (v.items ≡ body) × (left ≡ Some rest)
+ReadsBody (Err fault.Idle) body rest left = ⊤
+ReadsBody (Err fault.ReadFault) body rest left = ⊤
+ReadsBody (Err fault.Memory) body rest left = ⊤
+ReadsBody (Err fault.Head) body rest left = ⊥
+ReadsBody (Err (fault.Status n)) body rest left = ⊥
+ReadsBody (Err fault.Route) body rest left = ⊥
+ReadsBody (Err (fault.Body place)) body rest left = ⊥
+ReadsBody (Err (fault.TooLong n)) body rest left = ⊥
+ReadsBody (Err (fault.Ended n)) body rest left = ⊥
+ReadsBody (Err fault.WriteFault) body rest left = ⊥

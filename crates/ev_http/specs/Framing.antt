@@ -79,10 +79,10 @@ counted_framing (Err number) = Err number
 abbrev pub framing_of : Kind → List Field → Result Framing ℕ
 framing_of kind fields = whole_framing kind (length fields) (framing_after kind framing.ToEnd (map name_and_value fields))
 
--- The line of this number, among the field lines and the empty line behind them, stands at this place of the head.
-abbrev pub StandsAt : List Field → ℕ → ℕ → List ℕ → Type 0
-StandsAt fields number place head = (before : List ℕ) × (last : LineEnd) × (head ≡ before ++ print_section (drop number fields) last) × (place ≡ length before)
-
 -- Nothing, or whole lines.
 abbrev pub EndsInFeed : List ℕ → Type 0
 EndsInFeed bytes = (bytes ≡ []) ⊎ ((front : List ℕ) × (bytes ≡ front ++ 10 ∷ []))
+
+-- The line of this number, among the field lines and the empty line behind them, begins at this place of the head.
+abbrev pub StandsAt : List Field → ℕ → ℕ → List ℕ → Type 0
+StandsAt fields number place head = (before : List ℕ) × (last : LineEnd) × (head ≡ before ++ print_section (drop number fields) last) × (place ≡ length before) × EndsInFeed before

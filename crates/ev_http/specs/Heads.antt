@@ -1,7 +1,7 @@
 -- Heads of HTTP/1.1 messages (RFC 9112, sections 2 to 5), as the kit's parser reads them.
 use Rattle.std.specs.Prelude.{◌≡◌, ℕ, ◌<◌, ◌≤◌, ◌⊎◌, List, ◌++◌, length, ⊤, Result, Ok, Err}
 use Rattle.std.specs.Global.{Vec}
-use Rattle.httparse.specs.Grammar.{Field, RequestHead, IsRequestHead, print_request, ResponseHead, IsResponseHead, print_response}
+use Rattle.httparse.specs.Grammar.{Field, RequestHead, IsRequestHead, print_request, ResponseHead, IsResponseHead, print_response, MayBecomeRequest, MayBecomeResponse}
 use Rattle.ev_http.specs.declared.fault.HttpFault.{HttpFault}
 use Rattle.ev_http.specs.declared.fault.HttpFault.TheVariants as fault
 use Rattle.ev_http.specs.declared.head.Kind.{Kind}
@@ -27,6 +27,11 @@ NeverFits kind bytes =
 abbrev pub BeginsWithHead : Kind → List ℕ → Type 0
 BeginsWithHead kind bytes = (fields : List Field) × (head : List ℕ) × (rest : List ℕ) × IsHead kind fields head × (length fields ≤ 64) × (bytes ≡ head ++ rest)
 
+-- Bytes may follow that make these a head; in a request also while its target, which is to be UTF-8, has not ended.
+abbrev pub MayBecome : Kind → List ℕ → Type 0
+MayBecome kind.Request bytes = MayBecomeRequest bytes
+MayBecome kind.Response bytes = MayBecomeResponse bytes
+
 -- The bytes are one head that fits.
 pub record FitsHead (kind : Kind) (fields : List Field) (bytes : List ℕ) : Type 0 where
   pub is_head : IsHead kind fields bytes
@@ -42,7 +47,7 @@ pub record IsOpenHead (kind : Kind) (bytes : List ℕ) : Type 0 where
 abbrev pub TakesHead : Result (Unit {0}) HttpFault → Kind → List ℕ → List ℕ → List ℕ → Told → Tally → Type 0
 TakesHead (Ok _) kind old added new source tally = (new ≡ old ++ added) × (fields : List Field) × FitsHead kind fields new
 TakesHead (Err fault.Head) kind old added new source tally = (new ≡ old ++ added) × NeverFits kind new
-TakesHead (Err (fault.Ended n)) kind old added new source tally = (new ≡ old ++ added) × IsOpenHead kind new × Ends source × (n ≡ tally.taken)
+TakesHead (Err (fault.Ended n)) kind old added new source tally = (new ≡ old ++ added) × IsOpenHead kind new × Ends source × (n ≡ tally.taken) × MayBecome kind new
 TakesHead (Err fault.Idle) kind old added new source tally = (new ≡ old ++ added) × IsOpenHead kind new × (tally.turns ≡ 6000)
 TakesHead (Err fault.ReadFault) kind old added new source tally = (new ≡ old ++ added) × IsOpenHead kind new
 TakesHead (Err fault.Memory) kind old added new source tally = ⊤
@@ -56,7 +61,7 @@ TakesHead (Err fault.WriteFault) kind old added new source tally = ⊥
 abbrev pub StopsInHead : {A : Type 0} → Result A HttpFault → Kind → List ℕ → Told → Tally → Type 0
 StopsInHead (Ok message) k bytes source tally = ⊥
 StopsInHead (Err fault.Head) k bytes source tally = NeverFits k bytes
-StopsInHead (Err (fault.Ended n)) k bytes source tally = IsOpenHead k bytes × Ends source × (n ≡ counted (length bytes))
+StopsInHead (Err (fault.Ended n)) k bytes source tally = IsOpenHead k bytes × Ends source × (n ≡ counted (length bytes)) × MayBecome k bytes
 StopsInHead (Err fault.Idle) k bytes source tally = IsOpenHead k bytes × (tally.turns ≡ 6000)
 StopsInHead (Err fault.ReadFault) k bytes source tally = IsOpenHead k bytes
 StopsInHead (Err fault.Memory) k bytes source tally = ⊤

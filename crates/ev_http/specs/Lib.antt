@@ -3,4 +3,5 @@ pub mod Framing
 pub mod Heads
 pub mod Messages
 pub mod Sending
+pub mod Stream
 pub mod Taking

@@ -17,7 +17,7 @@ use Rattle.ev_http.specs.declared.taking.Tally.{Tally}
 use Rattle.ev_http.specs.Taking.{Told}
 use Rattle.ev_http.specs.Heads.{StopsInHead}
 use Rattle.ev_http.specs.Framing.{framing_of, StandsAt}
-use Rattle.ev_http.specs.Body.{BodyAnswer}
+use Rattle.ev_http.specs.Body.{Framed, BodyAnswer, LastsTo, ReadsBody}
 
 -- The path of a route.
 unfoldable pub path_of : Route → List ℕ
@@ -138,3 +138,28 @@ pub record RefusesRequest (answer : Result (Route × Vec ℕ) HttpFault) (bytes 
 -- What the reading of a request came to, by its answer.
 abbrev pub RequestAnswer : Result (Route × Vec ℕ) HttpFault → List ℕ → Told → Tally → Type 0
 RequestAnswer answer bytes source tally = StopsInHead answer kind.Request bytes source tally ⊎ (RefusesRequest answer bytes ⊎ GoesOnRequest answer bytes source tally)
+
+-- The bytes begin with a whole response of status 200 that carries this body, and then the rest comes.
+pub record HoldsResponse (body rest bytes : List ℕ) : Type 0 where
+  pub h : ResponseHead
+  pub head : List ℕ
+  pub whole : IsWholeResponse h head
+  pub framed : Framing
+  pub says : JudgesResponse (Ok framed) h head
+  pub after : List ℕ
+  pub carries : Framed framed body after
+  pub alone : LastsTo framed rest
+  pub bytes_are : bytes ≡ head ++ (after ++ rest)
+
+-- The bytes begin with a whole request that goes there with this body, and then the rest comes.
+pub record HoldsRequest (goes : Route) (body rest bytes : List ℕ) : Type 0 where
+  pub h : RequestHead
+  pub head : List ℕ
+  pub whole : IsWholeRequest h head
+  pub says : JudgesRequest (Ok (goes, length body)) h head
+  pub bytes_are : bytes ≡ head ++ (body ++ rest)
+
+-- The reading of a request that is there, whose body keeps its limit.
+abbrev pub ReadsRequestBody : Result (Route × Vec ℕ) HttpFault → Route → List ℕ → List ℕ → Option (List ℕ) → Type 0
+ReadsRequestBody (Ok r) goes body rest left = (r.0 ≡ goes) × (r.1.items ≡ body) × (left ≡ Some rest)
+ReadsRequestBody (Err why) goes body rest left = ReadsBody (Err why) body rest left

@@ -42,19 +42,23 @@ pub record Took (bytes : List ℕ) (faulty : Bool) (tally tally' : Tally) (sourc
   pub faults : source'.counts.faults ≡ cond faulty (one_more source.counts.faults) source.counts.faults
   pub named : source'.name ≡ source.name
 
--- The call met a fault of the source.
+-- It is the fault of a source.
+abbrev pub is_read_fault : HttpFault → Bool
+is_read_fault fault.ReadFault = true
+is_read_fault fault.Head = false
+is_read_fault (fault.Status n) = false
+is_read_fault fault.Route = false
+is_read_fault (fault.Body p) = false
+is_read_fault (fault.TooLong n) = false
+is_read_fault (fault.Ended n) = false
+is_read_fault fault.Idle = false
+is_read_fault fault.WriteFault = false
+is_read_fault fault.Memory = false
+
+-- The call met a fault of its source.
 abbrev pub failed : {A : Type 0} → Result A HttpFault → Bool
 failed (Ok x) = false
-failed (Err fault.ReadFault) = true
-failed (Err fault.Head) = false
-failed (Err (fault.Status n)) = false
-failed (Err fault.Route) = false
-failed (Err (fault.Body p)) = false
-failed (Err (fault.TooLong n)) = false
-failed (Err (fault.Ended n)) = false
-failed (Err fault.Idle) = false
-failed (Err fault.WriteFault) = false
-failed (Err fault.Memory) = false
+failed (Err e) = is_read_fault e
 
 -- The source has ended, and nothing is left.
 pub record Ends (source : Told) : Type 0 where

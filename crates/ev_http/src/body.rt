@@ -1,7 +1,7 @@
 //! The body of a message, taken piece by piece.
 
-ghost use Rattle.std.specs.Prelude.{◌+◌, ◌≡◌, ◌≢◌, ◌<◌, ◌≤◌, ◌++◌, [], ◌∷◌, false, List, ℕ, length, IsTrue, IfOk, IfSome};
-ghost use Rattle.ev_http.specs.Body.{TakesBytes, TakesPart, PartAnswer, first_part, after_content, IsOpen, rank, work, HasSize, SizeAnswer, TrailerAnswer, BodyAnswer, announced};
+ghost use Rattle.std.specs.Prelude.{◌⊎◌, ◌+◌, ◌≡◌, ◌≢◌, ◌<◌, ◌≤◌, ◌++◌, [], ◌∷◌, false, List, ℕ, length, take, IsTrue, IfOk, IfErr, IfSome};
+ghost use Rattle.ev_http.specs.Body.{TakesBytes, StaysAtEnd, TakesPart, PartAnswer, first_part, after_content, IsOpen, rank, work, HasSize, SizeAnswer, TrailerAnswer, BodyAnswer, announced};
 ghost use Rattle.ev_http.specs.Taking.{Took, told, failed, IsLine};
 ghost use Rattle.httparse.specs.Grammar.{LineEnd, print_end, NeverHasChunkLine};
 
@@ -69,6 +69,8 @@ fn take_bytes<S: Source>(
         (told S.given S.left S.counts S.ended S.name source.new)
         × TakesBytes result body.old.items added body.new.items most
         (told S.given S.left S.counts S.ended S.name source.new) tally.new }
+    ensures stays { StaysAtEnd result body.old.items body.new.items }
+    ensures front { take (length body.old.items) body.new.items ≡ body.old.items }
 {
     let mut buffer = [0u8; PIECE];
     let room = most.min(PIECE as u64) as usize;
@@ -84,6 +86,7 @@ fn take_bytes<S: Source>(
     }
 }
 
+/// Takes a piece of a body of which so many bytes are left.
 fn take_counted<S: Source>(
     source: &mut S,
     tally: &mut Tally,
@@ -95,8 +98,10 @@ fn take_counted<S: Source>(
         × Took added (failed result) tally.old tally.new
         (told S.given S.left S.counts S.ended S.name source.old)
         (told S.given S.left S.counts S.ended S.name source.new)
-        × ((line : List ℕ) → TakesPart result (Part.Counted left) line body.old.items added line body.new.items
+        × ((line before : List ℕ) → TakesPart result (Part.Counted left) line (before ++ body.old.items) added line (before ++ body.new.items)
         (told S.given S.left S.counts S.ended S.name source.new) tally.new) }
+    ensures front { take (length body.old.items) body.new.items ≡ body.old.items }
+    ensures stays { IfErr result (λ _. body.new.items ≡ body.old.items) }
     ensures on { length body.old.items ≤ 8388608 → IfOk result (λ next. work next (length body.new.items) < work (Part.Counted left) (length body.old.items)) }
 {
     if left == 0 {
@@ -109,6 +114,7 @@ fn take_counted<S: Source>(
     }
 }
 
+/// Takes a piece of a body that lasts to the source's end.
 fn take_to_end<S: Source>(
     source: &mut S,
     tally: &mut Tally,
@@ -119,8 +125,10 @@ fn take_to_end<S: Source>(
         × Took added (failed result) tally.old tally.new
         (told S.given S.left S.counts S.ended S.name source.old)
         (told S.given S.left S.counts S.ended S.name source.new)
-        × ((line : List ℕ) → TakesPart result Part.ToEnd line body.old.items added line body.new.items
+        × ((line before : List ℕ) → TakesPart result Part.ToEnd line (before ++ body.old.items) added line (before ++ body.new.items)
         (told S.given S.left S.counts S.ended S.name source.new) tally.new) }
+    ensures front { take (length body.old.items) body.new.items ≡ body.old.items }
+    ensures stays { IfErr result (λ _. body.new.items ≡ body.old.items) }
     ensures on { length body.old.items ≤ 8388608 → IfOk result (λ next. work next (length body.new.items) < work Part.ToEnd (length body.old.items)) }
 {
     match take_bytes(source, tally, body, PIECE as u64) {
@@ -141,6 +149,7 @@ fn after_content(place: u64, left: u64) -> Part
     }
 }
 
+/// Takes a piece of a chunk's content of which so many bytes are left.
 fn take_content<S: Source>(
     source: &mut S,
     tally: &mut Tally,
@@ -153,8 +162,10 @@ fn take_content<S: Source>(
         × Took added (failed result) tally.old tally.new
         (told S.given S.left S.counts S.ended S.name source.old)
         (told S.given S.left S.counts S.ended S.name source.new)
-        × ((line : List ℕ) → TakesPart result (Part.Content place left) line body.old.items added line body.new.items
+        × ((line before : List ℕ) → TakesPart result (Part.Content place left) line (before ++ body.old.items) added line (before ++ body.new.items)
         (told S.given S.left S.counts S.ended S.name source.new) tally.new) }
+    ensures front { take (length body.old.items) body.new.items ≡ body.old.items }
+    ensures stays { IfErr result (λ _. body.new.items ≡ body.old.items) }
     ensures on { length body.old.items ≤ 8388608 → IfOk result (λ next. work next (length body.new.items) < work (Part.Content place left) (length body.old.items)) }
 {
     if left == 0 {
@@ -196,11 +207,17 @@ fn after_size(line: &[u8], place: u64, next: u64) -> Option<Part>
 
 /// Whether the bytes never become the line before a chunk.
 fn is_no_size(line: &[u8]) -> bool
-    ensures { IsTrue result → NeverHasChunkLine line.now }
+    ensures yes { IsTrue result → NeverHasChunkLine line.now }
+    ensures no { result ≡ false → NeverHasChunkLine line.now → ⊥ }
 {
-    parse_chunk_size(line).is_err()
+    match parse_chunk_size(line) {
+        Ok(Status::Complete(_)) => false,
+        Ok(Status::Partial) => false,
+        Err(_) => true,
+    }
 }
 
+/// Takes the line before a chunk, or the rest of it.
 fn take_size<S: Source>(
     source: &mut S,
     tally: &mut Tally,
@@ -245,7 +262,8 @@ fn is_gap(line: &[u8]) -> bool
 
 /// Whether CR LF begins with the bytes, of which no one is a line feed.
 fn begins_gap(line: &[u8]) -> bool
-    ensures { result ≡ false → (line.now ≢ []) × (line.now ≢ 13 ∷ []) }
+    ensures yes { IsTrue result → (line.now ≡ []) ⊎ (line.now ≡ 13 ∷ []) }
+    ensures no { result ≡ false → (line.now ≢ []) × (line.now ≢ 13 ∷ []) }
 {
     line.is_empty() || line == b"\r".as_slice()
 }
@@ -258,6 +276,7 @@ fn is_empty_line(line: &[u8]) -> bool
     line == b"\n".as_slice() || line == b"\r\n".as_slice()
 }
 
+/// Takes CR LF behind a chunk, or the rest of it.
 fn take_gap<S: Source>(
     source: &mut S,
     tally: &mut Tally,
@@ -314,6 +333,7 @@ fn after_trailer_line(line: &[u8], place: u64, fields: usize) -> Option<Part>
     })
 }
 
+/// Takes a line of a trailer, or the rest of it.
 fn take_trailer<S: Source>(
     source: &mut S,
     tally: &mut Tally,
@@ -341,7 +361,7 @@ fn take_trailer<S: Source>(
     }
 }
 
-/// Takes the next piece or line of a body onto its end. `line` holds what came of a chunk line, of the CR LF behind a
+/// Takes the next piece or line of a body onto its end; a front of the body may have been taken off. `line` holds what came of a chunk line, of the CR LF behind a
 /// chunk or of the trailer fields. An answer that is idle or a fault of the source leaves the part the next one.
 pub fn take_part<S: Source>(
     source: &mut S,
@@ -356,8 +376,10 @@ pub fn take_part<S: Source>(
         × Took added (failed result) tally.old tally.new
         (told S.given S.left S.counts S.ended S.name source.old)
         (told S.given S.left S.counts S.ended S.name source.new)
-        × TakesPart result part line.old.items body.old.items added line.new.items body.new.items
-        (told S.given S.left S.counts S.ended S.name source.new) tally.new }
+        × ((before : List ℕ) → TakesPart result part line.old.items (before ++ body.old.items) added line.new.items (before ++ body.new.items)
+        (told S.given S.left S.counts S.ended S.name source.new) tally.new) }
+    ensures front { take (length body.old.items) body.new.items ≡ body.old.items }
+    ensures stays { IfErr result (λ _. body.new.items ≡ body.old.items) }
     ensures on { length body.old.items ≤ 8388608 → IfOk result (λ next. work next (length body.new.items) < work part (length body.old.items)) }
 {
     match part {

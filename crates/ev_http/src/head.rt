@@ -1,7 +1,7 @@
 //! The head of a message.
 
 ghost use Rattle.std.specs.Prelude.{◌≡◌, ◌<◌, ◌≤◌, ◌++◌, List, ℕ, length};
-ghost use Rattle.ev_http.specs.Heads.{HasNoHead, NeverFits, BeginsWithHead, IsOpenHead, TakesHead, HeadAnswer};
+ghost use Rattle.ev_http.specs.Heads.{HasNoHead, MayBecome, NeverFits, BeginsWithHead, IsOpenHead, TakesHead, HeadAnswer};
 ghost use Rattle.ev_http.specs.Taking.{Took, told, failed};
 
 use crate::fault::HttpFault;
@@ -38,6 +38,7 @@ enum Judged {
 fn judge_request(bytes: &[u8]) -> Judged
     ensures whole { result ≡ Judged.Whole → BeginsWithHead Kind.Request bytes.now }
     ensures more { result ≡ Judged.More → HasNoHead Kind.Request bytes.now }
+    ensures may { result ≡ Judged.More → MayBecome Kind.Request bytes.now }
     ensures never { result ≡ Judged.Never → NeverFits Kind.Request bytes.now }
 {
     let mut fields = [EMPTY_HEADER_SPAN; MAX_FIELDS];
@@ -51,6 +52,7 @@ fn judge_request(bytes: &[u8]) -> Judged
 fn judge_response(bytes: &[u8]) -> Judged
     ensures whole { result ≡ Judged.Whole → BeginsWithHead Kind.Response bytes.now }
     ensures more { result ≡ Judged.More → HasNoHead Kind.Response bytes.now }
+    ensures may { result ≡ Judged.More → MayBecome Kind.Response bytes.now }
     ensures never { result ≡ Judged.Never → NeverFits Kind.Response bytes.now }
 {
     let mut fields = [EMPTY_HEADER_SPAN; MAX_FIELDS];
@@ -64,6 +66,7 @@ fn judge_response(bytes: &[u8]) -> Judged
 fn judge(kind: Kind, bytes: &[u8]) -> Judged
     ensures whole { result ≡ Judged.Whole → BeginsWithHead kind bytes.now }
     ensures more { result ≡ Judged.More → HasNoHead kind bytes.now }
+    ensures may { result ≡ Judged.More → MayBecome kind bytes.now }
     ensures never { result ≡ Judged.Never → NeverFits kind bytes.now }
 {
     match kind {

@@ -1,8 +1,11 @@
 //! The lines of a response that goes on, as a watch's.
 
-ghost use Rattle.std.specs.Prelude.{◌≡◌, ◌≤◌, ◌<◌, List, ℕ, length, IfSome};
+ghost use Rattle.std.specs.Prelude.{◌≡◌, ◌≤◌, ◌<◌, ◌++◌, [], List, ℕ, length, IfSome, IfOk, IfErr, Some, Err, false};
 ghost use Rattle.ev_http.specs.declared.taking.Tally.{Tally};
-ghost use Rattle.ev_http.specs.Taking.{Took, told, failed, fresh};
+ghost use Rattle.ev_http.specs.declared.lines.State.TheVariants.{Head, Body, Refused};
+ghost use Rattle.ev_http.specs.Taking.{Took, told, failed, is_read_fault};
+ghost use Rattle.ev_http.specs.Stream.{IsAt, LineAnswer, FindsPart, FoundFeed, CutsLine, IsRefused, refusal_in, fault_of, ReadsLine};
+ghost use Rattle.ev_http.specs.Messages.{HoldsResponse};
 
 use crate::body::{MAX_BODY, Part, first_part, is_whole, take_part};
 use crate::fault::HttpFault;
@@ -19,7 +22,7 @@ enum State {
     Head,
     Body(Part),
     /// It cannot be read on, for this reason.
-    Refused(HttpFault),
+    Refused(Refusal),
 }
 
 /// The lines of one response's body, as they come.
@@ -37,17 +40,50 @@ pub struct Lines<S> {
     scanned: usize,
 }
 
-/// Whether the same fault comes from then on: after the others the next call goes on where this one stopped.
-fn is_final(fault: HttpFault) -> bool {
-    !matches!(
-        fault,
-        HttpFault::Idle | HttpFault::ReadFault | HttpFault::Ended { .. }
-    )
+/// Why a response cannot be read on.
+#[derive(Clone, Copy)]
+enum Refusal {
+    Head,
+    Status(u16),
+    Body { place: u64 },
+    TooLong { limit: u64 },
+    Memory,
+}
+
+/// The refusal in a fault: after the others the next call goes on where this one stopped.
+fn refusal_in(fault: HttpFault) -> Option<Refusal>
+    ensures { result ≡ refusal_in fault }
+{
+    match fault {
+        HttpFault::Head => Some(Refusal::Head),
+        HttpFault::Status(status) => Some(Refusal::Status(status)),
+        HttpFault::Body { place } => Some(Refusal::Body { place }),
+        HttpFault::TooLong { limit } => Some(Refusal::TooLong { limit }),
+        HttpFault::Memory => Some(Refusal::Memory),
+        HttpFault::Route
+        | HttpFault::Ended { .. }
+        | HttpFault::Idle
+        | HttpFault::ReadFault
+        | HttpFault::WriteFault => None,
+    }
+}
+
+fn fault_of(refusal: Refusal) -> HttpFault
+    ensures is { result ≡ fault_of refusal }
+    ensures calm { is_read_fault result ≡ false }
+{
+    match refusal {
+        Refusal::Head => HttpFault::Head,
+        Refusal::Status(status) => HttpFault::Status(status),
+        Refusal::Body { place } => HttpFault::Body { place },
+        Refusal::TooLong { limit } => HttpFault::TooLong { limit },
+        Refusal::Memory => HttpFault::Memory,
+    }
 }
 
 /// Where the first line feed from a place on stands.
 fn feed_from(bytes: &[u8], from: usize) -> Option<usize>
-    ensures { IfSome result (λ at. at < length bytes.now) }
+    ensures { FoundFeed result bytes.now from }
 {
     for at in from..bytes.len() {
         if bytes[at] == b'\n' {
@@ -59,7 +95,10 @@ fn feed_from(bytes: &[u8], from: usize) -> Option<usize>
 
 impl<S: Source> Lines<S> {
     /// The lines of the response that the source gives next.
-    pub fn new(alloc: Global, source: S) -> Lines<S> {
+    pub fn new(alloc: Global, source: S) -> Lines<S>
+        ensures source { result.source ≡ source }
+        ensures first { IsAt result (told S.given S.left S.counts S.ended S.name source) [] [] }
+    {
         Lines {
             source,
             alloc,
@@ -71,27 +110,81 @@ impl<S: Source> Lines<S> {
         }
     }
 
-    /// The next line, without its line feed. `Ended` also says that the message ended, and no whole line is left.
+    /// The next line of the body, without its line feed, of at most 8,388,608 bytes. `Ended` says that no whole line is
+    /// left: the message ended, or the source did. Where a response of status 200 is there, the lines are those of its
+    /// body in turn, and no other fault comes but `TooLong` at a line above the limit and those of the source and of
+    /// memory.
     ///
     /// After `Idle`, `ReadFault` and `Ended` the next call goes on where this one stopped; after any other fault it
     /// gives that fault again.
-    pub fn next(&mut self) -> Result<Bytes, HttpFault> {
+    pub fn next(&mut self) -> Result<Bytes, HttpFault>
+        ensures line { (added : List ℕ)
+            × Took added (failed result) (record { turns = 0; taken = self.old.tally.taken }) self.new.tally
+            (told S.given S.left S.counts S.ended S.name self.old.source)
+            (told S.given S.left S.counts S.ended S.name self.new.source)
+            × ((taken given : List ℕ) → IsAt self.old (told S.given S.left S.counts S.ended S.name self.old.source) taken given
+            → LineAnswer result self.new (told S.given S.left S.counts S.ended S.name self.new.source) (taken ++ added) given) }
+        ensures refused { IfErr result (λ why. IfSome (refusal_in why) (λ refusal. IsRefused self.new why)) }
+        ensures again { (why : HttpFault) → IsRefused self.old why → (result ≡ Err why) × (self.new.source ≡ self.old.source) }
+        ensures reads { (taken given all body rest : List ℕ) → IsAt self.old (told S.given S.left S.counts S.ended S.name self.old.source) taken given
+            → S.left self.old.source ≡ Some all → HoldsResponse body rest (taken ++ all) → ReadsLine result given body }
+    {
+        let line = self.take_next();
+        line
+    }
+
+    /// The next line, or the fault that refuses the response from then on.
+    fn take_next(&mut self) -> Result<Bytes, HttpFault>
+        ensures line { (added : List ℕ)
+            × Took added (failed result) (record { turns = 0; taken = self.old.tally.taken }) self.new.tally
+            (told S.given S.left S.counts S.ended S.name self.old.source)
+            (told S.given S.left S.counts S.ended S.name self.new.source)
+            × ((taken given : List ℕ) → IsAt self.old (told S.given S.left S.counts S.ended S.name self.old.source) taken given
+            → LineAnswer result self.new (told S.given S.left S.counts S.ended S.name self.new.source) (taken ++ added) given) }
+        ensures refused { IfErr result (λ why. IfSome (refusal_in why) (λ refusal. IsRefused self.new why)) }
+        ensures again { (why : HttpFault) → IsRefused self.old why → (result ≡ Err why) × (self.new.source ≡ self.old.source) }
+    {
         self.tally.turns = 0;
         match self.read_line() {
             Ok(line) => Ok(line),
             Err(fault) => {
-                if is_final(fault) {
-                    self.state = State::Refused(fault);
+                if let Some(refusal) = refusal_in(fault) {
+                    self.state = State::Refused(refusal);
                 }
                 Err(fault)
             }
         }
     }
 
+    /// The next line, whether or not the head was read before.
     fn read_line(&mut self) -> Result<Bytes, HttpFault>
-        requires { self.old.tally.turns ≤ 6000 }
+        requires within { self.old.tally.turns ≤ 6000 }
+        ensures line { (added : List ℕ)
+            × Took added (failed result) self.old.tally self.new.tally
+            (told S.given S.left S.counts S.ended S.name self.old.source)
+            (told S.given S.left S.counts S.ended S.name self.new.source)
+            × ((taken given : List ℕ) → IsAt self.old (told S.given S.left S.counts S.ended S.name self.old.source) taken given
+            → LineAnswer result self.new (told S.given S.left S.counts S.ended S.name self.new.source) (taken ++ added) given) }
+        ensures again { (refusal : Refusal) → self.old.state ≡ Refused refusal → (result ≡ Err (fault_of refusal)) × (self.new.source ≡ self.old.source) }
     {
-        let mut part = self.part()?;
+        match self.part() {
+            Ok(part) => self.line_from(part),
+            Err(fault) => Err(fault),
+        }
+    }
+
+    /// The next line, where this part of the body comes next.
+    fn line_from(&mut self, part: Part) -> Result<Bytes, HttpFault>
+        requires within { self.old.tally.turns ≤ 6000 }
+        requires state { self.old.state ≡ Body part }
+        ensures line { (added : List ℕ)
+            × Took added (failed result) self.old.tally self.new.tally
+            (told S.given S.left S.counts S.ended S.name self.old.source)
+            (told S.given S.left S.counts S.ended S.name self.new.source)
+            × ((taken given : List ℕ) → IsAt self.old (told S.given S.left S.counts S.ended S.name self.old.source) taken given
+            → LineAnswer result self.new (told S.given S.left S.counts S.ended S.name self.new.source) (taken ++ added) given) }
+    {
+        let mut part = part;
         'parts: loop {
             if let Some(end) = feed_from(self.kept.as_slice(), self.scanned) {
                 return self.cut(end);
@@ -121,19 +214,33 @@ impl<S: Source> Lines<S> {
 
     /// The part of the body that comes next, once the head is read.
     fn part(&mut self) -> Result<Part, HttpFault>
-        requires { self.old.tally.turns ≤ 6000 }
-        ensures { self.new.tally.turns ≤ 6000 }
+        requires within { self.old.tally.turns ≤ 6000 }
+        ensures part { (added : List ℕ)
+            × Took added (failed result) self.old.tally self.new.tally
+            (told S.given S.left S.counts S.ended S.name self.old.source)
+            (told S.given S.left S.counts S.ended S.name self.new.source)
+            × ((taken given : List ℕ) → IsAt self.old (told S.given S.left S.counts S.ended S.name self.old.source) taken given
+            → FindsPart result self.new.state self.new.line.items self.new.kept.items self.new.scanned self.new.tally (told S.given S.left S.counts S.ended S.name self.new.source) (taken ++ added) given) }
+        ensures found { IfOk result (λ part. self.new.state ≡ Body part) }
+        ensures again { (refusal : Refusal) → self.old.state ≡ Refused refusal → (result ≡ Err (fault_of refusal)) × (self.new.source ≡ self.old.source) }
     {
         match self.state {
-            State::Refused(fault) => Err(fault),
+            State::Refused(refusal) => Err(fault_of(refusal)),
             State::Body(part) => Ok(part),
             State::Head => self.read_head(),
         }
     }
 
     fn read_head(&mut self) -> Result<Part, HttpFault>
-        requires { self.old.tally.turns ≤ 6000 }
-        ensures { self.new.tally.turns ≤ 6000 }
+        requires within { self.old.tally.turns ≤ 6000 }
+        requires head { self.old.state ≡ Head }
+        ensures part { (added : List ℕ)
+            × Took added (failed result) self.old.tally self.new.tally
+            (told S.given S.left S.counts S.ended S.name self.old.source)
+            (told S.given S.left S.counts S.ended S.name self.new.source)
+            × ((taken given : List ℕ) → IsAt self.old (told S.given S.left S.counts S.ended S.name self.old.source) taken given
+            → FindsPart result self.new.state self.new.line.items self.new.kept.items self.new.scanned self.new.tally (told S.given S.left S.counts S.ended S.name self.new.source) (taken ++ added) given) }
+        ensures found { IfOk result (λ part. self.new.state ≡ Body part) }
     {
         match take_head(
             &mut self.source,
@@ -142,7 +249,10 @@ impl<S: Source> Lines<S> {
             &mut self.line,
         ) {
             Ok(()) => {
-                let framing = response_framing(self.line.as_slice())?;
+                let framing = match response_framing(self.line.as_slice()) {
+                    Ok(framing) => framing,
+                    Err(fault) => return Err(fault),
+                };
                 let part = first_part(framing, self.tally.taken);
                 self.line.clear();
                 self.state = State::Body(part);
@@ -155,11 +265,19 @@ impl<S: Source> Lines<S> {
     /// The kept bytes up to a line feed; those behind it stay.
     fn cut(&mut self, end: usize) -> Result<Bytes, HttpFault>
         requires { end < length self.old.kept.items }
+        ensures cut { CutsLine result self.old.kept.items self.new.kept.items self.new.scanned end }
+        ensures source { self.new.source ≡ self.old.source }
+        ensures tally { self.new.tally ≡ self.old.tally }
+        ensures state { self.new.state ≡ self.old.state }
+        ensures line { self.new.line.items ≡ self.old.line.items }
+        ensures calm { IfErr result (λ e. is_read_fault e ≡ false) }
     {
         if end as u64 > MAX_BODY {
             return Err(HttpFault::TooLong { limit: MAX_BODY });
         }
-        let rest = Vec::from_slice(self.alloc, &self.kept[end + 1..])?;
+        let Ok(rest) = Vec::from_slice(self.alloc, &self.kept[end + 1..]) else {
+            return Err(HttpFault::Memory);
+        };
         let mut line = std::mem::replace(&mut self.kept, rest);
         line.truncate(end);
         self.scanned = 0;

@@ -1,11 +1,11 @@
 //! Reading of requests.
 
-ghost use Rattle.std.specs.Prelude.{◌≡◌, ◌≢◌, ◌≤◌, List, ℕ, length, map, All, IsTrue, false, IfSome};
+ghost use Rattle.std.specs.Prelude.{◌≡◌, ◌≢◌, ◌≤◌, List, ℕ, length, map, All, IsTrue, false, IfSome, Some};
 ghost use Rattle.httparse.specs.Spans.{IsRequestWithin, IsHeaderWithin, header_bytes};
 ghost use Rattle.ev_http.specs.Framing.{framing_after, whole_framing, counted_framing};
 ghost use Rattle.httparse.specs.Grammar.{RequestHead, IsRequestHead, print_request};
 ghost use Rattle.ev_types.specs.declared.route.Route.{Route};
-ghost use Rattle.ev_http.specs.Messages.{FoundRequest, JudgesRequest, path_of, is_post, Routed, RequestAnswer, with_route};
+ghost use Rattle.ev_http.specs.Messages.{FoundRequest, JudgesRequest, path_of, is_post, Routed, RequestAnswer, with_route, HoldsRequest, ReadsRequestBody};
 ghost use Rattle.ev_http.specs.Taking.{Took, told, failed, fresh};
 ghost use Rattle.ev_http.specs.declared.taking.Tally.{Tally};
 
@@ -118,8 +118,8 @@ fn read_counted(head: &[u8], fields: &[HeaderSpan]) -> Result<u64, usize>
     }
 }
 
-/// Reads one request to the gateway, and takes no byte behind it (RFC 9112): where it goes, and its body.
-pub fn read_request<S: Source>(alloc: Global, source: &mut S) -> Result<(Route, Vec<u8>), HttpFault>
+/// The request that the source gives next.
+fn take_request<S: Source>(alloc: Global, source: &mut S) -> Result<(Route, Vec<u8>), HttpFault>
     ensures { (bytes : List ℕ) × (tally : Tally)
         × Took bytes (failed result) fresh tally
         (told S.given S.left S.counts S.ended S.name source.old)
@@ -150,4 +150,20 @@ fn with_route(route: Route, body: Result<Vec<u8>, HttpFault>) -> Result<(Route, 
         Ok(body) => Ok((route, body)),
         Err(fault) => Err(fault),
     }
+}
+
+/// Reads one request to the gateway, and takes no byte behind it (RFC 9112): where it goes, and its body. A request that
+/// is there and keeps the limits is read: then only the source and want of memory can be at fault.
+pub fn read_request<S: Source>(alloc: Global, source: &mut S) -> Result<(Route, Vec<u8>), HttpFault>
+    ensures answer { (bytes : List ℕ) × (tally : Tally)
+        × Took bytes (failed result) fresh tally
+        (told S.given S.left S.counts S.ended S.name source.old)
+        (told S.given S.left S.counts S.ended S.name source.new)
+        × RequestAnswer result bytes
+        (told S.given S.left S.counts S.ended S.name source.new) tally }
+    ensures reads { (all body rest : List ℕ) (goes : Route) → S.left source.old ≡ Some all → HoldsRequest goes body rest all → length body ≤ 8388608
+        → ReadsRequestBody result goes body rest (S.left source.new) }
+{
+    let request = take_request(alloc, source);
+    request
 }

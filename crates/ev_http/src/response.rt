@@ -1,9 +1,10 @@
 //! Reading of responses.
 
-ghost use Rattle.std.specs.Prelude.{◌≡◌, ◌≤◌, List, ℕ, length, IfSome};
+ghost use Rattle.std.specs.Prelude.{◌≡◌, ◌≤◌, List, ℕ, length, IfSome, IfErr, Some, false};
 ghost use Rattle.httparse.specs.Grammar.{ResponseHead, IsResponseHead, print_response};
-ghost use Rattle.ev_http.specs.Messages.{FoundResponse, JudgesResponse, ResponseAnswer};
-ghost use Rattle.ev_http.specs.Taking.{Took, told, failed, fresh};
+ghost use Rattle.ev_http.specs.Messages.{FoundResponse, JudgesResponse, ResponseAnswer, HoldsResponse};
+ghost use Rattle.ev_http.specs.Body.{ReadsBody};
+ghost use Rattle.ev_http.specs.Taking.{is_read_fault, Took, told, failed, fresh};
 ghost use Rattle.ev_http.specs.declared.taking.Tally.{Tally};
 ghost use Rattle.httparse.specs.Spans.{IsResponseWithin};
 
@@ -34,7 +35,8 @@ fn whole_response(head: &[u8], fields: &mut [HeaderSpan]) -> Option<ResponseSpan
 
 /// How the body behind a whole head is framed.
 pub fn response_framing(head: &[u8]) -> Result<Framing, HttpFault>
-    ensures { (h : ResponseHead) → IsResponseHead h → head.now ≡ print_response h → length h.fields ≤ 64 → JudgesResponse result h head.now }
+    ensures judges { (h : ResponseHead) → IsResponseHead h → head.now ≡ print_response h → length h.fields ≤ 64 → JudgesResponse result h head.now }
+    ensures calm { IfErr result (λ e. is_read_fault e ≡ false) }
 {
     let mut fields = [EMPTY_HEADER_SPAN; MAX_FIELDS];
     let Some(spans) = whole_response(head, &mut fields) else {
@@ -51,11 +53,8 @@ pub fn response_framing(head: &[u8]) -> Result<Framing, HttpFault>
     }
 }
 
-/// Reads one response of the gateway, and takes no byte behind it (RFC 9112). A body without a framing field lasts to
-/// the source's end.
-///
-/// The head is taken byte by byte, the body in pieces of up to 4,096 bytes, each of which is copied once.
-pub fn read_response<S: Source>(alloc: Global, source: &mut S) -> Result<Vec<u8>, HttpFault>
+/// The body of the response that the source gives next.
+fn take_response<S: Source>(alloc: Global, source: &mut S) -> Result<Vec<u8>, HttpFault>
     ensures { (bytes : List ℕ) × (tally : Tally)
         × Took bytes (failed result) fresh tally
         (told S.given S.left S.counts S.ended S.name source.old)
@@ -71,4 +70,23 @@ pub fn read_response<S: Source>(alloc: Global, source: &mut S) -> Result<Vec<u8>
         },
         Err(fault) => Err(fault),
     }
+}
+
+/// Reads one response of the gateway, and takes no byte behind it (RFC 9112). A body without a framing field lasts to
+/// the source's end. A response of status 200 that is there and keeps the limits is read: then only the source and want
+/// of memory can be at fault.
+///
+/// The head is taken byte by byte, the body in pieces of up to 4,096 bytes, each of which is copied once.
+pub fn read_response<S: Source>(alloc: Global, source: &mut S) -> Result<Vec<u8>, HttpFault>
+    ensures answer { (bytes : List ℕ) × (tally : Tally)
+        × Took bytes (failed result) fresh tally
+        (told S.given S.left S.counts S.ended S.name source.old)
+        (told S.given S.left S.counts S.ended S.name source.new)
+        × ResponseAnswer result bytes
+        (told S.given S.left S.counts S.ended S.name source.new) tally }
+    ensures reads { (all body rest : List ℕ) → S.left source.old ≡ Some all → HoldsResponse body rest all → length body ≤ 8388608
+        → ReadsBody result body rest (S.left source.new) }
+{
+    let response = take_response(alloc, source);
+    response
 }

@@ -10,14 +10,15 @@ pub returns-then-is_no_size-clause-part : goal.returns-then-is_no_size-clause-pa
 returns-then-is_no_size-clause-part g c =
     let source = told g.S.Source.given g.S.Source.left g.S.Source.counts g.S.Source.ended g.S.Source.name c.take_line.new.source in
     let got = rw c.in-Ok-End.field-0-is at c.in-Ok-End.ensures.line in
-    let never = subst NeverHasChunkLine c.as_slice-in-Ok-End.ensures.value (c.is_no_size.ensures c.if-is_no_size.true) in
+    let never = subst NeverHasChunkLine c.as_slice-in-Ok-End.ensures.value (c.is_no_size.ensures.yes c.if-is_no_size.true) in
     (got.0, got.1, λ body. size_cut c.args.place 1026 c.args.line.now.items got.0 c.take_line.new.line.items body source c.take_line.new.tally got.2.0 never)
 
 pub returns-else-is_no_size-clause-part : goal.returns-else-is_no_size-clause-part
 returns-else-is_no_size-clause-part g c =
     let source = told g.S.Source.given g.S.Source.left g.S.Source.counts g.S.Source.ended g.S.Source.name c.take_line.new.source in
     let got = rw c.in-Ok-End.field-0-is at c.in-Ok-End.ensures.line in
-    (got.0, got.1, λ body. line_ends _ (part.Size c.args.place) c.args.line.now.items got.0 c.take_line.new.line.items body 1026 source c.take_line.new.tally (size_grows c.args.place 1026 c.args.line.now.items got.0 c.take_line.new.line.items body) got.2.0 got.2.1 refl)
+    let may : NeverHasChunkLine c.take_line.new.line.items → ⊥ = λ never. c.is_no_size.ensures.no c.if-is_no_size.false (subst NeverHasChunkLine (sym c.as_slice-in-Ok-End.ensures.value) never) in
+    (got.0, got.1, λ body. line_ends _ (part.Size c.args.place) c.args.line.now.items got.0 c.take_line.new.line.items body 1026 source c.take_line.new.tally (size_grows c.args.place 1026 c.args.line.now.items got.0 c.take_line.new.line.items body) got.2.0 got.2.1 refl may)
 
 pub returns-in-Ok-Full-clause-part : goal.returns-in-Ok-Full-clause-part
 returns-in-Ok-Full-clause-part g c =

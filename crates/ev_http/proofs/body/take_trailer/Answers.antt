@@ -9,7 +9,7 @@ pub returns-in-Ok-End-clause-part : goal.returns-in-Ok-End-clause-part
 returns-in-Ok-End-clause-part g c =
     let source = told g.S.Source.given g.S.Source.left g.S.Source.counts g.S.Source.ended g.S.Source.name c.take_line.new.source in
     let got = rw c.in-Ok-End.field-0-is at c.in-Ok-End.ensures.line in
-    (got.0, got.1, λ body. line_ends _ (part.Trailer c.args.place c.args.fields) c.args.line.now.items got.0 c.take_line.new.line.items body 16386 source c.take_line.new.tally (trailer_grows c.args.place c.args.fields 16386 c.args.line.now.items got.0 c.take_line.new.line.items body) got.2.0 got.2.1 refl)
+    (got.0, got.1, λ body. line_ends _ (part.Trailer c.args.place c.args.fields) c.args.line.now.items got.0 c.take_line.new.line.items body 16386 source c.take_line.new.tally (trailer_grows c.args.place c.args.fields 16386 c.args.line.now.items got.0 c.take_line.new.line.items body) got.2.0 got.2.1 refl tt)
 
 pub returns-in-Ok-Full-clause-part : goal.returns-in-Ok-Full-clause-part
 returns-in-Ok-Full-clause-part g c =

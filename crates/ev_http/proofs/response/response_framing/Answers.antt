@@ -6,8 +6,8 @@ use Rattle.ev_http.specs.Framing.{framing_after}
 use Rattle.ev_http.proofs.Framings.{same_count, span_fault}
 use Rattle.ev_http.proofs.response.response_framing.Goals as goal
 
-pub returns-in-Err : goal.returns-in-Err
-returns-in-Err c = λ h is eq few.
+pub returns-in-Err-clause-judges : goal.returns-in-Err-clause-judges
+returns-in-Err-clause-judges c = λ h is eq few.
     let spans = c.in-Some.spans in
     let fields = c.whole_response.new.fields in
     let at = c.in-Some.ensures.found h is eq few in

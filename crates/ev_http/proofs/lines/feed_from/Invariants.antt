@@ -1,0 +1,6 @@
+use Rattle.std.proofs.Common.{take}
+use Rattle.ev_http.specs.Taking.{HasNoFeed}
+use Rattle.ev_http.proofs.lines.feed_from.Given as goal
+
+abbrev pub invariant-loop-at : goal.invariant-loop-at
+invariant-loop-at l = HasNoFeed (take l.from l.bytes) → HasNoFeed (take l.at l.bytes)
