@@ -13,17 +13,18 @@ use Rattle.ev_types.specs.declared.ask.Act.TheVariants as act
 use Rattle.ev_types.specs.declared.ask.TxnReq.{TxnReq}
 use Rattle.ev_types.specs.declared.ask.Ask.{Ask}
 use Rattle.ev_types.specs.declared.ask.Ask.TheVariants as ask
-use Rattle.ev_json.specs.declared.field.Field.{Field}
-use Rattle.ev_json.specs.declared.field.Field.TheVariants as field
-use Rattle.ev_json.specs.Names.{snake, camel}
-use Rattle.ev_json.specs.Members.{none, object_of}
+use Rattle.ev_fields.specs.declared.field.Field.{Field}
+use Rattle.ev_fields.specs.declared.field.Field.TheVariants as field
+use Rattle.ev_fields.specs.Names.{snake, camel}
+use Rattle.ev_fields.specs.Members.{none, object_of}
 use Rattle.ev_json.specs.Messages.{header_data, kv_data, found_data, deleted_data, part_data, txn_answer_data, range_answer_data, granted_data, alive_data, answer_data}
-use Rattle.ev_json.specs.Kinds.{member_of, is_object, without}
+use Rattle.ev_fields.specs.Kinds.{member_of, is_object, without}
 use Rattle.ev_json.specs.Answers.{revision_in, kv_in, found_in, put_done_in, deleted_in, range_part_in, part_in, parts_in, txn_answer_in, range_answer_in, granted_in, kept_in, result_in, kept_alive_in, answer_in}
-use Rattle.ev_json.specs.Ranges.{IsCount, IsLease, KvFits, FoundFits, PartFits, PartsFit, AnswerFits}
-use Rattle.ev_json.proofs.Backs.{in_digits, unless_zero, if_true, if_some, given-piece, number-piece, number_if-piece, true_if-piece, list_if-piece, more, count_in-back, count_in-written, lease_in-written, needed_count-back, flag_in-back, message_in-back, object_of-is_object, items_in-back, list_in-back, plain-digits, plain-flag, plain-list}
+use Rattle.ev_fields.specs.Ranges.{IsCount, IsLease}
+use Rattle.ev_json.specs.Ranges.{KvFits, FoundFits, PartFits, PartsFit, AnswerFits}
+use Rattle.ev_fields.proofs.Backs.{in_digits, unless_zero, if_true, if_some, given-piece, number-piece, number_if-piece, true_if-piece, list_if-piece, more, count_in-back, count_in-written, lease_in-written, needed_count-back, flag_in-back, message_in-back, object_of-is_object, items_in-back, list_in-back, plain-digits, plain-flag, plain-list}
 use Rattle.ev_json.proofs.KvBack.{plain-kv, kv_back}
-use Rattle.ev_json.proofs.Rising.{pieces, one_piece, gathered-pieces, member_one, member_two, Plain, plain-string, plain-object}
+use Rattle.ev_fields.proofs.Rising.{pieces, one_piece, gathered-pieces, member_one, member_two, Plain, plain-string, plain-object}
 
 -- ---- headers
 

@@ -9,16 +9,17 @@ use Rattle.ev_types.specs.declared.ask.Act.TheVariants as act
 use Rattle.ev_types.specs.declared.ask.TxnReq.{TxnReq}
 use Rattle.ev_types.specs.declared.ask.Ask.{Ask}
 use Rattle.ev_types.specs.declared.ask.Ask.TheVariants as ask
-use Rattle.ev_json.specs.declared.field.Field.{Field}
-use Rattle.ev_json.specs.declared.field.Field.TheVariants as field
-use Rattle.ev_json.specs.Names.{snake, camel}
-use Rattle.ev_json.specs.Members.{none, object_of}
+use Rattle.ev_fields.specs.declared.field.Field.{Field}
+use Rattle.ev_fields.specs.declared.field.Field.TheVariants as field
+use Rattle.ev_fields.specs.Names.{snake, camel}
+use Rattle.ev_fields.specs.Members.{none, object_of}
 use Rattle.ev_json.specs.Messages.{guard_data, range_data, put_data, delete_data, act_data, txn_data, ask_data, route_of, create_data, watch_data}
-use Rattle.ev_json.specs.Kinds.{without, word_in, word_or_none, word_of}
+use Rattle.ev_fields.specs.Kinds.{without, word_in, word_or_none, word_of}
 use Rattle.ev_json.specs.Asks.{guard_in, range_in, put_in, delete_in, range_act_in, act_in, txn_in, txn_ask_in, range_ask_in, grant_in, alive_in, ask_in, watch_in}
-use Rattle.ev_json.specs.Ranges.{IsKey, IsPositiveCount, IsPositiveLease, GuardFits, RangeFits, ActFits, TxnFits, AskFits}
-use Rattle.ev_json.proofs.Backs.{in_digits, coded, unless_zero, unless_empty, if_true, if_some, given-piece, number-piece, number_if-piece, bytes-piece, bytes_if-piece, true_if-piece, text-piece, list_if-piece, more, count_in-back, count_in-written, lease_in-back, bytes_in-back, bytes_in-written, key_in-back, flag_in-back, positive_count-back, positive_lease-back, message_in-back, object_of-is_object, list_in-back, plain-digits, plain-coded, plain-flag, plain-list}
-use Rattle.ev_json.proofs.Rising.{pieces, one_piece, gathered-pieces, member_one, member_two, Plain, plain-string, plain-object}
+use Rattle.ev_fields.specs.Ranges.{IsKey, IsPositiveCount, IsPositiveLease}
+use Rattle.ev_json.specs.Ranges.{GuardFits, RangeFits, ActFits, TxnFits, AskFits}
+use Rattle.ev_fields.proofs.Backs.{in_digits, coded, unless_zero, unless_empty, if_true, if_some, given-piece, number-piece, number_if-piece, bytes-piece, bytes_if-piece, true_if-piece, text-piece, list_if-piece, more, count_in-back, count_in-written, lease_in-back, bytes_in-back, bytes_in-written, key_in-back, flag_in-back, positive_count-back, positive_lease-back, message_in-back, object_of-is_object, list_in-back, plain-digits, plain-coded, plain-flag, plain-list}
+use Rattle.ev_fields.proofs.Rising.{pieces, one_piece, gathered-pieces, member_one, member_two, Plain, plain-string, plain-object}
 
 -- ---- compares
 

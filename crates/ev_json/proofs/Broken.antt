@@ -11,13 +11,13 @@ use Rattle.ev_types.specs.declared.ask.Ask.TheVariants as ask
 use Rattle.ev_types.specs.declared.ask.TxnReq.{TxnReq}
 use Rattle.ev_types.specs.declared.route.Route.{Route}
 use Rattle.ev_types.specs.declared.route.Route.TheVariants as route
-use Rattle.ev_json.specs.declared.field.Field.{Field}
-use Rattle.ev_json.specs.declared.field.Field.TheVariants as field
+use Rattle.ev_fields.specs.declared.field.Field.{Field}
+use Rattle.ev_fields.specs.declared.field.Field.TheVariants as field
 use Rattle.ev_json.specs.declared.line.Event.{Event}
 use Rattle.ev_json.specs.Asks.{guard_in, range_in, put_in, delete_in, range_act_in, act_in, txn_in, txn_ask_in, range_ask_in, grant_in, alive_in, ask_in, watch_in}
 use Rattle.ev_json.specs.Answers.{revision_in, kv_in, found_in, put_done_in, deleted_in, range_part_in, part_in, parts_in, txn_answer_in, range_answer_in, granted_in, kept_in, result_in, kept_alive_in, answer_in, kind_named, kind_or_put, kv_needed, unless_head, deletion_in, event_in, news_in, change_in, line_in}
 use Rattle.ev_json.specs.Breaks.{Wrong, Lacks, Excess, AnyItem, InList, InMessage, KeyBreaks, GuardBreaks, RangeBreaks, PutBreaks, ActBreaks, TxnBreaks, GrantBreaks, AskBreaks, WatchBreaks, HeaderBreaks, KvBreaks, FoundBreaks, PartBreaks, PartsBreak, TxnAnswerBreaks, LeaseAnswerBreaks, AnswerBreaks, EventBreaks, ChangeBreaks, LineBreaks}
-use Rattle.ev_json.specs.Kinds.{◌>>=◌, member_of, has, known, known_or, optional, needed, count_of, lease_of, from_one, bytes_of, some_byte, word_of, message_of, is_object, count_in, lease_in, flag_in, bytes_in, needed_bytes, needed_count, positive_count, positive_lease, key_in, word_in, word_or_none, message_in, without, each, items_in, list_in}
+use Rattle.ev_fields.specs.Kinds.{◌>>=◌, member_of, has, known, known_or, optional, needed, count_of, lease_of, from_one, bytes_of, some_byte, word_of, message_of, is_object, count_in, lease_in, flag_in, bytes_in, needed_bytes, needed_count, positive_count, positive_lease, key_in, word_in, word_or_none, message_in, without, each, items_in, list_in}
 
 -- ---- one step of a reading
 

@@ -1,9 +1,9 @@
 -- A body that was not parsed reads as nothing.
 use Rattle.std.proofs.Common.{ℕ, List, Result}
 use Rattle.serde_json.specs.Data.{Data}
-use Rattle.ev_json.specs.declared.field.Field.{Field}
-use Rattle.ev_json.specs.declared.fault.JsonFault.{JsonFault}
-use Rattle.ev_json.specs.declared.fault.JsonFault.TheVariants as fault
+use Rattle.ev_fields.specs.declared.field.Field.{Field}
+use Rattle.ev_fields.specs.declared.fault.JsonFault.{JsonFault}
+use Rattle.ev_fields.specs.declared.fault.JsonFault.TheVariants as fault
 use Rattle.ev_json.specs.Bodies.{FaultOf, IsUnparsed}
 
 pub FaultOf-unparsed : {A : Type 0} (reading : Data → Result A Field) (body : List ℕ) (e : JsonFault) → IsUnparsed body e → FaultOf reading body e

@@ -2,15 +2,15 @@
 use Rattle.std.proofs.Common.{◌≡◌, ℕ, suc, List, [], ◌∷◌, Option, Some, Ok, refl, ap, ◌∙◌}
 use Rattle.serde_json.specs.Data.{Data}
 use Rattle.ev_types.specs.declared.answer.Kv.{Kv}
-use Rattle.ev_json.specs.declared.field.Field.{Field}
-use Rattle.ev_json.specs.declared.field.Field.TheVariants as field
-use Rattle.ev_json.specs.Names.{snake, camel}
-use Rattle.ev_json.specs.Members.{none, object_of}
+use Rattle.ev_fields.specs.declared.field.Field.{Field}
+use Rattle.ev_fields.specs.declared.field.Field.TheVariants as field
+use Rattle.ev_fields.specs.Names.{snake, camel}
+use Rattle.ev_fields.specs.Members.{none, object_of}
 use Rattle.ev_json.specs.Messages.{kv_data}
 use Rattle.ev_json.specs.Answers.{kv_in}
 use Rattle.ev_json.specs.Ranges.{KvFits}
-use Rattle.ev_json.proofs.Backs.{coded, unless_zero, unless_empty, number_if-piece, bytes-piece, bytes_if-piece, more, count_in-back, lease_in-back, needed_bytes-back, bytes_in-back, plain-digits, plain-coded}
-use Rattle.ev_json.proofs.Rising.{pieces, gathered-pieces, member_one, member_two, Plain, plain-string, plain-object}
+use Rattle.ev_fields.proofs.Backs.{coded, unless_zero, unless_empty, number_if-piece, bytes-piece, bytes_if-piece, more, count_in-back, lease_in-back, needed_bytes-back, bytes_in-back, plain-digits, plain-coded}
+use Rattle.ev_fields.proofs.Rising.{pieces, gathered-pieces, member_one, member_two, Plain, plain-string, plain-object}
 
 abbrev kv_pieces : Kv → List (Field × Option Data)
 kv_pieces kv =

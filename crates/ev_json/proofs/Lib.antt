@@ -1,11 +1,7 @@
-pub mod Tokens
-pub mod Digits
 pub mod Loop
 pub mod Pairs
 pub mod Faults
 pub mod Lines
-pub mod Rising
-pub mod Backs
 pub mod KvBack
 pub mod AskBack
 pub mod AnswerBack

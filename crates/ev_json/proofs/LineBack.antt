@@ -6,21 +6,22 @@ use Rattle.std.proofs.lemmas.Bool.{ne_eqb}
 use Rattle.serde_json.specs.Data.{Data}
 use Rattle.serde_json.specs.View.{items_of}
 use Rattle.ev_types.specs.declared.answer.Kv.{Kv}
-use Rattle.ev_json.specs.declared.field.Field.{Field}
-use Rattle.ev_json.specs.declared.field.Field.TheVariants as field
+use Rattle.ev_fields.specs.declared.field.Field.{Field}
+use Rattle.ev_fields.specs.declared.field.Field.TheVariants as field
 use Rattle.ev_json.specs.declared.line.Line.{Line}
 use Rattle.ev_json.specs.declared.line.Line.TheVariants as line
 use Rattle.ev_json.specs.declared.line.Event.{Event}
-use Rattle.ev_json.specs.Names.{snake, camel}
-use Rattle.ev_json.specs.Members.{none, object_of, kv_member}
+use Rattle.ev_fields.specs.Names.{snake, camel}
+use Rattle.ev_fields.specs.Members.{none, object_of, kv_member}
 use Rattle.ev_json.specs.Messages.{header_data, kv_data, event_data, change_data, line_data}
-use Rattle.ev_json.specs.Kinds.{member_of, each, list_in, flag_in, count_in}
+use Rattle.ev_fields.specs.Kinds.{member_of, each, list_in, flag_in, count_in}
 use Rattle.ev_json.specs.Answers.{deletion_in, event_in, puts_of, news_in, change_in, line_in}
-use Rattle.ev_json.specs.Ranges.{IsCount, KvFits, line_of}
+use Rattle.ev_fields.specs.Ranges.{IsCount}
+use Rattle.ev_json.specs.Ranges.{KvFits, line_of}
 use Rattle.ev_json.proofs.AnswerBack.{plain-header, revision_back, result_in-back}
-use Rattle.ev_json.proofs.Backs.{if_true, if_some, given-piece, true_if-piece, list_if-piece, more, flag_in-back, object_of-is_object, items_in-back, plain-flag, plain-list}
+use Rattle.ev_fields.proofs.Backs.{if_true, if_some, given-piece, true_if-piece, list_if-piece, more, flag_in-back, object_of-is_object, items_in-back, plain-flag, plain-list}
 use Rattle.ev_json.proofs.KvBack.{plain-kv, kv_back}
-use Rattle.ev_json.proofs.Rising.{pieces, one_piece, gathered-pieces, member_one, member_two, Plain, plain-object, plain-single}
+use Rattle.ev_fields.proofs.Rising.{pieces, one_piece, gathered-pieces, member_one, member_two, Plain, plain-object, plain-single}
 
 -- ---- events
 

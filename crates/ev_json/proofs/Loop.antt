@@ -4,11 +4,11 @@ use Rattle.std.proofs.lemmas.List.{append-nil, drop_all, drop_more}
 use Rattle.serde_json.specs.Data.{Data}
 use Rattle.serde_json.specs.View.{view, items_of}
 use Rattle.serde_json.specs.declared.value.Value.{Value}
-use Rattle.ev_json.specs.declared.field.Field.{Field}
-use Rattle.ev_json.specs.declared.fault.JsonFault.{JsonFault}
-use Rattle.ev_json.specs.declared.fault.JsonFault.TheVariants as fault
-use Rattle.ev_json.specs.Kinds.{◌>>=◌, each}
-use Rattle.ev_json.specs.Bodies.{Fails}
+use Rattle.ev_fields.specs.declared.field.Field.{Field}
+use Rattle.ev_fields.specs.declared.fault.JsonFault.{JsonFault}
+use Rattle.ev_fields.specs.declared.fault.JsonFault.TheVariants as fault
+use Rattle.ev_fields.specs.Kinds.{◌>>=◌, each}
+use Rattle.ev_fields.specs.Gives.{Fails}
 
 abbrev pub with_front : {A : Type 0} → List A → Result (List A) Field → Result (List A) Field
 with_front front read = read >>= λ xs. Ok (front ++ xs)

@@ -5,12 +5,12 @@ use Rattle.serde_json.specs.View.{view, items_view}
 use Rattle.serde_json.specs.declared.value.Value.{Value}
 use Rattle.ev_types.specs.declared.ask.Act.{Act}
 use Rattle.ev_types.specs.declared.answer.ActAns.{ActAns}
-use Rattle.ev_json.specs.declared.field.Field.{Field}
-use Rattle.ev_json.specs.declared.field.Field.TheVariants as field
-use Rattle.ev_json.specs.declared.fault.JsonFault.{JsonFault}
-use Rattle.ev_json.specs.declared.fault.JsonFault.TheVariants as fault
+use Rattle.ev_fields.specs.declared.field.Field.{Field}
+use Rattle.ev_fields.specs.declared.field.Field.TheVariants as field
+use Rattle.ev_fields.specs.declared.fault.JsonFault.{JsonFault}
+use Rattle.ev_fields.specs.declared.fault.JsonFault.TheVariants as fault
 use Rattle.ev_json.specs.Answers.{part_in, parts_in}
-use Rattle.ev_json.specs.Bodies.{Fails}
+use Rattle.ev_fields.specs.Gives.{Fails}
 use Rattle.ev_json.proofs.Loop.{with_front, regroup}
 
 abbrev pub rest_of : List Act → ℕ → List Value → Result (List ActAns) Field

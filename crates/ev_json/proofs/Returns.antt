@@ -12,12 +12,13 @@ use Rattle.ev_json.specs.Answers.{line_in}
 use Rattle.ev_json.specs.Asks.{ask_in, watch_in}
 use Rattle.ev_json.specs.Bodies.{ReadsAs, IsOneLine, message_body, reads}
 use Rattle.ev_json.specs.Messages.{ask_data, route_of, answer_data, watch_data, line_data}
-use Rattle.ev_json.specs.Ranges.{IsCount, IsKey, IsPositiveCount, KvFits, AskFits, AnswerFits, line_of}
+use Rattle.ev_fields.specs.Ranges.{IsCount, IsKey, IsPositiveCount}
+use Rattle.ev_json.specs.Ranges.{KvFits, AskFits, AnswerFits, line_of}
 use Rattle.ev_json.proofs.AnswerBack.{plain-answer, answer_back}
 use Rattle.ev_json.proofs.AskBack.{plain-ask, ask_back, plain-watch, watch_back}
 use Rattle.ev_json.proofs.LineBack.{plain-line, line_back}
 use Rattle.ev_json.proofs.Lines.{first_line-one}
-use Rattle.ev_json.proofs.Rising.{read-plain}
+use Rattle.ev_fields.proofs.Rising.{read-plain}
 
 pub ask_returns : (a : Ask) (bytes : List ℕ) → IsUtf8 bytes → bytes ≡ compact_text (ask_data a) → AskFits a → ReadsAs (ask_in (route_of a)) bytes a
 unfolding ReadsAs

@@ -15,12 +15,12 @@ use Rattle.ev_types.specs.declared.ask.Act.TheVariants as act
 use Rattle.ev_types.specs.declared.ask.TxnReq.{TxnReq}
 use Rattle.ev_types.specs.declared.ask.Ask.{Ask}
 use Rattle.ev_types.specs.declared.ask.Ask.TheVariants as ask
-use Rattle.ev_json.specs.declared.field.Field.{Field}
-use Rattle.ev_json.specs.declared.field.Field.TheVariants as field
+use Rattle.ev_fields.specs.declared.field.Field.{Field}
+use Rattle.ev_fields.specs.declared.field.Field.TheVariants as field
 use Rattle.ev_json.specs.declared.line.Line.{Line}
 use Rattle.ev_json.specs.declared.line.Line.TheVariants as line
 use Rattle.ev_json.specs.declared.line.Event.{Event}
-use Rattle.ev_json.specs.Kinds.{◌>>=◌, known_or, message_of, member_of, count_in, lease_in, flag_in, bytes_in, needed_bytes, needed_count, message_in, without, items_in, list_in}
+use Rattle.ev_fields.specs.Kinds.{◌>>=◌, known_or, message_of, member_of, count_in, lease_in, flag_in, bytes_in, needed_bytes, needed_count, message_in, without, items_in, list_in}
 
 -- the revision in a message's header; both must be there
 unfoldable pub revision_in : Data → Result ℤ Field

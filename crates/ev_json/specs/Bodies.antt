@@ -7,9 +7,9 @@ use Rattle.ev_types.specs.declared.answer.Answer.{Answer}
 use Rattle.ev_types.specs.declared.ask.Ask.{Ask}
 use Rattle.ev_types.specs.declared.ask.Ask.TheVariants as ask
 use Rattle.ev_types.specs.declared.route.Route.{Route}
-use Rattle.ev_json.specs.declared.field.Field.{Field}
-use Rattle.ev_json.specs.declared.fault.JsonFault.{JsonFault}
-use Rattle.ev_json.specs.declared.fault.JsonFault.TheVariants as fault
+use Rattle.ev_fields.specs.declared.field.Field.{Field}
+use Rattle.ev_fields.specs.declared.fault.JsonFault.{JsonFault}
+use Rattle.ev_fields.specs.declared.fault.JsonFault.TheVariants as fault
 use Rattle.ev_json.specs.declared.line.Line.{Line}
 use Rattle.ev_json.specs.Asks.{ask_in, watch_in}
 use Rattle.ev_json.specs.Answers.{answer_in, line_in}
@@ -62,17 +62,3 @@ abbrev pub IsUnparsed : List ℕ → JsonFault → Type 0
 IsUnparsed body fault.Memory = ⊤
 IsUnparsed body fault.NotJson = IsUtf8 body → read body ≡ None
 IsUnparsed body (fault.Unreadable f) = ⊥
-
--- what a function returned is what the reading gives, unless memory ran out
-abbrev pub Fails : {A : Type 0} → JsonFault → Result A Field → Type 0
-Fails fault.Memory reading = ⊤
-Fails fault.NotJson reading = ⊥
-Fails (fault.Unreadable f) reading = reading ≡ Err f
-
-abbrev pub Gives : {A : Type 0} → Result A JsonFault → Result A Field → Type 0
-Gives (Ok x) reading = reading ≡ Ok x
-Gives (Err e) reading = Fails e reading
-
-abbrev pub GivesAs : {X A : Type 0} → (X → A) → Result X JsonFault → Result A Field → Type 0
-GivesAs view (Ok x) reading = reading ≡ Ok (view x)
-GivesAs view (Err e) reading = Fails e reading

@@ -11,10 +11,10 @@ use Rattle.ev_types.specs.declared.ask.Ask.TheVariants as ask
 use Rattle.ev_types.specs.declared.ask.TxnReq.{TxnReq}
 use Rattle.ev_types.specs.declared.route.Route.{Route}
 use Rattle.ev_types.specs.declared.route.Route.TheVariants as route
-use Rattle.ev_json.specs.declared.field.Field.{Field}
-use Rattle.ev_json.specs.declared.field.Field.TheVariants as field
+use Rattle.ev_fields.specs.declared.field.Field.{Field}
+use Rattle.ev_fields.specs.declared.field.Field.TheVariants as field
 use Rattle.ev_json.specs.Answers.{kv_in, deletion_in, result_in}
-use Rattle.ev_json.specs.Kinds.{member_of, has, count_of, lease_of, from_one, bytes_of, some_byte, word_of, message_of, flag_in, items_in}
+use Rattle.ev_fields.specs.Kinds.{member_of, has, count_of, lease_of, from_one, bytes_of, some_byte, word_of, message_of, flag_in, items_in}
 
 -- the member g is there, and is not of this kind
 abbrev pub Wrong : {A : Type 0} → (Data → Option A) → Field → Field → Data → Type 0

@@ -18,8 +18,8 @@ use Rattle.ev_types.specs.declared.ask.Ask.{Ask}
 use Rattle.ev_types.specs.declared.ask.Ask.TheVariants as ask
 use Rattle.ev_types.specs.declared.route.Route.{Route}
 use Rattle.ev_types.specs.declared.route.Route.TheVariants as route
-use Rattle.ev_json.specs.declared.field.Field.TheVariants as field
-use Rattle.ev_json.specs.Members.{none, object_of, given, number, number_if, bytes, bytes_if, true_if, text, list_if, kv_member}
+use Rattle.ev_fields.specs.declared.field.Field.TheVariants as field
+use Rattle.ev_fields.specs.Members.{none, object_of, given, number, number_if, bytes, bytes_if, true_if, text, list_if, kv_member}
 
 -- ---- asks
 

@@ -1,6 +1,6 @@
 -- The ranges within which a message that was written reads back as itself. They are etcd's, but for the upper ends, which
 -- are this project's.
-use Rattle.std.specs.Prelude.{◌≡◌, ◌<◌, ◌^◌, ℕ, ℤ, pos, List, [], ◌∷◌, length, if◌then◌else◌, ⊤}
+use Rattle.std.specs.Prelude.{ℤ, List, [], ◌∷◌, if◌then◌else◌, ⊤}
 use Rattle.std.specs.List.{AllByRecursion}
 use Rattle.base64.specs.GeneralPurpose.{IsBytes}
 use Rattle.ev_types.specs.declared.answer.Kv.{Kv}
@@ -16,26 +16,9 @@ use Rattle.ev_types.specs.declared.ask.Act.TheVariants as act
 use Rattle.ev_types.specs.declared.ask.TxnReq.{TxnReq}
 use Rattle.ev_types.specs.declared.ask.Ask.{Ask}
 use Rattle.ev_types.specs.declared.ask.Ask.TheVariants as ask
+use Rattle.ev_fields.specs.Ranges.{IsCount, IsLease, IsPositiveCount, IsPositiveLease, IsKey}
 use Rattle.ev_json.specs.declared.line.Line.{Line}
 use Rattle.ev_json.specs.declared.line.Line.TheVariants as line
-
--- revisions, versions, counts, limits and seconds are from 0 to below 2 ^ 62
-abbrev pub IsCount : ℤ → Type 0
-IsCount n = (k : ℕ) × (n ≡ pos k) × (k < 2 ^ 62)
-
--- the numbers of leases are from 0 to below 2 ^ 63
-abbrev pub IsLease : ℤ → Type 0
-IsLease n = (k : ℕ) × (n ≡ pos k) × (k < 2 ^ 63)
-
-abbrev pub IsPositiveCount : ℤ → Type 0
-IsPositiveCount n = (k : ℕ) × (n ≡ pos k) × (0 < k) × (k < 2 ^ 62)
-
-abbrev pub IsPositiveLease : ℤ → Type 0
-IsPositiveLease n = (k : ℕ) × (n ≡ pos k) × (0 < k) × (k < 2 ^ 63)
-
--- the key of an ask has a byte
-abbrev pub IsKey : List ℕ → Type 0
-IsKey key = IsBytes key × (0 < length key)
 
 -- ---- asks
 

@@ -1,14 +1,15 @@
 //! Answers and the lines of watches as they are written, each member a line.
 
 ghost use Rattle.std.specs.Prelude.{◌≡◌, ◌++◌, IfOk};
-ghost use Rattle.ev_json.specs.Members.{given, none, object_of, number_if, bytes};
+ghost use Rattle.ev_fields.specs.Members.{given, none, object_of, number_if, bytes};
 ghost use Rattle.ev_json.specs.Messages.{kv_data, header_data, found_data, deleted_data, part_data, txn_answer_data, range_answer_data, granted_data, alive_data, answer_data};
-ghost use Rattle.ev_json.specs.Open.{IsOpen, data_tokens};
-ghost use Rattle.ev_json.specs.declared.field.Field.TheVariants.{Result, CreateRevision, Key, Lease};
+ghost use Rattle.ev_fields.specs.Open.{IsOpen, data_tokens};
+ghost use Rattle.ev_fields.specs.declared.field.Field.TheVariants.{Result, CreateRevision, Key, Lease};
 
-use crate::field::Field;
+use crate::message::{Message, list_if, submessage};
 use crate::room::{about_bytes, about_list};
-use crate::text::{Message, Text};
+use ev_fields::field::Field;
+use ev_fields::text::Text;
 use ev_types::{ActAns, Answer, Kv, RangeAns};
 use std::alloc::AllocError;
 
@@ -71,10 +72,8 @@ impl Message for RangeAns {
 
     #[tactic(auto, unfolding(crate::specs::Messages::found_data))]
     fn write(&self, out: Text) -> Result<Text, AllocError> {
-        let out = out
-            .begin()?
-            .number_if(Field::Count, self.count)?
-            .list_if(Field::Kvs, self.kvs.as_slice())?
+        let out = out.begin()?.number_if(Field::Count, self.count)?;
+        let out = list_if(out, Field::Kvs, self.kvs.as_slice())?
             .true_if(Field::More, self.more)?
             .end()?;
         Ok(out)
@@ -134,16 +133,16 @@ impl Message for ActAns {
         let out = out.begin()?;
         match self {
             ActAns::Put => {
-                let out = out.message(Field::ResponsePut, &PutDone)?.end()?;
+                let out = submessage(out, Field::ResponsePut, &PutDone)?.end()?;
                 Ok(out)
             }
             ActAns::Deleted(keys) => {
                 let deleted = Deleted { keys: *keys };
-                let out = out.message(Field::ResponseDeleteRange, &deleted)?.end()?;
+                let out = submessage(out, Field::ResponseDeleteRange, &deleted)?.end()?;
                 Ok(out)
             }
             ActAns::Range(found) => {
-                let out = out.message(Field::ResponseRange, found)?.end()?;
+                let out = submessage(out, Field::ResponseRange, found)?.end()?;
                 Ok(out)
             }
         }
@@ -159,10 +158,8 @@ fn write_txn(
 ) -> Result<Text, AllocError>
     ensures { IfOk result (λ t. t ≡ out ++ data_tokens (txn_answer_data revision parts.now succeeded)) }
 {
-    let out = out
-        .begin()?
-        .message(Field::Header, &Header { revision })?
-        .list_if(Field::Responses, parts)?
+    let out = submessage(out.begin()?, Field::Header, &Header { revision })?;
+    let out = list_if(out, Field::Responses, parts)?
         .true_if(Field::Succeeded, succeeded)?
         .end()?;
     Ok(out)
@@ -172,11 +169,9 @@ fn write_txn(
 fn write_found(out: Text, revision: i64, found: &RangeAns) -> Result<Text, AllocError>
     ensures { IfOk result (λ t. t ≡ out ++ data_tokens (range_answer_data revision found.now)) }
 {
-    let out = out
-        .begin()?
-        .number_if(Field::Count, found.count)?
-        .message(Field::Header, &Header { revision })?
-        .list_if(Field::Kvs, found.kvs.as_slice())?
+    let out = out.begin()?.number_if(Field::Count, found.count)?;
+    let out = submessage(out, Field::Header, &Header { revision })?;
+    let out = list_if(out, Field::Kvs, found.kvs.as_slice())?
         .true_if(Field::More, found.more)?
         .end()?;
     Ok(out)
@@ -186,12 +181,8 @@ fn write_found(out: Text, revision: i64, found: &RangeAns) -> Result<Text, Alloc
 fn write_granted(out: Text, revision: i64, id: i64, ttl: i64) -> Result<Text, AllocError>
     ensures { IfOk result (λ t. t ≡ out ++ data_tokens (granted_data revision id ttl)) }
 {
-    let out = out
-        .begin()?
-        .number(Field::Id, id)?
-        .number(Field::Ttl, ttl)?
-        .message(Field::Header, &Header { revision })?
-        .end()?;
+    let out = out.begin()?.number(Field::Id, id)?.number(Field::Ttl, ttl)?;
+    let out = submessage(out, Field::Header, &Header { revision })?.end()?;
     Ok(out)
 }
 
@@ -218,9 +209,8 @@ impl Message for Alive {
         let out = out
             .begin()?
             .number(Field::Id, self.id)?
-            .number_if(Field::Ttl, self.ttl)?
-            .message(Field::Header, &header)?
-            .end()?;
+            .number_if(Field::Ttl, self.ttl)?;
+        let out = submessage(out, Field::Header, &header)?.end()?;
         Ok(out)
     }
 }
@@ -228,7 +218,7 @@ impl Message for Alive {
 fn write_alive(out: Text, alive: &Alive) -> Result<Text, AllocError>
     ensures { IfOk result (λ t. t ≡ out ++ data_tokens (object_of (none ++ given Result (alive_data alive.now.revision alive.now.id alive.now.ttl)))) }
 {
-    let out = out.begin()?.message(Field::Result, alive)?.end()?;
+    let out = submessage(out.begin()?, Field::Result, alive)?.end()?;
     Ok(out)
 }
 

@@ -3,12 +3,12 @@
 ghost use Rattle.std.specs.Prelude.{◌≡◌, List, Result, map, Ok};
 ghost use Rattle.serde_json.specs.View.{view, items_view};
 ghost use Rattle.ev_json.specs.Answers.{revision_in, kv_in, found_in, put_done_in, deleted_in, range_part_in, part_in, parts_in, txn_answer_in, range_answer_in, granted_in, kept_in, kept_alive_in, result_in, answer_in};
-ghost use Rattle.ev_json.specs.Bodies.{Gives, GivesAs};
+ghost use Rattle.ev_fields.specs.Gives.{Gives, GivesAs};
 
-use crate::fault::JsonFault;
-use crate::field::Field;
 use crate::list::{Read, list};
-use crate::members::{
+use ev_fields::fault::JsonFault;
+use ev_fields::field::Field;
+use ev_fields::members::{
     broken, bytes, count, flag, items, lease, member, message, needed_bytes, needed_count, without,
 };
 use ev_types::{Act, ActAns, Answer, Ask, Kv, RangeAns, TxnReq};

@@ -2,9 +2,10 @@
 
 ghost use Rattle.ev_json.specs.Messages.{guard_data, range_data, put_data, delete_data, act_data, txn_data, ask_data, create_data, watch_data};
 
-use crate::field::Field;
+use crate::message::{Message, list_if, submessage};
 use crate::room::{about_bytes, about_list};
-use crate::text::{Message, Text};
+use ev_fields::field::Field;
+use ev_fields::text::Text;
 use ev_types::{Act, Ask, Guard, RangeReq, TxnReq};
 use std::alloc::AllocError;
 
@@ -119,18 +120,18 @@ impl Message for Act {
                     value: value.as_slice(),
                     lease: *lease,
                 };
-                let out = out.message(Field::RequestPut, &put)?.end()?;
+                let out = submessage(out, Field::RequestPut, &put)?.end()?;
                 Ok(out)
             }
             Act::Delete { key } => {
                 let delete = Delete {
                     key: key.as_slice(),
                 };
-                let out = out.message(Field::RequestDeleteRange, &delete)?.end()?;
+                let out = submessage(out, Field::RequestDeleteRange, &delete)?.end()?;
                 Ok(out)
             }
             Act::Range(range) => {
-                let out = out.message(Field::RequestRange, range)?.end()?;
+                let out = submessage(out, Field::RequestRange, range)?.end()?;
                 Ok(out)
             }
         }
@@ -148,12 +149,9 @@ impl Message for TxnReq {
 
     #[tactic(auto, unfolding(crate::specs::Messages::txn_data))]
     fn write(&self, out: Text) -> Result<Text, AllocError> {
-        let out = out
-            .begin()?
-            .list_if(Field::Compare, self.guards.as_slice())?
-            .list_if(Field::Failure, self.failure.as_slice())?
-            .list_if(Field::Success, self.success.as_slice())?
-            .end()?;
+        let out = list_if(out.begin()?, Field::Compare, self.guards.as_slice())?;
+        let out = list_if(out, Field::Failure, self.failure.as_slice())?;
+        let out = list_if(out, Field::Success, self.success.as_slice())?.end()?;
         Ok(out)
     }
 }
@@ -236,7 +234,7 @@ impl Message for Watch<'_> {
             from: self.from,
             key: self.key,
         };
-        let out = out.begin()?.message(Field::CreateRequest, &create)?.end()?;
+        let out = submessage(out.begin()?, Field::CreateRequest, &create)?.end()?;
         Ok(out)
     }
 }

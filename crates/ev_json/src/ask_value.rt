@@ -3,12 +3,12 @@
 ghost use Rattle.std.specs.Prelude.{◌≡◌, Result, map, Ok, codes};
 ghost use Rattle.serde_json.specs.View.{view};
 ghost use Rattle.ev_json.specs.Asks.{guard_in, range_in, put_in, delete_in, range_act_in, act_in, txn_in, range_ask_in, txn_ask_in, grant_in, alive_in, ask_in, watch_in};
-ghost use Rattle.ev_json.specs.Bodies.{Gives, GivesAs};
+ghost use Rattle.ev_fields.specs.Gives.{Gives, GivesAs};
 
-use crate::fault::JsonFault;
-use crate::field::Field;
 use crate::list::{Read, list};
-use crate::members::{
+use ev_fields::fault::JsonFault;
+use ev_fields::field::Field;
+use ev_fields::members::{
     broken, bytes, count, flag, has, key, lease, message, positive_count, positive_lease, without,
     word, word_or_none,
 };

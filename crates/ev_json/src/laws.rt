@@ -13,8 +13,9 @@ ghost use Rattle.ev_json.specs.Asks.{ask_in, watch_in};
 ghost use Rattle.ev_json.specs.Bodies.{IsOneLine, first_line};
 ghost use Rattle.ev_json.specs.Breaks.{AskBreaks, AnswerBreaks, WatchBreaks, LineBreaks};
 ghost use Rattle.ev_json.specs.Messages.{ask_data, ask_text, route_of, answer_data, answer_text, watch_data, watch_text, line_data, line_text};
-ghost use Rattle.ev_json.specs.Ranges.{IsCount, IsKey, IsPositiveCount, KvFits, AskFits, AnswerFits, line_of};
-ghost use Rattle.ev_json.specs.declared.field.Field.{Field};
+ghost use Rattle.ev_fields.specs.Ranges.{IsCount, IsKey, IsPositiveCount};
+ghost use Rattle.ev_json.specs.Ranges.{KvFits, AskFits, AnswerFits, line_of};
+ghost use Rattle.ev_fields.specs.declared.field.Field.{Field};
 
 /// Each written text is JSON, and its value has the members that were written: their names rise, and none stands twice.
 pub fn texts_are_json()

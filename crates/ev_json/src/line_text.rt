@@ -4,23 +4,24 @@ ghost use Rattle.std.specs.Prelude.{◌≡◌, ◌++◌, map, IfOk};
 ghost use Rattle.std.specs.List.{flat_map};
 ghost use Rattle.serde_json.specs.Data.{array};
 ghost use Rattle.serde_json.specs.View.{items_of};
-ghost use Rattle.ev_json.specs.Members.{given, list_if};
+ghost use Rattle.ev_fields.specs.Members.{given, list_if};
 ghost use Rattle.ev_json.specs.Messages.{event_data, change_data, line_data};
-ghost use Rattle.ev_json.specs.Open.{Adds, data_tokens};
-ghost use Rattle.ev_json.specs.declared.field.Field.TheVariants.{Events};
+ghost use Rattle.ev_fields.specs.Open.{Adds, data_tokens};
+ghost use Rattle.ev_fields.specs.declared.field.Field.TheVariants.{Events};
 
 use crate::answer_text::Header;
-use crate::field::Field;
+use crate::message::{Message, kv, submessage};
 use crate::room::about_list;
-use crate::text::{Message, Text};
+use ev_fields::field::Field;
+use ev_fields::text::Text;
 use ev_types::Kv;
 use std::alloc::AllocError;
 
 #[tactic(auto, unfolding(crate::specs::Messages::event_data))]
-fn write_event(out: Text, kv: &Kv) -> Result<Text, AllocError>
-    ensures { IfOk result (λ t. t ≡ out ++ data_tokens (event_data kv.now)) }
+fn write_event(out: Text, put: &Kv) -> Result<Text, AllocError>
+    ensures { IfOk result (λ t. t ≡ out ++ data_tokens (event_data put.now)) }
 {
-    let out = out.begin()?.kv(kv)?.end()?;
+    let out = kv(out.begin()?, put)?.end()?;
     Ok(out)
 }
 
@@ -34,7 +35,7 @@ fn write_events(out: Text, kvs: &[Kv]) -> Result<Text, AllocError>
     Ok(text)
 }
 
-#[tactic(auto, using(crate::proofs::Tokens::nested))]
+#[tactic(auto, using(ev_fields::proofs::Tokens::nested))]
 fn events(out: Text, kvs: &[Kv]) -> Result<Text, AllocError>
     ensures { IfOk result (λ t. Adds (given Events (array (items_of (map event_data kvs.now)))) out t) }
 {
@@ -73,9 +74,8 @@ impl Message for Change<'_> {
             revision: self.revision,
         };
         let out = out.begin()?.true_if(Field::Created, self.kvs.is_empty())?;
-        let out = events_if(out, self.kvs)?
-            .message(Field::Header, &header)?
-            .end()?;
+        let out = events_if(out, self.kvs)?;
+        let out = submessage(out, Field::Header, &header)?.end()?;
         Ok(out)
     }
 }
@@ -100,7 +100,7 @@ impl Message for LineOf<'_> {
             kvs: self.kvs,
             revision: self.revision,
         };
-        let out = out.begin()?.message(Field::Result, &change)?.end()?;
+        let out = submessage(out.begin()?, Field::Result, &change)?.end()?;
         Ok(out)
     }
 }

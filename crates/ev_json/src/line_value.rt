@@ -4,14 +4,14 @@ ghost use Rattle.std.specs.Prelude.{◌≡◌, ◌++◌, List, Result, map, Ok, 
 ghost use Rattle.serde_json.specs.Find.{get};
 ghost use Rattle.serde_json.specs.View.{view};
 ghost use Rattle.ev_json.specs.Answers.{deletion_in, kv_needed, event_in, puts_of, news_in, change_in, line_in};
-ghost use Rattle.ev_json.specs.Bodies.{Gives};
+ghost use Rattle.ev_fields.specs.Gives.{Gives};
 
 use crate::answer_value::{result_of, revision};
-use crate::fault::JsonFault;
-use crate::field::Field;
 use crate::line::{Event, Line};
 use crate::list::{Read, list};
-use crate::members::{broken, count, flag, member};
+use ev_fields::fault::JsonFault;
+use ev_fields::field::Field;
+use ev_fields::members::{broken, count, flag, member};
 use ev_types::Kv;
 use serde_json::Value;
 use std::alloc::{AllocError, Global};

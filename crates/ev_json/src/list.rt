@@ -3,13 +3,13 @@
 ghost use Rattle.std.specs.Prelude.{◌≡◌, List, Result};
 ghost use Rattle.serde_json.specs.Data.{Data};
 ghost use Rattle.serde_json.specs.View.{view, items_view};
-ghost use Rattle.ev_json.specs.Bodies.{Gives, GivesAs};
-ghost use Rattle.ev_json.specs.Kinds.{each, list_in};
-ghost use Rattle.ev_json.specs.declared.field.Field.{Field};
+ghost use Rattle.ev_fields.specs.Gives.{Gives, GivesAs};
+ghost use Rattle.ev_fields.specs.Kinds.{each, list_in};
+ghost use Rattle.ev_fields.specs.declared.field.Field.{Field};
 
-use crate::fault::JsonFault;
-use crate::field::Field;
-use crate::members::items;
+use ev_fields::fault::JsonFault;
+use ev_fields::field::Field;
+use ev_fields::members::items;
 use serde_json::Value;
 use std::alloc::Global;
 use zx_base::Seq;
@@ -34,7 +34,7 @@ fn each<T: Read>(alloc: Global, values: &[Value]) -> Result<Vec<T>, JsonFault>
 }
 
 /// A list of messages; none where it is absent.
-#[tactic(auto, unfolding(crate::specs::Kinds::list_in))]
+#[tactic(auto, unfolding(ev_fields::specs::Kinds::list_in))]
 pub fn list<T: Read>(alloc: Global, value: &Value, name: Field) -> Result<Seq<T>, JsonFault>
     ensures { Gives result (list_in T.reading name (view value.now)) }
 {

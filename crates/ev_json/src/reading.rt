@@ -10,9 +10,9 @@ ghost use Rattle.ev_json.specs.Bodies.{IsUnparsed, FaultOf, first_line, message_
 
 use crate::answer_value::answer;
 use crate::ask_value::{ask, watch};
-use crate::fault::JsonFault;
 use crate::line::Line;
 use crate::line_value::line;
+use ev_fields::fault::JsonFault;
 use ev_types::{Answer, Ask, Route};
 use serde_json::{Category, Value};
 use std::alloc::Global;

@@ -1,7 +1,7 @@
 //! How much room texts take. These are bounds from above by the longest numbers, which nothing but speed rests on: a text
 //! that were longer would grow.
 
-use crate::text::Message;
+use crate::message::Message;
 
 /// So much room, and the bytes in base64.
 pub fn about_bytes(room: usize, bytes: &[u8]) -> usize {

@@ -1,5 +1,4 @@
-//! Messages as texts. Each member is written once, straight into the text, whose room is taken once; keys and values
-//! go through one text for base64 that all of a message's members share.
+//! Messages as texts. Each member is written once, straight into the text, whose room is taken once.
 
 ghost use Rattle.std.specs.Prelude.{◌≡◌, IfOk, IsUtf8};
 ghost use Rattle.std.specs.List.{AllByRecursion};
@@ -7,17 +6,19 @@ ghost use Rattle.serde_json.specs.Written.{compact_text};
 ghost use Rattle.ev_types.specs.declared.ask.Ask.{Ask};
 ghost use Rattle.ev_json.specs.Bodies.{IsOneLine, reads, reads_ask, reads_line, reads_watch};
 ghost use Rattle.ev_json.specs.Messages.{ask_text, answer_text, watch_text, line_text, route_of};
-ghost use Rattle.ev_json.specs.Ranges.{IsCount, IsKey, IsPositiveCount, KvFits, AskFits, AnswerFits, line_of};
+ghost use Rattle.ev_fields.specs.Ranges.{IsCount, IsKey, IsPositiveCount};
+ghost use Rattle.ev_json.specs.Ranges.{KvFits, AskFits, AnswerFits, line_of};
 
 use crate::ask_text::Watch;
 use crate::line_text::LineOf;
-use crate::text::{Message, Text};
+use crate::message::Message;
+use ev_fields::text::Text;
 use ev_types::{Answer, Ask, Kv, Route};
 use std::alloc::{AllocError, Global};
 use zx_base::Memory;
 
 /// The text of one message.
-#[tactic(auto, using(crate::proofs::Tokens::written))]
+#[tactic(auto, using(ev_fields::proofs::Tokens::written))]
 fn text_of<M: Message>(alloc: Global, message: &M) -> Result<Vec<u8>, AllocError>
     ensures text { IfOk result (λ v. v.items ≡ compact_text (M.shape message.now)) }
     ensures utf8 { IfOk result (λ v. IsUtf8 v.items) }

@@ -2,7 +2,7 @@ use Rattle.ev_json.specs.Messages.{ask_data, ask_text, answer_data, answer_text,
 use Rattle.ev_json.proofs.AnswerBack.{plain-answer}
 use Rattle.ev_json.proofs.AskBack.{plain-ask, plain-watch}
 use Rattle.ev_json.proofs.LineBack.{plain-line}
-use Rattle.ev_json.proofs.Rising.{read-plain}
+use Rattle.ev_fields.proofs.Rising.{read-plain}
 use Rattle.ev_json.proofs.laws.texts_are_json.Goals as goal
 
 pub returns-clause-asks : goal.returns-clause-asks

@@ -1,8 +1,8 @@
 use Rattle.std.proofs.Common.{sym, ◌∙◌}
 use Rattle.std.proofs.lemmas.Bool.{eqb-true, eqb-false}
 use Rattle.ev_json.specs.Messages.{event_data}
-use Rattle.ev_json.specs.declared.field.Field.TheVariants.{Events}
-use Rattle.ev_json.proofs.Tokens.{opened-empty, list_if-some}
+use Rattle.ev_fields.specs.declared.field.Field.TheVariants.{Events}
+use Rattle.ev_fields.proofs.Tokens.{opened-empty, list_if-some}
 use Rattle.ev_json.proofs.line_text.events_if.Goals as goal
 
 pub returns-then-is_empty : goal.returns-then-is_empty

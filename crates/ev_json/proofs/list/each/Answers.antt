@@ -1,6 +1,6 @@
 use Rattle.std.proofs.lemmas.Result.{err_from_is_err_and}
 use Rattle.serde_json.specs.View.{items_view}
-use Rattle.ev_json.specs.Kinds.{each}
+use Rattle.ev_fields.specs.Kinds.{each}
 use Rattle.ev_json.proofs.Loop.{goes_on, ends, is_done}
 use Rattle.ev_json.proofs.list.each.Goals as goal
 

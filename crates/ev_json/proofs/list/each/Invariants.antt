@@ -1,5 +1,5 @@
 use Rattle.std.proofs.Common.{◌≡◌}
-use Rattle.ev_json.specs.Kinds.{each}
+use Rattle.ev_fields.specs.Kinds.{each}
 use Rattle.serde_json.specs.View.{items_view}
 use Rattle.ev_json.proofs.Loop.{with_front, rest_of}
 use Rattle.ev_json.proofs.list.each.Given as goal

@@ -1,0 +1,21 @@
+//! What the messages of etcd's JSON gateway are made of: the names of their members, the texts that are written member by
+//! member, and the members of a parsed text (etcd API reference, "gRPC gateway"; the JSON mapping of proto3; RFC 4648).
+//! `ev_json` has the messages.
+//!
+//! # Writing
+//!
+//! A [`text::Text`] goes from call to call by value, and each call writes one member behind those before. Its clauses say
+//! which members the open object has then, as `specs/Members` defines them: numbers of 64 bits are texts of digits, bytes are
+//! base64 with padding.
+//!
+//! # Reading
+//!
+//! Each call of [`members`] looks one member up, in snake case and else in camel case, and gives its value or the
+//! [`fault::JsonFault`] that names it. `specs/Kinds` defines each kind and its range.
+#![tactic(auto)]
+
+pub mod fault;
+pub mod field;
+pub mod members;
+mod printer;
+pub mod text;

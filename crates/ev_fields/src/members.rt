@@ -1,0 +1,317 @@
+//! Members of a JSON object that is read, by their kinds.
+
+ghost use Rattle.std.specs.Prelude.{◌≡◌, ◌≤◌, ◌^◌, List, Option, Some, None, option_map};
+ghost use Rattle.std.specs.List.{list_all};
+ghost use Rattle.std.specs.Char.{is_ascii_digit};
+ghost use Rattle.serde_json.specs.View.{view, items_view};
+ghost use Rattle.ev_fields.specs.Gives.{Gives, GivesAs};
+ghost use Rattle.ev_fields.specs.Kinds.{known, has, digits64, number_of, count_of, lease_of, from_one, bytes_of, word_of, member_of, message_in, count_in, lease_in, flag_in, bytes_in, needed_bytes, needed_count, positive_count, positive_lease, key_in, word_in, word_or_none, without, items_in};
+
+use crate::fault::JsonFault;
+use crate::field::Field;
+use base64::DecodeAllocError;
+use base64::engine::general_purpose::STANDARD;
+use serde_json::Value;
+use std::alloc::Global;
+use zx_base::Bytes;
+
+pub fn broken(field: Field) -> JsonFault
+    ensures { result ≡ JsonFault.Unreadable field }
+{
+    JsonFault::Unreadable { field }
+}
+
+/// The member under either name.
+#[tactic(auto, unfolding(crate::specs::Kinds::member_of))]
+pub fn member(value: &Value, name: Field) -> Option<&Value>
+    ensures { option_map (λ v. view v.now) result ≡ member_of name (view value.now) }
+{
+    match value.get(name.snake()) {
+        Some(found) => Some(found),
+        None => value.get(name.camel()),
+    }
+}
+
+/// Whether there is such a member.
+pub fn has(value: &Value, name: Field) -> bool
+    ensures { result ≡ has name (view value.now) }
+{
+    member(value, name).is_some()
+}
+
+/// A member that must not be there.
+#[tactic(auto, unfolding(crate::specs::Kinds::without))]
+pub fn without(value: &Value, name: Field) -> Result<bool, JsonFault>
+    ensures { Gives result (without name (view value.now)) }
+{
+    if has(value, name) {
+        return Err(broken(name));
+    }
+    Ok(true)
+}
+
+/// A flag; false where it is absent.
+#[tactic(auto, unfolding(crate::specs::Kinds::flag_in))]
+pub fn flag(value: &Value, name: Field) -> Result<bool, JsonFault>
+    ensures { Gives result (flag_in name (view value.now)) }
+{
+    let Some(found) = member(value, name) else {
+        return Ok(false);
+    };
+    match found.as_bool() {
+        Some(flag) => Ok(flag),
+        None => Err(broken(name)),
+    }
+}
+
+/// The bytes that a text in base64 stands for: one copy.
+#[tactic(auto, unfolding(crate::specs::Kinds::bytes_of))]
+fn bytes_of(alloc: Global, value: &Value, name: Field) -> Result<Bytes, JsonFault>
+    ensures { Gives result (known name (bytes_of (view value.now))) }
+{
+    let Some(text) = value.as_str() else {
+        return Err(broken(name));
+    };
+    match STANDARD.decode(alloc, text.as_bytes()) {
+        Ok(bytes) => Ok(Bytes::from_vec(bytes)),
+        Err(DecodeAllocError::OutOfMemory) => Err(JsonFault::Memory),
+        Err(_) => Err(broken(name)),
+    }
+}
+
+#[tactic(auto, unfolding(crate::specs::Kinds::bytes_in))]
+pub fn bytes(alloc: Global, value: &Value, name: Field) -> Result<Bytes, JsonFault>
+    ensures { Gives result (bytes_in name (view value.now)) }
+{
+    match member(value, name) {
+        Some(found) => bytes_of(alloc, found, name),
+        None => Ok(Bytes::new(alloc)),
+    }
+}
+
+#[tactic(auto, unfolding(crate::specs::Kinds::needed_bytes))]
+pub fn needed_bytes(alloc: Global, value: &Value, name: Field) -> Result<Bytes, JsonFault>
+    ensures { Gives result (needed_bytes name (view value.now)) }
+{
+    match member(value, name) {
+        Some(found) => bytes_of(alloc, found, name),
+        None => Err(broken(name)),
+    }
+}
+
+fn are_digits(text: &[u8]) -> bool
+    ensures { result ≡ list_all is_ascii_digit text.now }
+{
+    text.iter().all(|b| b.is_ascii_digit())
+}
+
+/// Digits alone, at least one, as a number of 64 bits.
+#[tactic(auto, using(crate::proofs::Digits::read_digits))]
+fn digits_of(text: &str) -> Option<u64>
+    ensures { result ≡ digits64 text.now }
+{
+    if text.is_empty() {
+        return None;
+    }
+    if !are_digits(text.as_bytes()) {
+        return None;
+    }
+    match text.parse::<u64>() {
+        Ok(number) => Some(number),
+        Err(_) => None,
+    }
+}
+
+#[tactic(auto, unfolding(crate::specs::Kinds::number_of))]
+fn number_of(top: u64, value: &Value) -> Option<i64>
+    requires { top ≤ 2 ^ 63 }
+    ensures { result ≡ number_of top (view value.now) }
+{
+    let number = match value.as_str() {
+        Some(text) => digits_of(text),
+        None => value.as_u64(),
+    };
+    match number {
+        Some(n) if n < top => Some(n as i64),
+        _ => None,
+    }
+}
+
+/// Revisions, versions, counts and seconds are below 2^62.
+const MAX_COUNTS: u64 = 0x4000_0000_0000_0000;
+/// The numbers of leases are below 2^63.
+const MAX_LEASES: u64 = 0x8000_0000_0000_0000;
+
+#[tactic(auto, unfolding(crate::specs::Kinds::count_of))]
+fn count_of(value: &Value) -> Option<i64>
+    ensures { result ≡ count_of (view value.now) }
+{
+    number_of(MAX_COUNTS, value)
+}
+
+#[tactic(auto, unfolding(crate::specs::Kinds::lease_of))]
+fn lease_of(value: &Value) -> Option<i64>
+    ensures { result ≡ lease_of (view value.now) }
+{
+    number_of(MAX_LEASES, value)
+}
+
+/// A revision, a version or a count; 0 where it is absent.
+#[tactic(auto, unfolding(crate::specs::Kinds::count_in))]
+pub fn count(value: &Value, name: Field) -> Result<i64, JsonFault>
+    ensures { Gives result (count_in name (view value.now)) }
+{
+    let Some(found) = member(value, name) else {
+        return Ok(0);
+    };
+    match count_of(found) {
+        Some(count) => Ok(count),
+        None => Err(broken(name)),
+    }
+}
+
+#[tactic(auto, unfolding(crate::specs::Kinds::needed_count))]
+pub fn needed_count(value: &Value, name: Field) -> Result<i64, JsonFault>
+    ensures { Gives result (needed_count name (view value.now)) }
+{
+    let Some(found) = member(value, name) else {
+        return Err(broken(name));
+    };
+    match count_of(found) {
+        Some(count) => Ok(count),
+        None => Err(broken(name)),
+    }
+}
+
+fn from_one(number: Option<i64>) -> Option<i64>
+    ensures { result ≡ from_one number }
+{
+    match number {
+        Some(n) if n > 0 => Some(n),
+        _ => None,
+    }
+}
+
+/// A count that must be there and be at least 1.
+#[tactic(auto, unfolding(crate::specs::Kinds::positive_count))]
+pub fn positive_count(value: &Value, name: Field) -> Result<i64, JsonFault>
+    ensures { Gives result (positive_count name (view value.now)) }
+{
+    let Some(found) = member(value, name) else {
+        return Err(broken(name));
+    };
+    match from_one(count_of(found)) {
+        Some(count) => Ok(count),
+        None => Err(broken(name)),
+    }
+}
+
+/// A lease's number that must be there and be at least 1.
+#[tactic(auto, unfolding(crate::specs::Kinds::positive_lease))]
+pub fn positive_lease(value: &Value, name: Field) -> Result<i64, JsonFault>
+    ensures { Gives result (positive_lease name (view value.now)) }
+{
+    let Some(found) = member(value, name) else {
+        return Err(broken(name));
+    };
+    match from_one(lease_of(found)) {
+        Some(lease) => Ok(lease),
+        None => Err(broken(name)),
+    }
+}
+
+/// The key of an ask, which has a byte.
+#[tactic(auto, unfolding(crate::specs::Kinds::key_in))]
+pub fn key(alloc: Global, value: &Value) -> Result<Bytes, JsonFault>
+    ensures { Gives result (key_in (view value.now)) }
+{
+    let Some(found) = member(value, Field::Key) else {
+        return Err(broken(Field::Key));
+    };
+    let key = bytes_of(alloc, found, Field::Key)?;
+    if key.len() == 0 {
+        return Err(broken(Field::Key));
+    }
+    Ok(key)
+}
+
+#[tactic(auto, unfolding(crate::specs::Kinds::word_of))]
+fn word_of(value: &Value, word: &str) -> Option<bool>
+    ensures { result ≡ word_of word.now (view value.now) }
+{
+    let text = value.as_str()?;
+    if text == word {
+        return Some(true);
+    }
+    None
+}
+
+/// A member that must be this text.
+#[tactic(auto, unfolding(crate::specs::Kinds::word_in))]
+pub fn word(value: &Value, name: Field, word: &str) -> Result<bool, JsonFault>
+    ensures { Gives result (word_in name word.now (view value.now)) }
+{
+    let Some(found) = member(value, name) else {
+        return Err(broken(name));
+    };
+    match word_of(found, word) {
+        Some(same) => Ok(same),
+        None => Err(broken(name)),
+    }
+}
+
+/// A member that is this text, where it is there.
+#[tactic(auto, unfolding(crate::specs::Kinds::word_or_none))]
+pub fn word_or_none(value: &Value, name: Field, word: &str) -> Result<bool, JsonFault>
+    ensures { Gives result (word_or_none name word.now (view value.now)) }
+{
+    let Some(found) = member(value, name) else {
+        return Ok(true);
+    };
+    match word_of(found, word) {
+        Some(same) => Ok(same),
+        None => Err(broken(name)),
+    }
+}
+
+/// A lease's number; 0 where it is absent.
+#[tactic(auto, unfolding(crate::specs::Kinds::lease_in))]
+pub fn lease(value: &Value, name: Field) -> Result<i64, JsonFault>
+    ensures { Gives result (lease_in name (view value.now)) }
+{
+    let Some(found) = member(value, name) else {
+        return Ok(0);
+    };
+    match lease_of(found) {
+        Some(lease) => Ok(lease),
+        None => Err(broken(name)),
+    }
+}
+
+/// A member that must be there, whose value is an object.
+#[tactic(auto, unfolding(crate::specs::Kinds::message_in))]
+pub fn message(value: &Value, name: Field) -> Result<&Value, JsonFault>
+    ensures { GivesAs (λ v. view v.now) result (message_in name (view value.now)) }
+{
+    let Some(found) = member(value, name) else {
+        return Err(broken(name));
+    };
+    if found.as_object().is_none() {
+        return Err(broken(name));
+    }
+    Ok(found)
+}
+
+/// The items of a list; none where it is absent.
+#[tactic(auto, unfolding(crate::specs::Kinds::items_in))]
+pub fn items(value: &Value, name: Field) -> Result<&[Value], JsonFault>
+    ensures { GivesAs (λ v. items_view v.now) result (items_in name (view value.now)) }
+{
+    let Some(found) = member(value, name) else {
+        return Ok(&[]);
+    };
+    match found.as_array() {
+        Some(values) => Ok(values.as_slice()),
+        None => Err(broken(name)),
+    }
+}
