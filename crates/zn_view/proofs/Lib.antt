@@ -1,0 +1,12 @@
+pub mod KeyKinds
+pub mod ChildPaths
+pub mod Added
+pub mod AsSeen
+pub mod Committing
+pub mod Tested
+pub mod Keyed
+pub mod SeenAfter
+pub mod Showing
+pub mod Asked
+pub mod Listing
+pub mod LastUpdate

@@ -1,0 +1,103 @@
+-- What a view takes, and why it takes no more.
+use Rattle.std.specs.Prelude.{◌≡◌, ℕ, ℤ, pos, ◌⊎◌, ◌++◌, List, [], ◌∷◌, take, Option, Some, None, All, IfSome, if◌then◌else◌}
+use Rattle.std.specs.Ordering.{int_eq}
+use Rattle.ev_types.specs.declared.answer.ActAns.{ActAns}
+use Rattle.ev_types.specs.declared.answer.Kv.{Kv}
+use Rattle.zx_base.specs.Maps.{Bytes}
+use Rattle.zn_view.specs.declared.fault.ViewFault.{ViewFault}
+use Rattle.zn_view.specs.declared.fault.ViewFault.TheVariants.{OtherRevision, Damaged, Memory}
+use Rattle.zn_view.specs.declared.snapshot.SeenKey.{SeenKey}
+use Rattle.zn_view.specs.declared.snapshot.SeenChildren.{SeenChildren}
+use Rattle.zn_view.specs.declared.want.Want.{Want}
+use Rattle.zn_view.specs.declared.want.Want.TheVariants as want
+use Rattle.zn_view.specs.Asks.{found_in, kept_under}
+use Rattle.zn_view.specs.Seen.{View, IsRecord, AreCounts}
+
+-- the first round's revision is kept
+abbrev pub at_revision : View → ℤ → View
+at_revision v r = if int_eq v.revision (pos 0) then record v { revision = r } else v
+
+-- the view has a round, at another revision
+abbrev pub IsOtherRevision : View → ℤ → Type 0
+IsOtherRevision v r = (v.revision ≡ pos 0 → ⊥) × (v.revision ≡ r → ⊥)
+
+-- the numbers of what was found are in an etcd's range
+abbrev pub AreNumbersIn : ActAns → Type 0
+AreNumbersIn a = All AreCounts (found_in a)
+
+abbrev pub AreNumbers : List ActAns → Type 0
+AreNumbers parts = All AreNumbersIn parts
+
+-- what a part shows of a key that is wanted
+abbrev pub shown_to : Want → ActAns → Option Kv
+shown_to (want.Key k) a = kept_under k (found_in a)
+shown_to (want.Children p) a = None
+
+abbrev pub IsRecordPart : Want → ActAns → Type 0
+IsRecordPart w a = IfSome (shown_to w a) IsRecord
+
+abbrev pub AreRecords : List Want → List ActAns → Type 0
+AreRecords [] parts = Unit {0}
+AreRecords (w ∷ ws) [] = Unit {0}
+AreRecords (w ∷ ws) (a ∷ more) = IsRecordPart w a × AreRecords ws more
+
+-- what was found for a want is this, and it is no record
+pub record IsDamagedPart (w : Want) (a : ActAns) (key value : Bytes) : Type 0 where
+  pub kv : Kv
+  pub shown : shown_to w a ≡ Some kv
+  pub key_is : key ≡ kv.key
+  pub value_is : value ≡ kv.value
+  pub broken : IsRecord kv → ⊥
+
+-- the first in the order of the wants
+abbrev pub IsFirstDamaged : List Want → List ActAns → Bytes → Bytes → Type 0
+IsFirstDamaged [] parts key value = ⊥
+IsFirstDamaged (w ∷ ws) [] key value = ⊥
+IsFirstDamaged (w ∷ ws) (a ∷ more) key value = IsDamagedPart w a key value ⊎ (IsRecordPart w a × IsFirstDamaged ws more key value)
+
+abbrev pub IsViewFault : View → List Want → ℤ → List ActAns → ViewFault → Type 0
+IsViewFault v ws r parts (OtherRevision view found) = IsOtherRevision v r × (view ≡ v.revision) × (found ≡ r)
+IsViewFault v ws r parts (Damaged key value) = (IsOtherRevision v r → ⊥) × IsFirstDamaged ws parts key value
+IsViewFault v ws r parts Memory = Unit {0}
+
+-- ---- a view that is being extended
+
+-- only further keys and lists stand behind the old ones
+pub record IsGrown (old new : View) : Type 0 where
+  pub revision : new.revision ≡ old.revision
+  pub keys : List SeenKey
+  pub lists : List SeenChildren
+  pub keys_are : new.keys ≡ old.keys ++ keys
+  pub lists_are : new.lists ≡ old.lists ++ lists
+
+abbrev pub with_key : View → SeenKey → View
+with_key v x = record v { keys = v.keys ++ x ∷ [] }
+
+abbrev pub with_list : View → SeenChildren → View
+with_list v x = record v { lists = v.lists ++ x ∷ [] }
+
+abbrev pub first_of : View → ℕ → ℕ → View
+first_of v keys lists = record v { keys = take keys v.keys; lists = take lists v.lists }
+
+-- why a part, or some parts, weren't taken
+abbrev pub IsPartFault : Want → ActAns → ViewFault → Type 0
+IsPartFault w a (OtherRevision view found) = ⊥
+IsPartFault w a (Damaged key value) = IsDamagedPart w a key value
+IsPartFault w a Memory = Unit {0}
+
+abbrev pub IsPartsFault : List Want → List ActAns → ViewFault → Type 0
+IsPartsFault ws parts (OtherRevision view found) = ⊥
+IsPartsFault ws parts (Damaged key value) = IsFirstDamaged ws parts key value
+IsPartsFault ws parts Memory = Unit {0}
+
+-- the fault of a value that is no record: the key and the value are given, or memory was refused
+abbrev pub IsDamagedFault : Kv → ViewFault → Type 0
+IsDamagedFault kv (OtherRevision view found) = ⊥
+IsDamagedFault kv (Damaged key value) = (key ≡ kv.key) × (value ≡ kv.value)
+IsDamagedFault kv Memory = Unit {0}
+
+-- what was found under a key isn't a record
+abbrev pub IsKeyFault : Option Kv → ViewFault → Type 0
+IsKeyFault o (OtherRevision view found) = ⊥
+IsKeyFault o (Damaged key value) = (kv : Kv) × (o ≡ Some kv) × (key ≡ kv.key) × (value ≡ kv.value) × (IsRecord kv → ⊥)
+IsKeyFault o Memory = Unit {0}

@@ -1,0 +1,104 @@
+-- What a request looks up before it can be decided, and what a finished draft is.
+use Rattle.std.specs.Prelude.{◌≡◌, ℤ, pos, nat_abs, ◌⊎◌, List, [], map, Some, None, IsTrue, Contains, if◌then◌else◌}
+use Rattle.std.specs.Ordering.{int_eq}
+use Rattle.ev_types.specs.declared.answer.Kv.{Kv}
+use Rattle.zk_model.specs.declared.node.Stat.{Stat}
+use Rattle.zk_model.specs.declared.reply.Body.{Body}
+use Rattle.zk_model.specs.declared.reply.Body.TheVariants as body
+use Rattle.zk_model.specs.declared.reply.PartResult.{PartResult}
+use Rattle.zk_model.specs.declared.reply.PartResult.TheVariants as result
+use Rattle.zk_model.specs.declared.reply.Reply.{Reply}
+use Rattle.zk_model.specs.declared.reply.Reply.TheVariants as reply
+use Rattle.zk_model.specs.declared.request.Request.{Request}
+use Rattle.zk_model.specs.declared.request.Request.TheVariants as req
+use Rattle.zk_model.specs.Paths.{parent, sequence_path, with_one}
+use Rattle.zk_model.specs.Single.{is_sequential}
+use Rattle.zk_model.specs.Watches.{no_watches}
+use Rattle.zk_transcript.specs.Answers.{Told, plain_request}
+use Rattle.zx_base.specs.Maps.{Bytes}
+use Rattle.zn_layout.specs.declared.record.NodeRec.{NodeRec}
+use Rattle.zn_layout.specs.declared.record.CountRec.{CountRec}
+use Rattle.zn_layout.specs.declared.record.LeaseRec.{LeaseRec}
+use Rattle.zn_layout.specs.Keys.{Key, DataKey, CountsKey, SessionKey, LeaseKey, key_bytes}
+use Rattle.zn_layout.specs.Records.{node_value, counts_value, session_value, lease_value, IsNodeRec, IsCountRec, IsSessionRec, IsLeaseRec}
+use Rattle.zn_view.specs.declared.want.Want.{Want}
+use Rattle.zn_view.specs.declared.want.Want.TheVariants as want
+use Rattle.zn_view.specs.declared.plan.Who.{Who}
+use Rattle.zn_view.specs.Asks.{head_want}
+use Rattle.zn_view.specs.Seen.{View, seen, listed}
+use Rattle.zn_view.specs.Views.{reads}
+
+-- ---- the records that a view saw
+
+abbrev pub key_want : Key → Want
+key_want k = want.Key (key_bytes k)
+
+-- the view saw this value under a key
+abbrev pub SawValue : View → Key → Bytes → Type 0
+SawValue v k value = (kv : Kv) × (seen v (key_bytes k) ≡ Some (Some kv)) × (kv.value ≡ value)
+
+abbrev pub SawNode : View → Bytes → NodeRec → Type 0
+SawNode v p r = IsNodeRec r × SawValue v (DataKey p) (node_value r)
+
+abbrev pub SawCounts : View → Bytes → CountRec → Type 0
+SawCounts v p r = IsCountRec r × SawValue v (CountsKey p) (counts_value r)
+
+abbrev pub SawNodes : View → ℤ → List Bytes → Type 0
+SawNodes v id ps = IsSessionRec ps × SawValue v (SessionKey (nat_abs id)) (session_value ps)
+
+abbrev pub SawLife : View → ℤ → LeaseRec → Type 0
+SawLife v id r = IsLeaseRec r × SawValue v (LeaseKey (nat_abs id)) (lease_value r)
+
+-- ---- what is read
+
+-- what is looked up besides: the children of a node, which are listed at once; and what follows from the view: the key of a
+-- sequence node, the nodes of an owner, and the counts of the parents of a session's nodes
+abbrev pub Follows : Request → ℤ → View → Want → Type 0
+Follows (req.Create p d a f) id v w =
+    IsTrue (is_sequential f) × (q : Bytes) × (parent (with_one p) ≡ Some q) × (r : CountRec) × SawCounts v q r × (w ≡ key_want (DataKey (sequence_path p (nat_abs r.creates))))
+Follows (req.Delete p x) id v w = (r : NodeRec) × SawNode v p r × (r.owner ≡ pos 0 → ⊥) × (w ≡ key_want (SessionKey (nat_abs r.owner)))
+Follows (req.GetChildren p x) id v w = w ≡ want.Children p
+Follows (req.GetChildren2 p x) id v w = w ≡ want.Children p
+Follows req.Close id v w = (ps : List Bytes) × (p q : Bytes) × SawNodes v id ps × Contains ps p × (parent p ≡ Some q) × (w ≡ key_want (CountsKey q))
+Follows _ id v w = ⊥
+
+abbrev pub life_want : ℤ → Want
+life_want id = key_want (LeaseKey (nat_abs id))
+
+-- what a request reads, as far as the view determines it
+abbrev pub IsRead : Request → Who → View → Want → Type 0
+IsRead r who v w = (w ≡ head_want) ⊎ (w ≡ life_want who.session) ⊎ ((k : Key) × Contains (reads r who.session) k × (w ≡ key_want k)) ⊎ Follows r who.session v w
+
+abbrev pub IsLacking : View → Want → Type 0
+IsLacking v (want.Key k) = seen v k ≡ None
+IsLacking v (want.Children p) = listed v p ≡ None
+
+-- The wants name only what is read and lacking, and nothing only where nothing is lacking. What needs no tree reads nothing.
+pub record AreNeeds (r : Request) (who : Who) (v : View) (ws : List Want) : Type 0 where
+  pub only : (w : Want) → Contains ws w → IsRead r who v w × IsLacking v w
+  pub enough : ws ≡ [] → plain_request no_watches r ≡ None → (w : Want) → IsRead r who v w → IsLacking v w → ⊥
+  pub none : (t : Told) → plain_request no_watches r ≡ Some t → ws ≡ []
+
+-- ---- a draft has 0 in each place of the zxid that its update gets
+
+abbrev pub own : ℤ → ℤ → ℤ
+own zxid x = if int_eq x (pos 0) then zxid else x
+
+abbrev pub own_stat : ℤ → Stat → Stat
+own_stat zxid s = record s { czxid = own zxid s.czxid; mzxid = own zxid s.mzxid; pzxid = own zxid s.pzxid }
+
+abbrev pub own_result : ℤ → PartResult → PartResult
+own_result zxid (result.Set s) = result.Set (own_stat zxid s)
+own_result zxid (result.Created p) = result.Created p
+own_result zxid result.Deleted = result.Deleted
+own_result zxid result.Checked = result.Checked
+own_result zxid (result.Code c) = result.Code c
+
+abbrev pub own_body : ℤ → Body → Body
+own_body zxid (body.Stat s) = body.Stat (own_stat zxid s)
+own_body zxid (body.Parts rs) = body.Parts (map (own_result zxid) rs)
+own_body zxid b = b
+
+abbrev pub finished : ℤ → Reply → Reply
+finished zxid (reply.Good b) = reply.Good (own_body zxid b)
+finished zxid (reply.Refused code) = reply.Refused code

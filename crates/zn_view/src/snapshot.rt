@@ -1,0 +1,29 @@
+//! What was found under some keys.
+
+use ev_types::Kv;
+use zk_model::Path;
+use zx_base::{Bytes, Seq};
+
+/// A key that was looked up, and what it had.
+#[derive(Debug, Drop)]
+pub struct SeenKey {
+    pub key: Bytes,
+    pub found: Option<Kv>,
+}
+
+/// A node whose children were listed, and their paths in the order of their bytes.
+#[derive(Debug, Drop)]
+pub struct SeenChildren {
+    pub path: Path,
+    pub paths: Seq<Bytes>,
+}
+
+/// What some keys had at one revision of an etcd.
+#[derive(Debug, Drop)]
+pub struct Snapshot {
+    /// 0 where nothing was looked up yet.
+    pub revision: i64,
+    /// In the order in which they were looked up.
+    pub keys: Seq<SeenKey>,
+    pub lists: Seq<SeenChildren>,
+}

@@ -1,0 +1,111 @@
+//! Views: what some keys had at one revision of an etcd.
+
+ghost use Rattle.std.specs.Prelude.{◌≡◌, All, OnOk, OnErr};
+ghost use Rattle.zn_view.specs.Adding.{at_revision, with_key, with_list, first_of};
+ghost use Rattle.zn_view.specs.Seen.{empty_view, IsCount, IsSeen};
+
+use crate::snapshot::{SeenChildren, SeenKey};
+use std::alloc::Global;
+use std::marker::Model;
+use zx_base::Memory;
+
+/// What some keys had at one revision. Every value is a record of its key's kind.
+#[derive(Debug, Drop)]
+pub struct View {
+    /// 0 where nothing was looked up yet.
+    revision: i64,
+    keys: Vec<SeenKey>,
+    lists: Vec<SeenChildren>,
+    alloc: Global,
+}
+
+impl Model for View {
+    ghost use Rattle.std.specs.Prelude.{All};
+    ghost use Rattle.zn_view.specs.declared.snapshot.Snapshot.{Snapshot};
+    ghost use Rattle.zn_view.specs.Seen.{IsCount, IsSeen};
+
+    ghost Value = { Snapshot };
+
+    ghost view = { λ v. record {
+      revision = v.revision;
+      keys = v.keys.items;
+      lists = v.lists.items;
+    } };
+
+    ghost invariant = { λ v. IsCount v.revision × All IsSeen v.keys.items };
+}
+
+impl View {
+    /// A view that saw nothing yet.
+    pub fn empty(alloc: Global) -> View
+        ensures { result ≡ empty_view }
+    {
+        View {
+            revision: 0,
+            keys: Vec::new(alloc),
+            lists: Vec::new(alloc),
+            alloc,
+        }
+    }
+
+    /// The revision that the view is of, 0 where nothing was looked up yet.
+    pub fn revision(&self) -> i64
+        ensures { result ≡ self.now.revision }
+    {
+        self.revision
+    }
+
+    pub(crate) fn allocator(&self) -> Global {
+        self.alloc
+    }
+
+    pub(crate) fn keys(&self) -> &[SeenKey]
+        ensures is { result.now ≡ self.now.keys }
+        ensures kept { All IsSeen result.now }
+    {
+        self.keys.as_slice()
+    }
+
+    pub(crate) fn lists(&self) -> &[SeenChildren]
+        ensures { result.now ≡ self.now.lists }
+    {
+        self.lists.as_slice()
+    }
+
+    /// Adds a key behind the others, or is as it was.
+    pub(crate) fn push_key(&mut self, seen: SeenKey) -> Result<(), Memory>
+        requires { IsSeen seen }
+        ensures ok { OnOk result (self.new ≡ with_key self.old seen) }
+        ensures err { OnErr result (self.new ≡ self.old) }
+    {
+        self.keys.push(seen)?;
+        Ok(())
+    }
+
+    /// Adds a list behind the others, or is as it was.
+    pub(crate) fn push_list(&mut self, seen: SeenChildren) -> Result<(), Memory>
+        ensures ok { OnOk result (self.new ≡ with_list self.old seen) }
+        ensures err { OnErr result (self.new ≡ self.old) }
+    {
+        self.lists.push(seen)?;
+        Ok(())
+    }
+
+    /// Keeps the first keys and lists.
+    pub(crate) fn keep_first(&mut self, keys: usize, lists: usize)
+        ensures { self.new ≡ first_of self.old keys lists }
+    {
+        self.keys.truncate(keys);
+        self.lists.truncate(lists);
+    }
+
+    /// Sets the revision of the first round.
+    pub(crate) fn begin_at(&mut self, revision: i64)
+        requires { IsCount revision }
+        ensures { self.new ≡ at_revision self.old revision }
+    {
+        if self.revision == 0 {
+            self.revision = revision;
+        }
+    }
+}

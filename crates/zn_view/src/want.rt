@@ -1,0 +1,13 @@
+//! What is still to be read.
+
+use zk_model::Path;
+use zx_base::Bytes;
+
+/// What a request still has to read.
+#[derive(Debug, Drop)]
+pub enum Want {
+    /// The record under this key.
+    Key(Bytes),
+    /// The paths of this node's children.
+    Children(Path),
+}
