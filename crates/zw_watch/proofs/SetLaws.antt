@@ -1,0 +1,130 @@
+-- Sets of paths as lists of their members.
+use Rattle.std.proofs.Common.{◌≡◌, ◌≢◌, ℕ, ◌≤◌, arith, Bool, true, false, not, ◌||◌, ◌==◌, cond, Option, Some, None, List, [], ◌∷◌, ◌++◌, length, take, drop, refl, sym, ap, ◌∙◌, ⊎_elim, eqb-true, length-take}
+use Rattle.std.proofs.Math.Seq.{take-append_seam, take-length}
+use Rattle.std.proofs.lemmas.List.{take-append-drop, take-append-le, nil_from_length}
+use Rattle.std.specs.Prelude.{is_some}
+use Rattle.std.specs.Cmp.Lexicographic.{slice_cmp}
+use Rattle.std.specs.Ordering.{nat_cmp}
+use Rattle.std.proofs.lemmas.Map.Views.{any-filter_same}
+use Rattle.std.specs.FinMap.{get, insert, remove, contains_key, len, len-empty, get-empty}
+use Rattle.zx_base.specs.Maps.{Bytes, same}
+use Rattle.zx_base.proofs.MapLaws.{ext, either, same-refl, same-true, same-false, get-insert_same, get-insert_other, get-remove_same, get-remove_other, get-none_from_len}
+use Rattle.zw_watch.specs.declared.lists.PathLists.{PathLists}
+use Rattle.zw_watch.specs.Armed.{watches_of, StartWith}
+use Rattle.zw_watch.specs.Sets.{set_of, has, others, StartsWith}
+
+abbrev marked : Bool → Option (Unit {0})
+marked b = cond b (Some tt) None
+
+some_marked : (b : Bool) → is_some (marked b) ≡ b
+some_marked true = refl
+some_marked false = refl
+
+get-set_of : (ps : List Bytes) (q : Bytes) → get (set_of ps) q ≡ marked (has q ps)
+get-set_of [] q = get-empty (slice_cmp nat_cmp) q
+get-set_of (p ∷ ps) q = ⊎_elim
+    (λ (e : q ≡ p). ap (get (insert (set_of ps) p tt)) e ∙ get-insert_same (set_of ps) p tt ∙ sym (ap (λ b. marked (b || has q ps)) (ap (same p) e ∙ same-refl p)))
+    (λ (n : q ≢ p). get-insert_other (set_of ps) p q tt n ∙ get-set_of ps q ∙ sym (ap (λ b. marked (b || has q ps)) (same-false p q (λ e. n (sym e)))))
+    (either q p)
+
+pub contains-set_of : (ps : List Bytes) (q : Bytes) → contains_key (set_of ps) q ≡ has q ps
+contains-set_of ps q = ap is_some (get-set_of ps q) ∙ some_marked (has q ps)
+
+has-none : (path : Bytes) (ps : List Bytes) → has path (others path ps) ≡ false
+has-none path ps = any-filter_same (λ p. same p path) (λ p. not (same p path)) false (λ k h. ap not h) ps
+
+not_same : (path q p : Bytes) → q ≢ path → same p q ≡ true → not (same p path) ≡ true
+not_same path q p n h = ap not (same-false p path (λ e. n (sym (same-true p q h) ∙ e)))
+
+has-others : (path q : Bytes) (ps : List Bytes) → q ≢ path → has q (others path ps) ≡ has q ps
+has-others path q ps n = any-filter_same (λ p. same p q) (λ p. not (same p path)) true (λ k h. not_same path q k n h) ps
+
+pub set_of-others : (path : Bytes) (ps : List Bytes) → set_of (others path ps) ≡ remove (set_of ps) path
+set_of-others path ps = ext _ _ (λ q. ⊎_elim
+    (λ (e : q ≡ path). get-set_of (others path ps) q ∙ ap (λ (x : Bytes). marked (has x (others path ps))) e ∙ ap marked (has-none path ps)
+    ∙ sym (ap (get (remove (set_of ps) path)) e ∙ get-remove_same (set_of ps) path))
+    (λ (n : q ≢ path). get-set_of (others path ps) q ∙ ap marked (has-others path q ps n) ∙ sym (get-remove_other (set_of ps) path q n ∙ get-set_of ps q))
+    (either q path))
+
+or_false : (a : Bool) → (a || false) ≡ a
+or_false true = refl
+or_false false = refl
+
+or_true : (a : Bool) → (a || true) ≡ true
+or_true true = refl
+or_true false = refl
+
+or_assoc : (a b c : Bool) → (a || (b || c)) ≡ ((a || b) || c)
+or_assoc true b c = refl
+or_assoc false b c = refl
+
+has-push : (q p : Bytes) (ps : List Bytes) → has q (ps ++ p ∷ []) ≡ (has q ps || same p q)
+has-push q p [] = or_false (same p q)
+has-push q p (x ∷ ps) = ap (λ b. same x q || b) (has-push q p ps) ∙ or_assoc (same x q) (has q ps) (same p q)
+
+-- a path that is pushed is in the set
+pub set_of-push : (path : Bytes) (ps : List Bytes) → set_of (ps ++ path ∷ []) ≡ insert (set_of ps) path tt
+set_of-push path ps = ext _ _ (λ q. ⊎_elim
+    (λ (e : q ≡ path). get-set_of (ps ++ path ∷ []) q ∙ ap marked (has-push q path ps ∙ ap (λ b. has q ps || b) (ap (same path) e ∙ same-refl path) ∙ or_true _)
+    ∙ sym (ap (get (insert (set_of ps) path tt)) e ∙ get-insert_same (set_of ps) path tt))
+    (λ (n : q ≢ path). get-set_of (ps ++ path ∷ []) q
+    ∙ ap marked (has-push q path ps ∙ ap (λ b. has q ps || b) (same-false path q (λ e. n (sym e))) ∙ or_false _)
+    ∙ sym (get-insert_other (set_of ps) path q tt n ∙ get-set_of ps q))
+    (either q path))
+
+-- a path that is there is there once
+pub set_of-there : (path : Bytes) (ps : List Bytes) → has path ps ≡ true → set_of ps ≡ insert (set_of ps) path tt
+set_of-there path ps h = ext _ _ (λ q. ⊎_elim
+    (λ (e : q ≡ path). ap (get (set_of ps)) e ∙ get-set_of ps path ∙ ap marked h ∙ sym (ap (get (insert (set_of ps) path tt)) e ∙ get-insert_same (set_of ps) path tt))
+    (λ (n : q ≢ path). sym (get-insert_other (set_of ps) path q tt n))
+    (either q path))
+
+-- ---- the empty list
+
+not_zero : (n : ℕ) → (n ≡ 0 → ⊥) → (n == 0) ≡ false
+not_zero n h = elim (n == 0) as (λ b. (n == 0) ≡ b → b ≡ false) [ true ↦ λ e. absurd (h (eqb-true n 0 e)) | false ↦ λ e. refl ] refl
+
+none_some : {A : Type 0} (o : Option A) (x : A) → o ≡ None → o ≡ Some x → ⊥
+none_some o x none some = cc
+
+cons_nil : (p : Bytes) (ps : List Bytes) → length (p ∷ ps) ≡ 0 → ⊥
+cons_nil p ps e = let n : (p ∷ ps) ≡ [] = nil_from_length (p ∷ ps) e in cc
+
+set_nil : (p : Bytes) (ps : List Bytes) → len (set_of (p ∷ ps)) ≡ 0 → ⊥
+set_nil p ps e = none_some (get (set_of (p ∷ ps)) p) tt (get-none_from_len (set_of (p ∷ ps)) p e) (get-insert_same (set_of ps) p tt)
+
+pub length-len : (ps : List Bytes) → (length ps == 0) ≡ (len (set_of ps) == 0)
+length-len [] = sym (ap (λ n. n == 0) (len-empty (slice_cmp nat_cmp) (Unit {0})))
+length-len (p ∷ ps) = not_zero (length (p ∷ ps)) (cons_nil p ps) ∙ sym (not_zero (len (set_of (p ∷ ps))) (set_nil p ps))
+
+-- ---- what stands behind a front
+
+pub starts_with-itself : (ps : List Bytes) → StartsWith ps ps
+starts_with-itself ps = take-length ps
+
+pub starts_with-push : (ps : List Bytes) (p : Bytes) → StartsWith (ps ++ p ∷ []) ps
+starts_with-push ps p = take-append_seam ps (p ∷ [])
+
+front_length : (a b : List Bytes) → StartsWith b a → length a ≤ length b
+front_length a b h = omega (arith, length-take (length a) b, ap (λ (x : List Bytes). length x) h)
+
+starts_with-trans : (a b c : List Bytes) → StartsWith b a → StartsWith c b → StartsWith c a
+starts_with-trans a b c h k =
+    ap (take (length a)) (sym (take-append-drop (length b) c) ∙ ap (λ (x : List Bytes). x ++ drop (length b) c) k)
+    ∙ take-append-le (length a) b (drop (length b) c) (front_length a b h)
+    ∙ h
+
+pub start_with-trans : (a b c : PathLists) → StartWith b a → StartWith c b → StartWith c a
+start_with-trans a b c h k =
+    (starts_with-trans a.on_data.items b.on_data.items c.on_data.items h.0 k.0, starts_with-trans a.on_children.items b.on_children.items c.on_children.items h.1 k.1)
+
+-- lists with the same paths are the same watches
+pub watches_of-same : (a b : PathLists) → a.on_data.items ≡ b.on_data.items → a.on_children.items ≡ b.on_children.items → watches_of a ≡ watches_of b
+watches_of-same a b h k = λ i. record { on_data = set_of (h i); on_children = set_of (k i) }
+
+-- the paths that a loop added are dropped again
+pub watches_of-restored : (old grown new : PathLists) (m n : ℕ) → m ≡ length old.on_data.items → n ≡ length old.on_children.items → StartWith grown old
+    → new.on_data.items ≡ take m grown.on_data.items → new.on_children.items ≡ take n grown.on_children.items → watches_of new ≡ watches_of old
+watches_of-restored old grown new m n ms ns front h k = watches_of-same new old
+    (h ∙ ap (λ (i : ℕ). take i grown.on_data.items) ms ∙ front.0)
+    (k ∙ ap (λ (i : ℕ). take i grown.on_children.items) ns ∙ front.1)

@@ -1,0 +1,6 @@
+use Rattle.std.proofs.Common.{◌≡◌, drop}
+use Rattle.zw_watch.specs.Sets.{has}
+use Rattle.zw_watch.proofs.paths.contains.Given as goal
+
+abbrev pub invariant-loop-at : goal.invariant-loop-at
+invariant-loop-at l = has l.path l.paths ≡ has l.path (drop l.at-index l.paths)

@@ -1,0 +1,3 @@
+pub mod SeenPaths
+pub mod Sets
+pub mod Armed

@@ -1,0 +1,80 @@
+//! The armed watches of a connection.
+
+ghost use Rattle.std.specs.Prelude.{◌≡◌, IfOk, OnOk, OnErr};
+ghost use Rattle.zk_model.specs.Watches.{no_watches, is_unarmed, fire};
+ghost use Rattle.zw_watch.specs.Armed.{armed, fired_of};
+ghost use Rattle.zw_watch.specs.SeenPaths.{see_paths, unseen, IsSetWatches};
+
+use crate::lists::PathLists;
+use crate::seen_path::SeenPath;
+use std::alloc::Global;
+use std::marker::Model;
+use zk_model::{Notice, Path, Trigger};
+use zx_base::Memory;
+
+/// The data watches and child watches of a connection. Contracts see the two sets of their paths.
+#[derive(Debug, Drop)]
+pub struct Armed {
+    paths: PathLists,
+    alloc: Global,
+}
+
+impl Model for Armed {
+    ghost use Rattle.zk_model.specs.Watches.{Watches};
+    ghost use Rattle.zw_watch.specs.Armed.{coded_watches, watches_of};
+
+    ghost Value = { Watches };
+
+    ghost coded = { coded_watches };
+
+    ghost view = { λ a. watches_of a.paths };
+}
+
+impl Armed {
+    /// Nothing is armed.
+    pub fn new(alloc: Global) -> Armed
+        ensures { result ≡ no_watches }
+    {
+        Armed {
+            paths: PathLists::new(alloc),
+            alloc,
+        }
+    }
+
+    /// Whether nothing is armed.
+    pub fn is_empty(&self) -> bool
+        ensures { result ≡ is_unarmed self.now }
+    {
+        self.paths.is_empty()
+    }
+
+    /// Arms a child watch or a data watch on this path. A watch that is armed already stays armed. Without memory the set
+    /// stays as it was.
+    pub fn arm(&mut self, path: &Path, child: bool) -> Result<(), Memory>
+        ensures ok { OnOk result (self.new ≡ armed child self.old path.now) }
+        ensures err { OnErr result (self.new ≡ self.old) }
+    {
+        self.paths.arm(self.alloc, path.bytes(), child)
+    }
+
+    /// Fires the watches that a change hits: they are no longer armed, and give one notice, also where both watches of a
+    /// deleted node fire. None exactly where the change hits no watch. Without memory the set stays as it was.
+    pub fn fire(&mut self, trigger: &Trigger) -> Result<Option<Notice>, Memory>
+        ensures ok { IfOk result (λ n. fired_of self.new n ≡ fire self.old trigger.now) }
+        ensures err { OnErr result (self.new ≡ self.old) }
+    {
+        self.paths.fire(self.alloc, trigger)
+    }
+
+    /// Arms the watches of a setWatches again, in the order of its paths (zookeeper.jute, `SetWatches`). A watch fires at once
+    /// where its node is gone or changed after the relative zxid, and a watch on a node that was not there where it is there
+    /// now; the others are armed. A text that is not a valid path counts as absent, and arms nothing. Without memory the set
+    /// stays as it was.
+    pub fn rearm(&mut self, seen: &[SeenPath], relative: i64) -> Result<Vec<Notice>, Memory>
+        ensures ok { IfOk result (λ ns. record { watches = self.new; notices = ns.items } ≡ see_paths relative (unseen self.old) seen.now) }
+        ensures set { IfOk result (λ ns. IsSetWatches relative self.old seen.now (record { watches = self.new; notices = ns.items })) }
+        ensures err { OnErr result (self.new ≡ self.old) }
+    {
+        self.paths.rearm(self.alloc, relative, seen)
+    }
+}
