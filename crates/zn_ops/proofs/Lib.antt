@@ -1,0 +1,3 @@
+mod SingleRequests
+mod SessionTests
+mod Planning

@@ -1,0 +1,50 @@
+-- The session is tested on a view that lacks nothing, and where it is attached here the tree decides.
+use Rattle.std.proofs.Common.{◌≡◌, ℤ, pos, Bool, true, false, Option, Some, None, refl, ap, ◌∙◌, subst, inl, inr}
+use Rattle.std.specs.Prelude.{nat_abs, ◌≤ℤ◌, if◌then◌else◌}
+use Rattle.std.specs.Ordering.{int_eq}
+use Rattle.zk_model.specs.declared.request.Request.{Request}
+use Rattle.zk_model.specs.Watches.{no_watches}
+use Rattle.zk_transcript.specs.Answers.{plain_request}
+use Rattle.zk_transcript.specs.History.{Session, limit_of, session_at}
+use Rattle.zn_layout.specs.Keys.{LeaseKey}
+use Rattle.zn_ops.specs.Deciding.{IsAttachedAt}
+use Rattle.zn_reads.specs.Deciding.{IsReadDecision}
+use Rattle.zn_updates.specs.Deciding.{IsAttached, IsBySound, IsWhole}
+use Rattle.zn_updates.proofs.Meanings.{int_eq-same}
+use Rattle.zn_view.specs.declared.plan.Decision.{Decision}
+use Rattle.zn_view.specs.declared.plan.Decision.TheVariants.{Expired, Moved}
+use Rattle.zn_view.specs.declared.plan.Who.{Who}
+use Rattle.zn_view.specs.Lookups.{HasSeen, sees}
+use Rattle.zn_view.specs.Needs.{life_want}
+use Rattle.zn_view.specs.Seen.{View}
+use Rattle.zn_view.specs.Views.{IsDecision, live}
+use Rattle.zn_view.proofs.Tested.{expired-decides, moved-decides, tree-decides}
+
+pub life-looked_up : (r : Request) (who : Who) (v : View) → plain_request no_watches r ≡ None → IsWhole r who v → HasSeen v (LeaseKey (nat_abs who.session))
+life-looked_up r who v plain whole = λ none. whole plain (life_want who.session) (inr (inl refl)) none
+
+pub expired : (r : Request) (who : Who) (v : View) → pos 1 ≤ℤ who.session → plain_request no_watches r ≡ None → IsAttachedAt (sees v (LeaseKey (nat_abs who.session))) None → IsDecision r who v Expired
+expired r who v real plain saw = expired-decides r who v real plain saw
+
+pub moved : (r : Request) (who : Who) (v : View) (n : ℤ) → pos 1 ≤ℤ who.session → plain_request no_watches r ≡ None → IsAttachedAt (sees v (LeaseKey (nat_abs who.session))) (Some n) → int_eq n who.mine ≡ false → IsDecision r who v (Moved n)
+moved r who v n real plain saw apart =
+    subst (λ (k : ℤ). IsDecision r who v (Moved k)) saw.2 (moved-decides r who v saw.0 real plain saw.1 (ap (λ (k : ℤ). int_eq k who.mine) saw.2 ∙ apart))
+
+open_by : (x y : Session) (lapsed : Bool) → (if lapsed then None else Some y) ≡ Some x → Some y ≡ Some x
+open_by x y true h = cc
+open_by x y false h = h
+
+-- a live session is open
+pub live-open : (o : Option Session) (x : Session) → live o ≡ Some x → o ≡ Some x
+live-open None x h = h
+live-open (Some y) x h = open_by x y y.lapsed h
+
+pub update-decided : (r : Request) (who : Who) (v : View) (d : Decision) → pos 1 ≤ℤ who.session → plain_request no_watches r ≡ None → IsAttached who v → IsBySound r who v d → IsDecision r who v d
+update-decided r who v d real plain attached decided =
+    tree-decides r who v d attached.0 real plain attached.1 (int_eq-same (attached.0).mod_revision who.mine attached.2)
+    (λ m s x sound valid stands agrees lives. decided plain s sound (m, stands, agrees) x (live-open (session_at who.session s) x lives))
+
+pub read-decided : (r : Request) (who : Who) (v : View) (d : Decision) → pos 1 ≤ℤ who.session → plain_request no_watches r ≡ None → IsAttached who v → IsWhole r who v → IsReadDecision r v d → IsDecision r who v d
+read-decided r who v d real plain attached whole read =
+    tree-decides r who v d attached.0 real plain attached.1 (int_eq-same (attached.0).mod_revision who.mine attached.2)
+    (λ m s x sound valid stands agrees lives. read.decided who (whole plain) s sound (λ _. valid) (m, stands, agrees) plain (limit_of x) who.session)

@@ -1,0 +1,57 @@
+-- A single request is an update, a read, or answered by its form.
+use Rattle.std.proofs.Common.{◌≡◌, true, false, [], List, Some, None, refl, sym, ◌∙◌, subst}
+use Rattle.zk_model.specs.declared.reply.Body.TheVariants as body
+use Rattle.zk_model.specs.declared.reply.Reply.TheVariants as reply
+use Rattle.zk_model.specs.declared.request.Request.{Request}
+use Rattle.zk_model.specs.declared.request.Request.TheVariants as req
+use Rattle.zk_model.specs.Watches.{no_watches}
+use Rattle.zk_transcript.specs.Answers.{Told, plain_request}
+use Rattle.zn_ops.specs.Forms.{is_single}
+use Rattle.zn_reads.specs.Deciding.{is_read}
+use Rattle.zn_reads.proofs.Elements.{empty-contains}
+use Rattle.zn_updates.specs.Deciding.{is_update}
+use Rattle.zn_view.specs.declared.plan.Who.{Who}
+use Rattle.zn_view.specs.declared.want.Want.{Want}
+use Rattle.zn_view.specs.Needs.{AreNeeds}
+use Rattle.zn_view.specs.Seen.{View}
+
+none_some : {X : Type 0} {x : X} → None ≡ Some x → ⊥
+none_some e = cc
+
+-- a request that reads nothing and changes nothing is told by its form
+plain_told : (r : Request) → is_single r ≡ true → is_update r ≡ false → is_read r ≡ false → (t : Told) × (plain_request no_watches r ≡ Some t)
+unfolding plain_request
+plain_told (req.Create p content acl flags) single update read = cc
+plain_told (req.Delete p version) single update read = cc
+plain_told (req.Exists p watch) single update read = cc
+plain_told (req.GetData p watch) single update read = cc
+plain_told (req.SetData p content version) single update read = cc
+plain_told (req.GetAcl p) single update read = cc
+plain_told (req.GetChildren p watch) single update read = cc
+plain_told (req.GetChildren2 p watch) single update read = cc
+plain_told (req.Sync p) single update read = cc
+plain_told req.Ping single update read = (_, refl)
+plain_told (req.Check p version) single update read = cc
+plain_told (req.Multi parts) single update read = cc
+plain_told (req.Auth kind scheme auth) single update read = (_, refl)
+plain_told (req.SetWatches since exists datas children) single update read = cc
+plain_told req.Close single update read = cc
+
+pub read-otherwise : (r : Request) → is_single r ≡ true → plain_request no_watches r ≡ None → is_update r ≡ false → is_read r ≡ true
+read-otherwise r single plain update = elim (is_read r) as (λ b. is_read r ≡ b → b ≡ true) [
+  | true ↦ λ read. refl
+  | false ↦ λ read. absurd (none_some (sym plain ∙ (plain_told r single update read).1))
+] refl
+
+told_needed : (r : Request) (who : Who) (v : View) (t : Told) → plain_request no_watches r ≡ Some t → AreNeeds r who v []
+told_needed r who v t plain = record {
+  only = λ w has. absurd (empty-contains [] w refl has);
+  enough = λ _ none. absurd (none_some (sym none ∙ plain));
+  none = λ u h. refl;
+}
+
+-- and looks up nothing
+pub plain-needed : (r : Request) (who : Who) (v : View) (ws : List Want) → is_single r ≡ true → is_update r ≡ false → is_read r ≡ false → ws ≡ [] → AreNeeds r who v ws
+plain-needed r who v ws single update read is =
+    let told = plain_told r single update read in
+    subst (λ (l : List Want). AreNeeds r who v l) (sym is) (told_needed r who v told.0 told.1)

@@ -1,0 +1,14 @@
+-- What is no update is a read.
+use Rattle.std.proofs.Common.{◌∙◌, sym}
+use Rattle.zn_ops.proofs.SingleRequests.{read-otherwise}
+use Rattle.zn_ops.proofs.SessionTests.{update-decided, read-decided}
+use Rattle.zn_ops.proofs.deciding.decide_by_tree.Goals as goal
+
+pub returns-then-is_update-clause-decision : goal.returns-then-is_update-clause-decision
+returns-then-is_update-clause-decision c = update-decided c.args.request.now c.args.who c.args.view.now _ c.requires.real c.requires.formed c.requires.attached c.in_ok-decide_update.ensures.sound
+
+pub decide_read-requires : goal.decide_read-requires
+decide_read-requires c = read-otherwise c.args.request.now c.requires.single c.requires.formed (sym c.is_update.ensures ∙ c.if-is_update.false)
+
+pub returns-clause-decision : goal.returns-clause-decision
+returns-clause-decision c = read-decided c.args.request.now c.args.who c.args.view.now _ c.requires.real c.requires.formed c.requires.attached c.requires.whole c.in_ok-decide_read.ensures

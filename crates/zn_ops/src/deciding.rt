@@ -1,0 +1,111 @@
+//! The decision on a single request: its form first, then its session, then the tree.
+
+ghost use Rattle.std.specs.Prelude.{◌≡◌, ◌≤◌, ◌≤ℤ◌, true, pos, nat_abs, length, None, IfOk};
+ghost use Rattle.zk_model.specs.Limits.{max_frame, max_moment};
+ghost use Rattle.zk_model.specs.Watches.{no_watches};
+ghost use Rattle.zk_transcript.specs.Answers.{plain_request};
+ghost use Rattle.zn_ops.specs.Forms.{is_single};
+ghost use Rattle.zn_layout.specs.Keys.{LeaseKey};
+ghost use Rattle.zn_ops.specs.Deciding.{IsAttachedAt, IsGood};
+ghost use Rattle.zn_updates.specs.Deciding.{content_in, IfPlanned, IsAttached, IsWhole};
+ghost use Rattle.zn_view.specs.Lookups.{HasSeen, sees};
+ghost use Rattle.zn_view.specs.Views.{IsDecision};
+
+use crate::form::plain_reply;
+use crate::kinds::is_update;
+use std::alloc::Global;
+use zk_model::Request;
+use zn_reads::decide_read;
+use zn_updates::decide_update;
+use zn_view::{Decision, View, Who};
+use zx_base::Memory;
+
+/// The revision at which the record of a session's life was put, by the connection that the session is attached to: none
+/// where the session is closed or has lapsed.
+fn attached_at(view: &View, session: i64) -> Result<Option<i64>, Memory>
+    requires real { pos 1 ≤ℤ session }
+    requires seen { HasSeen view.now (LeaseKey (nat_abs session)) }
+    ensures { IfOk result (IsAttachedAt (sees view.now (LeaseKey (nat_abs session)))) }
+{
+    match view.life_of(session)? {
+        Some((_, life)) => Ok(Some(life.mod_revision)),
+        None => Ok(None),
+    }
+}
+
+/// Of a session that is attached to this connection.
+fn decide_by_tree(
+    alloc: Global,
+    request: &Request,
+    who: Who,
+    now: u64,
+    view: &View,
+) -> Result<Decision, Memory>
+    requires single { is_single request.now ≡ true }
+    requires real { pos 1 ≤ℤ who.session }
+    requires moment { now ≤ max_moment }
+    requires short { length (content_in request.now) ≤ max_frame }
+    requires whole { IsWhole request.now who view.now }
+    requires formed { plain_request no_watches request.now ≡ None }
+    requires attached { IsAttached who view.now }
+    ensures decision { IfOk result (IsDecision request.now who view.now) }
+    ensures plan { IfOk result (IfPlanned (IsGood request.now who now view.now)) }
+{
+    if is_update(request) {
+        return Ok(decide_update(alloc, request, who, now, view)?);
+    }
+    Ok(decide_read(alloc, request, view)?)
+}
+
+/// Of a request whose form is not refused.
+fn decide_by_session(
+    alloc: Global,
+    request: &Request,
+    who: Who,
+    now: u64,
+    view: &View,
+) -> Result<Decision, Memory>
+    requires single { is_single request.now ≡ true }
+    requires real { pos 1 ≤ℤ who.session }
+    requires moment { now ≤ max_moment }
+    requires short { length (content_in request.now) ≤ max_frame }
+    requires whole { IsWhole request.now who view.now }
+    requires formed { plain_request no_watches request.now ≡ None }
+    ensures decision { IfOk result (IsDecision request.now who view.now) }
+    ensures plan { IfOk result (IfPlanned (IsGood request.now who now view.now)) }
+{
+    let Some(found) = attached_at(view, who.session)? else {
+        return Ok(Decision::Expired);
+    };
+    if found != who.mine {
+        return Ok(Decision::Moved { found });
+    }
+    Ok(decide_by_tree(alloc, request, who, now, view)?)
+}
+
+/// Decides a request on a view that lacks nothing which it reads: what [`needs`](crate::needs) names of that view is nothing.
+/// The request is neither a multi nor a closeSession; of a setWatches the reply alone is decided. `now` is in milliseconds
+/// since 1970; the session's number is at least 1.
+///
+/// A request that its form decides is answered so. Otherwise it has expired where the record of the session's life is not
+/// there, and has moved where that was put at another revision than `who.mine`; and otherwise the tree decides.
+pub fn decide(
+    alloc: Global,
+    request: &Request,
+    who: Who,
+    now: u64,
+    view: &View,
+) -> Result<Decision, Memory>
+    requires single { is_single request.now ≡ true }
+    requires real { pos 1 ≤ℤ who.session }
+    requires moment { now ≤ max_moment }
+    requires short { length (content_in request.now) ≤ max_frame }
+    requires whole { IsWhole request.now who view.now }
+    ensures decision { IfOk result (IsDecision request.now who view.now) }
+    ensures plan { IfOk result (IfPlanned (IsGood request.now who now view.now)) }
+{
+    match plain_reply(alloc, request)? {
+        Some(reply) => Ok(Decision::Answered { reply, arm: None }),
+        None => decide_by_session(alloc, request, who, now, view),
+    }
+}

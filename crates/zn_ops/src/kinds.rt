@@ -1,0 +1,74 @@
+//! Which requests are decided here, which of them change the tree, and which read it.
+
+ghost use Rattle.std.specs.Prelude.{◌≡◌};
+ghost use Rattle.zn_ops.specs.Forms.{is_single};
+ghost use Rattle.zn_reads.specs.Deciding.{is_read};
+ghost use Rattle.zn_updates.specs.Deciding.{is_update};
+
+use zk_model::Request;
+
+/// Whether a request is decided here: it is neither a multi nor a closeSession.
+pub fn is_single(request: &Request) -> bool
+    ensures { result ≡ is_single request.now }
+{
+    match request {
+        Request::Multi { .. } | Request::Close => false,
+        Request::Create { .. }
+        | Request::Delete { .. }
+        | Request::Exists { .. }
+        | Request::GetData { .. }
+        | Request::SetData { .. }
+        | Request::GetAcl { .. }
+        | Request::GetChildren { .. }
+        | Request::GetChildren2 { .. }
+        | Request::Sync { .. }
+        | Request::Ping
+        | Request::Check { .. }
+        | Request::Auth { .. }
+        | Request::SetWatches { .. } => true,
+    }
+}
+
+/// Whether this is a create, a delete or a setData.
+pub(crate) fn is_update(request: &Request) -> bool
+    ensures { result ≡ is_update request.now }
+{
+    match request {
+        Request::Create { .. } | Request::Delete { .. } | Request::SetData { .. } => true,
+        Request::Exists { .. }
+        | Request::GetData { .. }
+        | Request::GetAcl { .. }
+        | Request::GetChildren { .. }
+        | Request::GetChildren2 { .. }
+        | Request::Sync { .. }
+        | Request::Ping
+        | Request::Check { .. }
+        | Request::Multi { .. }
+        | Request::Auth { .. }
+        | Request::SetWatches { .. }
+        | Request::Close => false,
+    }
+}
+
+/// Whether this reads the tree or its watches, and changes no znode.
+pub(crate) fn is_read(request: &Request) -> bool
+    ensures { result ≡ is_read request.now }
+{
+    match request {
+        Request::Exists { .. }
+        | Request::GetData { .. }
+        | Request::GetAcl { .. }
+        | Request::GetChildren { .. }
+        | Request::GetChildren2 { .. }
+        | Request::Sync { .. }
+        | Request::Check { .. }
+        | Request::SetWatches { .. } => true,
+        Request::Create { .. }
+        | Request::Delete { .. }
+        | Request::SetData { .. }
+        | Request::Ping
+        | Request::Multi { .. }
+        | Request::Auth { .. }
+        | Request::Close => false,
+    }
+}

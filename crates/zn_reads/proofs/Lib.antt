@@ -1,0 +1,13 @@
+pub mod Agreeing
+pub mod Stats
+pub mod Answering
+pub mod Sizes
+pub mod LastNames
+pub mod Looking
+pub mod Forms
+pub mod Setting
+pub mod Remaining
+pub mod Elements
+pub mod Named
+pub mod Needed
+pub mod WatchKeys

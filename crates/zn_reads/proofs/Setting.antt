@@ -1,0 +1,117 @@
+-- A setWatches on the tree is what comes of the paths as they were found.
+use Rattle.std.proofs.Common.{◌≡◌, ℕ, ℤ, Bool, true, false, cond, List, [], ◌∷◌, ◌++◌, Option, Some, None, refl, sym, ap, ◌∙◌}
+use Rattle.std.specs.Prelude.{map, filter, option_map, if◌then◌else◌}
+use Rattle.std.specs.List.{flat_map}
+use Rattle.std.specs.FinMap.{get}
+use Rattle.ev_types.specs.declared.answer.Kv.{Kv}
+use Rattle.zx_base.specs.Maps.{Bytes}
+use Rattle.zk_model.specs.declared.node.Node.{Node}
+use Rattle.zk_model.specs.declared.request.Request.TheVariants as req
+use Rattle.zk_model.specs.Paths.{is_path}
+use Rattle.zk_model.specs.Watches.{valid_at}
+use Rattle.zk_model.specs.Znodes.{num_children}
+use Rattle.zk_transcript.specs.History.{State}
+use Rattle.zn_layout.specs.Keys.{Key, DataKey, CountsKey, key_bytes}
+use Rattle.zn_layout.specs.StandsFor.{DataMeans, CountsMean, stored_of}
+use Rattle.zn_view.specs.declared.plan.Who.{Who}
+use Rattle.zn_view.specs.Seen.{View, seen}
+use Rattle.zn_view.specs.Views.{IsOf, reads, about_path, valid}
+use Rattle.zw_watch.specs.declared.seen_path.SeenPath.{SeenPath}
+use Rattle.zw_watch.specs.declared.seen_path.WatchList.TheVariants.{Datas, Exists, Children}
+use Rattle.zw_watch.specs.SeenPaths.{see_paths, unseen, path_on, paths_on}
+use Rattle.zw_watch.proofs.SetWatches.{set_watches-paths}
+use Rattle.zn_reads.specs.Deciding.{LacksNothing}
+use Rattle.zn_reads.specs.Found.{found_at, HasLooked}
+use Rattle.zn_reads.specs.SeenPaths.{put_at, seen_path, seen_paths, IsSetBy}
+use Rattle.zn_reads.proofs.Agreeing.{found-means}
+use Rattle.zn_reads.proofs.Looking.{looked-reads}
+
+-- ---- when a node's data and children changed, by what was found
+
+data_put : (n : Option Node) (o : Option Kv) → DataMeans n (stored_of o) → put_at o ≡ option_map (λ (x : Node). x.mzxid) n
+data_put None None h = refl
+data_put None (Some kv) h = absurd h
+data_put (Some n) None h = absurd h
+data_put (Some n) (Some kv) h = ap (λ (z : ℤ). Some z) (sym h.changed)
+
+counts_put : (n : Option Node) (k : ℕ) (o : Option Kv) → CountsMean n k (stored_of o) → put_at o ≡ option_map (λ (x : Node). x.pzxid) n
+counts_put None k None h = refl
+counts_put None k (Some kv) h = absurd h
+counts_put (Some n) k None h = absurd h
+counts_put (Some n) k (Some kv) h = ap (λ (z : ℤ). Some z) (sym h.pzxid)
+
+-- the same of a path that may not be valid
+if_valid : (b : Bool) (o : Option ℤ) (f : Node → ℤ) (n : Option Node) → (b ≡ true → o ≡ option_map f n) → (if b then o else None) ≡ option_map f (if b then n else None)
+if_valid true o f n h = h refl
+if_valid false o f n h = refl
+
+-- ---- many paths
+
+-- a fact of each
+abbrev Each : (Bytes → Type 0) → List Bytes → Type 0
+Each P [] = Unit {0}
+Each P (p ∷ ps) = P p × Each P ps
+
+each-map : (P Q : Bytes → Type 0) (ps : List Bytes) → ((p : Bytes) → P p → Q p) → Each P ps → Each Q ps
+each-map P Q [] f h = tt
+each-map P Q (p ∷ ps) f h = (f p h.0, each-map P Q ps f h.1)
+
+map_same : (f g : Bytes → SeenPath) (ps : List Bytes) → Each (λ (p : Bytes). f p ≡ g p) ps → map f ps ≡ map g ps
+map_same f g [] h = refl
+map_same f g (p ∷ ps) h = λ i. h.0 i ∷ map_same f g ps h.1 i
+
+-- ---- each path of the three lists
+
+looked_append : (v : View) (ks ls : List Key) → HasLooked v (ks ++ ls) → HasLooked v ks × HasLooked v ls
+looked_append v [] ls h = (tt, h)
+looked_append v (k ∷ ks) ls h = let rest = looked_append v ks ls h.1 in ((h.0, rest.0), rest.1)
+
+module _ (v : View) (s : State) (of : IsOf v s) where
+  -- the key of a valid path was looked up
+  abbrev IsLooked : (Bytes → Key) → Bytes → Type 0
+  IsLooked key p = is_path p ≡ true → seen v (key_bytes (key p)) ≡ None → ⊥
+
+  each_looked : (key : Bytes → Key) (ps : List Bytes) → HasLooked v (map key (valid ps)) → Each (IsLooked key) ps
+  each_looked key [] h = tt
+  each_looked key (p ∷ ps) h = elim (is_path p) as (λ b. is_path p ≡ b → HasLooked v (map key (cond b (p ∷ filter is_path ps) (filter is_path ps))) → IsLooked key p × Each (IsLooked key) ps) [
+    | true ↦ λ e h. (λ _. h.0, each_looked key ps h.1)
+    | false ↦ λ e h. (λ t. absurd (cc), each_looked key ps h)
+  ] refl h
+
+  each_about : (ps : List Bytes) → HasLooked v (flat_map about_path (valid ps)) → Each (IsLooked CountsKey) ps
+  each_about [] h = tt
+  each_about (p ∷ ps) h = elim (is_path p) as (λ b. is_path p ≡ b → HasLooked v (flat_map about_path (cond b (p ∷ filter is_path ps) (filter is_path ps))) → IsLooked CountsKey p × Each (IsLooked CountsKey) ps) [
+    | true ↦ λ e h. (λ _. h.1.0, each_about ps h.1.1)
+    | false ↦ λ e h. (λ t. absurd (cc), each_about ps h)
+  ] refl h
+
+  data_at : (p : Bytes) → IsLooked DataKey p → (if is_path p then put_at (found_at v (DataKey p)) else None) ≡ option_map (λ (x : Node). x.mzxid) (valid_at p s.tree)
+  data_at p looked = if_valid (is_path p) _ (λ (x : Node). x.mzxid) (get s.tree p) (λ e. data_put (get s.tree p) (found_at v (DataKey p)) (found-means v s (DataKey p) of (looked e)))
+
+  counts_at : (p : Bytes) → IsLooked CountsKey p → (if is_path p then put_at (found_at v (CountsKey p)) else None) ≡ option_map (λ (x : Node). x.pzxid) (valid_at p s.tree)
+  counts_at p looked = if_valid (is_path p) _ (λ (x : Node). x.pzxid) (get s.tree p) (λ e. counts_put (get s.tree p) (num_children s.tree p) (found_at v (CountsKey p)) (found-means v s (CountsKey p) of (looked e)))
+
+  datas_seen : (ps : List Bytes) → Each (IsLooked DataKey) ps → map (seen_path v Datas) ps ≡ map (path_on s.tree Datas) ps
+  datas_seen ps looked = map_same (seen_path v Datas) (path_on s.tree Datas) ps (each-map (IsLooked DataKey) _ ps (λ p h i. record { path = p; list = Datas; at = data_at p h i }) looked)
+
+  exists_seen : (ps : List Bytes) → Each (IsLooked DataKey) ps → map (seen_path v Exists) ps ≡ map (path_on s.tree Exists) ps
+  exists_seen ps looked = map_same (seen_path v Exists) (path_on s.tree Exists) ps (each-map (IsLooked DataKey) _ ps (λ p h i. record { path = p; list = Exists; at = data_at p h i }) looked)
+
+  children_seen : (ps : List Bytes) → Each (IsLooked CountsKey) ps → map (seen_path v Children) ps ≡ map (path_on s.tree Children) ps
+  children_seen ps looked = map_same (seen_path v Children) (path_on s.tree Children) ps (each-map (IsLooked CountsKey) _ ps (λ p h i. record { path = p; list = Children; at = counts_at p h i }) looked)
+
+-- ---- all of them
+
+looked_lists : (who : Who) (v : View) (since : ℤ) (datas exists children : List Bytes) → LacksNothing (req.SetWatches since exists datas children) who v → HasLooked v (map DataKey (valid datas) ++ map DataKey (valid exists) ++ flat_map about_path (valid children))
+unfolding reads
+looked_lists who v since datas exists children whole = looked-reads (req.SetWatches since exists datas children) who v whole
+
+pub set_by : (v : View) (datas exists children : List Bytes) → IsSetBy v datas exists children (seen_paths v datas exists children)
+set_by v datas exists children = λ who since whole s of w.
+    let looked = looked_append v (map DataKey (valid datas) ++ map DataKey (valid exists)) (flat_map about_path (valid children)) (looked_lists who v since datas exists children whole) in
+    let first = looked_append v (map DataKey (valid datas)) (map DataKey (valid exists)) looked.0 in
+    let one = datas_seen v s of datas (each_looked v s of DataKey datas first.0) in
+    let two = exists_seen v s of exists (each_looked v s of DataKey exists first.1) in
+    let three = children_seen v s of children (each_about v s of children looked.1) in
+    let seen_there : seen_paths v datas exists children ≡ paths_on s.tree datas exists children = λ i. one i ++ two i ++ three i in
+    set_watches-paths s.tree since datas exists children w ∙ ap (see_paths since (unseen w)) (sym seen_there)

@@ -1,0 +1,6 @@
+use Rattle.std.proofs.Common.{◌≡◌, ◌+◌, take}
+use Rattle.zn_reads.proofs.Sizes.{size}
+use Rattle.zn_reads.proofs.fit.fit.Given as goal
+
+abbrev pub invariant-loop-text : goal.invariant-loop-text
+invariant-loop-text l = l.left + size (take l.text-index l.texts) ≡ l.room

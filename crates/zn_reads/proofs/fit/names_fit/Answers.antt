@@ -1,0 +1,6 @@
+use Rattle.std.proofs.Common.{◌∙◌}
+use Rattle.zn_reads.proofs.Sizes.{fits-names}
+use Rattle.zn_reads.proofs.fit.names_fit.Goals as goal
+
+pub returns : goal.returns
+returns c = c.fit.ensures ∙ fits-names c.args.names.now

@@ -1,0 +1,52 @@
+-- Requests that read, and when one is decided right.
+use Rattle.std.specs.Prelude.{◌≡◌, ℕ, ℤ, Bool, true, false, Some, None}
+use Rattle.zk_model.specs.declared.request.Request.{Request}
+use Rattle.zk_model.specs.declared.request.Request.TheVariants as req
+use Rattle.zk_model.specs.Watches.{no_watches}
+use Rattle.zk_transcript.specs.Answers.{Told, plain_request, tree_reply}
+use Rattle.zk_transcript.specs.History.{State, IsSound}
+use Rattle.zn_layout.specs.Listing.{HasValidPaths}
+use Rattle.zn_view.specs.declared.plan.Decision.{Decision}
+use Rattle.zn_view.specs.declared.plan.Decision.TheVariants.{Answered}
+use Rattle.zn_view.specs.declared.plan.Who.{Who}
+use Rattle.zn_view.specs.declared.want.Want.{Want}
+use Rattle.zn_view.specs.Needs.{IsRead, IsLacking}
+use Rattle.zn_view.specs.Seen.{View}
+use Rattle.zn_view.specs.Views.{IsOf, IsByTree}
+
+-- the requests that are decided here
+abbrev pub is_read : Request → Bool
+is_read (req.Exists p watch) = true
+is_read (req.GetData p watch) = true
+is_read (req.GetAcl p) = true
+is_read (req.GetChildren p watch) = true
+is_read (req.GetChildren2 p watch) = true
+is_read (req.Check p version) = true
+is_read (req.Sync p) = true
+is_read (req.SetWatches since exists datas children) = true
+is_read _ = false
+
+-- the requests that list children
+abbrev pub lists : Request → Bool
+lists (req.GetChildren p watch) = true
+lists (req.GetChildren2 p watch) = true
+lists _ = false
+
+-- the view has all that the request looks up
+abbrev pub LacksNothing : Request → Who → View → Type 0
+LacksNothing r who v = (w : Want) → IsRead r who v w → IsLacking v w → ⊥
+
+-- where the request's form already tells the answer, it is that
+abbrev pub IsToldByForm : Request → Decision → Type 0
+IsToldByForm r d = (t : Told) → plain_request no_watches r ≡ Some t → d ≡ Answered t.reply None
+
+-- Elsewhere it is the tree's, in each sound state that the view is of, whoever asks. Children are listed by a range of keys,
+-- which is theirs alone where each path of the tree is valid.
+abbrev pub IsDecided : Request → View → Decision → Type 0
+IsDecided r v d =
+    (who : Who) → LacksNothing r who v → (s : State) → IsSound s → (lists r ≡ true → HasValidPaths s.tree) → IsOf v s
+    → plain_request no_watches r ≡ None → (limit : ℕ) (session : ℤ) → IsByTree r d (tree_reply s.tree limit session no_watches r)
+
+pub record IsReadDecision (r : Request) (v : View) (d : Decision) : Type 0 where
+  pub by_form : IsToldByForm r d
+  pub decided : IsDecided r v d

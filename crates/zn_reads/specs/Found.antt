@@ -1,0 +1,70 @@
+-- What was found under a key, and what two records show of a node.
+use Rattle.std.specs.Prelude.{◌≡◌, ℕ, ℤ, pos, ◌*ℤ◌, ◌-ℤ◌, List, [], ◌∷◌, Option, Some, None, option_map}
+use Rattle.std.specs.FinMap.{get}
+use Rattle.ev_types.specs.declared.answer.Kv.{Kv}
+use Rattle.zk_model.specs.declared.node.Node.{Node}
+use Rattle.zk_model.specs.declared.node.Stat.{Stat}
+use Rattle.zk_model.specs.Znodes.{stat_of, child_names}
+use Rattle.zk_transcript.specs.History.{State, IsSound}
+use Rattle.zx_base.specs.Maps.{Bytes}
+use Rattle.zn_layout.specs.declared.test.NodeNumbers.{NodeNumbers}
+use Rattle.zn_layout.specs.declared.record.CountRec.{CountRec}
+use Rattle.zn_layout.specs.Keys.{Key, DataKey, key_bytes}
+use Rattle.zn_layout.specs.Listing.{HasValidPaths}
+use Rattle.zn_layout.specs.StandsFor.{czxid_of}
+use Rattle.zn_view.specs.Lookups.{HasSeen}
+use Rattle.zn_view.specs.Seen.{View, seen, listed}
+use Rattle.zn_view.specs.Views.{IsOf, about_path}
+
+-- None where nothing was found, or nothing looked up
+abbrev pub found_of : Option (Option Kv) → Option Kv
+found_of None = None
+found_of (Some o) = o
+
+abbrev pub found_at : View → Key → Option Kv
+found_at v k = found_of (seen v (key_bytes k))
+
+-- each of these keys was looked up
+abbrev pub HasLooked : View → List Key → Type 0
+HasLooked v [] = Unit {0}
+HasLooked v (k ∷ ks) = HasSeen v k × HasLooked v ks
+
+-- what a client is shown of a node by its numbers, the length of its data, the counts of its children, and the revisions of
+-- the two puts
+abbrev pub stat_by : NodeNumbers → ℕ → ℤ → CountRec → ℤ → Stat
+stat_by d content_length data_revision c counts_revision = record {
+  czxid = czxid_of d.czxid data_revision;
+  mzxid = data_revision;
+  ctime = d.ctime;
+  mtime = d.mtime;
+  version = d.version;
+  cversion = (pos 2 *ℤ c.creates) -ℤ c.children;
+  aversion = pos 0;
+  ephemeral_owner = d.owner;
+  data_length = pos content_length;
+  num_children = c.children;
+  pzxid = counts_revision;
+}
+
+-- what a client is shown of the node at a path
+abbrev pub stat_in : State → Bytes → Option Stat
+stat_in s p = option_map (stat_of s.tree p) (get s.tree p)
+
+-- the stat by the view, where the node's two keys were looked up
+abbrev pub IsStatAt : View → Bytes → Option Stat → Type 0
+IsStatAt v p st = HasLooked v (about_path p) → (s : State) → IsOf v s → stat_in s p ≡ st
+
+-- the node's data by the view, where the data's key was looked up
+abbrev pub IsContentAt : View → Bytes → Bytes → Type 0
+IsContentAt v p content = HasLooked v (DataKey p ∷ []) → (s : State) → IsOf v s → (n : Node) → get s.tree p ≡ Some n → content ≡ n.content
+
+-- the version of the data of the node at a path
+abbrev pub version_in : State → Bytes → Option ℤ
+version_in s p = option_map (λ (n : Node). n.version) (get s.tree p)
+
+abbrev pub IsVersionAt : View → Bytes → Option ℤ → Type 0
+IsVersionAt v p version = HasLooked v (DataKey p ∷ []) → (s : State) → IsOf v s → version_in s p ≡ version
+
+-- the names of the children by the view, where they were listed
+abbrev pub AreNamesAt : View → Bytes → List Bytes → Type 0
+AreNamesAt v p names = (listed v p ≡ None → ⊥) → (s : State) → IsSound s → HasValidPaths s.tree → IsOf v s → names ≡ child_names s.tree p

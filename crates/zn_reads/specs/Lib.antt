@@ -1,0 +1,5 @@
+pub mod Deciding
+pub mod Found
+pub mod Replies
+pub mod Wanting
+pub mod SeenPaths

@@ -1,0 +1,45 @@
+-- What a setWatches found at each of its paths (Programmer's Guide, "ZooKeeper Watches").
+use Rattle.std.specs.Prelude.{◌≡◌, ℤ, List, ◌++◌, map, Option, Some, None, if◌then◌else◌}
+use Rattle.ev_types.specs.declared.answer.Kv.{Kv}
+use Rattle.zk_model.specs.Paths.{is_path}
+use Rattle.zk_model.specs.Watches.{Watches, set_watches}
+use Rattle.zk_model.specs.declared.request.Request.TheVariants as req
+use Rattle.zk_transcript.specs.History.{State}
+use Rattle.zx_base.specs.Maps.{Bytes}
+use Rattle.zn_layout.specs.Keys.{Key, DataKey, CountsKey}
+use Rattle.zn_view.specs.declared.plan.Who.{Who}
+use Rattle.zn_view.specs.Seen.{View}
+use Rattle.zn_view.specs.Views.{IsOf}
+use Rattle.zw_watch.specs.declared.seen_path.SeenPath.{SeenPath}
+use Rattle.zw_watch.specs.declared.seen_path.WatchList.{WatchList}
+use Rattle.zw_watch.specs.declared.seen_path.WatchList.TheVariants.{Datas, Exists, Children}
+use Rattle.zw_watch.specs.SeenPaths.{see_paths, unseen}
+use Rattle.zn_reads.specs.Deciding.{LacksNothing}
+use Rattle.zn_reads.specs.Found.{found_at}
+
+-- ---- what was found
+
+-- the key that tells when the node's data, or its children, changed last
+abbrev pub changing_key : WatchList → Bytes → Key
+changing_key Datas p = DataKey p
+changing_key Exists p = DataKey p
+changing_key Children p = CountsKey p
+
+abbrev pub put_at : Option Kv → Option ℤ
+put_at None = None
+put_at (Some kv) = Some kv.mod_revision
+
+-- a path that isn't valid counts as absent
+abbrev pub seen_path : View → WatchList → Bytes → SeenPath
+seen_path v list p = record { path = p; list = list; at = if is_path p then put_at (found_at v (changing_key list p)) else None }
+
+abbrev pub seen_paths : View → List Bytes → List Bytes → List Bytes → List SeenPath
+seen_paths v datas exists children = map (seen_path v Datas) datas ++ map (seen_path v Exists) exists ++ map (seen_path v Children) children
+
+-- ---- what comes of it
+
+-- what the service sets on the tree of each state that the view is of is what comes of these
+abbrev pub IsSetBy : View → List Bytes → List Bytes → List Bytes → List SeenPath → Type 0
+IsSetBy v datas exists children xs =
+    (who : Who) (since : ℤ) → LacksNothing (req.SetWatches since exists datas children) who v → (s : State) → IsOf v s
+    → (w : Watches) → set_watches s.tree since datas exists children w ≡ see_paths since (unseen w) xs

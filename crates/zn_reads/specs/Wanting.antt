@@ -1,0 +1,55 @@
+-- What a request still wants, as it is found.
+use Rattle.std.specs.Prelude.{◌≡◌, nat_abs, Bool, true, false, ◌||◌, cond, List, [], ◌∷◌, ◌++◌, map, fold, None, is_some}
+use Rattle.std.specs.List.{list_any}
+use Rattle.zx_base.specs.Maps.{Bytes, same}
+use Rattle.zk_model.specs.declared.request.Request.{Request}
+use Rattle.zk_model.specs.Watches.{no_watches}
+use Rattle.zk_transcript.specs.Answers.{plain_request, told_of_path}
+use Rattle.zn_layout.specs.Keys.{Key, HeadKey, LeaseKey, key_bytes}
+use Rattle.zn_view.specs.declared.want.Want.{Want}
+use Rattle.zn_view.specs.declared.want.Want.TheVariants as want
+use Rattle.zn_view.specs.declared.plan.Who.{Who}
+use Rattle.zn_view.specs.Needs.{Follows, AreNeeds}
+use Rattle.zn_view.specs.Seen.{View, seen, listed}
+use Rattle.zn_view.specs.Views.{reads, about_path}
+
+-- ---- keys
+
+abbrev pub is_want_of : Bytes → Want → Bool
+is_want_of k (want.Key q) = same q k
+is_want_of k (want.Children p) = false
+
+-- a key is named where it was not looked up and isn't named yet
+abbrev pub with_want : View → List Want → Bytes → List Want
+with_want v ws k = cond (is_some (seen v k) || list_any (is_want_of k) ws) ws (ws ++ want.Key k ∷ [])
+
+abbrev pub lacking : View → List Bytes → List Want
+lacking v ks = fold (with_want v) [] ks
+
+-- ---- children
+
+-- the children are due where they were not listed yet
+pub record IsListingDue (v : View) (p : Bytes) (due : Bool) : Type 0 where
+  pub lacks : due ≡ true → listed v p ≡ None
+  pub all : listed v p ≡ None → due ≡ true
+
+abbrev pub with_listing : Bytes → Bool → List Want → List Want
+with_listing p due ws = cond due (ws ++ want.Children p ∷ []) ws
+
+-- ---- requests that are formed by their path alone, and read the keys of that path
+
+-- the form is refused exactly where the path isn't valid
+abbrev pub IsFormed : Request → Bytes → Type 0
+IsFormed r text = plain_request no_watches r ≡ told_of_path no_watches text
+
+-- what is needed of each request of this path that looks up these keys and nothing that follows from them
+abbrev pub AreKeyNeeds : Bytes → List Key → Who → View → List Want → Type 0
+AreKeyNeeds text ks who v ws = (r : Request) → IsFormed r text → reads r who.session ≡ ks → ((w : Want) → Follows r who.session v w → ⊥) → AreNeeds r who v ws
+
+-- the keys of each request: the head's, the session's life, and those of the row
+abbrev pub first_keys : Who → List Key
+first_keys who = HeadKey ∷ LeaseKey (nat_abs who.session) ∷ []
+
+-- the keys of a path that weren't looked up, and the listing where it is due
+abbrev pub AreListingWants : Bytes → Who → View → List Want → Type 0
+AreListingWants p who v ws = (due : Bool) × IsListingDue v p due × (ws ≡ with_listing p due (lacking v (map key_bytes (first_keys who ++ about_path p))))

@@ -1,0 +1,147 @@
+//! What the records of a node show.
+
+ghost use Rattle.std.specs.Prelude.{IsTrue, ◌≡◌, ◌≤◌, ℕ, pos, ◌*ℤ◌, ◌-ℤ◌, IfOk, Option, option_copied, option_map};
+ghost use Rattle.zk_model.specs.Paths.{is_path};
+ghost use Rattle.zk_model.specs.Limits.{max_frame};
+ghost use Rattle.zk_model.specs.Znodes.{stat};
+ghost use Rattle.zk_model.specs.declared.node.Node.{Node as Znode};
+ghost use Rattle.zn_layout.specs.Records.{IsCountRec};
+ghost use Rattle.zn_layout.specs.StandsFor.{czxid_of, stored_of, DataMeans, CountsMean};
+ghost use Rattle.zn_reads.specs.Found.{stat_by, IsStatAt, IsContentAt, IsVersionAt};
+
+use crate::found::found;
+use crate::keys::{counts_key_of, data_key_of};
+use ev_types::Kv;
+use std::alloc::Global;
+use zk_model::{Path, Stat};
+use zn_layout::{
+    CountRec, NodeNumbers, RecordFault, counts_in, node_content, node_numbers, read_node,
+};
+use zn_view::View;
+use zx_base::{Bytes, Memory};
+
+/// A stored czxid of 0 is the revision of the record.
+fn czxid(stored: i64, revision: i64) -> i64
+    ensures { result ≡ czxid_of stored revision }
+{
+    if stored == 0 { revision } else { stored }
+}
+
+/// How often the children changed: each create and each delete counts.
+fn cversion(counts: CountRec) -> i32
+    requires { IsCountRec counts }
+    ensures { result ≡ (pos 2 *ℤ counts.creates) -ℤ counts.children }
+{
+    2 * counts.creates - counts.children
+}
+
+fn data_length(length: usize) -> i32
+    requires { length ≤ max_frame }
+    ensures { result ≡ pos length }
+{
+    length as i32
+}
+
+/// The stat of a node by its two records, with so many bytes of data.
+fn stat_by(
+    numbers: NodeNumbers,
+    content_length: usize,
+    revision: i64,
+    counts: CountRec,
+    counts_revision: i64,
+) -> Stat
+    requires counts { IsCountRec counts }
+    requires content { content_length ≤ max_frame }
+    ensures { result ≡ stat_by numbers content_length revision counts counts_revision }
+{
+    Stat {
+        czxid: czxid(numbers.czxid, revision),
+        mzxid: revision,
+        ctime: numbers.ctime,
+        mtime: numbers.mtime,
+        version: numbers.version,
+        cversion: cversion(counts),
+        aversion: 0,
+        ephemeral_owner: numbers.owner,
+        data_length: data_length(content_length),
+        num_children: counts.children,
+        pzxid: counts_revision,
+    }
+}
+
+fn stat_of_records(own: &Kv, counts: &Kv) -> Option<Stat>
+    ensures { (n : Znode) (k : ℕ) → DataMeans (Option.Some n) (stored_of (Option.Some own.now)) → CountsMean (Option.Some n) k (stored_of (Option.Some counts.now)) → Option.Some (stat n k) ≡ result }
+{
+    let numbers = node_numbers(own.value.as_slice())?;
+    let content = node_content(own.value.as_slice());
+    let counted = counts_in(counts.value.as_slice())?;
+    Some(stat_by(
+        numbers,
+        content.len(),
+        own.mod_revision,
+        counted,
+        counts.mod_revision,
+    ))
+}
+
+fn stat_of_found(own: Option<&Kv>, counts: Option<&Kv>) -> Option<Stat>
+    ensures { (n : Option Znode) (k : ℕ) → DataMeans n (stored_of (option_copied own.entry)) → CountsMean n k (stored_of (option_copied counts.entry)) → option_map (λ (x : Znode). stat x k) n ≡ result }
+{
+    match (own, counts) {
+        (Some(own), Some(counts)) => stat_of_records(own, counts),
+        _ => None,
+    }
+}
+
+/// What a client is shown of the node at a path, none where there is none.
+pub(crate) fn stat_at(alloc: Global, path: &Path, view: &View) -> Result<Option<Stat>, Memory>
+    requires { IsTrue (is_path path.now) }
+    ensures { IfOk result (IsStatAt view.now path.now) }
+{
+    let own = data_key_of(alloc, path)?;
+    let counts = counts_key_of(alloc, path)?;
+    Ok(stat_of_found(found(view, own.as_slice()), found(view, counts.as_slice())))
+}
+
+fn content_of(alloc: Global, own: &Kv) -> Result<Bytes, Memory>
+    ensures { IfOk result (λ content. (n : Znode) → DataMeans (Option.Some n) (stored_of (Option.Some own.now)) → content ≡ n.content) }
+{
+    match read_node(alloc, own.key.as_slice(), own.value.as_slice()) {
+        Ok(record) => Ok(record.content),
+        Err(RecordFault::Memory) => Err(Memory),
+        Err(RecordFault::Damaged { .. }) => Ok(Bytes::new(alloc)),
+    }
+}
+
+/// A copy of the data of the node at a path, empty where there is no node.
+pub(crate) fn content_at(alloc: Global, path: &Path, view: &View) -> Result<Bytes, Memory>
+    requires { IsTrue (is_path path.now) }
+    ensures { IfOk result (IsContentAt view.now path.now) }
+{
+    let key = data_key_of(alloc, path)?;
+    match found(view, key.as_slice()) {
+        Some(own) => content_of(alloc, own),
+        None => Ok(Bytes::new(alloc)),
+    }
+}
+
+fn version_of(own: &Kv) -> Option<i32>
+    ensures { (n : Znode) → DataMeans (Option.Some n) (stored_of (Option.Some own.now)) → Option.Some n.version ≡ result }
+{
+    Some(node_numbers(own.value.as_slice())?.version)
+}
+
+fn version_of_found(own: Option<&Kv>) -> Option<i32>
+    ensures { (n : Option Znode) → DataMeans n (stored_of (option_copied own.entry)) → option_map (λ (x : Znode). x.version) n ≡ result }
+{
+    version_of(own?)
+}
+
+/// The version of the data of the node at a path, none where there is none.
+pub(crate) fn version_at(alloc: Global, path: &Path, view: &View) -> Result<Option<i32>, Memory>
+    requires { IsTrue (is_path path.now) }
+    ensures { IfOk result (IsVersionAt view.now path.now) }
+{
+    let key = data_key_of(alloc, path)?;
+    Ok(version_of_found(found(view, key.as_slice())))
+}

@@ -1,0 +1,322 @@
+-- The decision of a create is what is promised of it.
+use Rattle.std.proofs.Common.{◌≡◌, ℕ, ◌≤◌, ℤ, pos, true, false, Bool, cond, List, [], ◌++◌, length, Option, Some, None, refl, sym, ap, ◌∙◌, subst, inl, inr, ⊎_elim, is_some}
+use Rattle.std.specs.Prelude.{◌≤ℤ◌, not, nat_abs, IsTrue, nat_le, if◌then◌else◌}
+use Rattle.std.specs.FinMap.{get}
+use Rattle.std.specs.Ordering.{int_eq}
+use Rattle.ev_types.specs.declared.answer.Kv.{Kv}
+use Rattle.ev_types.specs.Ranges.{Keys}
+use Rattle.zx_base.specs.Maps.{Bytes}
+use Rattle.zk_model.specs.declared.node.Node.{Node}
+use Rattle.zk_model.specs.declared.node.Trigger.TheVariants.{Created, Children}
+use Rattle.zk_model.specs.declared.request.Acl.{Acl}
+use Rattle.zk_model.specs.declared.request.Part.TheVariants.{Create}
+use Rattle.zk_model.specs.declared.request.Request.TheVariants as req
+use Rattle.zk_model.specs.Codes.{node_exists}
+use Rattle.zk_model.specs.Limits.{max_creates, max_frame, max_moment, max_owned}
+use Rattle.zk_model.specs.PathFaults.{is_valid}
+use Rattle.zk_model.specs.Paths.{is_path, parent, sequence_path, with_one}
+use Rattle.zk_model.specs.Single.{Outcome, create_at, create_node, create_under, form_refusal, is_ephemeral, is_sequential, made_path, named, single, effect, unless_refused}
+use Rattle.zk_model.specs.Watches.{no_watches}
+use Rattle.zk_model.specs.Znodes.{num_children, owned}
+use Rattle.zk_model.proofs.SequenceParents.{parent-sequence}
+use Rattle.zk_model.proofs.SequencePaths.{sequence-valid}
+use Rattle.zk_model.proofs.ValidPaths.{parent-valid}
+use Rattle.zk_transcript.specs.Answers.{plain_request, told_refusal, tree_reply}
+use Rattle.zk_transcript.specs.History.{State, Session, IsSound, commit, session_at}
+use Rattle.zn_layout.specs.declared.record.CountRec.{CountRec}
+use Rattle.zn_layout.specs.Keys.{Key, HeadKey, DataKey, CountsKey, SessionKey, LeaseKey, key_bytes}
+use Rattle.zn_layout.specs.Reading.{IsValueOf}
+use Rattle.zn_layout.specs.Records.{counts_value, IsCountRec, IsHeadRec, IsLongCount}
+use Rattle.zn_layout.specs.StandsFor.{StandsFor}
+use Rattle.zn_layout.proofs.Nodes.{counts_value-injective}
+use Rattle.zn_view.specs.declared.plan.Decision.{Decision}
+use Rattle.zn_view.specs.declared.plan.Who.{Who}
+use Rattle.zn_view.specs.declared.want.Want.{Want}
+use Rattle.zn_view.specs.Lookups.{HasSeen, sees}
+use Rattle.zn_view.specs.Needs.{AreNeeds, Follows, IsRead, key_want}
+use Rattle.zn_view.specs.Seen.{View, seen}
+use Rattle.zn_view.specs.Views.{reads, about_parent}
+use Rattle.zn_updates.specs.declared.seen.SeenData.{SeenData}
+use Rattle.zn_updates.specs.declared.seen.SeenCounts.{SeenCounts}
+use Rattle.zn_updates.specs.Choices.{Choice, Refuse, create_choice, create_owned}
+use Rattle.zn_updates.specs.declared.form.Form.{Form}
+use Rattle.zn_updates.specs.Forms.{IsFormOf}
+use Rattle.zn_updates.specs.Deciding.{IfMakes, IfPlanned, IsByForm, IsBySound, IsCreate, IsGuarded, IsOwnPaths, IsUpLookedUp, IsWhole, creates_in, path_for}
+use Rattle.zn_updates.specs.Lacking.{lacking_from, create_keys, numbered, numbered_at, plain_data, session_nodes, IsCreatesSeen, IsParentCreates}
+use Rattle.zn_updates.specs.Making.{IsDataSeen, IsCountsSeen, has_found}
+use Rattle.zn_updates.specs.Right.{IsRight}
+use Rattle.zn_updates.specs.Seen.{ShowsCounts, ShowsOwned}
+use Rattle.zn_updates.proofs.Clauses.{makes_cond, two_triggers, by_form, by_sound, planned}
+use Rattle.zn_updates.proofs.CreateRight.{create_right, created_under}
+use Rattle.zn_updates.proofs.Deciding.{IsPart, IsChosen, code_of}
+use Rattle.zn_updates.proofs.Lacking.{In, contains_in, in_contains, in_left, in_right, in_either, are_needs}
+use Rattle.zn_updates.proofs.Meanings.{of_abs}
+use Rattle.zn_updates.proofs.Showing.{data-shown, counts-shown, paths-shown, there-shown}
+use Rattle.zn_updates.proofs.Telling.{Tells}
+
+some_same : {X : Type 0} (x y : X) → Some x ≡ Some y → x ≡ y
+some_same x y e = cc
+
+-- whatever node is there, without the parent's counts nothing is created
+same_taken : (p q content : Bytes) (now : ℕ) (ephemeral : Bool) (session : ℤ) (x : Option SeenData) (paths : Option (List Bytes)) (a b : Bool)
+    → create_choice p q content now ephemeral session x None a paths ≡ create_choice p q content now ephemeral session x None b paths
+unfolding create_choice
+same_taken p q content now ephemeral session None paths a b = refl
+same_taken p q content now ephemeral session (Some x) paths a b = refl
+
+same_cond : (b : Bool) (x y z w : Choice) → code_of x ≡ code_of z → code_of y ≡ code_of w → code_of (cond b x y) ≡ code_of (cond b z w)
+same_cond true x y z w e f = e
+same_cond false x y z w e f = f
+
+owned_codes : (p q content : Bytes) (now : ℕ) (above : CountRec) (session : ℤ) (paths : Option (List Bytes)) → code_of (create_owned p q content now above session paths) ≡ code_of (create_owned p q content 0 above session paths)
+owned_codes p q content now above session None = refl
+owned_codes p q content now above session (Some ps) = same_cond (nat_le max_owned (length ps)) _ _ _ _ refl refl
+
+create_codes : (p q content : Bytes) (now : ℕ) (ephemeral : Bool) (session : ℤ) (x : Option SeenData) (c : Option SeenCounts) (taken : Bool) (paths : Option (List Bytes))
+    → code_of (create_choice p q content now ephemeral session x c taken paths) ≡ code_of (create_choice p q content 0 ephemeral session x c taken paths)
+unfolding create_choice
+create_codes p q content now ephemeral session None c taken paths = refl
+create_codes p q content now ephemeral session (Some x) None taken paths = refl
+create_codes p q content now ephemeral session (Some x) (Some c) true paths = refl
+create_codes p q content now ephemeral session (Some x) (Some c) false paths =
+    same_cond (not (int_eq x.owner (pos 0))) _ _ _ _ refl (same_cond (int_eq c.counts.creates max_creates) _ _ _ _ refl (same_cond ephemeral _ _ _ _ (owned_codes p q content now c.counts session paths) refl))
+
+owned_bounds : (p q content : Bytes) (now : ℕ) (above : CountRec) (session : ℤ) (paths : Option (List Bytes)) → IsTrue (is_path p) → IsTrue (is_path q) → IfMakes IsHeadRec (create_owned p q content now above session paths)
+owned_bounds p q content now above session None valid also = tt
+owned_bounds p q content now above session (Some ps) valid also = makes_cond IsHeadRec (nat_le max_owned (length ps)) _ _ tt (two_triggers (Created p) (Children q) valid also)
+
+pub create_bounds : (p q content : Bytes) (now : ℕ) (ephemeral : Bool) (session : ℤ) (x : Option SeenData) (c : Option SeenCounts) (taken : Bool) (paths : Option (List Bytes)) → IsTrue (is_path p) → IsTrue (is_path q)
+    → IfMakes IsHeadRec (create_choice p q content now ephemeral session x c taken paths)
+unfolding create_choice
+create_bounds p q content now ephemeral session None c taken paths valid also = tt
+create_bounds p q content now ephemeral session (Some x) None taken paths valid also = tt
+create_bounds p q content now ephemeral session (Some x) (Some c) true paths valid also = tt
+create_bounds p q content now ephemeral session (Some x) (Some c) false paths valid also =
+    makes_cond IsHeadRec (not (int_eq x.owner (pos 0))) _ _ tt
+    (makes_cond IsHeadRec (int_eq c.counts.creates max_creates) _ _ tt
+    (makes_cond IsHeadRec ephemeral _ _ (owned_bounds p q content now c.counts session paths valid also) (two_triggers (Created p) (Children q) valid also)))
+
+shown_creates : (z : ℤ) (c : Option SeenCounts) (u : Node) (n : ℕ) → ShowsCounts z c (Some u) n → creates_in c ≡ nat_abs u.creates
+shown_creates z None u n h = absurd h
+shown_creates z (Some w) u n h = ap (λ (r : CountRec). nat_abs r.creates) h.is
+
+pub valid_kind : (path : Bytes) (b : Bool) (n : ℕ) → is_valid b path ≡ true → is_path (if b then sequence_path path n else path) ≡ true
+valid_kind path true n h = sequence-valid path n h
+valid_kind path false n h = h
+
+pub create_refused : (path content : Bytes) (acl : List Acl) (flags code : ℤ) → form_refusal (Create path content acl flags) ≡ Some code → plain_request no_watches (req.Create path content acl flags) ≡ told_refusal no_watches (Some code)
+unfolding plain_request
+create_refused path content acl flags code e = ap (told_refusal no_watches) e
+
+-- the form, as it was tested of these flags
+pub form_at : (path : Bytes) (acl : List Acl) (flags was : ℤ) (form value : Form) → was ≡ flags → form ≡ value → ((content : Bytes) → IsFormOf (is_sequential was) path (form_refusal (Create path content acl was)) form)
+    → (content : Bytes) → IsFormOf (is_sequential flags) path (form_refusal (Create path content acl flags)) value
+form_at path acl flags was form value same is h content = subst (λ (t : ℤ × Form). IsFormOf (is_sequential t.0) path (form_refusal (Create path content acl t.0)) t.1) (λ i. (same i, is i)) (h content)
+
+module _ (path content : Bytes) (acl : List Acl) (flags : ℤ) (formed : form_refusal (Create path content acl flags) ≡ None) (valid : is_valid (is_sequential flags) path ≡ true) where
+  create_plain : plain_request no_watches (req.Create path content acl flags) ≡ told_refusal no_watches (form_refusal (Create path content acl flags))
+  unfolding plain_request
+  create_plain = refl
+
+  pub create_formed : plain_request no_watches (req.Create path content acl flags) ≡ None
+  create_formed = create_plain ∙ ap (told_refusal no_watches) formed
+
+  create_part : IsPart (req.Create path content acl flags) (Create path content acl flags)
+  unfolding tree_reply commit
+  create_part = record { told = λ t limit session. refl; done = λ s z session now. refl; after = λ s z session now. refl }
+
+  -- ---- on a tree
+
+  effect_is : (s : State) (session z : ℤ) (now : ℕ) (q : Option Bytes) → parent (named flags path) ≡ q → single s.tree max_owned session (Create path content acl flags) z now ≡ create_at s.tree max_owned session flags content z now path q
+  unfolding single effect
+  effect_is s session z now q up =
+      ap (λ (o : Option ℤ). unless_refused o (create_at s.tree max_owned session flags content z now path (parent (named flags path)))) formed
+      ∙ ap (create_at s.tree max_owned session flags content z now path) up
+
+  -- the node's path is valid, and its parent is the one that was tested
+  pub valid_path : (n : ℕ) → is_path (if is_sequential flags then sequence_path path n else path) ≡ true
+  valid_path n = valid_kind path (is_sequential flags) n valid
+
+  same_parent : (b : Bool) (n : ℕ) → parent (if b then sequence_path path n else path) ≡ parent (if b then with_one path else path)
+  same_parent true n = parent-sequence path n
+  same_parent false n = refl
+
+  made_below : (q : Bytes) → parent (named flags path) ≡ Some q → (n : ℕ) → parent (if is_sequential flags then sequence_path path n else path) ≡ Some q
+  made_below q up n = same_parent (is_sequential flags) n ∙ up
+
+  pub parent_is_valid : (q : Bytes) → parent (named flags path) ≡ Some q → is_path q ≡ true
+  parent_is_valid q up = (parent-valid _ q (valid_path 0) (made_below q up 0)).0
+
+  module _ (who : Who) (v : View) (q : Bytes) (up : parent (named flags path) ≡ Some q) (short : length content ≤ max_frame) (long : IsLongCount who.session)
+      (x : Option SeenData) (c : Option SeenCounts) (paths : Option (List Bytes)) (data_seen : IsDataSeen (sees v (DataKey q)) x) (counts_seen : IsCountsSeen (sees v (CountsKey q)) c)
+      (own_seen : IsOwnPaths v (is_ephemeral flags) who.session paths) (looked_up : (w : SeenCounts) → c ≡ Some w → HasSeen v (DataKey (path_for (is_sequential flags) path c))) where
+    abbrev p : Bytes
+    p = path_for (is_sequential flags) path c
+
+    abbrev choice : ℕ → Choice
+    choice now = create_choice p q content now (is_ephemeral flags) who.session x c (has_found (sees v (DataKey p))) paths
+
+    -- ---- where the view has what a state has
+
+    module _ (m : Keys) (s : State) (z : ℤ) (now : ℕ) (moment : now ≤ max_moment) (sound : IsSound s) (stands : StandsFor m s) (tells : Tells v m) (y : Session) (opened : session_at who.session s ≡ Some y) where
+      own_shown : is_ephemeral flags ≡ true → ShowsOwned paths (owned s.tree who.session)
+      own_shown is = subst (λ (o : ℤ). ShowsOwned paths (owned s.tree o)) (of_abs who.session long.least)
+          (paths-shown v m s stands tells (nat_abs who.session) y paths (ap (λ (o : ℤ). session_at o s) (of_abs who.session long.least) ∙ opened) (own_seen is))
+
+      -- by the node at the path that was looked up
+      right_at : IsRight z s (create_choice p q content now (is_ephemeral flags) who.session x c (is_some (get s.tree p)) paths) (created_under s p q content flags who.session z now sound (made_below q up (creates_in c)) (valid_path (creates_in c)) moment short y opened long (get s.tree q) (get s.tree p))
+      right_at = create_right s p q content flags who.session z now sound (made_below q up (creates_in c)) (valid_path (creates_in c)) moment short y opened long x c paths (get s.tree q) (get s.tree p) refl refl
+          (data-shown v m s stands tells z q x data_seen) (counts-shown v m s stands tells z q c counts_seen) own_shown
+
+      -- the model's path is that one
+      same_path : (u : Node) → get s.tree q ≡ Some u → made_path flags path u ≡ p
+      same_path u there =
+          let shown = subst (λ (o : Option Node). ShowsCounts z c o (num_children s.tree q)) there (counts-shown v m s stands tells z q c counts_seen) in
+          ap (λ (n : ℕ). if is_sequential flags then sequence_path path n else path) (sym (shown_creates z c u (num_children s.tree q) shown))
+
+      under_is : (u : Option Node) → get s.tree q ≡ u → create_under s.tree max_owned who.session flags content z now path q u
+          ≡ created_under s p q content flags who.session z now sound (made_below q up (creates_in c)) (valid_path (creates_in c)) moment short y opened long u (get s.tree p)
+      under_is None there = refl
+      under_is (Some u) there = ap (λ (r : Bytes). create_node s.tree max_owned who.session flags content z now q u r (get s.tree r)) (same_path u there)
+
+      taken_is : (k : Option SeenCounts) → c ≡ k → create_choice p q content now (is_ephemeral flags) who.session x c (is_some (get s.tree p)) paths ≡ choice now
+      taken_is None e =
+          subst (λ (o : Option SeenCounts). create_choice p q content now (is_ephemeral flags) who.session x o (is_some (get s.tree p)) paths ≡ create_choice p q content now (is_ephemeral flags) who.session x o (has_found (sees v (DataKey p))) paths) (sym e)
+          (same_taken p q content now (is_ephemeral flags) who.session x paths _ _)
+      taken_is (Some w) e = ap (λ b. create_choice p q content now (is_ephemeral flags) who.session x c b paths) (sym (there-shown v m s stands tells p (looked_up w e)))
+
+      right_here : IsRight z s (choice now) (single s.tree max_owned who.session (Create path content acl flags) z now)
+      right_here = subst (λ (o : Outcome). IsRight z s (choice now) o) (sym (effect_is s who.session z now (Some q) up ∙ under_is (get s.tree q) refl))
+          (subst (λ (k : Choice). IsRight z s k (created_under s p q content flags who.session z now sound (made_below q up (creates_in c)) (valid_path (creates_in c)) moment short y opened long (get s.tree q) (get s.tree p))) (taken_is c refl) right_at)
+
+    below_chosen : IsChosen (Create path content acl flags) who v choice
+    below_chosen = record {
+      right = λ m s z now moment sound stands tells y opened. right_here m s z now moment sound stands tells y opened;
+      same_code = λ now. create_codes p q content now (is_ephemeral flags) who.session x c (has_found (sees v (DataKey p))) paths;
+    }
+
+  -- ---- the root
+
+  root_chosen : (who : Who) (v : View) → parent (named flags path) ≡ None → IsChosen (Create path content acl flags) who v (λ now. Refuse node_exists)
+  root_chosen who v none = record {
+    right = λ m s z now moment sound stands tells y opened. effect_is s who.session z now None none;
+    same_code = λ now. refl;
+  }
+
+  -- ---- what is promised
+
+  module _ (who : Who) (v : View) (now : ℕ) (moment : now ≤ max_moment) (short : length content ≤ max_frame) (real : pos 1 ≤ℤ who.session) (long : IsLongCount who.session) (d : Decision) where
+    pub all_promised : (q : Option Bytes) → parent (named flags path) ≡ q → ((w : SeenCounts) (r : Bytes) → q ≡ Some r → IsCountsSeen (sees v (CountsKey r)) (Some w) → HasSeen v (DataKey (path_for (is_sequential flags) path (Some w)))) → IsCreate v path content now (is_sequential flags) (is_ephemeral flags) who.session q d
+        → IsByForm (req.Create path content acl flags) d × IsBySound (req.Create path content acl flags) who v d × IfPlanned (IsGuarded (req.Create path content acl flags) who now v) d
+    all_promised None none looked_up is =
+        let chosen = root_chosen who v none in
+        let choice : ℕ → Choice = λ _. Refuse node_exists in
+        let bounds : IfMakes IsHeadRec (choice now) = tt in (
+          by_form (req.Create path content acl flags) (Create path content acl flags) who v choice now create_part chosen moment real create_formed bounds d is,
+          by_sound (req.Create path content acl flags) (Create path content acl flags) who v choice now create_part chosen moment real create_formed bounds d is,
+          planned (req.Create path content acl flags) (Create path content acl flags) who v choice now create_part chosen moment real create_formed bounds d is,
+        )
+    all_promised (Some q) up looked_up is =
+        let p = path_for (is_sequential flags) path is.1 in
+        let seen_at : (w : SeenCounts) → is.1 ≡ Some w → HasSeen v (DataKey p) = λ w e.
+        subst (λ (o : Option SeenCounts). HasSeen v (DataKey (path_for (is_sequential flags) path o))) (sym e) (looked_up w q refl (subst (λ (o : Option SeenCounts). IsCountsSeen (sees v (CountsKey q)) o) e is.4)) in
+        let chosen = below_chosen who v q up short long is.0 is.1 is.2 is.3 is.4 is.5 seen_at in
+        let choice : ℕ → Choice = λ at_moment. create_choice p q content at_moment (is_ephemeral flags) who.session is.0 is.1 (has_found (sees v (DataKey p))) is.2 in
+        let bounds : IfMakes IsHeadRec (choice now) = create_bounds p q content now (is_ephemeral flags) who.session is.0 is.1 (has_found (sees v (DataKey p))) is.2 (valid_path (creates_in is.1)) (parent_is_valid q up) in (
+          by_form (req.Create path content acl flags) (Create path content acl flags) who v choice now create_part chosen moment real create_formed bounds d is.6,
+          by_sound (req.Create path content acl flags) (Create path content acl flags) who v choice now create_part chosen moment real create_formed bounds d is.6,
+          planned (req.Create path content acl flags) (Create path content acl flags) who v choice now create_part chosen moment real create_formed bounds d is.6,
+        )
+
+  -- ---- what it reads
+
+  abbrev fixed : ℤ → List Key
+  fixed id = (about_parent (parent (named flags path)) ++ plain_data (is_sequential flags) path) ++ session_nodes (is_ephemeral flags) id
+
+  reads_are : (id : ℤ) → reads (req.Create path content acl flags) id ≡ fixed id
+  unfolding reads
+  reads_are id = refl
+
+  -- a sequence node's key, from the counts that were seen
+  number_follows : (who : Who) (v : View) (q : Bytes) (n : ℕ) → is_sequential flags ≡ true → parent (named flags path) ≡ Some q → IsCreatesSeen (sees v (CountsKey q)) (Some n) → Follows (req.Create path content acl flags) who.session v (key_want (DataKey (sequence_path path n)))
+  number_follows who v q n sequential up = elim (sees v (CountsKey q)) as (λ o. sees v (CountsKey q) ≡ o → IsCreatesSeen o (Some n) → Follows (req.Create path content acl flags) who.session v (key_want (DataKey (sequence_path path n)))) [
+    | None ↦ λ e h. absurd (cc)
+    | Some None ↦ λ e h. absurd (cc)
+    | Some (Some kv) ↦ λ e h. (sequential, q, sym (ap (λ b. parent (if b then with_one path else path)) sequential) ∙ up, h.0, (h.1.0, (kv, e, h.1.1)), ap (λ (k : ℕ). key_want (DataKey (sequence_path path k))) (some_same n _ h.2))
+  ] refl
+
+  numbered_follows : (who : Who) (v : View) (creates : Option ℕ) → IsParentCreates v (parent (named flags path)) creates → (k : Key) → In k (numbered (is_sequential flags) path creates) → Follows (req.Create path content acl flags) who.session v (key_want k)
+  numbered_follows who v creates is k = elim (is_sequential flags) as (λ b. is_sequential flags ≡ b → In k (if b then numbered_at path creates else []) → Follows (req.Create path content acl flags) who.session v (key_want k)) [
+    | false ↦ λ e h. absurd h
+    | true ↦ λ e h. by_creates creates is e h
+  ] refl
+    where
+      by_parent : (n : ℕ) (q : Option Bytes) → parent (named flags path) ≡ q → IsParentCreates v q (Some n) → is_sequential flags ≡ true → Follows (req.Create path content acl flags) who.session v (key_want (DataKey (sequence_path path n)))
+      by_parent n None up h e = absurd (cc)
+      by_parent n (Some q) up h e = number_follows who v q n e up h
+
+      by_creates : (o : Option ℕ) → IsParentCreates v (parent (named flags path)) o → is_sequential flags ≡ true → In k (numbered_at path o) → Follows (req.Create path content acl flags) who.session v (key_want k)
+      by_creates None h e bad = absurd bad
+      by_creates (Some n) h e (inl same) = subst (λ (l : Key). Follows (req.Create path content acl flags) who.session v (key_want l)) same (by_parent n (parent (named flags path)) refl h e)
+      by_creates (Some n) h e (inr bad) = absurd bad
+
+  reads_from : (who : Who) (v : View) (creates : Option ℕ) → IsParentCreates v (parent (named flags path)) creates → (k : Key) → In k (create_keys (is_sequential flags) (is_ephemeral flags) path (parent (named flags path)) who.session creates) → IsRead (req.Create path content acl flags) who v (key_want k)
+  reads_from who v creates is k (inl e) = inl (ap key_want (sym e))
+  reads_from who v creates is k (inr (inl e)) = inr (inl (ap key_want (sym e)))
+  reads_from who v creates is k (inr (inr h)) = ⊎_elim
+      (λ a. inr (inr (inl (k, in_contains k _ (subst (In k) (sym (reads_are who.session)) a), refl))))
+      (λ b. inr (inr (inr (numbered_follows who v creates is k b))))
+      (in_either k (fixed who.session) (numbered (is_sequential flags) path creates) h)
+
+  -- the creates that were seen are those of the record
+  same_creates : (v : View) (q : Bytes) (creates : Option ℕ) (r : CountRec) (kv : Kv) → IsParentCreates v (Some q) creates → seen v (key_bytes (CountsKey q)) ≡ Some (Some kv) → IsValueOf counts_value IsCountRec kv.value r → creates ≡ Some (nat_abs r.creates)
+  same_creates v q creates r kv is there value =
+      let at : IsCreatesSeen (Some (Some kv)) creates = subst (λ (o : Option (Option Kv)). IsCreatesSeen o creates) there is in
+      at.2 ∙ ap (λ (k : CountRec). Some (nat_abs k.creates)) (counts_value-injective at.0 r at.1.0 value.0 (sym at.1.1 ∙ value.1))
+
+  reads_to : (who : Who) (v : View) (creates : Option ℕ) → IsParentCreates v (parent (named flags path)) creates → (w : Want) → IsRead (req.Create path content acl flags) who v w
+      → (k : Key) × In k (create_keys (is_sequential flags) (is_ephemeral flags) path (parent (named flags path)) who.session creates) × (w ≡ key_want k)
+  reads_to who v creates is w (inl e) = (HeadKey, inl refl, e)
+  reads_to who v creates is w (inr (inl e)) = (LeaseKey (nat_abs who.session), inr (inl refl), e)
+  reads_to who v creates is w (inr (inr (inl h))) = (h.0, inr (inr (in_left h.0 (fixed who.session) (numbered (is_sequential flags) path creates) (subst (In h.0) (reads_are who.session) (contains_in h.0 _ h.1)))), h.2)
+  reads_to who v creates is w (inr (inr (inr (sequential, q, up, r, saw, e)))) =
+      let named_up : parent (named flags path) ≡ Some q = ap (λ b. parent (if b then with_one path else path)) sequential ∙ up in
+      let number = same_creates v q creates r saw.1.0 (subst (λ (o : Option Bytes). IsParentCreates v o creates) named_up is) saw.1.1 (saw.0, saw.1.2) in
+      let inside : In (DataKey (sequence_path path (nat_abs r.creates))) (numbered (is_sequential flags) path creates) =
+      subst (λ (t : Bool × Option ℕ). In (DataKey (sequence_path path (nat_abs r.creates))) (numbered t.0 path t.1)) (λ i. (sym sequential i, sym number i)) (inl refl) in
+      (DataKey (sequence_path path (nat_abs r.creates)), inr (inr (in_right _ (fixed who.session) (numbered (is_sequential flags) path creates) inside)), e)
+
+  pub create_needs : (who : Who) (v : View) (ws : List Want) (q : Option Bytes) (creates : Option ℕ) → q ≡ parent (named flags path) → IsParentCreates v q creates → ws ≡ lacking_from v [] (create_keys (is_sequential flags) (is_ephemeral flags) path q who.session creates)
+      → AreNeeds (req.Create path content acl flags) who v ws
+  create_needs who v ws q creates up is e =
+      are_needs (req.Create path content acl flags) who v (create_keys (is_sequential flags) (is_ephemeral flags) path (parent (named flags path)) who.session creates) ws
+      (e ∙ ap (λ (o : Option Bytes). lacking_from v [] (create_keys (is_sequential flags) (is_ephemeral flags) path o who.session creates)) up) create_formed
+      (reads_from who v creates (subst (λ (o : Option Bytes). IsParentCreates v o creates) up is)) (reads_to who v creates (subst (λ (o : Option Bytes). IsParentCreates v o creates) up is))
+
+  fixed_seen : (who : Who) (v : View) → IsWhole (req.Create path content acl flags) who v → (k : Key) → In k (fixed who.session) → HasSeen v k
+  fixed_seen who v whole k inside none = whole create_formed (key_want k) (inr (inr (inl (k, in_contains k _ (subst (In k) (sym (reads_are who.session)) inside), refl)))) none
+
+  pub up_seen : (who : Who) (v : View) → IsWhole (req.Create path content acl flags) who v → (q : Bytes) → parent (named flags path) ≡ Some q → HasSeen v (DataKey q) × HasSeen v (CountsKey q)
+  up_seen who v whole q up = (
+    fixed_seen who v whole (DataKey q) (in_left _ _ (session_nodes (is_ephemeral flags) who.session) (in_left _ _ (plain_data (is_sequential flags) path) (subst (λ (o : Option Bytes). In (DataKey q) (about_parent o)) (sym up) (inl refl)))),
+    fixed_seen who v whole (CountsKey q) (in_left _ _ (session_nodes (is_ephemeral flags) who.session) (in_left _ _ (plain_data (is_sequential flags) path) (subst (λ (o : Option Bytes). In (CountsKey q) (about_parent o)) (sym up) (inr (inl refl))))),
+  )
+
+  pub own_looked_up : (who : Who) (v : View) → IsWhole (req.Create path content acl flags) who v → is_ephemeral flags ≡ true → HasSeen v (SessionKey (nat_abs who.session))
+  own_looked_up who v whole e = fixed_seen who v whole (SessionKey (nat_abs who.session)) (in_right _ (about_parent (parent (named flags path)) ++ plain_data (is_sequential flags) path) (session_nodes (is_ephemeral flags) who.session)
+      (subst (λ b. In (SessionKey (nat_abs who.session)) (session_nodes b who.session)) (sym e) (inl refl)))
+
+  pub path_looked_up : (who : Who) (v : View) → IsWhole (req.Create path content acl flags) who v → (w : SeenCounts) (q : Bytes) → parent (named flags path) ≡ Some q → IsCountsSeen (sees v (CountsKey q)) (Some w) → HasSeen v (DataKey (path_for (is_sequential flags) path (Some w)))
+  path_looked_up who v whole w q up counts_seen = elim (is_sequential flags) as (λ b. is_sequential flags ≡ b → HasSeen v (DataKey (path_for b path (Some w)))) [
+    | false ↦ λ e. fixed_seen who v whole (DataKey path) (in_left _ _ (session_nodes (is_ephemeral flags) who.session) (in_right _ (about_parent (parent (named flags path))) (plain_data (is_sequential flags) path) (subst (λ b. In (DataKey path) (plain_data b path)) (sym e) (inl refl))))
+    | true ↦ λ e none. whole create_formed (key_want (DataKey (sequence_path path (nat_abs w.counts.creates)))) (inr (inr (inr (number_follows who v q (nat_abs w.counts.creates) e up (creates_of (sees v (CountsKey q)) counts_seen))))) none
+  ] refl
+    where
+      creates_of : (o : Option (Option Kv)) → IsCountsSeen o (Some w) → IsCreatesSeen o (Some (nat_abs w.counts.creates))
+      creates_of None h = absurd h
+      creates_of (Some None) h = absurd h
+      creates_of (Some (Some kv)) h = (h.0, h.1, ap (λ (k : SeenCounts). Some (nat_abs k.counts.creates)) h.2)
+
+  pub up_looked_up : (who : Who) (v : View) → IsWhole (req.Create path content acl flags) who v → (q : Option Bytes) → parent (named flags path) ≡ q → IsUpLookedUp v q
+  up_looked_up who v whole None up = tt
+  up_looked_up who v whole (Some q) up = up_seen who v whole q up

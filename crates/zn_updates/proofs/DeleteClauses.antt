@@ -1,0 +1,236 @@
+-- The decision of a delete is what is promised of it.
+use Rattle.std.proofs.Common.{◌≡◌, ◌≢◌, ℕ, ◌≤◌, ℤ, pos, true, false, Bool, cond, List, [], ◌∷◌, ◌++◌, Option, Some, None, refl, sym, ap, ◌∙◌, subst, inl, inr, ⊎_elim}
+use Rattle.std.specs.Prelude.{◌≤ℤ◌, not, nat_abs, IsTrue, ◌&&◌}
+use Rattle.std.specs.FinMap.{get}
+use Rattle.std.specs.Ordering.{int_eq}
+use Rattle.std.proofs.lemmas.Bool.Decides.{Decides-int_eq}
+use Rattle.ev_types.specs.declared.answer.Kv.{Kv}
+use Rattle.ev_types.specs.Ranges.{Keys}
+use Rattle.zx_base.specs.Maps.{Bytes, same}
+use Rattle.zx_base.proofs.MapLaws.{same-refl}
+use Rattle.zk_model.specs.declared.node.Node.{Node}
+use Rattle.zk_model.specs.declared.node.Trigger.TheVariants.{Deleted, Children}
+use Rattle.zk_model.specs.declared.request.Part.TheVariants.{Delete}
+use Rattle.zk_model.specs.declared.request.Request.TheVariants as req
+use Rattle.zk_model.specs.Codes.{bad_arguments, no_node}
+use Rattle.zk_model.specs.Limits.{max_moment, max_owned}
+use Rattle.zk_model.specs.Paths.{is_path, parent, root}
+use Rattle.zk_model.specs.Single.{Refused, form_refusal, single, effect, delete, unless_refused, matches}
+use Rattle.zk_model.specs.Watches.{no_watches}
+use Rattle.zk_model.specs.Znodes.{owned}
+use Rattle.zk_model.proofs.ValidPaths.{parent-valid}
+use Rattle.zk_transcript.specs.Answers.{plain_request, told_refusal, tree_reply}
+use Rattle.zk_transcript.specs.History.{State, Session, IsSound, commit, session_at}
+use Rattle.zn_layout.specs.declared.record.NodeRec.{NodeRec}
+use Rattle.zn_layout.specs.Keys.{Key, HeadKey, DataKey, CountsKey, SessionKey, LeaseKey, key_bytes}
+use Rattle.zn_layout.specs.Reading.{IsValueOf}
+use Rattle.zn_layout.specs.Records.{node_value, IsNodeRec, IsHeadRec}
+use Rattle.zn_layout.specs.StandsFor.{StandsFor}
+use Rattle.zn_layout.proofs.Nodes.{node_value-injective}
+use Rattle.zn_view.specs.declared.plan.Decision.{Decision}
+use Rattle.zn_view.specs.declared.plan.Who.{Who}
+use Rattle.zn_view.specs.declared.want.Want.{Want}
+use Rattle.zn_view.specs.Lookups.{HasSeen, sees}
+use Rattle.zn_view.specs.Needs.{AreNeeds, Follows, IsRead, key_want}
+use Rattle.zn_view.specs.Seen.{View, seen}
+use Rattle.zn_view.specs.Views.{reads, about_path, counts_of_parent}
+use Rattle.zn_updates.specs.declared.seen.SeenData.{SeenData}
+use Rattle.zn_updates.specs.declared.seen.SeenCounts.{SeenCounts}
+use Rattle.zn_updates.specs.Choices.{Choice, Refuse, delete_choice, delete_here, delete_owned}
+use Rattle.zn_updates.specs.Deciding.{IfMakes, IfPlanned, IsByForm, IsBySound, IsDelete, IsGuarded, IsOwnerLookedUp, IsOwnerPaths, IsWhole}
+use Rattle.zn_updates.specs.Lacking.{lacking_from, owner_nodes, delete_keys, IsOwnerSeen}
+use Rattle.zn_updates.specs.Making.{IsDataSeen, IsCountsSeen, IsPathsSeen}
+use Rattle.zn_updates.specs.Right.{IsRight}
+use Rattle.zn_updates.specs.Seen.{ShowsData, ShowsOwned}
+use Rattle.zn_updates.proofs.Clauses.{makes_cond, two_triggers, by_form, by_sound, planned}
+use Rattle.zn_updates.proofs.Deciding.{IsPart, IsChosen}
+use Rattle.zn_updates.proofs.DeleteRight.{delete_right}
+use Rattle.zn_updates.proofs.Forms.{delete_refusal}
+use Rattle.zn_updates.proofs.Lacking.{In, contains_in, in_contains, in_left, in_right, in_either, are_needs}
+use Rattle.zn_updates.proofs.Meanings.{int_eq-apart, of_abs}
+use Rattle.zn_updates.proofs.Showing.{data-shown, counts-shown, paths-shown}
+use Rattle.zn_updates.proofs.Telling.{Tells}
+
+both : (a b : Bool) → (a && b) ≡ true → (a ≡ true) × (b ≡ true)
+both true b h = (refl, h)
+both false b h = absurd (cc)
+
+not_root : (p : Bytes) → not (same p root) ≡ true → p ≢ root
+not_root p h e = let t : same p root ≡ true = ap (λ (x : Bytes). same x root) e ∙ same-refl root in let f : not true ≡ true = sym (ap not t) ∙ h in cc
+
+true_false : true ≡ false → ⊥
+true_false e = cc
+
+-- the owner's nodes that were seen are those of its session
+module _ (v : View) (m : Keys) (s : State) (sound : IsSound s) (stands : StandsFor m s) (tells : Tells v m) (z : ℤ) (p : Bytes) (y : SeenData) (paths : Option (List Bytes)) where
+  by_session : (id : ℤ) → pos 0 ≤ℤ id → (x : Session) × (session_at id s ≡ Some x) → IsPathsSeen (sees v (SessionKey (nat_abs id))) paths → ShowsOwned paths (owned s.tree id)
+  by_session id least x seen_paths = subst (λ (o : ℤ). ShowsOwned paths (owned s.tree o)) (of_abs id least)
+      (paths-shown v m s stands tells (nat_abs id) x.0 paths (ap (λ (o : ℤ). session_at o s) (of_abs id least) ∙ x.1) seen_paths)
+
+  by_node : (n : Option Node) → get s.tree p ≡ n → ShowsData z (Some y) n → (y.owner ≡ pos 0 → ⊥) → IsPathsSeen (sees v (SessionKey (nat_abs y.owner))) paths → ShowsOwned paths (owned s.tree y.owner)
+  by_node None there shows owns seen_paths = absurd shows
+  by_node (Some n) there shows owns seen_paths =
+      let same_owner : y.owner ≡ n.owner = ap (λ (w : SeenData). w.owner) shows.is in
+      let session = sound.owners p n there (λ e. owns (same_owner ∙ e)) in
+      by_session y.owner shows.within.owner.least (session.0, ap (λ (o : ℤ). session_at o s) same_owner ∙ session.1) seen_paths
+
+module _ (p : Bytes) (version : ℤ) where
+  pub delete_plain : plain_request no_watches (req.Delete p version) ≡ told_refusal no_watches (form_refusal (Delete p version))
+  unfolding plain_request
+  delete_plain = refl
+
+  pub delete_valid : (is_path p && not (same p root)) ≡ true → plain_request no_watches (req.Delete p version) ≡ None
+  delete_valid valid = delete_plain ∙ ap (told_refusal no_watches) (delete_refusal p version true valid)
+
+  pub delete_invalid : (is_path p && not (same p root)) ≡ false → plain_request no_watches (req.Delete p version) ≡ told_refusal no_watches (Some bad_arguments)
+  delete_invalid invalid = delete_plain ∙ ap (told_refusal no_watches) (delete_refusal p version false invalid)
+
+  pub delete_part : IsPart (req.Delete p version) (Delete p version)
+  unfolding tree_reply commit
+  delete_part = record { told = λ t limit session. refl; done = λ s z session now. refl; after = λ s z session now. refl }
+
+  effect_is : (s : State) (session z : ℤ) (now : ℕ) → (is_path p && not (same p root)) ≡ true → single s.tree max_owned session (Delete p version) z now ≡ delete s.tree p version z (get s.tree p)
+  unfolding single effect
+  effect_is s session z now valid = ap (λ (o : Option ℤ). unless_refused o (delete s.tree p version z (get s.tree p))) (delete_refusal p version true valid)
+
+  pub delete_bounds : (q : Bytes) (x : Option SeenData) (c a : Option SeenCounts) (paths : Option (List Bytes)) → IsTrue (is_path p) → IsTrue (is_path q) → IfMakes IsHeadRec (delete_choice p q version x c a paths)
+  unfolding delete_choice
+  delete_bounds q None c a paths valid also = tt
+  delete_bounds q (Some x) None a paths valid also = tt
+  delete_bounds q (Some x) (Some c) a paths valid also = makes_cond IsHeadRec (not (matches version x.version)) _ _ tt (makes_cond IsHeadRec (not (int_eq c.counts.children (pos 0))) _ _ tt (here a))
+    where
+      owned_by : (o : Option (List Bytes)) (above : SeenCounts) → IfMakes IsHeadRec (delete_owned p q above.counts x.owner o)
+      owned_by None above = tt
+      owned_by (Some ps) above = two_triggers (Deleted p) (Children q) valid also
+
+      here : (o : Option SeenCounts) → IfMakes IsHeadRec (delete_here p q x o paths)
+      here None = tt
+      here (Some above) = makes_cond IsHeadRec (int_eq x.owner (pos 0)) _ _ (two_triggers (Deleted p) (Children q) valid also) (owned_by paths above)
+
+  delete_chosen : (who : Who) (v : View) (q : Bytes) (x : Option SeenData) (c a : Option SeenCounts) (paths : Option (List Bytes)) → (is_path p && not (same p root)) ≡ true → parent p ≡ Some q
+      → IsDataSeen (sees v (DataKey p)) x → IsCountsSeen (sees v (CountsKey p)) c → IsCountsSeen (sees v (CountsKey q)) a → IsOwnerPaths v x paths
+      → IsChosen (Delete p version) who v (λ now. delete_choice p q version x c a paths)
+  delete_chosen who v q x c a paths valid below data_seen counts_seen above_seen owner_seen = record {
+    right = λ m s z now moment sound stands tells y opened.
+        subst (IsRight z s (delete_choice p q version x c a paths)) (sym (effect_is s who.session z now valid))
+        (delete_right s p q version z sound below x c a paths (get s.tree p) refl (data-shown v m s stands tells z p x data_seen) (counts-shown v m s stands tells z p c counts_seen) (counts-shown v m s stands tells z q a above_seen)
+        (λ w e owns. by_node v m s sound stands tells z p w paths (get s.tree p) refl
+        (data-shown v m s stands tells z p (Some w) (subst (IsDataSeen (sees v (DataKey p))) e data_seen)) owns (subst (λ (o : Option SeenData). IsOwnerPaths v o paths) e owner_seen owns)));
+    same_code = λ now. refl;
+  }
+
+  -- a path without parent has no node but the root's
+  no_parent : (s : State) (z : ℤ) → IsSound s → p ≢ root → parent p ≡ None → (n : Option Node) → get s.tree p ≡ n → delete s.tree p version z n ≡ Refused no_node
+  no_parent s z sound inner none None there = refl
+  no_parent s z sound inner none (Some n) there = let up = sound.parents p n there inner in let bad : None ≡ Some up.path = sym none ∙ up.is in absurd (cc)
+
+  orphan_chosen : (who : Who) (v : View) → (is_path p && not (same p root)) ≡ true → parent p ≡ None → IsChosen (Delete p version) who v (λ now. Refuse no_node)
+  orphan_chosen who v valid none = record {
+    right = λ m s z now moment sound stands tells y opened. effect_is s who.session z now valid ∙ no_parent s z sound (not_root p (both _ _ valid).1) none (get s.tree p) refl;
+    same_code = λ now. refl;
+  }
+
+  -- ---- what is promised
+
+  module _ (who : Who) (v : View) (now : ℕ) (valid : (is_path p && not (same p root)) ≡ true) (moment : now ≤ max_moment) (real : pos 1 ≤ℤ who.session) (d : Decision) where
+    pub all_promised : (q : Option Bytes) → parent p ≡ q → IsDelete v p version q d → IsByForm (req.Delete p version) d × IsBySound (req.Delete p version) who v d × IfPlanned (IsGuarded (req.Delete p version) who now v) d
+    all_promised None none is =
+        let chosen = orphan_chosen who v valid none in
+        let choice : ℕ → Choice = λ _. Refuse no_node in
+        let bounds : IfMakes IsHeadRec (choice now) = tt in (
+          by_form (req.Delete p version) (Delete p version) who v choice now delete_part chosen moment real (delete_valid valid) bounds d is,
+          by_sound (req.Delete p version) (Delete p version) who v choice now delete_part chosen moment real (delete_valid valid) bounds d is,
+          planned (req.Delete p version) (Delete p version) who v choice now delete_part chosen moment real (delete_valid valid) bounds d is,
+        )
+    all_promised (Some q) below is =
+        let path = (both _ _ valid).0 in
+        let chosen = delete_chosen who v q is.0 is.1 is.2 is.3 valid below is.4 is.5 is.6 is.7 in
+        let choice : ℕ → Choice = λ _. delete_choice p q version is.0 is.1 is.2 is.3 in
+        let bounds : IfMakes IsHeadRec (choice now) = delete_bounds q is.0 is.1 is.2 is.3 path (parent-valid p q path below).0 in (
+          by_form (req.Delete p version) (Delete p version) who v choice now delete_part chosen moment real (delete_valid valid) bounds d is.8,
+          by_sound (req.Delete p version) (Delete p version) who v choice now delete_part chosen moment real (delete_valid valid) bounds d is.8,
+          planned (req.Delete p version) (Delete p version) who v choice now delete_part chosen moment real (delete_valid valid) bounds d is.8,
+        )
+
+  -- ---- what it reads
+
+  abbrev fixed : List Key
+  fixed = about_path p ++ counts_of_parent (parent p)
+
+  reads_are : (id : ℤ) → reads (req.Delete p version) id ≡ fixed
+  unfolding reads
+  reads_are id = refl
+
+  -- the node's record that a view saw
+  record IsNodeSeen (v : View) (r : NodeRec) : Type 0 where
+    kv : Kv
+    there : seen v (key_bytes (DataKey p)) ≡ Some (Some kv)
+    is : IsValueOf node_value IsNodeRec kv.value r
+
+  owner_node : (v : View) (owner : ℤ) → IsOwnerSeen (sees v (DataKey p)) owner → (owner ≡ pos 0 → ⊥) → (r : NodeRec) × IsNodeSeen v r × (owner ≡ r.owner)
+  owner_node v owner is owns = elim (sees v (DataKey p)) as (λ o. sees v (DataKey p) ≡ o → IsOwnerSeen o owner → (r : NodeRec) × IsNodeSeen v r × (owner ≡ r.owner)) [
+    | None ↦ λ e h. absurd (owns h)
+    | Some None ↦ λ e h. absurd (owns h)
+    | Some (Some kv) ↦ λ e h. (h.0, record { kv = kv; there = e; is = h.1 }, h.2)
+  ] refl is
+
+  same_node : (v : View) (owner : ℤ) → IsOwnerSeen (sees v (DataKey p)) owner → (r : NodeRec) → IsNodeSeen v r → owner ≡ r.owner
+  same_node v owner is r node =
+      let at : IsOwnerSeen (Some (Some node.kv)) owner = subst (λ (o : Option (Option Kv)). IsOwnerSeen o owner) node.there is in
+      at.2 ∙ ap (λ (x : NodeRec). x.owner) (node_value-injective at.0 r at.1.0 node.is.0 (sym at.1.1 ∙ node.is.1))
+
+  in_owner : (owner : ℤ) (k : Key) → In k (owner_nodes owner) → (owner ≡ pos 0 → ⊥) × (k ≡ SessionKey (nat_abs owner))
+  in_owner owner k = elim (int_eq owner (pos 0)) as (λ b. int_eq owner (pos 0) ≡ b → In k (cond b [] (SessionKey (nat_abs owner) ∷ [])) → (owner ≡ pos 0 → ⊥) × (k ≡ SessionKey (nat_abs owner))) [
+    | true ↦ λ e h. absurd h
+    | false ↦ λ e h. ⊎_elim (λ is. (λ z. true_false (sym ((Decides-int_eq owner (pos 0)).1 z) ∙ e), sym is)) (λ bad. absurd bad) h
+  ] refl
+
+  owner_in : (owner : ℤ) → (owner ≡ pos 0 → ⊥) → In (SessionKey (nat_abs owner)) (owner_nodes owner)
+  owner_in owner owns = subst (λ b. In (SessionKey (nat_abs owner)) (cond b [] (SessionKey (nat_abs owner) ∷ []))) (sym (int_eq-apart owner (pos 0) owns)) (inl refl)
+
+  follows : (who : Who) (v : View) (owner : ℤ) → IsOwnerSeen (sees v (DataKey p)) owner → (k : Key) → In k (owner_nodes owner) → Follows (req.Delete p version) who.session v (key_want k)
+  follows who v owner is k h =
+      let at = in_owner owner k h in
+      let node = owner_node v owner is at.0 in
+      (node.0, (node.1.is.0, (node.1.kv, node.1.there, node.1.is.1)), (λ e. at.0 (node.2 ∙ e)), ap key_want (at.1 ∙ ap (λ (o : ℤ). SessionKey (nat_abs o)) node.2))
+
+  reads_from : (who : Who) (v : View) (owner : ℤ) → IsOwnerSeen (sees v (DataKey p)) owner → (k : Key) → In k (delete_keys p (parent p) who.session owner) → IsRead (req.Delete p version) who v (key_want k)
+  reads_from who v owner is k (inl e) = inl (ap key_want (sym e))
+  reads_from who v owner is k (inr (inl e)) = inr (inl (ap key_want (sym e)))
+  reads_from who v owner is k (inr (inr h)) = ⊎_elim
+      (λ a. inr (inr (inl (k, in_contains k _ (subst (In k) (sym (reads_are who.session)) a), refl))))
+      (λ b. inr (inr (inr (follows who v owner is k b))))
+      (in_either k fixed (owner_nodes owner) h)
+
+  reads_to : (who : Who) (v : View) (owner : ℤ) → IsOwnerSeen (sees v (DataKey p)) owner → (w : Want) → IsRead (req.Delete p version) who v w → (k : Key) × In k (delete_keys p (parent p) who.session owner) × (w ≡ key_want k)
+  reads_to who v owner is w (inl e) = (HeadKey, inl refl, e)
+  reads_to who v owner is w (inr (inl e)) = (LeaseKey (nat_abs who.session), inr (inl refl), e)
+  reads_to who v owner is w (inr (inr (inl h))) = (h.0, inr (inr (in_left h.0 fixed (owner_nodes owner) (subst (In h.0) (reads_are who.session) (contains_in h.0 _ h.1)))), h.2)
+  reads_to who v owner is w (inr (inr (inr h))) =
+      let node : IsNodeSeen v h.0 = record { kv = h.1.1.0; there = h.1.1.1; is = (h.1.0, h.1.1.2) } in
+      let same_owner = same_node v owner is h.0 node in
+      (SessionKey (nat_abs owner), inr (inr (in_right _ fixed (owner_nodes owner) (owner_in owner (λ e. h.2 (sym same_owner ∙ e))))), h.3 ∙ ap (λ (o : ℤ). key_want (SessionKey (nat_abs o))) (sym same_owner))
+
+  pub delete_needs : (who : Who) (v : View) (ws : List Want) (q : Option Bytes) (owner : ℤ) → (is_path p && not (same p root)) ≡ true → q ≡ parent p → IsOwnerSeen (sees v (DataKey p)) owner → ws ≡ lacking_from v [] (delete_keys p q who.session owner) → AreNeeds (req.Delete p version) who v ws
+  delete_needs who v ws q owner valid up is e =
+      are_needs (req.Delete p version) who v (delete_keys p (parent p) who.session owner) ws (e ∙ ap (λ (o : Option Bytes). lacking_from v [] (delete_keys p o who.session owner)) up) (delete_valid valid) (reads_from who v owner is) (reads_to who v owner is)
+
+  pub delete_seen : (who : Who) (v : View) (k : Key) → (is_path p && not (same p root)) ≡ true → IsWhole (req.Delete p version) who v → In k fixed → HasSeen v k
+  delete_seen who v k valid whole inside none = whole (delete_valid valid) (key_want k) (inr (inr (inl (k, in_contains k _ (subst (In k) (sym (reads_are who.session)) inside), refl)))) none
+
+  pub above_seen : (who : Who) (v : View) → (is_path p && not (same p root)) ≡ true → IsWhole (req.Delete p version) who v → (q : Bytes) → parent p ≡ Some q → HasSeen v (CountsKey q)
+  above_seen who v valid whole q below = delete_seen who v (CountsKey q) valid whole (inr (inr (subst (λ (o : Option Bytes). In (CountsKey q) (counts_of_parent o)) (sym below) (inl refl))))
+
+  pub owner_looked_up : (who : Who) (v : View) → (is_path p && not (same p root)) ≡ true → IsWhole (req.Delete p version) who v → (x : Option SeenData) → IsDataSeen (sees v (DataKey p)) x → IsOwnerLookedUp v x
+  owner_looked_up who v valid whole None is = tt
+  owner_looked_up who v valid whole (Some x) is = λ owns none.
+      whole (delete_valid valid) (key_want (SessionKey (nat_abs x.owner))) (inr (inr (inr (owner_follows x is owns)))) none
+    where
+      owner_follows : (y : SeenData) → IsDataSeen (sees v (DataKey p)) (Some y) → (y.owner ≡ pos 0 → ⊥) → Follows (req.Delete p version) who.session v (key_want (SessionKey (nat_abs y.owner)))
+      owner_follows y h owns = elim (sees v (DataKey p)) as (λ o. sees v (DataKey p) ≡ o → IsDataSeen o (Some y) → Follows (req.Delete p version) who.session v (key_want (SessionKey (nat_abs y.owner)))) [
+        | None ↦ λ e bad. absurd bad
+        | Some None ↦ λ e bad. absurd bad
+        | Some (Some kv) ↦ λ e g.
+            let same_owner : y.owner ≡ g.0.owner = ap (λ (w : SeenData). w.owner) g.2 in
+            (g.0, (g.1.0, (kv, e, g.1.1)), (λ z. owns (same_owner ∙ z)), ap (λ (o : ℤ). key_want (SessionKey (nat_abs o))) same_owner)
+      ] refl h

@@ -1,0 +1,79 @@
+-- What keys mean is carried along equal look-ups; sessions' numbers.
+use Rattle.std.proofs.Common.{◌≡◌, ℕ, ℤ, pos, ◌≤◌, true, false, List, Option, Some, None, refl, sym, ap, ◌∙◌, subst, arith, eqb-true}
+use Rattle.std.proofs.lemmas.Bool.{eqb-false}
+use Rattle.std.specs.Prelude.{◌≤ℤ◌, nat_abs, nat_eq}
+use Rattle.std.specs.Ordering.{int_eq}
+use Rattle.std.proofs.lemmas.Int.{ints}
+use Rattle.std.proofs.lemmas.Bool.Decides.{Decides-int_eq}
+use Rattle.zx_base.specs.Maps.{Bytes}
+use Rattle.zk_model.specs.declared.node.Node.{Node}
+use Rattle.zk_model.specs.Limits.{max_moment}
+use Rattle.zk_transcript.specs.History.{Session}
+use Rattle.zn_layout.specs.Records.{node_value, counts_value, IsLongCount, IsNodeRec, IsCountRec}
+use Rattle.zn_layout.specs.StandsFor.{Stored, data_record, DataMeans, CountsMean, NodesMean}
+
+-- a node whose data stay
+pub data_same : (o : Option Stored) (x y : Node) → ((c : ℤ) → data_record x c ≡ data_record y c) → y.czxid ≡ x.czxid → y.mzxid ≡ x.mzxid → DataMeans (Some x) o → DataMeans (Some y) o
+data_same None x y r c m h = h
+data_same (Some o) x y r c m h = record {
+  stored = h.stored;
+  fits = subst IsNodeRec (r h.stored) h.fits;
+  value = h.value ∙ ap node_value (r h.stored);
+  made = c ∙ h.made;
+  changed = m ∙ h.changed;
+  free = h.free;
+}
+
+pub data_along : (o : Option Stored) (a b : Option Node) → b ≡ a → DataMeans a o → DataMeans b o
+data_along o a b e h = subst (λ (x : Option Node). DataMeans x o) (sym e) h
+
+pub counts_along : (o : Option Stored) (a b : Option Node) (m n : ℕ) → b ≡ a → n ≡ m → CountsMean a m o → CountsMean b n o
+counts_along o a b m n e f h = subst (λ (x : Option Node). CountsMean x n o) (sym e) (subst (λ (k : ℕ). CountsMean a k o) (sym f) h)
+
+-- a node whose counts stay
+pub counts_same : (o : Option Stored) (x y : Node) (n : ℕ) → y.creates ≡ x.creates → y.pzxid ≡ x.pzxid → CountsMean (Some x) n o → CountsMean (Some y) n o
+counts_same None x y n c z h = h
+counts_same (Some o) x y n c z h = record {
+  fits = subst (λ (k : ℤ). IsCountRec (record { creates = k; children = pos n })) (sym c) h.fits;
+  value = h.value ∙ ap (λ (k : ℤ). counts_value (record { creates = k; children = pos n })) (sym c);
+  pzxid = z ∙ h.pzxid;
+  free = h.free;
+}
+
+closed_means : (a b : List Bytes) (o : Option Stored) → NodesMean None a o → NodesMean None b o
+closed_means a b None h = h
+closed_means a b (Some o) h = h
+
+-- a session that isn't open owns nothing that matters
+pub nodes_along : (x : Option Session) (a b : List Bytes) (o : Option Stored) → ((y : Session) → x ≡ Some y → b ≡ a) → NodesMean x a o → NodesMean x b o
+nodes_along None a b o same h = closed_means a b o h
+nodes_along (Some y) a b o same h = subst (λ (ps : List Bytes). NodesMean (Some y) ps o) (sym (same y refl)) h
+
+-- ---- the numbers of sessions
+
+pub int_eq-is : (a b : ℤ) → int_eq a b ≡ true → a ≡ b
+int_eq-is a b h = (Decides-int_eq a b).0 h
+
+pub int_eq-same : (a b : ℤ) → a ≡ b → int_eq a b ≡ true
+int_eq-same a b h = (Decides-int_eq a b).1 h
+
+pub int_eq-apart : (a b : ℤ) → (a ≡ b → ⊥) → int_eq a b ≡ false
+int_eq-apart a b h = elim (int_eq a b) as (λ t. int_eq a b ≡ t → t ≡ false) [ true ↦ λ e. absurd (h (int_eq-is a b e)) | false ↦ λ e. refl ] refl
+
+pub of_abs : (id : ℤ) → pos 0 ≤ℤ id → pos (nat_abs id) ≡ id
+of_abs id h = omega (arith, ints)
+
+-- the key of a number is that of this session
+pub session_is : (r : ℕ) (id : ℤ) → pos 0 ≤ℤ id → nat_eq r (nat_abs id) ≡ true → pos r ≡ id
+session_is r id h e = ap pos (eqb-true r (nat_abs id) e) ∙ of_abs id h
+
+pub session_other : (r : ℕ) (id : ℤ) → nat_eq r (nat_abs id) ≡ false → id ≡ pos r → ⊥
+session_other r id e is = eqb-false r (nat_abs id) e (ap nat_abs (sym is))
+
+-- ---- numbers within their bounds
+
+pub moment_within : (now : ℕ) → now ≤ max_moment → IsLongCount (pos now)
+moment_within now h = record { least = omega (arith, ints); most = omega (arith, ints) }
+
+pub zero_within : IsLongCount (pos 0)
+zero_within = record { least = omega (arith, ints); most = omega (arith, ints) }

@@ -1,0 +1,12 @@
+-- Valid paths are short.
+use Rattle.std.proofs.Common.{◌≤◌, length, sym, subst}
+use Rattle.zk_model.specs.Limits.{max_path}
+use Rattle.zn_layout.proofs.Paths.{path_short}
+use Rattle.zx_base.specs.Maps.{Bytes}
+use Rattle.zn_updates.proofs.create.create_acts.Goals as goal
+
+pub put_counts-requires-clause-short : goal.put_counts-requires-clause-short
+put_counts-requires-clause-short c = subst (λ (p : Bytes). length p ≤ max_path) (sym c.bytes.ensures) (path_short c.args.path.now c.requires.valid)
+
+pub put_counts-requires-2-clause-short : goal.put_counts-requires-2-clause-short
+put_counts-requires-2-clause-short c = subst (λ (p : Bytes). length p ≤ max_path) (sym c.bytes-2.ensures) (path_short c.args.parent.now c.requires.parent)

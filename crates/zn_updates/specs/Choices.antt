@@ -1,0 +1,137 @@
+-- What each request comes to, as a function of the records that were seen: a refusal, or the changes of an update.
+use Rattle.std.specs.Prelude.{ℕ, ℤ, pos, nat_abs, ◌+ℤ◌, ◌-◌, Bool, true, false, not, List, [], ◌∷◌, ◌++◌, length, nat_le, Option, Some, None, if◌then◌else◌}
+use Rattle.std.specs.Ordering.{int_eq}
+use Rattle.zx_base.specs.Maps.{Bytes}
+use Rattle.zk_model.specs.declared.node.Stat.{Stat}
+use Rattle.zk_model.specs.declared.node.Trigger.{Trigger}
+use Rattle.zk_model.specs.declared.node.Trigger.TheVariants.{Created, Deleted, Changed, Children}
+use Rattle.zk_model.specs.declared.reply.PartResult.{PartResult}
+use Rattle.zk_model.specs.declared.reply.PartResult.TheVariants as result
+use Rattle.zk_model.specs.Codes.{system_error, no_node, bad_version, no_children_for_ephemerals, node_exists, not_empty}
+use Rattle.zk_model.specs.Limits.{max_creates, max_owned, max_version}
+use Rattle.zk_model.specs.Single.{matches}
+use Rattle.zk_model.specs.Znodes.{cversion}
+use Rattle.zn_layout.specs.declared.record.CountRec.{CountRec}
+use Rattle.zn_layout.specs.declared.record.NodeRec.{NodeRec}
+use Rattle.zn_layout.specs.Begin.{new_record, no_counts}
+use Rattle.zn_layout.specs.Changes.{Change, put_key, delete_key}
+use Rattle.zn_layout.specs.Keys.{DataKey, CountsKey, SessionKey}
+use Rattle.zn_layout.specs.Records.{node_value, counts_value, session_value}
+use Rattle.zn_updates.specs.OwnedLists.{placed, without}
+use Rattle.zn_updates.specs.declared.seen.SeenData.{SeenData}
+use Rattle.zn_updates.specs.declared.seen.SeenCounts.{SeenCounts}
+
+-- of an update: the changes but the head's, what watches see, and the result with 0 for its zxid
+pub data Choice : Type 0 where
+  Refuse : (code : ℤ) → Choice
+  Make : (changes : List Change) (triggers : List Trigger) (draft : PartResult) → Choice
+
+-- a node's record with this content
+abbrev pub with_content : NodeRec → Bytes → NodeRec
+with_content r content = record r { content = content }
+
+-- the list of a session's nodes is put
+abbrev pub put_owned : ℤ → List Bytes → Change
+put_owned id paths = put_key (SessionKey (nat_abs id)) (session_value paths)
+
+-- ---- setData
+
+abbrev pub set_record : SeenData → Bytes → ℕ → NodeRec
+set_record x content now = record { czxid = x.czxid; version = x.version +ℤ pos 1; ctime = x.ctime; mtime = pos now; owner = x.owner; content = content }
+
+abbrev pub set_stat : SeenData → SeenCounts → Bytes → ℕ → Stat
+set_stat x c content now = record {
+  czxid = x.czxid;
+  mzxid = pos 0;
+  ctime = x.ctime;
+  mtime = pos now;
+  version = x.version +ℤ pos 1;
+  cversion = cversion c.counts.creates (nat_abs c.counts.children);
+  aversion = pos 0;
+  ephemeral_owner = x.owner;
+  data_length = pos (length content);
+  num_children = c.counts.children;
+  pzxid = c.pzxid;
+}
+
+abbrev pub set_changes : Bytes → SeenData → Bytes → ℕ → List Change
+set_changes p x content now = put_key (DataKey p) (node_value (set_record x content now)) ∷ []
+
+-- by the node's record, and by its counts, which the reply tells
+unfoldable pub set_data_choice : Bytes → Bytes → ℤ → ℕ → Option SeenData → Option SeenCounts → Choice
+set_data_choice p content version now None counts = Refuse no_node
+set_data_choice p content version now (Some x) None = Refuse no_node
+set_data_choice p content version now (Some x) (Some c) =
+    if not (matches version x.version) then Refuse bad_version
+    else (if int_eq x.version max_version then Refuse system_error
+    else Make (set_changes p x content now) (Changed p ∷ []) (result.Set (set_stat x c content now)))
+
+-- ---- delete of p below q
+
+-- the parent's counts after it
+abbrev pub one_less : CountRec → CountRec
+one_less c = record { creates = c.creates; children = pos (nat_abs c.children - 1) }
+
+abbrev pub delete_changes : Bytes → Bytes → CountRec → List Change
+delete_changes p q above = delete_key (DataKey p) ∷ delete_key (CountsKey p) ∷ put_key (CountsKey q) (counts_value (one_less above)) ∷ []
+
+abbrev pub delete_triggers : Bytes → Bytes → List Trigger
+delete_triggers p q = Deleted p ∷ Children q ∷ []
+
+-- the node goes from its owner's list
+abbrev pub delete_owned : Bytes → Bytes → CountRec → ℤ → Option (List Bytes) → Choice
+delete_owned p q above owner None = Refuse system_error
+delete_owned p q above owner (Some paths) = Make (delete_changes p q above ++ put_owned owner (without p paths) ∷ []) (delete_triggers p q) result.Deleted
+
+abbrev pub delete_here : Bytes → Bytes → SeenData → Option SeenCounts → Option (List Bytes) → Choice
+delete_here p q x None paths = Refuse system_error
+delete_here p q x (Some above) paths =
+    if int_eq x.owner (pos 0) then Make (delete_changes p q above.counts) (delete_triggers p q) result.Deleted
+    else delete_owned p q above.counts x.owner paths
+
+-- by the node's record and counts, its parent's counts, and where it has an owner by the list of that owner's nodes
+unfoldable pub delete_choice : Bytes → Bytes → ℤ → Option SeenData → Option SeenCounts → Option SeenCounts → Option (List Bytes) → Choice
+delete_choice p q version None counts above paths = Refuse no_node
+delete_choice p q version (Some x) None above paths = Refuse no_node
+delete_choice p q version (Some x) (Some c) above paths =
+    if not (matches version x.version) then Refuse bad_version
+    else (if not (int_eq c.counts.children (pos 0)) then Refuse not_empty else delete_here p q x above paths)
+
+-- ---- create of p below q
+
+abbrev pub one_more : CountRec → CountRec
+one_more c = record { creates = c.creates +ℤ pos 1; children = c.children +ℤ pos 1 }
+
+abbrev pub changes_with : Bytes → Bytes → NodeRec → CountRec → List Change
+changes_with p q node above =
+    put_key (DataKey p) (node_value node)
+    ∷ put_key (CountsKey p) (counts_value no_counts)
+    ∷ put_key (CountsKey q) (counts_value (one_more above)) ∷ []
+
+abbrev pub create_changes : Bytes → Bytes → Bytes → ℕ → ℤ → CountRec → List Change
+create_changes p q content now owner above = changes_with p q (new_record content now owner) above
+
+abbrev pub create_triggers : Bytes → Bytes → List Trigger
+create_triggers p q = Created p ∷ Children q ∷ []
+
+-- the node joins the session's list, which has room
+abbrev pub create_owned : Bytes → Bytes → Bytes → ℕ → CountRec → ℤ → Option (List Bytes) → Choice
+create_owned p q content now above session None = Refuse system_error
+create_owned p q content now above session (Some paths) =
+    if nat_le max_owned (length paths) then Refuse system_error
+    else Make (create_changes p q content now session above ++ put_owned session (placed p paths) ∷ []) (create_triggers p q) (result.Created p)
+
+abbrev pub create_here : Bytes → Bytes → Bytes → ℕ → CountRec → Bool → ℤ → Option (List Bytes) → Choice
+create_here p q content now above ephemeral session paths =
+    if ephemeral then create_owned p q content now above session paths
+    else Make (create_changes p q content now (pos 0) above) (create_triggers p q) (result.Created p)
+
+-- by the parent's record and counts, whether the node is there, and for an ephemeral node by the list of the session's nodes
+unfoldable pub create_choice : Bytes → Bytes → Bytes → ℕ → Bool → ℤ → Option SeenData → Option SeenCounts → Bool → Option (List Bytes) → Choice
+create_choice p q content now ephemeral session None counts taken paths = Refuse no_node
+create_choice p q content now ephemeral session (Some up) None taken paths = Refuse no_node
+create_choice p q content now ephemeral session (Some up) (Some above) true paths = Refuse node_exists
+create_choice p q content now ephemeral session (Some up) (Some above) false paths =
+    if not (int_eq up.owner (pos 0)) then Refuse no_children_for_ephemerals
+    else (if int_eq above.counts.creates max_creates then Refuse system_error
+    else create_here p q content now above.counts ephemeral session paths)

@@ -1,0 +1,155 @@
+-- What a decision on an update is worth, and the plan that a choice makes.
+use Rattle.std.specs.Prelude.{◌≡◌, ℕ, ℤ, nat_abs, Option, Some, None}
+use Rattle.ev_types.specs.declared.answer.Kv.{Kv}
+use Rattle.zk_model.specs.declared.reply.PartResult.{PartResult}
+use Rattle.zk_model.specs.declared.reply.Reply.TheVariants as reply
+use Rattle.zk_model.specs.declared.request.Request.{Request}
+use Rattle.zk_model.specs.declared.request.Request.TheVariants as req
+use Rattle.zk_model.specs.declared.node.Trigger.{Trigger}
+use Rattle.zk_model.specs.Watches.{no_watches}
+use Rattle.std.specs.Prelude.{List, [], Bool, true, false, pos, if◌then◌else◌}
+use Rattle.zk_transcript.specs.Answers.{Told, plain_request, tree_reply}
+use Rattle.zk_transcript.specs.History.{State, Session, IsSound, limit_of, response_of, session_at}
+use Rattle.zn_layout.specs.Changes.{Change, update_acts}
+use Rattle.zn_layout.specs.Keys.{DataKey, CountsKey, SessionKey, LeaseKey, key_bytes}
+use Rattle.zn_view.specs.declared.plan.Decision.{Decision}
+use Rattle.zn_view.specs.declared.plan.Decision.TheVariants.{Answered, Planned, Expired, Moved}
+use Rattle.zn_view.specs.declared.plan.Plan.{Plan}
+use Rattle.zn_view.specs.declared.plan.Who.{Who}
+use Rattle.zn_view.specs.declared.want.Want.{Want}
+use Rattle.zn_view.specs.Asks.{again_of, guards_of, IsAskedPlan}
+use Rattle.zn_view.specs.Needs.{IsRead, IsLacking, finished}
+use Rattle.zn_view.specs.Seen.{View, seen}
+use Rattle.zn_view.specs.Views.{IsByTree, IsOf, IsPlan}
+use Rattle.zn_view.specs.Lookups.{HasSeen, sees}
+use Rattle.zk_model.specs.Codes.{no_node, node_exists}
+use Rattle.zk_model.specs.Paths.{sequence_path}
+use Rattle.zx_base.specs.Maps.{Bytes}
+use Rattle.zn_updates.specs.declared.chosen.Chosen.{Chosen}
+use Rattle.zn_updates.specs.declared.chosen.Chosen.TheVariants.{Refused, Made}
+use Rattle.zn_updates.specs.declared.seen.SeenData.{SeenData}
+use Rattle.zn_updates.specs.declared.seen.SeenCounts.{SeenCounts}
+use Rattle.zn_updates.specs.Choices.{Choice, Refuse, Make, set_data_choice, delete_choice, create_choice}
+use Rattle.zn_updates.specs.Making.{IsDataSeen, IsCountsSeen, IsPathsSeen, has_found}
+
+-- create, delete and setData
+abbrev pub is_update : Request → Bool
+is_update (req.Create p d a f) = true
+is_update (req.Delete p v) = true
+is_update (req.SetData p d v) = true
+is_update _ = false
+
+-- nothing that the request reads is lacking
+abbrev pub IsWhole : Request → Who → View → Type 0
+IsWhole r who v = plain_request no_watches r ≡ None → (w : Want) → IsRead r who v w → IsLacking v w → ⊥
+
+-- the view saw the record of the session's life, put where this connection was attached
+abbrev pub IsAttached : Who → View → Type 0
+IsAttached who v = (kv : Kv) × (seen v (key_bytes (LeaseKey (nat_abs who.session))) ≡ Some (Some kv)) × (kv.mod_revision ≡ who.mine)
+
+-- ---- the decision of a choice
+
+abbrev pub plan_of : View → List Change → List Trigger → PartResult → Plan
+plan_of v cs ts draft = record {
+  guards = guards_of v.keys;
+  success = update_acts cs ts;
+  again = again_of v.keys;
+  draft = reply.Good (response_of draft);
+  triggers = ts;
+}
+
+abbrev pub decision_of : View → Choice → Decision
+decision_of v (Refuse code) = Answered (reply.Refused code) None
+decision_of v (Make cs ts draft) = Planned (plan_of v cs ts draft)
+
+-- ---- what it is worth
+
+-- the refusal of the request's form
+abbrev pub IsByForm : Request → Decision → Type 0
+IsByForm r d = (t : Told) → plain_request no_watches r ≡ Some t → d ≡ Answered t.reply None
+
+-- in each sound state that the view is of and in which the session is open
+abbrev pub IsBySound : Request → Who → View → Decision → Type 0
+IsBySound r who v d = plain_request no_watches r ≡ None → (s : State) → IsSound s → IsOf v s → (x : Session) → session_at who.session s ≡ Some x
+    → IsByTree r d (tree_reply s.tree (limit_of x) who.session no_watches r)
+
+abbrev pub IfPlanned : (Plan → Type 0) → Decision → Type 0
+IfPlanned P (Planned p) = P p
+IfPlanned P (Answered x arm) = Unit {0}
+IfPlanned P Expired = Unit {0}
+IfPlanned P (Moved found) = Unit {0}
+
+-- the plan of a connection that is attached commits the update, and is asked under guards on all that was seen
+abbrev pub IsGuarded : Request → Who → ℕ → View → Plan → Type 0
+IsGuarded r who now v p = IsAttached who v → IsPlan r who now v p (λ z. finished z p.draft) × IsAskedPlan who v p
+
+-- ---- what the code chose on
+
+abbrev pub IfMakes : (List Trigger → Type 0) → Choice → Type 0
+IfMakes P (Refuse code) = Unit {0}
+IfMakes P (Make cs ts draft) = P ts
+
+abbrev pub IfMade : (List Trigger → Type 0) → Chosen → Type 0
+IfMade P (Refused code) = Unit {0}
+IfMade P (Made u) = P u.triggers
+
+-- the decision of a setData's choice on the records that the view saw
+abbrev pub IsSetData : View → Bytes → Bytes → ℤ → ℕ → Decision → Type 0
+IsSetData v p content version now d =
+    (x : Option SeenData) × (c : Option SeenCounts) × IsDataSeen (sees v (DataKey p)) x × IsCountsSeen (sees v (CountsKey p)) c × (d ≡ decision_of v (set_data_choice p content version now x c))
+
+-- the nodes of the owner, where the node has one
+abbrev pub IsOwnerLookedUp : View → Option SeenData → Type 0
+IsOwnerLookedUp v None = Unit {0}
+IsOwnerLookedUp v (Some x) = (x.owner ≡ pos 0 → ⊥) → HasSeen v (SessionKey (nat_abs x.owner))
+
+abbrev pub IsOwnerPaths : View → Option SeenData → Option (List Bytes) → Type 0
+IsOwnerPaths v None paths = Unit {0}
+IsOwnerPaths v (Some x) paths = (x.owner ≡ pos 0 → ⊥) → IsPathsSeen (sees v (SessionKey (nat_abs x.owner))) paths
+
+-- of a delete of p below q, or of a path without parent, where no node but the root is
+abbrev pub IsDelete : View → Bytes → ℤ → Option Bytes → Decision → Type 0
+IsDelete v p version None d = d ≡ decision_of v (Refuse no_node)
+IsDelete v p version (Some q) d =
+    (x : Option SeenData) × (c : Option SeenCounts) × (a : Option SeenCounts) × (paths : Option (List Bytes))
+    × IsDataSeen (sees v (DataKey p)) x × IsCountsSeen (sees v (CountsKey p)) c × IsCountsSeen (sees v (CountsKey q)) a × IsOwnerPaths v x paths
+    × (d ≡ decision_of v (delete_choice p q version x c a paths))
+
+abbrev pub creates_in : Option SeenCounts → ℕ
+creates_in None = 0
+creates_in (Some c) = nat_abs c.counts.creates
+
+-- the path that the node gets
+abbrev pub path_for : Bool → Bytes → Option SeenCounts → Bytes
+path_for sequential path c = if sequential then sequence_path path (creates_in c) else path
+
+abbrev pub IsOwnPaths : View → Bool → ℤ → Option (List Bytes) → Type 0
+IsOwnPaths v ephemeral session paths = ephemeral ≡ true → IsPathsSeen (sees v (SessionKey (nat_abs session))) paths
+
+-- of a create below q
+abbrev pub IsCreateBelow : View → Bytes → Bytes → ℕ → Bool → Bool → ℤ → Bytes → Decision → Type 0
+IsCreateBelow v path content now sequential ephemeral session q d =
+    (x : Option SeenData) × (c : Option SeenCounts) × (paths : Option (List Bytes))
+    × IsDataSeen (sees v (DataKey q)) x × IsCountsSeen (sees v (CountsKey q)) c × IsOwnPaths v ephemeral session paths
+    × (d ≡ decision_of v (create_choice (path_for sequential path c) q content now ephemeral session x c (has_found (sees v (DataKey (path_for sequential path c)))) paths))
+
+-- or of the root
+abbrev pub IsCreate : View → Bytes → Bytes → ℕ → Bool → Bool → ℤ → Option Bytes → Decision → Type 0
+IsCreate v path content now sequential ephemeral session None d = d ≡ decision_of v (Refuse node_exists)
+IsCreate v path content now sequential ephemeral session (Some q) d = IsCreateBelow v path content now sequential ephemeral session q d
+
+-- the data of a create or a setData
+abbrev pub content_in : Request → Bytes
+content_in (req.Create p d a f) = d
+content_in (req.SetData p d v) = d
+content_in _ = []
+
+-- a new node's parent was looked up
+abbrev pub IsUpLookedUp : View → Option Bytes → Type 0
+IsUpLookedUp v None = Unit {0}
+IsUpLookedUp v (Some q) = HasSeen v (DataKey q) × HasSeen v (CountsKey q)
+
+-- and so was the key of its node
+abbrev pub IsNodeLookedUp : View → Bytes → Bool → Option Bytes → Type 0
+IsNodeLookedUp v path sequential None = Unit {0}
+IsNodeLookedUp v path sequential (Some q) = (w : SeenCounts) → IsCountsSeen (sees v (CountsKey q)) (Some w) → HasSeen v (DataKey (path_for sequential path (Some w)))

@@ -1,0 +1,71 @@
+-- The keys that each request looks up, and those of them that a view lacks.
+use Rattle.std.specs.Prelude.{◌≡◌, ℕ, ℤ, pos, nat_abs, Bool, List, [], ◌∷◌, ◌++◌, Option, Some, None, is_some, if◌then◌else◌}
+use Rattle.std.specs.Ordering.{int_eq}
+use Rattle.ev_types.specs.declared.answer.Kv.{Kv}
+use Rattle.zk_model.specs.Paths.{sequence_path}
+use Rattle.zx_base.specs.Maps.{Bytes}
+use Rattle.zn_layout.specs.declared.record.CountRec.{CountRec}
+use Rattle.zn_layout.specs.declared.record.NodeRec.{NodeRec}
+use Rattle.zn_layout.specs.Keys.{Key, HeadKey, DataKey, CountsKey, SessionKey, LeaseKey, key_bytes}
+use Rattle.zn_layout.specs.Reading.{IsValueOf}
+use Rattle.zn_layout.specs.Records.{node_value, counts_value, IsNodeRec, IsCountRec}
+use Rattle.zn_view.specs.declared.want.Want.{Want}
+use Rattle.zn_view.specs.Needs.{key_want}
+use Rattle.zn_view.specs.Seen.{View, seen}
+use Rattle.zn_view.specs.Views.{about_path, about_parent, counts_of_parent}
+
+abbrev pub lacking_one : View → Key → List Want
+lacking_one v k = if is_some (seen v (key_bytes k)) then [] else key_want k ∷ []
+
+-- behind the wants that there are, those for the keys that weren't looked up
+abbrev pub lacking_from : View → List Want → List Key → List Want
+lacking_from v ws [] = ws
+lacking_from v ws (k ∷ ks) = lacking_from v (ws ++ lacking_one v k) ks
+
+-- of every request
+abbrev pub start_keys : ℤ → List Key
+start_keys id = HeadKey ∷ LeaseKey (nat_abs id) ∷ []
+
+-- the nodes of an owner, 0 for none
+abbrev pub owner_nodes : ℤ → List Key
+owner_nodes owner = if int_eq owner (pos 0) then [] else SessionKey (nat_abs owner) ∷ []
+
+-- the owner that a view saw of a node, 0 where it saw none
+abbrev pub IsOwnerSeen : Option (Option Kv) → ℤ → Type 0
+IsOwnerSeen None owner = owner ≡ pos 0
+IsOwnerSeen (Some None) owner = owner ≡ pos 0
+IsOwnerSeen (Some (Some kv)) owner = (r : NodeRec) × IsValueOf node_value IsNodeRec kv.value r × (owner ≡ r.owner)
+
+abbrev pub set_data_keys : Bytes → ℤ → List Key
+set_data_keys p id = start_keys id ++ about_path p
+
+abbrev pub delete_keys : Bytes → Option Bytes → ℤ → ℤ → List Key
+delete_keys p q id owner = start_keys id ++ ((about_path p ++ counts_of_parent q) ++ owner_nodes owner)
+
+-- the creates that a view saw of a node, none where it saw none
+abbrev pub IsCreatesSeen : Option (Option Kv) → Option ℕ → Type 0
+IsCreatesSeen None creates = creates ≡ None
+IsCreatesSeen (Some None) creates = creates ≡ None
+IsCreatesSeen (Some (Some kv)) creates = (r : CountRec) × IsValueOf counts_value IsCountRec kv.value r × (creates ≡ Some (nat_abs r.creates))
+
+abbrev pub IsParentCreates : View → Option Bytes → Option ℕ → Type 0
+IsParentCreates v None creates = creates ≡ None
+IsParentCreates v (Some q) creates = IsCreatesSeen (seen v (key_bytes (CountsKey q))) creates
+
+-- the key of a sequence node
+abbrev pub numbered_at : Bytes → Option ℕ → List Key
+numbered_at path None = []
+numbered_at path (Some n) = DataKey (sequence_path path n) ∷ []
+
+abbrev pub numbered : Bool → Bytes → Option ℕ → List Key
+numbered sequential path creates = if sequential then numbered_at path creates else []
+
+abbrev pub plain_data : Bool → Bytes → List Key
+plain_data sequential path = if sequential then [] else DataKey path ∷ []
+
+abbrev pub session_nodes : Bool → ℤ → List Key
+session_nodes ephemeral id = if ephemeral then SessionKey (nat_abs id) ∷ [] else []
+
+abbrev pub create_keys : Bool → Bool → Bytes → Option Bytes → ℤ → Option ℕ → List Key
+create_keys sequential ephemeral path q id creates =
+    start_keys id ++ (((about_parent q ++ plain_data sequential path) ++ session_nodes ephemeral id) ++ numbered sequential path creates)

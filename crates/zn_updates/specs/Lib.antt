@@ -1,0 +1,8 @@
+pub mod Seen
+pub mod OwnedLists
+pub mod Choices
+pub mod Right
+pub mod Forms
+pub mod Making
+pub mod Lacking
+pub mod Deciding

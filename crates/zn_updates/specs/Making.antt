@@ -1,0 +1,53 @@
+-- A choice as the code makes it: the changes are operations.
+use Rattle.std.specs.Prelude.{◌≡◌, ℤ, pos, ◌≤ℤ◌, Bool, true, false, List, Option, Some, None}
+use Rattle.ev_types.specs.declared.answer.Kv.{Kv}
+use Rattle.zx_base.specs.Maps.{Bytes}
+use Rattle.zn_layout.specs.declared.record.CountRec.{CountRec}
+use Rattle.zn_layout.specs.declared.record.NodeRec.{NodeRec}
+use Rattle.zn_layout.specs.Changes.{acts_of}
+use Rattle.zn_layout.specs.Reading.{IsValueOf}
+use Rattle.zn_layout.specs.Records.{node_value, counts_value, session_value, IsNodeRec, IsCountRec, IsSessionRec}
+use Rattle.zn_layout.specs.StandsFor.{czxid_of}
+use Rattle.zn_updates.specs.declared.chosen.Chosen.{Chosen}
+use Rattle.zn_updates.specs.declared.chosen.Chosen.TheVariants.{Refused, Made}
+use Rattle.zn_updates.specs.declared.seen.SeenData.{SeenData}
+use Rattle.zn_updates.specs.declared.seen.SeenCounts.{SeenCounts}
+use Rattle.zn_updates.specs.Choices.{Choice, Refuse, Make}
+
+abbrev pub chosen_of : Choice → Chosen
+chosen_of (Refuse code) = Refused code
+chosen_of (Make cs ts draft) = Made (record { acts = acts_of cs; triggers = ts; draft = draft })
+
+-- ---- the records that a view saw: `Some None` where the key was absent
+
+abbrev pub data_of : NodeRec → ℤ → SeenData
+data_of r czxid = record { czxid = czxid; version = r.version; ctime = r.ctime; owner = r.owner }
+
+abbrev pub IsDataSeen : Option (Option Kv) → Option SeenData → Type 0
+IsDataSeen None x = ⊥
+IsDataSeen (Some None) None = Unit {0}
+IsDataSeen (Some None) (Some x) = ⊥
+IsDataSeen (Some (Some kv)) None = ⊥
+IsDataSeen (Some (Some kv)) (Some x) = (r : NodeRec) × IsValueOf node_value IsNodeRec kv.value r × (x ≡ data_of r x.czxid) × (pos 0 ≤ℤ kv.mod_revision → x.czxid ≡ czxid_of r.czxid kv.mod_revision)
+
+abbrev pub counts_of : CountRec → ℤ → SeenCounts
+counts_of r revision = record { counts = r; pzxid = revision }
+
+abbrev pub IsCountsSeen : Option (Option Kv) → Option SeenCounts → Type 0
+IsCountsSeen None x = ⊥
+IsCountsSeen (Some None) None = Unit {0}
+IsCountsSeen (Some None) (Some x) = ⊥
+IsCountsSeen (Some (Some kv)) None = ⊥
+IsCountsSeen (Some (Some kv)) (Some x) = (r : CountRec) × IsValueOf counts_value IsCountRec kv.value r × (x ≡ counts_of r kv.mod_revision)
+
+abbrev pub IsPathsSeen : Option (Option Kv) → Option (List Bytes) → Type 0
+IsPathsSeen None x = ⊥
+IsPathsSeen (Some None) None = Unit {0}
+IsPathsSeen (Some None) (Some ps) = ⊥
+IsPathsSeen (Some (Some kv)) None = ⊥
+IsPathsSeen (Some (Some kv)) (Some ps) = IsValueOf session_value IsSessionRec kv.value ps
+
+abbrev pub has_found : Option (Option Kv) → Bool
+has_found (Some (Some kv)) = true
+has_found (Some None) = false
+has_found None = false

@@ -1,0 +1,27 @@
+-- When a choice is what a request comes to on a state.
+use Rattle.std.specs.Prelude.{◌≡◌, ℤ, List, None}
+use Rattle.zk_model.specs.declared.node.Trigger.{Trigger}
+use Rattle.zk_model.specs.declared.reply.PartResult.{PartResult}
+use Rattle.zk_model.specs.Single.{Outcome, Refused, Done}
+use Rattle.zk_model.specs.Znodes.{Tree}
+use Rattle.zk_transcript.specs.History.{State}
+use Rattle.zn_layout.specs.Changes.{Change, last}
+use Rattle.zn_layout.specs.Fits.{Fits}
+use Rattle.zn_layout.specs.Keys.{HeadKey}
+use Rattle.zn_updates.specs.Choices.{Choice, Refuse, Make}
+use Rattle.zn_view.specs.Needs.{own_result}
+
+-- the state with another tree
+abbrev pub with_tree : State → Tree → State
+with_tree s t = record s { tree = t }
+
+-- the outcome's tree is what the changes make of the state's
+pub record IsOutcome (z : ℤ) (s : State) (cs : List Change) (ts : List Trigger) (draft : PartResult) (outcome : Outcome) : Type 0 where
+  pub tree : Tree
+  pub done : outcome ≡ Done (own_result z draft) tree ts
+  pub fits : Fits z cs s (with_tree s tree)
+  pub headless : last cs HeadKey ≡ None
+
+abbrev pub IsRight : ℤ → State → Choice → Outcome → Type 0
+IsRight z s (Refuse code) outcome = outcome ≡ Refused code
+IsRight z s (Make cs ts draft) outcome = IsOutcome z s cs ts draft outcome

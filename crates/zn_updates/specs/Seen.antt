@@ -1,0 +1,53 @@
+-- When the records that an update is decided on are those of a state. A zxid of 0 is the update's own.
+use Rattle.std.specs.Prelude.{◌≡◌, ℕ, ℤ, pos, ◌≤ℤ◌, List, Option, Some, None}
+use Rattle.zk_model.specs.declared.node.Node.{Node}
+use Rattle.zk_model.specs.Limits.{max_version}
+use Rattle.zx_base.specs.Maps.{Bytes}
+use Rattle.zn_layout.specs.Records.{IsLongCount, IsCountRec, IsSessionRec}
+use Rattle.zn_layout.specs.StandsFor.{counts_record}
+use Rattle.zn_view.specs.Needs.{own}
+use Rattle.zn_updates.specs.declared.seen.SeenData.{SeenData}
+use Rattle.zn_updates.specs.declared.seen.SeenCounts.{SeenCounts}
+
+-- what every stored record keeps
+pub record IsDataWithin (x : SeenData) : Type 0 where
+  pub czxid : IsLongCount x.czxid
+  pub version_least : pos 0 ≤ℤ x.version
+  pub version_most : x.version ≤ℤ max_version
+  pub ctime : IsLongCount x.ctime
+  pub owner : IsLongCount x.owner
+
+abbrev pub seen_data : ℤ → Node → SeenData
+seen_data czxid n = record { czxid = czxid; version = n.version; ctime = n.ctime; owner = n.owner }
+
+pub record IsSeenData (z : ℤ) (x : SeenData) (n : Node) : Type 0 where
+  pub within : IsDataWithin x
+  pub is : x ≡ seen_data x.czxid n
+  pub czxid : n.czxid ≡ own z x.czxid
+
+pub record IsSeenCounts (z : ℤ) (x : SeenCounts) (n : Node) (children : ℕ) : Type 0 where
+  pub within : IsCountRec x.counts
+  pub is : x.counts ≡ counts_record n children
+  pub pzxid : n.pzxid ≡ own z x.pzxid
+
+pub record IsSeenPaths (paths owned : List Bytes) : Type 0 where
+  pub within : IsSessionRec paths
+  pub is : paths ≡ owned
+
+-- a record was seen exactly where the node is there
+abbrev pub ShowsData : ℤ → Option SeenData → Option Node → Type 0
+ShowsData z None None = Unit {0}
+ShowsData z None (Some n) = ⊥
+ShowsData z (Some x) None = ⊥
+ShowsData z (Some x) (Some n) = IsSeenData z x n
+
+abbrev pub ShowsCounts : ℤ → Option SeenCounts → Option Node → ℕ → Type 0
+ShowsCounts z None None children = Unit {0}
+ShowsCounts z None (Some n) children = ⊥
+ShowsCounts z (Some x) None children = ⊥
+ShowsCounts z (Some x) (Some n) children = IsSeenCounts z x n children
+
+-- the nodes of an open session were seen
+abbrev pub ShowsOwned : Option (List Bytes) → List Bytes → Type 0
+ShowsOwned None owned = ⊥
+ShowsOwned (Some paths) owned = IsSeenPaths paths owned

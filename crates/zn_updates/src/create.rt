@@ -1,0 +1,426 @@
+//! create (ZooKeeper API, `create`; Programmer's Guide, "Ephemeral Nodes", "Sequence Nodes"), decided on the records of the
+//! parent and of the session, and on whether the node is there.
+
+ghost use Rattle.std.specs.Prelude.{◌≡◌, ◌≤◌, ◌≤ℤ◌, ◌<◌, ◌∷◌, [], ◌++◌, ◌^◌, ◌-◌, pos, false, length, option_copied, IfOk, IfSome, IsTrue};
+ghost use Rattle.std.specs.Ordering.{int_eq};
+ghost use Rattle.zk_model.specs.Limits.{max_creates, max_frame, max_moment, max_owned};
+ghost use Rattle.zk_model.specs.Paths.{is_path};
+ghost use Rattle.zk_model.specs.declared.reply.PartResult.TheVariants as results;
+ghost use Rattle.zn_layout.specs.Begin.{new_record as record_of_new, no_counts};
+ghost use Rattle.zn_layout.specs.Changes.{acts_of};
+ghost use Rattle.zn_layout.specs.Records.{IsCountRec, IsLongCount, IsNodeRec, IsSessionRec};
+ghost use Rattle.zn_updates.specs.Choices.{Make, changes_with, with_content, create_choice, create_here as creates_here, create_owned as creates_owned, create_changes as changes_of_create, create_triggers as triggers_of_create, one_more as one_more_of};
+ghost use Rattle.zn_updates.specs.Making.{chosen_of};
+ghost use Rattle.std.specs.Prelude.{nat_abs, IsFalse};
+ghost use Rattle.zk_model.specs.Paths.{is_sequence_prefix};
+ghost use Rattle.zn_layout.specs.Keys.{CountsKey, DataKey, SessionKey};
+ghost use Rattle.zn_view.specs.Lookups.{HasSeen};
+ghost use Rattle.zn_updates.specs.Deciding.{IfPlanned, IsByForm, IsBySound, IsCreate, IsCreateBelow, IsGuarded, IsOwnPaths, IsUpLookedUp, IsWhole, path_for};
+ghost use Rattle.zk_model.specs.Paths.{parent as parent_of};
+ghost use Rattle.zk_model.specs.declared.request.Request.TheVariants as req;
+ghost use Rattle.zn_view.specs.Needs.{AreNeeds};
+ghost use Rattle.zx_base.specs.Maps.{Bytes as ByteList};
+
+use crate::changes::{put_data, put_owned};
+use crate::chosen::{Chosen, Update};
+use crate::form::{Form, create_form, is_ephemeral, is_sequential};
+use crate::owned::placed;
+use crate::plan::{decision, refused};
+use crate::seen::{SeenCounts, SeenData, counts_seen, data_seen, is_there, paths_seen};
+use crate::wants::create_wants;
+use ev_types::Act;
+use std::alloc::Global;
+use zk_model::code::{NO_CHILDREN_FOR_EPHEMERALS, NO_NODE, NODE_EXISTS, SYSTEM_ERROR};
+use zk_model::limit::{MAX_CREATES, MAX_OWNED};
+use zk_model::{Acl, PartResult, Path, Trigger};
+use zn_layout::{CountRec, NodeRec, put_counts};
+use zn_view::{Decision, View, Want, Who};
+use zx_base::{Memory, Seq};
+
+const NO_COUNTS: CountRec = CountRec {
+    creates: 0,
+    children: 0,
+};
+
+/// The parent's counts after it.
+fn one_more(above: &CountRec) -> CountRec
+    requires within { IsCountRec above.now }
+    requires room { int_eq above.now.creates max_creates ≡ false }
+    ensures is { result ≡ one_more_of above.now }
+    ensures within { IsCountRec result }
+{
+    CountRec {
+        creates: above.creates + 1,
+        children: above.children + 1,
+    }
+}
+
+/// A new node's record but for its content. Its czxid is left to the revision of the put.
+fn new_record(alloc: Global, now: u64, owner: i64) -> NodeRec
+    requires moment { now ≤ max_moment }
+    requires owned { IsLongCount owner }
+    ensures is { result ≡ record_of_new [] now owner }
+    ensures within { IsNodeRec result }
+{
+    NodeRec {
+        czxid: 0,
+        version: 0,
+        ctime: now as i64,
+        mtime: now as i64,
+        owner,
+        content: Seq::new(alloc),
+    }
+}
+
+/// The node's keys come, and the parent counts one child and one create more.
+fn create_acts(
+    alloc: Global,
+    path: &Path,
+    parent: &Path,
+    content: &[u8],
+    node: &NodeRec,
+    above: &CountRec,
+) -> Result<Seq<Act>, Memory>
+    requires valid { IsTrue (is_path path.now) }
+    requires parent { IsTrue (is_path parent.now) }
+    requires within { IsNodeRec node.now }
+    requires empty { length node.now.content ≡ 0 }
+    requires counted { IsCountRec above.now }
+    requires room { int_eq above.now.creates max_creates ≡ false }
+    ensures { IfOk result (λ acts. acts ≡ acts_of (changes_with path.now parent.now (with_content node.now content.now) above.now)) }
+{
+    let mut acts = Seq::new(alloc);
+    acts.push(put_data(alloc, path, node, content)?)?;
+    acts.push(put_counts(alloc, path.bytes(), &NO_COUNTS)?)?;
+    acts.push(put_counts(alloc, parent.bytes(), &one_more(above))?)?;
+    Ok(acts)
+}
+
+/// What watches see of it.
+fn create_triggers(alloc: Global, path: &Path, parent: &Path) -> Result<Seq<Trigger>, Memory>
+    ensures { IfOk result (λ ts. ts ≡ triggers_of_create path.now parent.now) }
+{
+    let mut triggers = Seq::new(alloc);
+    triggers.push(Trigger::Created(path.copy(alloc)?))?;
+    triggers.push(Trigger::Children(parent.copy(alloc)?))?;
+    Ok(triggers)
+}
+
+/// Creates a node of this owner, 0 for none.
+fn create_node(
+    alloc: Global,
+    path: &Path,
+    parent: &Path,
+    content: &[u8],
+    now: u64,
+    owner: i64,
+    above: &CountRec,
+) -> Result<Update, Memory>
+    requires valid { IsTrue (is_path path.now) }
+    requires parent { IsTrue (is_path parent.now) }
+    requires moment { now ≤ max_moment }
+    requires short { length content.now ≤ max_frame }
+    requires owned { IsLongCount owner }
+    requires counted { IsCountRec above.now }
+    requires room { int_eq above.now.creates max_creates ≡ false }
+    ensures { IfOk result (λ u. Chosen.Made u ≡ chosen_of (Make (changes_of_create path.now parent.now content.now now owner above.now) (triggers_of_create path.now parent.now) (results.Created path.now))) }
+{
+    let node = new_record(alloc, now, owner);
+    Ok(Update {
+        acts: create_acts(alloc, path, parent, content, &node, above)?,
+        triggers: create_triggers(alloc, path, parent)?,
+        draft: PartResult::Created(Seq::copy_of(alloc, path.bytes())?),
+    })
+}
+
+/// Creates a node that joins the session's list, where that has room.
+fn create_owned(
+    alloc: Global,
+    path: &Path,
+    parent: &Path,
+    content: &[u8],
+    now: u64,
+    session: i64,
+    above: &CountRec,
+    paths: Option<Seq<Path>>,
+) -> Result<Chosen, Memory>
+    requires valid { IsTrue (is_path path.now) }
+    requires parent { IsTrue (is_path parent.now) }
+    requires moment { now ≤ max_moment }
+    requires short { length content.now ≤ max_frame }
+    requires real { pos 1 ≤ℤ session }
+    requires owned { IsLongCount session }
+    requires counted { IsCountRec above.now }
+    requires room { int_eq above.now.creates max_creates ≡ false }
+    requires listed { IfSome paths IsSessionRec }
+    ensures { IfOk result (λ c. c ≡ chosen_of (creates_owned path.now parent.now content.now now above.now session paths)) }
+{
+    let Some(paths) = paths else {
+        return Ok(Chosen::Refused(SYSTEM_ERROR));
+    };
+    if paths.len() >= MAX_OWNED {
+        return Ok(Chosen::Refused(SYSTEM_ERROR));
+    }
+    let mut update = create_node(alloc, path, parent, content, now, session, above)?;
+    update
+        .acts
+        .push(put_owned(alloc, session, placed(alloc, paths, path)?)?)?;
+    Ok(Chosen::Made(update))
+}
+
+fn create_here(
+    alloc: Global,
+    path: &Path,
+    parent: &Path,
+    content: &[u8],
+    now: u64,
+    ephemeral: bool,
+    session: i64,
+    above: &CountRec,
+    paths: Option<Seq<Path>>,
+) -> Result<Chosen, Memory>
+    requires valid { IsTrue (is_path path.now) }
+    requires parent { IsTrue (is_path parent.now) }
+    requires moment { now ≤ max_moment }
+    requires short { length content.now ≤ max_frame }
+    requires real { pos 1 ≤ℤ session }
+    requires owned { IsLongCount session }
+    requires counted { IsCountRec above.now }
+    requires room { int_eq above.now.creates max_creates ≡ false }
+    requires listed { IfSome paths IsSessionRec }
+    ensures { IfOk result (λ c. c ≡ chosen_of (creates_here path.now parent.now content.now now above.now ephemeral session paths)) }
+{
+    if ephemeral {
+        return create_owned(alloc, path, parent, content, now, session, above, paths);
+    }
+    Ok(Chosen::Made(create_node(alloc, path, parent, content, now, 0, above)?))
+}
+
+/// Decides a create below `parent` by the parent's record and counts, by whether the node is `taken`, and of an ephemeral
+/// node by the paths of the session's nodes. `now` is in milliseconds since 1970; the session's number is at least 1.
+#[tactic(auto, unfolding(crate::specs::Choices::create_choice))]
+pub fn choose_create(
+    alloc: Global,
+    path: &Path,
+    parent: &Path,
+    content: &[u8],
+    now: u64,
+    ephemeral: bool,
+    session: i64,
+    up: Option<&SeenData>,
+    above: Option<&SeenCounts>,
+    taken: bool,
+    paths: Option<Seq<Path>>,
+) -> Result<Chosen, Memory>
+    requires valid { IsTrue (is_path path.now) }
+    requires parent { IsTrue (is_path parent.now) }
+    requires moment { now ≤ max_moment }
+    requires short { length content.now ≤ max_frame }
+    requires real { pos 1 ≤ℤ session }
+    requires owned { IsLongCount session }
+    requires counted { IfSome (option_copied above) (λ c. IsCountRec c.counts) }
+    requires listed { IfSome paths IsSessionRec }
+    ensures { IfOk result (λ c. c ≡ chosen_of (create_choice path.now parent.now content.now now ephemeral session (option_copied up.entry) (option_copied above.entry) taken paths)) }
+{
+    let Some(up) = up else {
+        return Ok(Chosen::Refused(NO_NODE));
+    };
+    let Some(above) = above else {
+        return Ok(Chosen::Refused(NO_NODE));
+    };
+    if taken {
+        return Ok(Chosen::Refused(NODE_EXISTS));
+    }
+    if up.owner != 0 {
+        return Ok(Chosen::Refused(NO_CHILDREN_FOR_EPHEMERALS));
+    }
+    if above.counts.creates == MAX_CREATES {
+        return Ok(Chosen::Refused(SYSTEM_ERROR));
+    }
+    create_here(
+        alloc,
+        path,
+        parent,
+        content,
+        now,
+        ephemeral,
+        session,
+        &above.counts,
+        paths,
+    )
+}
+
+/// The path of the node: a sequence node's ends in the parent's count of creates.
+fn path_of(
+    alloc: Global,
+    path: &[u8],
+    named: Path,
+    sequential: bool,
+    above: &Option<SeenCounts>,
+) -> Result<Path, Memory>
+    requires prefix { IsTrue sequential → IsTrue (is_sequence_prefix path.now) }
+    requires named { IsFalse sequential → named ≡ path.now }
+    ensures { IfOk result (λ p. p ≡ path_for sequential path.now above.now) }
+{
+    if !sequential {
+        return Ok(named);
+    }
+    let creates = match above {
+        Some(above) => above.counts.creates.unsigned_abs(),
+        None => 0,
+    };
+    Path::numbered(alloc, path, creates)
+}
+
+/// The paths of the session's nodes, for an ephemeral node.
+fn own_paths(view: &View, session: i64, ephemeral: bool) -> Result<Option<Seq<Path>>, Memory>
+    requires real { pos 1 ≤ℤ session }
+    requires seen { IsTrue ephemeral → HasSeen view.now (SessionKey (nat_abs session)) }
+    ensures is { IfOk result (IsOwnPaths view.now ephemeral session) }
+    ensures within { IfOk result (λ o. IfSome o IsSessionRec) }
+{
+    if ephemeral {
+        paths_seen(view, session)
+    } else {
+        Ok(None)
+    }
+}
+
+/// Decides a create below a parent.
+fn create_at(
+    alloc: Global,
+    path: &[u8],
+    named: Path,
+    parent: &Path,
+    content: &[u8],
+    sequential: bool,
+    ephemeral: bool,
+    session: i64,
+    now: u64,
+    view: &View,
+) -> Result<Decision, Memory>
+    requires parent { IsTrue (is_path parent.now) }
+    requires moment { now ≤ max_moment }
+    requires short { length content.now ≤ max_frame }
+    requires real { pos 1 ≤ℤ session }
+    requires prefix { IsTrue sequential → IsTrue (is_sequence_prefix path.now) }
+    requires named { IsFalse sequential → named ≡ path.now }
+    requires up { HasSeen view.now (DataKey parent.now) }
+    requires above { HasSeen view.now (CountsKey parent.now) }
+    requires own { IsTrue ephemeral → HasSeen view.now (SessionKey (nat_abs session)) }
+    ensures { IfOk result (IsCreateBelow view.now path.now content.now now sequential ephemeral session parent.now) }
+{
+    let up = data_seen(view, parent)?;
+    let above = counts_seen(view, parent)?;
+    let path = path_of(alloc, path, named, sequential, &above)?;
+    let taken = is_there(alloc, view, &path)?;
+    let paths = own_paths(view, session, ephemeral)?;
+    let chosen = choose_create(
+        alloc,
+        &path,
+        parent,
+        content,
+        now,
+        ephemeral,
+        session,
+        up.as_ref(),
+        above.as_ref(),
+        taken,
+        paths,
+    )?;
+    decision(alloc, view, chosen)
+}
+
+/// Decides a create by its path with `1` behind it where it is sequential. The root has no parent, and is there.
+fn create_named(
+    alloc: Global,
+    path: &[u8],
+    named: Path,
+    content: &[u8],
+    sequential: bool,
+    ephemeral: bool,
+    session: i64,
+    now: u64,
+    view: &View,
+) -> Result<Decision, Memory>
+    requires moment { now ≤ max_moment }
+    requires short { length content.now ≤ max_frame }
+    requires real { pos 1 ≤ℤ session }
+    requires prefix { IsTrue sequential → IsTrue (is_sequence_prefix path.now) }
+    requires named { IsFalse sequential → named ≡ path.now }
+    requires up { IsUpLookedUp view.now (parent_of named) }
+    requires own { IsTrue ephemeral → HasSeen view.now (SessionKey (nat_abs session)) }
+    ensures { IfOk result (IsCreate view.now path.now content.now now sequential ephemeral session (parent_of named)) }
+{
+    match named.parent(alloc)? {
+        Some(parent) => create_at(
+            alloc, path, named, &parent, content, sequential, ephemeral, session, now, view,
+        ),
+        None => Ok(refused(NODE_EXISTS)),
+    }
+}
+
+/// Decides a create.
+pub(crate) fn decide_create(
+    alloc: Global,
+    path: &[u8],
+    content: &[u8],
+    acl: &[Acl],
+    flags: i32,
+    who: Who,
+    now: u64,
+    view: &View,
+) -> Result<Decision, Memory>
+    requires real { pos 1 ≤ℤ who.session }
+    requires moment { now ≤ max_moment }
+    requires short { length content.now ≤ max_frame }
+    requires whole { IsWhole (req.Create path.now content.now acl.now flags) who view.now }
+    ensures form { IfOk result (IsByForm (req.Create path.now content.now acl.now flags)) }
+    ensures sound { IfOk result (IsBySound (req.Create path.now content.now acl.now flags) who view.now) }
+    ensures plan { IfOk result (IfPlanned (IsGuarded (req.Create path.now content.now acl.now flags) who now view.now)) }
+{
+    let sequential = is_sequential(flags);
+    let ephemeral = is_ephemeral(flags);
+    match create_form(alloc, path, acl, flags)? {
+        Form::Valid(named) => create_named(
+            alloc,
+            path,
+            named,
+            content,
+            sequential,
+            ephemeral,
+            who.session,
+            now,
+            view,
+        ),
+        Form::Refused(code) => Ok(refused(code)),
+    }
+}
+
+/// What a create needs.
+pub(crate) fn create_needs(
+    alloc: Global,
+    path: &[u8],
+    acl: &[Acl],
+    flags: i32,
+    who: Who,
+    view: &View,
+) -> Result<Seq<Want>, Memory>
+    requires real { pos 1 ≤ℤ who.session }
+    ensures { IfOk result (λ ws. (content : ByteList) → AreNeeds (req.Create path.now content acl.now flags) who view.now ws) }
+{
+    let sequential = is_sequential(flags);
+    let ephemeral = is_ephemeral(flags);
+    match create_form(alloc, path, acl, flags)? {
+        Form::Valid(named) => create_wants(
+            alloc,
+            view,
+            who.session,
+            path,
+            &named.parent(alloc)?,
+            sequential,
+            ephemeral,
+        ),
+        Form::Refused(_) => Ok(Seq::new(alloc)),
+    }
+}

@@ -1,0 +1,281 @@
+//! delete (ZooKeeper API, `delete`), decided on the records of its node, of the parent and of the owner.
+
+ghost use Rattle.std.specs.Prelude.{◌≡◌, ◌≤◌, ◌≤ℤ◌, ◌∷◌, [], ◌++◌, pos, nat_abs, length, option_copied, IfOk, IfSome, IsTrue};
+ghost use Rattle.std.specs.Ordering.{int_eq};
+ghost use Rattle.zk_model.specs.Paths.{is_path};
+ghost use Rattle.zk_model.specs.declared.reply.PartResult.TheVariants as results;
+ghost use Rattle.zn_layout.specs.Changes.{acts_of};
+ghost use Rattle.zn_layout.specs.Records.{IsCountRec, IsSessionRec};
+ghost use Rattle.zn_updates.specs.Choices.{Make, delete_choice, delete_here as deletes_here, delete_owned as deletes_owned, delete_changes as changes_of_delete, delete_triggers as triggers_of_delete, one_less as one_less_of};
+ghost use Rattle.zn_updates.specs.Making.{chosen_of};
+ghost use Rattle.zn_updates.specs.Seen.{IsDataWithin};
+ghost use Rattle.std.specs.Prelude.{ℤ, Option, Some};
+ghost use Rattle.zk_model.specs.Limits.{max_moment};
+ghost use Rattle.zk_model.specs.Paths.{parent as parent_of};
+ghost use Rattle.zk_model.specs.declared.request.Request.TheVariants as req;
+ghost use Rattle.zn_layout.specs.Keys.{CountsKey, DataKey};
+ghost use Rattle.zn_view.specs.Lookups.{HasSeen, sees};
+ghost use Rattle.zn_view.specs.Needs.{AreNeeds};
+ghost use Rattle.zn_updates.specs.Deciding.{IfPlanned, IsByForm, IsBySound, IsDelete, IsGuarded, IsOwnerLookedUp, IsOwnerPaths, IsWhole};
+ghost use Rattle.zn_updates.specs.Making.{IsDataSeen};
+ghost use Rattle.zn_updates.specs.declared.seen.SeenData.{SeenData as AnySeenData};
+
+use crate::changes::put_owned;
+use crate::chosen::{Chosen, Update};
+use crate::form::inner_path;
+use crate::owned::without;
+use crate::plan::{decision, refused};
+use crate::seen::{SeenCounts, SeenData, counts_seen, data_seen, paths_seen};
+use crate::set_data::matches;
+use crate::wants::delete_wants;
+use ev_types::Act;
+use std::alloc::Global;
+use zk_model::code::{BAD_ARGUMENTS, BAD_VERSION, NO_NODE, NOT_EMPTY, SYSTEM_ERROR};
+use zk_model::{PartResult, Path, Trigger};
+use zn_layout::{CountRec, delete_counts, delete_node, put_counts};
+use zn_view::{Decision, View, Want, Who};
+use zx_base::{Memory, Seq};
+
+/// The parent's counts after it.
+fn one_less(above: &CountRec) -> CountRec
+    requires { IsCountRec above.now }
+    ensures is { result ≡ one_less_of above.now }
+    ensures within { IsCountRec result }
+{
+    CountRec {
+        creates: above.creates,
+        children: (above.children as u32).saturating_sub(1) as i32,
+    }
+}
+
+/// The node's keys go, and the parent counts one child less.
+fn delete_acts(
+    alloc: Global,
+    path: &Path,
+    parent: &Path,
+    above: &CountRec,
+) -> Result<Seq<Act>, Memory>
+    requires valid { IsTrue (is_path path.now) }
+    requires parent { IsTrue (is_path parent.now) }
+    requires counted { IsCountRec above.now }
+    ensures { IfOk result (λ acts. acts ≡ acts_of (changes_of_delete path.now parent.now above.now)) }
+{
+    let mut acts = Seq::new(alloc);
+    acts.push(delete_node(alloc, path.bytes())?)?;
+    acts.push(delete_counts(alloc, path.bytes())?)?;
+    acts.push(put_counts(alloc, parent.bytes(), &one_less(above))?)?;
+    Ok(acts)
+}
+
+/// What watches see of it.
+fn delete_triggers(alloc: Global, path: &Path, parent: &Path) -> Result<Seq<Trigger>, Memory>
+    ensures { IfOk result (λ ts. ts ≡ triggers_of_delete path.now parent.now) }
+{
+    let mut triggers = Seq::new(alloc);
+    triggers.push(Trigger::Deleted(path.copy(alloc)?))?;
+    triggers.push(Trigger::Children(parent.copy(alloc)?))?;
+    Ok(triggers)
+}
+
+/// Deletes a node without an owner.
+fn delete_plain(
+    alloc: Global,
+    path: &Path,
+    parent: &Path,
+    above: &CountRec,
+) -> Result<Update, Memory>
+    requires valid { IsTrue (is_path path.now) }
+    requires parent { IsTrue (is_path parent.now) }
+    requires counted { IsCountRec above.now }
+    ensures { IfOk result (λ u. Chosen.Made u ≡ chosen_of (Make (changes_of_delete path.now parent.now above.now) (triggers_of_delete path.now parent.now) results.Deleted)) }
+{
+    Ok(Update {
+        acts: delete_acts(alloc, path, parent, above)?,
+        triggers: delete_triggers(alloc, path, parent)?,
+        draft: PartResult::Deleted,
+    })
+}
+
+/// Deletes a session's node, which goes from the list of its nodes too.
+fn delete_owned(
+    alloc: Global,
+    path: &Path,
+    parent: &Path,
+    above: &CountRec,
+    owner: i64,
+    paths: Option<Seq<Path>>,
+) -> Result<Chosen, Memory>
+    requires valid { IsTrue (is_path path.now) }
+    requires parent { IsTrue (is_path parent.now) }
+    requires counted { IsCountRec above.now }
+    requires real { pos 1 ≤ℤ owner }
+    requires listed { IfSome paths IsSessionRec }
+    ensures { IfOk result (λ c. c ≡ chosen_of (deletes_owned path.now parent.now above.now owner paths)) }
+{
+    let Some(paths) = paths else {
+        return Ok(Chosen::Refused(SYSTEM_ERROR));
+    };
+    let mut update = delete_plain(alloc, path, parent, above)?;
+    update
+        .acts
+        .push(put_owned(alloc, owner, without(paths, path))?)?;
+    Ok(Chosen::Made(update))
+}
+
+fn delete_here(
+    alloc: Global,
+    path: &Path,
+    parent: &Path,
+    node: &SeenData,
+    above: Option<&SeenCounts>,
+    paths: Option<Seq<Path>>,
+) -> Result<Chosen, Memory>
+    requires valid { IsTrue (is_path path.now) }
+    requires parent { IsTrue (is_path parent.now) }
+    requires within { IsDataWithin node.now }
+    requires counted { IfSome (option_copied above) (λ c. IsCountRec c.counts) }
+    requires listed { IfSome paths IsSessionRec }
+    ensures { IfOk result (λ c. c ≡ chosen_of (deletes_here path.now parent.now node.now (option_copied above.entry) paths)) }
+{
+    let Some(above) = above else {
+        return Ok(Chosen::Refused(SYSTEM_ERROR));
+    };
+    if node.owner == 0 {
+        return Ok(Chosen::Made(delete_plain(alloc, path, parent, &above.counts)?));
+    }
+    delete_owned(alloc, path, parent, &above.counts, node.owner, paths)
+}
+
+/// Decides a delete by its node's record and counts, by its parent's counts, and where the node has an owner by the paths of
+/// the owner's nodes.
+#[tactic(auto, unfolding(crate::specs::Choices::delete_choice))]
+pub fn choose_delete(
+    alloc: Global,
+    path: &Path,
+    parent: &Path,
+    version: i32,
+    node: Option<&SeenData>,
+    counts: Option<&SeenCounts>,
+    above: Option<&SeenCounts>,
+    paths: Option<Seq<Path>>,
+) -> Result<Chosen, Memory>
+    requires valid { IsTrue (is_path path.now) }
+    requires parent { IsTrue (is_path parent.now) }
+    requires within { IfSome (option_copied node) IsDataWithin }
+    requires counted { IfSome (option_copied above) (λ c. IsCountRec c.counts) }
+    requires listed { IfSome paths IsSessionRec }
+    ensures { IfOk result (λ c. c ≡ chosen_of (delete_choice path.now parent.now version (option_copied node.entry) (option_copied counts.entry) (option_copied above.entry) paths)) }
+{
+    let Some(node) = node else {
+        return Ok(Chosen::Refused(NO_NODE));
+    };
+    let Some(counts) = counts else {
+        return Ok(Chosen::Refused(NO_NODE));
+    };
+    if !matches(version, node.version) {
+        return Ok(Chosen::Refused(BAD_VERSION));
+    }
+    if counts.counts.children != 0 {
+        return Ok(Chosen::Refused(NOT_EMPTY));
+    }
+    delete_here(alloc, path, parent, node, above, paths)
+}
+
+/// The paths of the nodes of a node's owner, none where it has no owner.
+fn owner_paths(view: &View, node: &Option<SeenData>) -> Result<Option<Seq<Path>>, Memory>
+    requires within { IfSome node.now IsDataWithin }
+    requires seen { IsOwnerLookedUp view.now node.now }
+    ensures is { IfOk result (IsOwnerPaths view.now node.now) }
+    ensures within { IfOk result (λ o. IfSome o IsSessionRec) }
+{
+    match node {
+        Some(node) if node.owner != 0 => paths_seen(view, node.owner),
+        Some(_) | None => Ok(None),
+    }
+}
+
+/// Decides a delete below a parent.
+fn delete_at(
+    alloc: Global,
+    path: &Path,
+    parent: &Path,
+    version: i32,
+    view: &View,
+) -> Result<Decision, Memory>
+    requires valid { IsTrue (is_path path.now) }
+    requires parent { IsTrue (is_path parent.now) }
+    requires node { HasSeen view.now (DataKey path.now) }
+    requires counts { HasSeen view.now (CountsKey path.now) }
+    requires above { HasSeen view.now (CountsKey parent.now) }
+    requires owner { (x : Option AnySeenData) → IsDataSeen (sees view.now (DataKey path.now)) x → IsOwnerLookedUp view.now x }
+    ensures { IfOk result (IsDelete view.now path.now version (Some parent.now)) }
+{
+    let node = data_seen(view, path)?;
+    let counts = counts_seen(view, path)?;
+    let above = counts_seen(view, parent)?;
+    let paths = owner_paths(view, &node)?;
+    let chosen = choose_delete(
+        alloc,
+        path,
+        parent,
+        version,
+        node.as_ref(),
+        counts.as_ref(),
+        above.as_ref(),
+        paths,
+    )?;
+    decision(alloc, view, chosen)
+}
+
+/// Decides a delete of a valid path that is not the root. A path without parent has no node.
+fn delete_below(alloc: Global, path: &Path, version: i32, view: &View) -> Result<Decision, Memory>
+    requires valid { IsTrue (is_path path.now) }
+    requires node { HasSeen view.now (DataKey path.now) }
+    requires counts { HasSeen view.now (CountsKey path.now) }
+    requires above { IfSome (parent_of path.now) (λ q. HasSeen view.now (CountsKey q)) }
+    requires owner { (x : Option AnySeenData) → IsDataSeen (sees view.now (DataKey path.now)) x → IsOwnerLookedUp view.now x }
+    ensures { IfOk result (IsDelete view.now path.now version (parent_of path.now)) }
+{
+    match path.parent(alloc)? {
+        Some(parent) => delete_at(alloc, path, &parent, version, view),
+        None => Ok(refused(NO_NODE)),
+    }
+}
+
+/// Decides a delete.
+pub(crate) fn decide_delete(
+    alloc: Global,
+    path: &[u8],
+    version: i32,
+    who: Who,
+    now: u64,
+    view: &View,
+) -> Result<Decision, Memory>
+    requires real { pos 1 ≤ℤ who.session }
+    requires moment { now ≤ max_moment }
+    requires whole { IsWhole (req.Delete path.now version) who view.now }
+    ensures form { IfOk result (IsByForm (req.Delete path.now version)) }
+    ensures sound { IfOk result (IsBySound (req.Delete path.now version) who view.now) }
+    ensures plan { IfOk result (IfPlanned (IsGuarded (req.Delete path.now version) who now view.now)) }
+{
+    match inner_path(alloc, path)? {
+        Some(path) => delete_below(alloc, &path, version, view),
+        None => Ok(refused(BAD_ARGUMENTS)),
+    }
+}
+
+/// What a delete needs.
+pub(crate) fn delete_needs(
+    alloc: Global,
+    path: &[u8],
+    who: Who,
+    view: &View,
+) -> Result<Seq<Want>, Memory>
+    requires real { pos 1 ≤ℤ who.session }
+    ensures { IfOk result (λ ws. (version : ℤ) → AreNeeds (req.Delete path.now version) who view.now ws) }
+{
+    match inner_path(alloc, path)? {
+        Some(path) => delete_wants(alloc, view, who.session, &path, &path.parent(alloc)?),
+        None => Ok(Seq::new(alloc)),
+    }
+}

@@ -1,0 +1,102 @@
+//! What is refused by the form of a request alone.
+
+ghost use Rattle.std.specs.Prelude.{◌≡◌, IfOk, Some, None};
+ghost use Rattle.zk_model.specs.Access.{is_open_acl};
+ghost use Rattle.zk_model.specs.Paths.{root};
+ghost use Rattle.zk_model.specs.Single.{form_refusal, is_create_mode, is_ephemeral as has_ephemeral, is_sequential as has_sequential};
+ghost use Rattle.zk_model.specs.declared.request.Part.TheVariants as part;
+ghost use Rattle.zx_base.specs.Maps.{Bytes as ByteList, same};
+ghost use Rattle.zn_updates.specs.Forms.{IsPathOf, IsInnerPath, IsFormOf};
+
+use std::alloc::Global;
+use zk_model::code::{BAD_ARGUMENTS, INVALID_ACL};
+use zk_model::{Acl, Path, PathFault};
+use zx_base::Memory;
+
+/// All permissions: read, write, create, delete and admin.
+const ALL_PERMISSIONS: i32 = 31;
+
+/// The path that was tested, or the code that the request is refused with.
+#[derive(Drop)]
+pub(crate) enum Form {
+    Valid(Path),
+    Refused(i32),
+}
+
+/// Whether a node of these flags goes with its session.
+pub(crate) fn is_ephemeral(flags: i32) -> bool
+    ensures { result ≡ has_ephemeral flags }
+{
+    flags == 1 || flags == 3
+}
+
+/// Whether the node's name ends in a number.
+pub(crate) fn is_sequential(flags: i32) -> bool
+    ensures { result ≡ has_sequential flags }
+{
+    flags == 2 || flags == 3
+}
+
+fn is_mode(flags: i32) -> bool
+    ensures { result ≡ is_create_mode flags }
+{
+    matches!(flags, 0..=3)
+}
+
+/// Whether this is the one access list that there is, `OPEN_ACL_UNSAFE`.
+fn is_open(acl: &[Acl]) -> bool
+    ensures { result ≡ is_open_acl acl.now }
+{
+    match acl {
+        [entry] => {
+            entry.perms == ALL_PERMISSIONS && entry.scheme.is(b"world") && entry.id.is(b"anyone")
+        }
+        _ => false,
+    }
+}
+
+/// A request's path, none where it is not valid.
+pub(crate) fn read_path(
+    alloc: Global,
+    text: &[u8],
+    sequential: bool,
+) -> Result<Option<Path>, Memory>
+    ensures { IfOk result (λ p. IsPathOf sequential text.now p) }
+{
+    match Path::read(alloc, text, sequential) {
+        Ok(path) => Ok(Some(path)),
+        Err(PathFault::Memory) => Err(Memory),
+        Err(_) => Ok(None),
+    }
+}
+
+/// The form of a create. Of a sequential one the path is tested with `1` behind it.
+pub(crate) fn create_form(
+    alloc: Global,
+    path: &[u8],
+    acl: &[Acl],
+    flags: i32,
+) -> Result<Form, Memory>
+    ensures { IfOk result (λ form. (content : ByteList) → IsFormOf (has_sequential flags) path.now (form_refusal (part.Create path.now content acl.now flags)) form) }
+{
+    let Some(named) = read_path(alloc, path, is_sequential(flags))? else {
+        return Ok(Form::Refused(BAD_ARGUMENTS));
+    };
+    if !is_mode(flags) {
+        return Ok(Form::Refused(BAD_ARGUMENTS));
+    }
+    if !is_open(acl) {
+        return Ok(Form::Refused(INVALID_ACL));
+    }
+    Ok(Form::Valid(named))
+}
+
+/// A path that is not the root's, none where it is not valid or the root.
+pub(crate) fn inner_path(alloc: Global, text: &[u8]) -> Result<Option<Path>, Memory>
+    ensures { IfOk result (λ p. IsInnerPath text.now p) }
+{
+    if text == b"/".as_slice() {
+        return Ok(None);
+    }
+    read_path(alloc, text, false)
+}

@@ -1,0 +1,36 @@
+//! Create, delete and setData, planned on a view.
+//!
+//! A request names what it still has to read ([`update_needs`]), and is decided once the view lacks nothing of that
+//! ([`decide_update`]): a refusal, or a plan whose transaction is guarded by all that the view saw but the head. The reply
+//! of a plan waits for the zxid of its update ([`finish`]).
+//!
+//! Each request is decided in two steps. What the view saw is read as records (`seen`), without a node's data. Then a pure
+//! function of these records chooses a refusal or the changes of an update (`specs/Choices`): [`choose_create`],
+//! [`choose_delete`] and [`choose_set_data`] compute it, and `proofs/` shows that wherever keys have what was seen, the
+//! choice is what the request comes to (`IsRight`), and that its changes of keys are those of the tree (`Fits`). A zxid of 0
+//! in a record is that of the update itself, so that a transaction of several requests can choose by what the requests
+//! before it left.
+//!
+//! A new node's data is copied once, from the request into its value.
+#![tactic(auto)]
+
+mod changes;
+mod chosen;
+mod create;
+mod delete;
+mod draft;
+mod form;
+mod owned;
+mod plan;
+mod requests;
+mod seen;
+mod set_data;
+mod wants;
+
+pub use chosen::{Chosen, Update};
+pub use create::choose_create;
+pub use delete::choose_delete;
+pub use draft::finish;
+pub use requests::{decide_update, update_needs};
+pub use seen::{SeenCounts, SeenData};
+pub use set_data::choose_set_data;

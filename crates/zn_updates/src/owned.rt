@@ -1,0 +1,64 @@
+//! The list of a session's nodes where one comes or goes.
+
+ghost use Rattle.std.specs.Prelude.{◌≡◌, ◌≤◌, ◌<◌, ℕ, ◌&&◌, nat_lt, length, get_or, IfOk, IsTrue, ◌^◌, ◌-◌};
+ghost use Rattle.std.specs.Ordering.{is_lt};
+ghost use Rattle.zx_base.specs.Maps.{same};
+ghost use Rattle.zk_model.specs.Paths.{is_path};
+ghost use Rattle.zn_layout.specs.Records.{IsSessionRec};
+ghost use Rattle.ev_types.specs.Ranges.{comes_before};
+ghost use Rattle.zn_updates.specs.OwnedLists.{placed as placed_in, without as without_in, IsPlaceOf};
+
+use std::alloc::Global;
+use zk_model::Path;
+use zx_base::{Memory, Seq};
+
+fn is_before(path: &Path, other: &Path) -> bool
+    ensures { result ≡ comes_before path.now other.now }
+{
+    path.bytes().cmp(other.bytes()).is_lt()
+}
+
+/// The place of the first path that is not before this one.
+fn place_of(paths: &[Path], path: &Path) -> usize
+    ensures { IsPlaceOf path.now paths.now result }
+{
+    let mut place = 0;
+    while place < paths.len() && is_before(&paths[place], path) {
+        place += 1;
+    }
+    place
+}
+
+/// Whether this path stands at this place.
+fn stands_at(paths: &[Path], place: usize, path: &Path) -> bool
+    ensures { result ≡ (nat_lt place (length paths.now) && same (get_or paths.now place path.now) path.now) }
+{
+    match paths.get(place) {
+        Some(other) => other.bytes() == path.bytes(),
+        None => false,
+    }
+}
+
+/// The list with a path put in its place by bytes.
+pub(crate) fn placed(alloc: Global, paths: Seq<Path>, path: &Path) -> Result<Seq<Path>, Memory>
+    ensures is { IfOk result (λ list. list ≡ placed_in path.now paths) }
+    ensures within { IfOk result (λ list. IsTrue (is_path path.now) → length paths < 2 ^ 31 - 1 → IsSessionRec paths → IsSessionRec list) }
+{
+    let mut list = paths.into_vec();
+    let place = place_of(&list, path);
+    if stands_at(&list, place, path) {
+        return Ok(Seq::from_vec(list));
+    }
+    list.insert(place, path.copy(alloc)?)?;
+    Ok(Seq::from_vec(list))
+}
+
+/// The list without a path.
+pub(crate) fn without(paths: Seq<Path>, path: &Path) -> Seq<Path>
+    ensures is { result ≡ without_in path.now paths }
+    ensures within { IsSessionRec paths → IsSessionRec result }
+{
+    let mut list = paths.into_vec();
+    list.retain(|other| path.bytes() != other.bytes());
+    Seq::from_vec(list)
+}

@@ -1,0 +1,83 @@
+//! The decision that a choice makes on a view.
+
+ghost use Rattle.std.specs.Prelude.{◌≡◌, ◌∷◌, [], ◌++◌, IfOk};
+ghost use Rattle.ev_types.specs.Reads.{read_key};
+ghost use Rattle.zk_transcript.specs.History.{response_of};
+ghost use Rattle.zn_layout.specs.Changes.{act_of, head_put};
+ghost use Rattle.zn_layout.specs.Keys.{HeadKey, key_bytes};
+ghost use Rattle.zn_layout.specs.Records.{IsHeadRec};
+ghost use Rattle.zn_view.specs.Asks.{again_of, guards_of};
+ghost use Rattle.zn_updates.specs.Choices.{Choice as AnyChoice};
+ghost use Rattle.zn_updates.specs.Deciding.{IfMade, decision_of};
+ghost use Rattle.zn_updates.specs.Making.{chosen_of};
+
+use crate::chosen::{Chosen, Update};
+use ev_types::Act;
+use std::alloc::Global;
+use zk_model::{Body, PartResult, Reply, Trigger};
+use zn_layout::{HeadRec, get_head, put_head};
+use zn_view::{Decision, Plan, View};
+use zx_base::{Memory, Seq};
+
+fn body_of(draft: PartResult) -> Body
+    ensures { result ≡ response_of draft }
+{
+    match draft {
+        PartResult::Created(path) => Body::Path(path),
+        PartResult::Set(stat) => Body::Stat(stat),
+        PartResult::Deleted | PartResult::Checked | PartResult::Code(_) => Body::Empty,
+    }
+}
+
+/// The operations of an update, the put of the head and the read of it.
+fn success(alloc: Global, acts: Seq<Act>, head: &HeadRec) -> Result<Seq<Act>, Memory>
+    requires { IsHeadRec head.now.triggers }
+    ensures { IfOk result (λ l. l ≡ (acts ++ act_of (head_put head.now.triggers) ∷ []) ++ read_key (key_bytes HeadKey) ∷ []) }
+{
+    let mut list = acts;
+    list.push(put_head(alloc, head)?)?;
+    list.push(get_head(alloc)?)?;
+    Ok(list)
+}
+
+/// The plan of an update. Its guards are on all that the view saw but the head.
+fn plan(alloc: Global, view: &View, update: Update) -> Result<Plan, Memory>
+    requires { IsHeadRec update.triggers }
+    ensures guards { IfOk result (λ p. p.guards ≡ guards_of view.now.keys) }
+    ensures success { IfOk result (λ p. p.success ≡ (update.acts ++ act_of (head_put update.triggers) ∷ []) ++ read_key (key_bytes HeadKey) ∷ []) }
+    ensures again { IfOk result (λ p. p.again ≡ again_of view.now.keys) }
+    ensures draft { IfOk result (λ p. p.draft ≡ Reply.Good (response_of update.draft)) }
+    ensures triggers { IfOk result (λ p. p.triggers ≡ update.triggers) }
+{
+    let head = HeadRec {
+        triggers: update.triggers,
+    };
+    Ok(Plan {
+        guards: view.guards()?,
+        success: success(alloc, update.acts, &head)?,
+        again: view.again()?,
+        draft: Reply::Good(body_of(update.draft)),
+        triggers: head.triggers,
+    })
+}
+
+/// A refusal, as a decision.
+pub(crate) fn refused(code: i32) -> Decision
+    ensures { result ≡ Decision.Answered (Reply.Refused code) None }
+{
+    Decision::Answered {
+        reply: Reply::Refused(code),
+        arm: None,
+    }
+}
+
+/// The decision of a choice.
+pub(crate) fn decision(alloc: Global, view: &View, chosen: Chosen) -> Result<Decision, Memory>
+    requires { IfMade IsHeadRec chosen }
+    ensures { IfOk result (λ d. (choice : AnyChoice) → chosen ≡ chosen_of choice → d ≡ decision_of view.now choice) }
+{
+    match chosen {
+        Chosen::Refused(code) => Ok(refused(code)),
+        Chosen::Made(update) => Ok(Decision::Planned(plan(alloc, view, update)?)),
+    }
+}
