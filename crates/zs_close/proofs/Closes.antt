@@ -1,0 +1,172 @@
+-- What a close is decided by makes its decision and its plan what they are to be.
+use Rattle.std.proofs.Common.{◌≡◌, ℕ, ℤ, pos, ◌≤◌, Bool, true, false, length, List, Option, Some, None, refl, sym, ap, subst, arith}
+use Rattle.std.specs.Prelude.{◌≤ℤ◌, nat_abs, nat_le, Contains, MatchBool}
+use Rattle.std.specs.Ordering.{int_eq}
+use Rattle.std.proofs.lemmas.Bool.{le-leb}
+use Rattle.std.proofs.lemmas.Bool.Decides.{Decides-int_eq}
+use Rattle.std.proofs.lemmas.Int.{ints}
+use Rattle.ev_types.specs.declared.answer.Kv.{Kv}
+use Rattle.ev_types.specs.declared.ask.Guard.{Guard}
+use Rattle.ev_types.specs.Ranges.{Keys}
+use Rattle.zk_model.specs.declared.reply.Body.TheVariants as body
+use Rattle.zk_model.specs.declared.request.Request.TheVariants as req
+use Rattle.zk_model.specs.Limits.{max_owned}
+use Rattle.zk_model.specs.Znodes.{owned}
+use Rattle.zk_model.specs.Watches.{no_watches}
+use Rattle.zk_transcript.specs.Answers.{plain_request, tree_reply}
+use Rattle.zk_transcript.specs.History.{State, Session, IsSound, limit_of, session_at, session_ended}
+use Rattle.zx_base.specs.Maps.{Bytes}
+use Rattle.zn_layout.specs.Keys.{SessionKey, LeaseKey, key_bytes}
+use Rattle.zn_layout.specs.StandsFor.{NodesMean, LifeMeans, StandsFor, stored_of}
+use Rattle.zn_view.specs.declared.plan.Decision.{Decision}
+use Rattle.zn_view.specs.declared.plan.Decision.TheVariants.{Answered, Planned, Expired, Moved}
+use Rattle.zn_view.specs.declared.plan.Plan.{Plan}
+use Rattle.zn_view.specs.declared.plan.Who.{Who}
+use Rattle.zn_view.specs.Asks.{guards_of, lease_guard, IsAskedPlan}
+use Rattle.zn_view.specs.Lookups.{sees, IsNodesIn}
+use Rattle.zn_view.specs.Needs.{finished}
+use Rattle.zn_view.specs.Seen.{View}
+use Rattle.zn_view.specs.Views.{Agrees, IsByTree, IsDecision, IsOf, IsPlan}
+use Rattle.zn_view.proofs.AsSeen.{agrees-as_seen, commits-as_seen}
+use Rattle.zn_view.proofs.Asked.{seen-guarded}
+use Rattle.zn_view.proofs.Committing.{zxid-least}
+use Rattle.zn_view.proofs.Tested.{expired-decides, moved-decides, tree-decides}
+use Rattle.zs_close.specs.Closing.{IfPlanned, IsEndPlan, IsClose, IsCloseBy, IsClosedBy, IsClosedWith, IsTaken, IsTrimmed, unsound}
+use Rattle.zs_close.proofs.Taken.{end-taken}
+use Rattle.zs_close.proofs.EndPlans.{life-not_head, nodes-few, nodes-mean, life-means, ended-carries, ended-triggers}
+
+true_false : {b : Bool} → b ≡ true → b ≡ false → ⊥
+true_false t f = cc
+
+plain : plain_request no_watches req.Close ≡ None
+unfolding plain_request
+plain = refl
+
+told : (s : State) (limit : ℕ) (session : ℤ) → tree_reply s.tree limit session no_watches req.Close ≡ None
+unfolding tree_reply
+told s limit session = refl
+
+-- the view saw that the session is attached here, and its nodes
+pub record IsPlannedClose (who : Who) (v : View) (p : Plan) : Type 0 where
+  pub life : Kv
+  pub saw_life : sees v (LeaseKey (nat_abs who.session)) ≡ Some (Some life)
+  pub mine : life.mod_revision ≡ who.mine
+  pub kv : Kv
+  pub saw : sees v (SessionKey (nat_abs who.session)) ≡ Some (Some kv)
+  pub ps : List Bytes
+  pub nodes : IsNodesIn kv ps
+  pub plan : IsEndPlan true who.session v ps p
+
+pub if_planned : (P Q : Plan → Type 0) (d : Decision) → ((p : Plan) → P p → Q p) → IfPlanned P d → IfPlanned Q d
+if_planned P Q (Planned p) f h = f p h
+if_planned P Q (Answered x arm) f h = tt
+if_planned P Q Expired f h = tt
+if_planned P Q (Moved found) f h = tt
+
+-- ---- the decision, by cases on what was seen
+
+module _ (who : Who) (v : View) (real : pos 1 ≤ℤ who.session) where
+  abbrev session_seen : Option (Option Kv)
+  session_seen = sees v (SessionKey (nat_abs who.session))
+
+  abbrev life : Option (Option Kv)
+  life = sees v (LeaseKey (nat_abs who.session))
+
+  -- where no sound state is one of the view's, any decision is right
+  no_state : (d : Decision) (kv : Kv) → life ≡ Some (Some kv) → int_eq kv.mod_revision who.mine ≡ true → ((m : Keys) (s : State) → IsSound s → StandsFor m s → Agrees v m → ⊥) → IsDecision req.Close who v d
+  no_state d kv saw here never = tree-decides req.Close who v d kv real plain saw here (λ m s x sound valid stands agrees lives. absurd (never m s sound stands agrees))
+
+  planned_decides : (d : Decision) (p : Plan) (kv : Kv) → life ≡ Some (Some kv) → int_eq kv.mod_revision who.mine ≡ true → d ≡ Planned p → IsDecision req.Close who v d
+  planned_decides d p kv saw here e = tree-decides req.Close who v d kv real plain saw here (λ m s x sound valid stands agrees lives. subst (IsByTree req.Close d) (sym (told s (limit_of x) who.session)) (p, e))
+
+  -- a session that lives has a list of its nodes
+  listless : (o : Option Session) (own : List Bytes) (kv : Kv) → LifeMeans (nat_abs who.session) o (stored_of (Some kv)) → NodesMean o own (stored_of None) → ⊥
+  listless None own kv lives nodes = lives
+  listless (Some x) own kv lives nodes = nodes
+
+  -- and no more nodes than it may own
+  too_many : (n : ℕ) → nat_le n max_owned ≡ false → n ≤ max_owned → ⊥
+  too_many n e few = true_false (le-leb n max_owned few) e
+
+  module _ (life_kv : Kv) (saw_life : life ≡ Some (Some life_kv)) (here : int_eq life_kv.mod_revision who.mine ≡ true) (d : Decision) where
+    with_decides : (kv : Kv) (ps : List Bytes) → session_seen ≡ Some (Some kv) → IsNodesIn kv ps → IsClosedWith who.session v ps d → IsDecision req.Close who v d
+    with_decides kv ps saw nodes h =
+        elim (nat_le (length ps) max_owned) as (λ b. nat_le (length ps) max_owned ≡ b → MatchBool b ((p : Plan) × (d ≡ Planned p) × IsEndPlan true who.session v ps p) (d ≡ unsound) → IsDecision req.Close who v d) [
+          | true ↦ λ e is. planned_decides d is.0 life_kv saw_life here is.1
+          | false ↦ λ e is. no_state d life_kv saw_life here (λ m s sound stands agrees. too_many (length ps) e (nodes-few v who.session real m s stands (agrees-as_seen v m agrees) kv ps saw nodes sound))
+        ] refl h
+
+    by_decides : (o : Option (Option Kv)) → session_seen ≡ o → IsClosedBy who.session v o d → IsDecision req.Close who v d
+    by_decides None saw h = absurd h
+    by_decides (Some None) saw h = no_state d life_kv saw_life here (λ m s sound stands agrees. let seen = agrees-as_seen v m agrees in
+        listless (session_at who.session s) (owned s.tree who.session) life_kv (life-means v who.session real m s stands seen (Some life_kv) saw_life) (nodes-mean v who.session real m s stands seen None saw))
+    by_decides (Some (Some kv)) saw h = with_decides kv h.0 saw h.1 h.2
+
+    with_planned : (kv : Kv) (ps : List Bytes) → session_seen ≡ Some (Some kv) → IsNodesIn kv ps → IsClosedWith who.session v ps d → IfPlanned (IsPlannedClose who v) d
+    with_planned kv ps saw nodes h =
+        elim (nat_le (length ps) max_owned) as (λ b. MatchBool b ((p : Plan) × (d ≡ Planned p) × IsEndPlan true who.session v ps p) (d ≡ unsound) → IfPlanned (IsPlannedClose who v) d) [
+          | true ↦ λ is. subst (IfPlanned (IsPlannedClose who v)) (sym is.1) (record { life = life_kv; saw_life = saw_life; mine = (Decides-int_eq life_kv.mod_revision who.mine).0 here; kv = kv; saw = saw; ps = ps; nodes = nodes; plan = is.2 })
+          | false ↦ λ is. subst (IfPlanned (IsPlannedClose who v)) (sym is) tt
+        ] h
+
+    by_planned : (o : Option (Option Kv)) → session_seen ≡ o → IsClosedBy who.session v o d → IfPlanned (IsPlannedClose who v) d
+    by_planned None saw h = absurd h
+    by_planned (Some None) saw h = subst (IfPlanned (IsPlannedClose who v)) (sym h) tt
+    by_planned (Some (Some kv)) saw h = with_planned kv h.0 saw h.1 h.2
+
+  life_decides : (d : Decision) (o : Option (Option Kv)) → life ≡ o → IsCloseBy who v o d → IsDecision req.Close who v d
+  life_decides d None saw h = absurd h
+  life_decides d (Some None) saw h = subst (IsDecision req.Close who v) (sym h) (expired-decides req.Close who v real plain saw)
+  life_decides d (Some (Some kv)) saw h =
+      elim (int_eq kv.mod_revision who.mine) as (λ b. int_eq kv.mod_revision who.mine ≡ b → MatchBool b (IsClosedBy who.session v session_seen d) (d ≡ Moved kv.mod_revision) → IsDecision req.Close who v d) [
+        | true ↦ λ e is. by_decides kv saw e d session_seen refl is
+        | false ↦ λ e is. subst (IsDecision req.Close who v) (sym is) (moved-decides req.Close who v kv real plain saw e)
+      ] refl h
+
+  life_planned : (d : Decision) (o : Option (Option Kv)) → life ≡ o → IsCloseBy who v o d → IfPlanned (IsPlannedClose who v) d
+  life_planned d None saw h = absurd h
+  life_planned d (Some None) saw h = subst (IfPlanned (IsPlannedClose who v)) (sym h) tt
+  life_planned d (Some (Some kv)) saw h =
+      elim (int_eq kv.mod_revision who.mine) as (λ b. int_eq kv.mod_revision who.mine ≡ b → MatchBool b (IsClosedBy who.session v session_seen d) (d ≡ Moved kv.mod_revision) → IfPlanned (IsPlannedClose who v) d) [
+        | true ↦ λ e is. by_planned kv saw e d session_seen refl is
+        | false ↦ λ e is. subst (IfPlanned (IsPlannedClose who v)) (sym is) tt
+      ] refl h
+
+  pub close-decides : (d : Decision) → IsClose who v d → IsDecision req.Close who v d
+  close-decides d h = life_decides d life refl h
+
+  pub close-planned : (d : Decision) → IsClose who v d → IfPlanned (IsPlannedClose who v) d
+  close-planned d h = life_planned d life refl h
+
+  -- ---- the plan
+
+  module _ (p : Plan) (is : IsPlannedClose who v p) where
+    not_lapsed : (s : State) → true ≡ false → (x : Session) → session_at who.session s ≡ Some x → x.lapsed ≡ true
+    not_lapsed s e x h = absurd (true_false refl e)
+
+    pub close-plan : (now : ℕ) → IsPlan req.Close who now v p (λ z. finished z p.draft)
+    close-plan now = record {
+      carries = λ m s z sound stands may later high.
+          let low : pos 1 ≤ℤ z = omega (arith, ints, zxid-least m s stands, later) in
+          ended-carries v who.session real m s stands (commits-as_seen p v m (is.plan).guards may) is.kv is.ps is.saw is.nodes sound true (not_lapsed s) p is.plan z low high;
+      answers = λ m s z sound stands may later high. record {
+        made = record { response = body.Empty; tree = (session_ended s z who.session).tree; triggers = (session_ended s z who.session).triggers };
+        commits = refl;
+        triggers = ended-triggers v who.session real m s stands (commits-as_seen p v m (is.plan).guards may) is.kv is.ps is.saw is.nodes sound true (not_lapsed s) p is.plan z;
+        answers = ap (finished z) (is.plan).draft;
+      };
+    }
+
+    pub close-asked : IsAskedPlan who v p
+    close-asked =
+        let guarded = seen-guarded (key_bytes (LeaseKey (nat_abs who.session))) is.life v.keys (life-not_head (nat_abs who.session)) is.saw_life in
+        record {
+          guards = (is.plan).guards;
+          again = (is.plan).again;
+          lease = subst (λ (gs : List Guard). Contains gs (lease_guard who)) (sym (is.plan).guards)
+              (subst (λ (n : ℤ). Contains (guards_of v.keys) (record { key = key_bytes (LeaseKey (nat_abs who.session)); mod_revision = n })) is.mine guarded);
+          shows = (is.plan).shows;
+        }
+
+    pub close-taken : (s : State) → IsSound s → IsOf v s → IsTrimmed req.Close who v → IsTaken p
+    close-taken = end-taken true who v real is.kv is.ps is.saw is.nodes p is.plan

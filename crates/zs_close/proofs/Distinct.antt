@@ -1,0 +1,165 @@
+-- The changes at the end of a session write each key once, and need no lease.
+use Rattle.std.proofs.Common.{◌≡◌, ℤ, Bool, true, false, cond, ◌||◌, not, List, [], ◌∷◌, ◌++◌, Option, Some, None, refl, ap, ◌∙◌}
+use Rattle.std.specs.Prelude.{nat_abs}
+use Rattle.std.specs.List.{list_any, AllByRecursion}
+use Rattle.std.proofs.lemmas.Bool.{and_from, and_parts}
+use Rattle.std.proofs.lemmas.List.Folds.{list_any-append, list_all-append}
+use Rattle.ev_types.specs.Store.{Store}
+use Rattle.zk_model.specs.declared.node.Trigger.{Trigger}
+use Rattle.zk_model.specs.Paths.{is_child}
+use Rattle.zx_base.specs.Maps.{Bytes, same}
+use Rattle.zx_base.proofs.MapLaws.{same-refl}
+use Rattle.zn_layout.specs.declared.record.CountRec.{CountRec}
+use Rattle.zn_layout.specs.Changes.{Put, Change, head_put, last, or_else, writes_key, are_distinct, has_its_lease, have_leases}
+use Rattle.zn_layout.specs.Keys.{Key, HeadKey, DataKey, CountsKey, SessionKey, LeaseKey, same_key}
+use Rattle.zs_close.specs.Ending.{put_parent, put_parents, parents, delete_nodes, delete_session, end_changes}
+use Rattle.zs_close.proofs.ParentPaths.{parents-any, parents-apart}
+use Rattle.zs_close.proofs.Removed.{AreApart}
+use Rattle.zs_close.proofs.Written.{gone_if, put_if, put_of, parents_put, parents_leave, nodes_leave-session, nodes_leave-life, data-gone, counts-gone}
+
+-- ---- what isn't written
+
+none_else : (x y : Option (Option Put)) → or_else x y ≡ None → (x ≡ None) × (y ≡ None)
+none_else None y h = (refl, h)
+none_else (Some w) y h = absurd (cc)
+
+cond_none : (b : Bool) (w : Option Put) → cond b (Some w) None ≡ None → b ≡ false
+cond_none true w h = absurd (cc)
+cond_none false w h = refl
+
+unwritten : (k : Key) (cs : List Change) → last cs k ≡ None → list_any (writes_key k) cs ≡ false
+unwritten k [] h = refl
+unwritten k (c ∷ cs) h =
+    let parts = none_else (last cs k) (cond (same_key k c.key) (Some c.put) None) h in
+    (λ i. cond_none (same_key k c.key) c.put parts.1 i || unwritten k cs parts.0 i)
+
+abbrev ApartFrom : List Change → List Change → Type 0
+ApartFrom ds cs = AllByRecursion (λ (c : Change). last ds c.key ≡ None) cs
+
+distinct-append : (cs ds : List Change) → are_distinct cs ≡ true → are_distinct ds ≡ true → ApartFrom ds cs → are_distinct (cs ++ ds) ≡ true
+distinct-append [] ds f g apart = g
+distinct-append (c ∷ cs) ds f g apart =
+    let parts = and_parts _ _ f in
+    and_from _ _
+    (ap not (list_any-append (writes_key c.key) cs ds ∙ ap (λ b. list_any (writes_key c.key) cs || b) (unwritten c.key ds apart.0) ∙ or_false _) ∙ parts.0)
+    (distinct-append cs ds parts.1 g apart.1)
+  where
+    or_false : (b : Bool) → (b || false) ≡ b
+    or_false true = refl
+    or_false false = refl
+
+apart-append : (ds cs es : List Change) → ApartFrom ds cs → ApartFrom ds es → ApartFrom ds (cs ++ es)
+apart-append ds [] es f g = g
+apart-append ds (c ∷ cs) es f g = (f.0, apart-append ds cs es f.1 g)
+
+-- ---- each part
+
+session-distinct : (alive : Bool) (id : ℤ) → are_distinct (delete_session alive id) ≡ true
+session-distinct true id = refl
+session-distinct false id = refl
+
+once_gone : (b : Bool) → b ≡ false → gone_if b ≡ None
+once_gone b e = ap gone_if e
+
+nodes-distinct : (ps : List Bytes) → AreApart ps → are_distinct (delete_nodes ps) ≡ true
+nodes-distinct [] apart = refl
+nodes-distinct (p ∷ ps) apart = and_from _ _
+    (ap not (unwritten (DataKey p) (delete_nodes ps) (data-gone ps p ∙ once_gone (list_any (same p) ps) apart.0)))
+    (and_from _ _ (ap not (unwritten (CountsKey p) (delete_nodes ps) (counts-gone ps p ∙ once_gone (list_any (same p) ps) apart.0))) (nodes-distinct ps apart.1))
+
+parent_distinct : (ps : List Bytes) (q : Bytes) (o : Option CountRec) → are_distinct (put_parent ps q o) ≡ true
+parent_distinct ps q None = refl
+parent_distinct ps q (Some c) = refl
+
+parent_apart : (ds : List Change) (ps : List Bytes) (q : Bytes) (o : Option CountRec) → last ds (CountsKey q) ≡ None → ApartFrom ds (put_parent ps q o)
+parent_apart ds ps q None h = tt
+parent_apart ds ps q (Some c) h = (h, tt)
+
+parents-distinct : (counts : Bytes → Option CountRec) (ps qs : List Bytes) → AreApart qs → are_distinct (put_parents counts ps qs) ≡ true
+parents-distinct counts ps [] apart = refl
+parents-distinct counts ps (q ∷ qs) apart = distinct-append (put_parent ps q (counts q)) (put_parents counts ps qs)
+    (parent_distinct ps q (counts q)) (parents-distinct counts ps qs apart.1)
+    (parent_apart (put_parents counts ps qs) ps q (counts q) (parents_put counts ps qs q ∙ ap (λ b. put_if b (put_of ps q (counts q))) apart.0))
+
+-- ---- the parts are apart
+
+session_from_nodes : (alive : Bool) (id : ℤ) (ps : List Bytes) → ApartFrom (delete_nodes ps) (delete_session alive id)
+session_from_nodes true id ps = (nodes_leave-life ps (nat_abs id), (nodes_leave-session ps (nat_abs id), tt))
+session_from_nodes false id ps = (nodes_leave-session ps (nat_abs id), tt)
+
+module _ (counts : Bytes → Option CountRec) (ps : List Bytes) (childless : (r : Bytes) → list_any (same r) ps ≡ true → list_any (is_child r) ps ≡ false) where
+  abbrev puts : List Change
+  puts = put_parents counts ps (parents ps)
+
+  session_from_parents : (alive : Bool) (id : ℤ) → ApartFrom puts (delete_session alive id)
+  session_from_parents true id = (parents_leave counts ps (parents ps) (LeaseKey (nat_abs id)) tt, (parents_leave counts ps (parents ps) (SessionKey (nat_abs id)) tt, tt))
+  session_from_parents false id = (parents_leave counts ps (parents ps) (SessionKey (nat_abs id)) tt, tt)
+
+  no_parent : (p : Bytes) → list_any (same p) ps ≡ true → last puts (CountsKey p) ≡ None
+  no_parent p inside = parents_put counts ps (parents ps) p ∙ ap (λ b. put_if b (put_of ps p (counts p))) (parents-any ps p ∙ childless p inside)
+
+  or_right : (a b : Bool) → b ≡ true → (a || b) ≡ true
+  or_right true b h = refl
+  or_right false b h = h
+
+  nodes_from_parents : (rs : List Bytes) → ((r : Bytes) → list_any (same r) rs ≡ true → list_any (same r) ps ≡ true) → ApartFrom puts (delete_nodes rs)
+  nodes_from_parents [] inside = tt
+  nodes_from_parents (r ∷ rs) inside = (
+    parents_leave counts ps (parents ps) (DataKey r) tt,
+    (
+      no_parent r (inside r (ap (λ b. b || list_any (same r) rs) (same-refl r))),
+      nodes_from_parents rs (λ q h. inside q (or_right (same q r) (list_any (same q) rs) h)),
+    ),
+  )
+
+  pub end-distinct : (alive : Bool) (id : ℤ) → AreApart ps → are_distinct (end_changes alive id counts ps) ≡ true
+  unfolding end_changes
+  end-distinct alive id apart = distinct-append (delete_session alive id ++ delete_nodes ps) puts
+      (distinct-append (delete_session alive id) (delete_nodes ps) (session-distinct alive id) (nodes-distinct ps apart) (session_from_nodes alive id ps))
+      (parents-distinct counts ps (parents ps) (parents-apart ps))
+      (apart-append puts (delete_session alive id) (delete_nodes ps) (session_from_parents alive id) (nodes_from_parents ps (λ r h. h)))
+
+-- ---- and the head
+
+same_key-turned : (k : Key) → same_key HeadKey k ≡ false → same_key k HeadKey ≡ false
+same_key-turned HeadKey h = h
+same_key-turned (DataKey p) h = refl
+same_key-turned (CountsKey p) h = refl
+same_key-turned (SessionKey i) h = refl
+same_key-turned (LeaseKey i) h = refl
+
+head_apart : (ts : List Trigger) (cs : List Change) → last cs HeadKey ≡ None → ApartFrom (head_put ts ∷ []) cs
+head_apart ts [] h = tt
+head_apart ts (c ∷ cs) h =
+    let parts = none_else (last cs HeadKey) (cond (same_key HeadKey c.key) (Some c.put) None) h in
+    (ap (λ b. cond b (Some (head_put ts).put) None) (same_key-turned c.key (cond_none (same_key HeadKey c.key) c.put parts.1)), head_apart ts cs parts.0)
+
+pub with_head-distinct : (ts : List Trigger) (cs : List Change) → last cs HeadKey ≡ None → are_distinct cs ≡ true → are_distinct (cs ++ head_put ts ∷ []) ≡ true
+with_head-distinct ts cs none h = distinct-append cs (head_put ts ∷ []) h refl (head_apart ts cs none)
+
+-- ---- no lease is named
+
+session-leases : (s : Store) (alive : Bool) (id : ℤ) → have_leases s (delete_session alive id) ≡ true
+session-leases s true id = refl
+session-leases s false id = refl
+
+nodes-leases : (s : Store) (ps : List Bytes) → have_leases s (delete_nodes ps) ≡ true
+nodes-leases s [] = refl
+nodes-leases s (p ∷ ps) = nodes-leases s ps
+
+abbrev holds_its : Store → Change → Bool
+holds_its s c = has_its_lease s c.put
+
+parent-leases : (s : Store) (ps : List Bytes) (q : Bytes) (o : Option CountRec) → have_leases s (put_parent ps q o) ≡ true
+parent-leases s ps q None = refl
+parent-leases s ps q (Some c) = refl
+
+parents-leases : (s : Store) (counts : Bytes → Option CountRec) (ps qs : List Bytes) → have_leases s (put_parents counts ps qs) ≡ true
+parents-leases s counts ps [] = refl
+parents-leases s counts ps (q ∷ qs) = list_all-append (holds_its s) (put_parent ps q (counts q)) (put_parents counts ps qs) ∙ and_from _ _ (parent-leases s ps q (counts q)) (parents-leases s counts ps qs)
+
+pub end-leases : (s : Store) (alive : Bool) (id : ℤ) (counts : Bytes → Option CountRec) (ps : List Bytes) → have_leases s (end_changes alive id counts ps) ≡ true
+unfolding end_changes
+end-leases s alive id counts ps =
+    list_all-append (holds_its s) (delete_session alive id ++ delete_nodes ps) (put_parents counts ps (parents ps))
+    ∙ and_from _ _ (list_all-append (holds_its s) (delete_session alive id) (delete_nodes ps) ∙ and_from _ _ (session-leases s alive id) (nodes-leases s ps)) (parents-leases s counts ps (parents ps))

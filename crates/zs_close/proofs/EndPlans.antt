@@ -1,0 +1,135 @@
+-- A plan with the operations of a session's end carries the end out, in each sound state whose keys have what the view saw.
+use Rattle.std.proofs.Common.{◌≡◌, ℕ, ℤ, pos, ◌≤◌, Bool, true, false, length, List, [], ◌∷◌, ◌++◌, Option, Some, None, refl, sym, ap, ◌∙◌, subst, arith}
+use Rattle.std.specs.Prelude.{◌≤ℤ◌, nat_abs, option_map}
+use Rattle.std.specs.List.Sorted.{IsStrictlySortedBy}
+use Rattle.std.specs.Ordering.{nat_cmp}
+use Rattle.std.specs.Cmp.Lexicographic.{slice_cmp}
+use Rattle.std.specs.FinMap.{get}
+use Rattle.std.proofs.lemmas.Int.{ints}
+use Rattle.std.proofs.lemmas.List.{map-append}
+use Rattle.ev_types.specs.declared.answer.Kv.{Kv}
+use Rattle.ev_types.specs.declared.ask.Act.{Act}
+use Rattle.ev_types.specs.Ranges.{Keys}
+use Rattle.ev_types.specs.Reads.{read_key}
+use Rattle.ev_types.specs.Store.{acts_applied, last_revision}
+use Rattle.zk_model.specs.declared.node.Node.{Node}
+use Rattle.zk_model.specs.declared.reply.Body.TheVariants as body
+use Rattle.zk_model.specs.declared.reply.Reply.TheVariants as reply
+use Rattle.zk_model.specs.Limits.{max_owned}
+use Rattle.zk_model.specs.Znodes.{num_children, owned}
+use Rattle.zk_transcript.specs.History.{State, Session, IsSound, session_at, session_ended}
+use Rattle.zx_base.specs.Maps.{Bytes}
+use Rattle.zn_layout.specs.declared.record.CountRec.{CountRec}
+use Rattle.zn_layout.specs.Changes.{act_of, acts_of, head_put}
+use Rattle.zn_layout.specs.Fits.{Fits}
+use Rattle.zn_layout.specs.Keys.{Key, HeadKey, CountsKey, SessionKey, LeaseKey, key_bytes}
+use Rattle.zn_layout.specs.Records.{IsHeadRec}
+use Rattle.zn_layout.specs.StandsFor.{stored_of, CountsMean, NodesMean, LifeMeans, counts_record, StandsFor}
+use Rattle.zn_layout.proofs.Keys.{key_bytes-injective}
+use Rattle.zn_layout.proofs.ListRecords.{session_value-injective}
+use Rattle.zn_layout.proofs.Stands.{stands_after}
+use Rattle.zn_view.specs.declared.plan.Plan.{Plan}
+use Rattle.zn_view.specs.Asks.{guards_of, again_of}
+use Rattle.zn_view.specs.Lookups.{sees, IsNodesIn}
+use Rattle.zn_view.specs.Seen.{View}
+use Rattle.zn_view.specs.Views.{AreAsSeen}
+use Rattle.zs_close.specs.Closing.{IsTold, TellsCounts, IsEndPlan}
+use Rattle.zs_close.specs.Ending.{end_changes, end_triggers}
+use Rattle.zs_close.proofs.EndFits.{end-fits}
+use Rattle.zs_close.proofs.TriggerBounds.{end_triggers-within}
+use Rattle.zs_close.proofs.Written.{written-head}
+
+-- ---- the plan that the code makes
+
+pub plan-made : (alive : Bool) (id : ℤ) (v : View) (ps : List Bytes) (p : Plan) (acts : List Act) → p.guards ≡ guards_of v.keys → p.again ≡ again_of v.keys
+    → p.success ≡ (acts ++ act_of (head_put p.triggers) ∷ []) ++ read_key (key_bytes HeadKey) ∷ [] → p.draft ≡ reply.Good body.Empty → p.triggers ≡ end_triggers ps
+    → ((counts : Bytes → Option CountRec) → TellsCounts v counts → acts ≡ acts_of (end_changes alive id counts ps)) → IsEndPlan alive id v ps p
+plan-made alive id v ps p acts guards again success draft triggers made = record {
+  guards = guards;
+  again = again;
+  success = λ counts tells.
+      success
+      ∙ ap (λ (l : List Act). (l ++ act_of (head_put p.triggers) ∷ []) ++ read_key (key_bytes HeadKey) ∷ []) (made counts tells)
+      ∙ ap (λ (l : List Act). l ++ read_key (key_bytes HeadKey) ∷ []) (sym (map-append act_of (end_changes alive id counts ps) (head_put p.triggers ∷ [])));
+  shows = (acts ++ act_of (head_put p.triggers) ∷ [], success);
+  draft = draft;
+  triggers = triggers;
+}
+
+-- ---- what the view's keys mean
+
+not_head : (k : Key) → (k ≡ HeadKey → ⊥) → key_bytes k ≡ key_bytes HeadKey → ⊥
+not_head k apart e = apart (key_bytes-injective k HeadKey e)
+
+session-not_head : (n : ℕ) → key_bytes (SessionKey n) ≡ key_bytes HeadKey → ⊥
+session-not_head n = not_head (SessionKey n) (λ e. cc)
+
+counts-not_head : (q : Bytes) → key_bytes (CountsKey q) ≡ key_bytes HeadKey → ⊥
+counts-not_head q = not_head (CountsKey q) (λ e. cc)
+
+pub life-not_head : (n : ℕ) → key_bytes (LeaseKey n) ≡ key_bytes HeadKey → ⊥
+life-not_head n = not_head (LeaseKey n) (λ e. cc)
+
+pub numbered : (id : ℤ) → pos 1 ≤ℤ id → pos (nat_abs id) ≡ id
+numbered id real = omega (arith, ints)
+
+-- the session is open, and owns these nodes
+pub record IsOpenWith (o : Option Session) (own ps : List Bytes) : Type 0 where
+  pub session : Session
+  pub is_open : o ≡ Some session
+  pub owns : own ≡ ps
+
+open_with : (o : Option Session) (own ps : List Bytes) (kv : Kv) → IsNodesIn kv ps → NodesMean o own (stored_of (Some kv)) → IsOpenWith o own ps
+open_with None own ps kv is h = absurd h
+open_with (Some x) own ps kv is h = record { session = x; is_open = refl; owns = session_value-injective own ps h.fits is.0 (sym h.value ∙ is.1) }
+
+-- the counts of a state's nodes
+abbrev pub counts_in : State → Bytes → Option CountRec
+counts_in s q = option_map (λ (n : Node). counts_record n (num_children s.tree q)) (get s.tree q)
+
+told_as : (n : Option Node) (k : ℕ) (o : Option Kv) → CountsMean n k (stored_of o) → IsTold o (option_map (λ (x : Node). counts_record x k) n)
+told_as None k None h = tt
+told_as None k (Some kv) h = absurd h
+told_as (Some n) k None h = absurd h
+told_as (Some n) k (Some kv) h = (h.fits, h.value)
+
+module _ (v : View) (id : ℤ) (real : pos 1 ≤ℤ id) (m : Keys) (s : State) (stands : StandsFor m s) (as_seen : AreAsSeen v m) where
+  pub nodes-mean : (o : Option Kv) → sees v (SessionKey (nat_abs id)) ≡ Some o → NodesMean (session_at id s) (owned s.tree id) (stored_of o)
+  nodes-mean o saw =
+      subst (λ (i : ℤ). NodesMean (session_at i s) (owned s.tree i) (stored_of o)) (numbered id real)
+      (subst (λ (x : Option Kv). NodesMean (session_at (pos (nat_abs id)) s) (owned s.tree (pos (nat_abs id))) (stored_of x)) (as_seen (key_bytes (SessionKey (nat_abs id))) o (session-not_head (nat_abs id)) saw) (stands.each (SessionKey (nat_abs id))))
+
+  pub life-means : (o : Option Kv) → sees v (LeaseKey (nat_abs id)) ≡ Some o → LifeMeans (nat_abs id) (session_at id s) (stored_of o)
+  life-means o saw =
+      subst (λ (i : ℤ). LifeMeans (nat_abs id) (session_at i s) (stored_of o)) (numbered id real)
+      (subst (λ (x : Option Kv). LifeMeans (nat_abs id) (session_at (pos (nat_abs id)) s) (stored_of x)) (as_seen (key_bytes (LeaseKey (nat_abs id))) o (life-not_head (nat_abs id)) saw) (stands.each (LeaseKey (nat_abs id))))
+
+  pub counts-told : TellsCounts v (counts_in s)
+  counts-told q o saw = told_as (get s.tree q) (num_children s.tree q) o (subst (λ (x : Option Kv). CountsMean (get s.tree q) (num_children s.tree q) (stored_of x)) (as_seen (key_bytes (CountsKey q)) o (counts-not_head q) saw) (stands.each (CountsKey q)))
+
+  module _ (kv : Kv) (ps : List Bytes) (saw : sees v (SessionKey (nat_abs id)) ≡ Some (Some kv)) (nodes : IsNodesIn kv ps) where
+    pub session-open : IsOpenWith (session_at id s) (owned s.tree id) ps
+    session-open = open_with (session_at id s) (owned s.tree id) ps kv nodes (nodes-mean (Some kv) saw)
+
+    -- in a sound state no session owns more
+    pub nodes-few : IsSound s → length ps ≤ max_owned
+    nodes-few sound = subst (λ (l : List Bytes). length l ≤ max_owned) (session-open).owns (sound.limited id (session-open).session (session-open).is_open)
+
+    module _ (sound : IsSound s) (alive : Bool) (lapsed : alive ≡ false → (x : Session) → session_at id s ≡ Some x → x.lapsed ≡ true) where
+      pub ended-fits : (z : ℤ) → Fits z (end_changes alive id (counts_in s) ps) s (session_ended s z id)
+      ended-fits z = subst (λ (l : List Bytes). Fits z (end_changes alive id (counts_in s) l) s (session_ended s z id)) (session-open).owns
+          (end-fits s z id alive (counts_in s) sound real (λ q n there. ap (option_map (λ (x : Node). counts_record x (num_children s.tree q))) there)
+          (subst (IsStrictlySortedBy (slice_cmp nat_cmp)) (sym (session-open).owns) nodes.0.rising) lapsed)
+
+      module _ (p : Plan) (plan : IsEndPlan alive id v ps p) (z : ℤ) where
+        pub ended-triggers : p.triggers ≡ (session_ended s z id).triggers
+        ended-triggers = plan.triggers ∙ ap end_triggers (sym (session-open).owns)
+
+        pub ended-carries : pos 1 ≤ℤ z → z ≤ℤ last_revision → StandsFor (acts_applied z m p.success) (session_ended s z id)
+        ended-carries low high =
+            subst (λ (acts : List Act). StandsFor (acts_applied z m acts) (session_ended s z id)) (sym (plan.success (counts_in s) counts-told))
+            (stands_after z (end_changes alive id (counts_in s) ps) p.triggers m s (session_ended s z id) low high
+            (subst IsHeadRec (sym plan.triggers) (end_triggers-within ps (nodes-few sound) nodes.0.valid))
+            (written-head alive id (counts_in s) ps)
+            (record { zxid = refl; updates = refl; triggers = sym ended-triggers })
+            stands (ended-fits z))

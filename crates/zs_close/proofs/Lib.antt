@@ -1,0 +1,16 @@
+pub mod Removed
+pub mod Members
+pub mod ParentPaths
+pub mod Written
+pub mod EndFits
+pub mod Told
+pub mod TriggerBounds
+pub mod EndPlans
+pub mod Closes
+pub mod Membership
+pub mod Lacking
+pub mod Reaps
+pub mod Distinct
+pub mod Sizes
+pub mod Trimmed
+pub mod Taken

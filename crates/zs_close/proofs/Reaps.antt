@@ -1,0 +1,174 @@
+-- What a reaping is decided by makes its decision and its plan what they are to be.
+use Rattle.std.proofs.Common.{◌≡◌, ℕ, zero, suc, ℤ, pos, ◌≤◌, Bool, true, false, length, List, [], ◌∷◌, Option, Some, None, refl, sym, ap, ◌∙◌, subst, arith}
+use Rattle.std.specs.Prelude.{◌≤ℤ◌, nat_abs, nat_le, if◌then◌else◌, Contains, MatchBool}
+use Rattle.std.proofs.lemmas.Bool.{le-leb}
+use Rattle.std.proofs.lemmas.Int.{ints}
+use Rattle.ev_types.specs.declared.answer.Kv.{Kv}
+use Rattle.ev_types.specs.declared.ask.Guard.{Guard}
+use Rattle.ev_types.specs.Ranges.{Keys}
+use Rattle.ev_types.specs.Store.{mod_of}
+use Rattle.zk_model.specs.declared.request.Request.TheVariants as req
+use Rattle.zk_model.specs.Limits.{max_owned}
+use Rattle.zk_transcript.specs.History.{State, Session, IsSound, session_at}
+use Rattle.zx_base.specs.Maps.{Bytes, same}
+use Rattle.zx_base.proofs.MapLaws.{same-true}
+use Rattle.zn_layout.specs.Keys.{HeadKey, SessionKey, LeaseKey, key_bytes}
+use Rattle.zn_layout.specs.StandsFor.{NodesMean, LifeMeans, StandsFor, stored_of}
+use Rattle.zn_view.specs.declared.plan.Plan.{Plan}
+use Rattle.zn_view.specs.declared.snapshot.SeenKey.{SeenKey}
+use Rattle.zn_view.specs.Asks.{guards_of}
+use Rattle.zn_view.specs.Lookups.{sees, IsNodesIn}
+use Rattle.zn_view.specs.Seen.{View, seen_in}
+use Rattle.zn_view.specs.Views.{IsOf, AreAsSeen}
+use Rattle.zn_view.proofs.AsSeen.{agrees-as_seen, commits-as_seen}
+use Rattle.zn_view.proofs.Committing.{zxid-least}
+use Rattle.zs_close.specs.declared.reap.Reaping.{Reaping}
+use Rattle.zs_close.specs.declared.reap.Reaping.TheVariants.{Planned, Kept, Gone, TooMany}
+use Rattle.zs_close.specs.Closing.{IsEndPlan, IsTaken, IsTrimmed}
+use Rattle.zs_close.specs.Reaping.{IfReaped, IsReap, IsReapBy, IsReapDecision, IsReapPlan, IsReapedBy, IsReapedWith, IsReapingOf}
+use Rattle.zs_close.proofs.Taken.{end-taken}
+use Rattle.zs_close.proofs.EndPlans.{life-not_head, nodes-few, nodes-mean, life-means, session-open, ended-carries, ended-triggers}
+
+true_false : {b : Bool} → b ≡ true → b ≡ false → ⊥
+true_false t f = cc
+
+-- ---- a key that was seen is guarded, also where it was absent
+
+guard_later : (g : Guard) (x : SeenKey) (xs : List SeenKey) (b : Bool) → Contains (guards_of xs) g → Contains (if b then guards_of xs else record { key = x.key; mod_revision = mod_of x.found } ∷ guards_of xs) g
+guard_later g x xs true h = h
+guard_later g x xs false c = let lt = c.1 in (suc c.0, omega (arith, lt), c.2)
+
+module _ (k : Bytes) (o : Option Kv) (apart : k ≡ key_bytes HeadKey → ⊥) where
+  abbrev own : Guard
+  own = record { key = k; mod_revision = mod_of o }
+
+  guard_first : (x : SeenKey) (xs : List SeenKey) (b : Bool) → same x.key (key_bytes HeadKey) ≡ b → x.key ≡ k → x.found ≡ o → Contains (if b then guards_of xs else record { key = x.key; mod_revision = mod_of x.found } ∷ guards_of xs) own
+  guard_first x xs true e is found = absurd (apart (sym is ∙ same-true x.key (key_bytes HeadKey) e))
+  guard_first x xs false e is found = (zero, omega arith, λ i. record { key = is i; mod_revision = mod_of (found i) })
+
+  guard_at_first : (x : SeenKey) (xs : List SeenKey) (b : Bool) → same x.key k ≡ b → (seen_in k xs ≡ Some o → Contains (guards_of xs) own) → (if b then Some x.found else seen_in k xs) ≡ Some o → Contains (guards_of (x ∷ xs)) own
+  guard_at_first x xs true e further h =
+      let found : x.found ≡ o = cc in
+      guard_first x xs (same x.key (key_bytes HeadKey)) refl (same-true x.key k e) found
+  guard_at_first x xs false e further h = guard_later own x xs (same x.key (key_bytes HeadKey)) (further h)
+
+  guarded : (xs : List SeenKey) → seen_in k xs ≡ Some o → Contains (guards_of xs) own
+  guarded [] h = absurd (cc)
+  guarded (x ∷ xs) h = guard_at_first x xs (same x.key k) refl (guarded xs) h
+
+-- ---- what a session's keys say of it
+
+kept_is : (n : ℕ) (o : Option Session) (kv : Kv) (r : Reaping) → LifeMeans n o (stored_of (Some kv)) → r ≡ Kept → IsReapingOf o r
+kept_is n None kv r h e = absurd h
+kept_is n (Some x) kv r h e = subst (λ b. MatchBool b ((p : Plan) × (r ≡ Planned p)) (r ≡ Kept)) (sym h.alive) e
+
+gone_is : (o : Option Session) (ps : List Bytes) (r : Reaping) → NodesMean o ps (stored_of None) → r ≡ Gone → IsReapingOf o r
+gone_is None ps r h e = e
+gone_is (Some x) ps r h e = absurd h
+
+lapsed_is : (n : ℕ) (o : Option Session) (x : Session) → o ≡ Some x → LifeMeans n o (stored_of None) → x.lapsed ≡ true
+lapsed_is n None x e h = absurd (cc)
+lapsed_is n (Some y) x e h =
+    let one : y ≡ x = cc in
+    sym (ap (λ (w : Session). w.lapsed) one) ∙ h
+
+ending_is : (o : Option Session) (x : Session) (r : Reaping) (p : Plan) → o ≡ Some x → x.lapsed ≡ true → r ≡ Planned p → IsReapingOf o r
+ending_is o x r p e lapsed is = subst (λ (w : Option Session). IsReapingOf w r) (sym e) (subst (λ b. MatchBool b ((q : Plan) × (r ≡ Planned q)) (r ≡ Kept)) (sym lapsed) (p, is))
+
+-- the view saw that the session has lapsed, and its nodes
+pub record IsPlannedReap (id : ℤ) (v : View) (p : Plan) : Type 0 where
+  pub saw_life : sees v (LeaseKey (nat_abs id)) ≡ Some None
+  pub kv : Kv
+  pub saw : sees v (SessionKey (nat_abs id)) ≡ Some (Some kv)
+  pub ps : List Bytes
+  pub nodes : IsNodesIn kv ps
+  pub plan : IsEndPlan false id v ps p
+
+module _ (id : ℤ) (v : View) (real : pos 1 ≤ℤ id) where
+  abbrev session_seen : Option (Option Kv)
+  session_seen = sees v (SessionKey (nat_abs id))
+
+  abbrev life : Option (Option Kv)
+  life = sees v (LeaseKey (nat_abs id))
+
+  too_many : (n : ℕ) → nat_le n max_owned ≡ false → n ≤ max_owned → ⊥
+  too_many n e few = true_false (le-leb n max_owned few) e
+
+  -- ---- the decision
+
+  module _ (s : State) (sound : IsSound s) (m : Keys) (stands : StandsFor m s) (seen : AreAsSeen v m) (r : Reaping) where
+    with_decides : (kv : Kv) (ps : List Bytes) → life ≡ Some None → session_seen ≡ Some (Some kv) → IsNodesIn kv ps → IsReapedWith id v ps r → IsReapingOf (session_at id s) r
+    with_decides kv ps saw_life saw nodes h =
+        let o = session-open v id real m s stands seen kv ps saw nodes in
+        elim (nat_le (length ps) max_owned) as (λ b. nat_le (length ps) max_owned ≡ b → MatchBool b ((p : Plan) × (r ≡ Planned p) × IsEndPlan false id v ps p) (r ≡ TooMany) → IsReapingOf (session_at id s) r) [
+          | true ↦ λ e is. ending_is (session_at id s) o.session r is.0 o.is_open (lapsed_is (nat_abs id) (session_at id s) o.session o.is_open (life-means v id real m s stands seen None saw_life)) is.1
+          | false ↦ λ e is. absurd (too_many (length ps) e (nodes-few v id real m s stands seen kv ps saw nodes sound))
+        ] refl h
+
+    by_decides : (o : Option (Option Kv)) → life ≡ Some None → session_seen ≡ o → IsReapedBy id v o r → IsReapingOf (session_at id s) r
+    by_decides None saw_life saw h = absurd h
+    by_decides (Some None) saw_life saw h = gone_is (session_at id s) _ r (nodes-mean v id real m s stands seen None saw) h
+    by_decides (Some (Some kv)) saw_life saw h = with_decides kv h.0 saw_life saw h.1 h.2
+
+    life_decides : (o : Option (Option Kv)) → life ≡ o → IsReapBy id v o r → IsReapingOf (session_at id s) r
+    life_decides None saw h = absurd h
+    life_decides (Some None) saw h = by_decides session_seen saw refl h
+    life_decides (Some (Some kv)) saw h = kept_is (nat_abs id) (session_at id s) kv r (life-means v id real m s stands seen (Some kv) saw) h
+
+  pub reap-decides : (r : Reaping) → IsReap id v r → IsReapDecision id v r
+  reap-decides r h s sound of = life_decides s sound of.0 of.1 (agrees-as_seen v of.0 of.2) r life refl h
+
+  -- ---- the plan
+
+  module _ (r : Reaping) (saw_life : life ≡ Some None) where
+    with_planned : (kv : Kv) (ps : List Bytes) → session_seen ≡ Some (Some kv) → IsNodesIn kv ps → IsReapedWith id v ps r → IfReaped (IsPlannedReap id v) r
+    with_planned kv ps saw nodes h =
+        elim (nat_le (length ps) max_owned) as (λ b. MatchBool b ((p : Plan) × (r ≡ Planned p) × IsEndPlan false id v ps p) (r ≡ TooMany) → IfReaped (IsPlannedReap id v) r) [
+          | true ↦ λ is. subst (IfReaped (IsPlannedReap id v)) (sym is.1) (record { saw_life = saw_life; kv = kv; saw = saw; ps = ps; nodes = nodes; plan = is.2 })
+          | false ↦ λ is. subst (IfReaped (IsPlannedReap id v)) (sym is) tt
+        ] h
+
+    by_planned : (o : Option (Option Kv)) → session_seen ≡ o → IsReapedBy id v o r → IfReaped (IsPlannedReap id v) r
+    by_planned None saw h = absurd h
+    by_planned (Some None) saw h = subst (IfReaped (IsPlannedReap id v)) (sym h) tt
+    by_planned (Some (Some kv)) saw h = with_planned kv h.0 saw h.1 h.2
+
+  life_planned : (r : Reaping) (o : Option (Option Kv)) → life ≡ o → IsReapBy id v o r → IfReaped (IsPlannedReap id v) r
+  life_planned r None saw h = absurd h
+  life_planned r (Some None) saw h = by_planned r saw session_seen refl h
+  life_planned r (Some (Some kv)) saw h = subst (IfReaped (IsPlannedReap id v)) (sym h) tt
+
+  reap_plan : (p : Plan) → IsPlannedReap id v p → IsReapPlan id v p
+  reap_plan p is = record {
+    ends = λ m s z sound stands may later high.
+        let seen = commits-as_seen p v m (is.plan).guards may in
+        let low : pos 1 ≤ℤ z = omega (arith, ints, zxid-least m s stands, later) in
+        let o = session-open v id real m s stands seen is.kv is.ps is.saw is.nodes in
+        let lapses : (x : Session) → session_at id s ≡ Some x → x.lapsed ≡ true = λ x e. lapsed_is (nat_abs id) (session_at id s) x e (life-means v id real m s stands seen None is.saw_life) in
+        record {
+          session = o.session;
+          is_open = o.is_open;
+          lapsed = lapses o.session o.is_open;
+          keys = ended-carries v id real m s stands seen is.kv is.ps is.saw is.nodes sound false (λ e. lapses) p is.plan z low high;
+          triggers = ended-triggers v id real m s stands seen is.kv is.ps is.saw is.nodes sound false (λ e. lapses) p is.plan z;
+        };
+    guards = (is.plan).guards;
+    again = (is.plan).again;
+    absent = subst (λ (gs : List Guard). Contains gs (record { key = key_bytes (LeaseKey (nat_abs id)); mod_revision = pos 0 })) (sym (is.plan).guards)
+        (guarded (key_bytes (LeaseKey (nat_abs id))) None (life-not_head (nat_abs id)) v.keys is.saw_life);
+    shows = (is.plan).shows;
+  }
+
+  along : (P Q : Plan → Type 0) (r : Reaping) → ((p : Plan) → P p → Q p) → IfReaped P r → IfReaped Q r
+  along P Q (Planned p) f h = f p h
+  along P Q Kept f h = tt
+  along P Q Gone f h = tt
+  along P Q TooMany f h = tt
+
+  pub reap-plan : (r : Reaping) → IsReap id v r → IfReaped (IsReapPlan id v) r
+  reap-plan r h = along (IsPlannedReap id v) (IsReapPlan id v) r reap_plan (life_planned r life refl h)
+
+  pub reap-taken : (r : Reaping) → IsReap id v r → IfReaped (λ p. (s : State) → IsSound s → IsOf v s → IsTrimmed req.Close (record { session = id; mine = pos 0 }) v → IsTaken p) r
+  reap-taken r h = along (IsPlannedReap id v) (λ p. (s : State) → IsSound s → IsOf v s → IsTrimmed req.Close (record { session = id; mine = pos 0 }) v → IsTaken p) r
+      (λ p is. end-taken false (record { session = id; mine = pos 0 }) v real is.kv is.ps is.saw is.nodes p is.plan)
+      (life_planned r life refl h)

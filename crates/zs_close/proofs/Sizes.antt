@@ -1,0 +1,140 @@
+-- How many bytes the changes at the end of a session have, and its head.
+use Rattle.std.proofs.Common.{◌≡◌, ℕ, zero, suc, ◌+◌, ◌*◌, ◌/◌, ◌%◌, ◌≤◌, ℤ, Bool, true, false, length, List, [], ◌∷◌, ◌++◌, Option, Some, None, refl, arith, length-append}
+use Rattle.std.specs.Prelude.{All, IsTrue, nat_abs}
+use Rattle.std.specs.List.{sum_by, count_by}
+use Rattle.std.proofs.lemmas.List.Concat.{length-flat_map}
+use Rattle.std.proofs.lemmas.List.Elements.{All-nil, All-cons, All-head, All-tail, All-append, All-weaker}
+use Rattle.std.proofs.lemmas.List.Sums.{sum_by-cons}
+use Rattle.zk_model.specs.declared.node.Trigger.{Trigger}
+use Rattle.zk_model.specs.declared.node.Trigger.TheVariants.{Created, Deleted, Changed, Children}
+use Rattle.zk_model.specs.Paths.{is_child, is_path}
+use Rattle.zk_jute.proofs.Lengths.{length-int_bytes, length-string_bytes, length-vector_bytes}
+use Rattle.zk_jute.specs.JuteWriting.{int_bytes}
+use Rattle.zx_base.specs.Maps.{Bytes}
+use Rattle.zn_layout.specs.declared.record.CountRec.{CountRec}
+use Rattle.zn_layout.specs.Changes.{Change, head_put, put_key, delete_key, change_size}
+use Rattle.zn_layout.specs.Keys.{HeadKey, DataKey, CountsKey, SessionKey, LeaseKey, key_bytes, hex_digits, hex_digit}
+use Rattle.zn_layout.specs.Records.{counts_value, head_value, trigger_bytes, trigger_path, IsHeadRec}
+use Rattle.zn_layout.proofs.Paths.{path_short}
+use Rattle.zs_close.specs.Ending.{fewer, put_parent, put_parents, parents, delete_nodes, delete_session, end_changes}
+use Rattle.zs_close.proofs.ParentPaths.{parents-valid, parents-length}
+
+-- ---- sums
+
+pub sum_by-most : {X : Type 0} (f : X → ℕ) (b : ℕ) (xs : List X) → All (λ x. f x ≤ b) xs → sum_by f xs ≤ b * length xs
+sum_by-most f b [] all = omega arith
+sum_by-most f b (x ∷ xs) all = omega (arith, sum_by-cons f x xs, All-head (λ y. f y ≤ b) x xs all, sum_by-most f b xs (All-tail (λ y. f y ≤ b) x xs all))
+
+-- ---- keys
+
+hex-length : (k n : ℕ) (rest : Bytes) → length (hex_digits k n rest) ≡ length rest + k + 1
+unfolding hex_digits
+hex-length zero n rest = omega arith
+hex-length (suc k) n rest = omega (arith, hex-length k (n / 16) (hex_digit (n % 16) ∷ rest))
+
+pub head-size : length (key_bytes HeadKey) ≡ 7
+unfolding key_bytes
+head-size = refl
+
+data-size : (p : Bytes) → length (key_bytes (DataKey p)) ≡ 9 + length p
+unfolding key_bytes
+data-size p = omega arith
+
+pub counts-size : (p : Bytes) → length (key_bytes (CountsKey p)) ≡ 9 + length p
+unfolding key_bytes
+counts-size p = omega arith
+
+pub session-size : (n : ℕ) → length (key_bytes (SessionKey n)) ≡ 21
+unfolding key_bytes
+session-size n = omega (arith, hex-length 15 n [])
+
+pub life-size : (n : ℕ) → length (key_bytes (LeaseKey n)) ≡ 21
+unfolding key_bytes
+life-size n = omega (arith, hex-length 15 n [])
+
+-- ---- values
+
+counts_value-size : (c : CountRec) → length (counts_value c) ≡ 9
+unfolding counts_value
+counts_value-size c = omega (arith, length-append (int_bytes c.creates) (int_bytes c.children), length-int_bytes c.creates, length-int_bytes c.children)
+
+trigger-size : (t : Trigger) → IsTrue (is_path (trigger_path t)) → length (trigger_bytes t) ≤ 1029
+trigger-size (Created p) h = omega (arith, length-string_bytes p, path_short p h)
+trigger-size (Deleted p) h = omega (arith, length-string_bytes p, path_short p h)
+trigger-size (Changed p) h = omega (arith, length-string_bytes p, path_short p h)
+trigger-size (Children p) h = omega (arith, length-string_bytes p, path_short p h)
+
+head_value-size : (ts : List Trigger) → IsHeadRec ts → length (head_value ts) ≤ 5 + 1029 * length ts
+unfolding head_value
+head_value-size ts within = omega (
+  arith,
+  length-vector_bytes trigger_bytes ts,
+  length-flat_map trigger_bytes ts,
+  sum_by-most (λ t. length (trigger_bytes t)) 1029 ts (All-weaker (λ t. IsTrue (is_path (trigger_path t))) (λ t. length (trigger_bytes t) ≤ 1029) trigger-size ts within.valid),
+)
+
+pub head_put-size : (ts : List Trigger) → IsHeadRec ts → change_size (head_put ts) ≤ 12 + 1029 * length ts
+head_put-size ts within = omega (arith, head-size, head_value-size ts within)
+
+-- ---- changes
+
+abbrev IsSmall : Change → Type 0
+IsSmall c = change_size c ≤ 1042
+
+list-small : (id : ℤ) → All IsSmall (delete_key (SessionKey (nat_abs id)) ∷ [])
+list-small id = All-cons IsSmall (delete_key (SessionKey (nat_abs id))) [] (omega (arith, session-size (nat_abs id))) (All-nil IsSmall)
+
+session-small : (alive : Bool) (id : ℤ) → All IsSmall (delete_session alive id)
+session-small true id = All-cons IsSmall (delete_key (LeaseKey (nat_abs id))) (delete_key (SessionKey (nat_abs id)) ∷ []) (omega (arith, life-size (nat_abs id))) (list-small id)
+session-small false id = list-small id
+
+session-length : (alive : Bool) (id : ℤ) → length (delete_session alive id) ≤ 2
+session-length true id = omega arith
+session-length false id = omega arith
+
+nodes-small : (ps : List Bytes) → All (λ p. IsTrue (is_path p)) ps → All IsSmall (delete_nodes ps)
+nodes-small [] all = All-nil IsSmall
+nodes-small (p ∷ ps) all =
+    let short = path_short p (All-head (λ q. IsTrue (is_path q)) p ps all) in
+    All-cons IsSmall (delete_key (DataKey p)) (delete_key (CountsKey p) ∷ delete_nodes ps) (omega (arith, data-size p, short)) (All-cons IsSmall (delete_key (CountsKey p)) (delete_nodes ps) (omega (arith, counts-size p, short)) (nodes-small ps (All-tail (λ q. IsTrue (is_path q)) p ps all)))
+
+nodes-length : (ps : List Bytes) → length (delete_nodes ps) ≤ 2 * length ps
+nodes-length [] = omega arith
+nodes-length (p ∷ ps) = omega (arith, nodes-length ps)
+
+parent-small : (ps : List Bytes) (q : Bytes) (o : Option CountRec) → IsTrue (is_path q) → All IsSmall (put_parent ps q o)
+parent-small ps q None h = All-nil IsSmall
+parent-small ps q (Some c) h =
+    let left : CountRec = fewer c (count_by (is_child q) ps) in
+    All-cons IsSmall (put_key (CountsKey q) (counts_value left)) [] (omega (arith, counts-size q, counts_value-size left, path_short q h)) (All-nil IsSmall)
+
+parent-length : (ps : List Bytes) (q : Bytes) (o : Option CountRec) → length (put_parent ps q o) ≤ 1
+parent-length ps q None = omega arith
+parent-length ps q (Some c) = omega arith
+
+parents-small : (counts : Bytes → Option CountRec) (ps qs : List Bytes) → All (λ q. IsTrue (is_path q)) qs → All IsSmall (put_parents counts ps qs)
+parents-small counts ps [] all = All-nil IsSmall
+parents-small counts ps (q ∷ qs) all = All-append IsSmall (put_parent ps q (counts q)) (put_parents counts ps qs) (parent-small ps q (counts q) (All-head (λ r. IsTrue (is_path r)) q qs all)) (parents-small counts ps qs (All-tail (λ r. IsTrue (is_path r)) q qs all))
+
+puts-length : (counts : Bytes → Option CountRec) (ps qs : List Bytes) → length (put_parents counts ps qs) ≤ length qs
+puts-length counts ps [] = omega arith
+puts-length counts ps (q ∷ qs) = omega (arith, length-append (put_parent ps q (counts q)) (put_parents counts ps qs), parent-length ps q (counts q), puts-length counts ps qs)
+
+pub end-length : (alive : Bool) (id : ℤ) (counts : Bytes → Option CountRec) (ps : List Bytes) → length (end_changes alive id counts ps) ≤ 2 + 3 * length ps
+unfolding end_changes
+end-length alive id counts ps = omega (
+  arith,
+  length-append (delete_session alive id ++ delete_nodes ps) (put_parents counts ps (parents ps)),
+  length-append (delete_session alive id) (delete_nodes ps),
+  session-length alive id,
+  nodes-length ps,
+  puts-length counts ps (parents ps),
+  parents-length ps,
+)
+
+pub end-size : (alive : Bool) (id : ℤ) (counts : Bytes → Option CountRec) (ps : List Bytes) → All (λ p. IsTrue (is_path p)) ps → sum_by change_size (end_changes alive id counts ps) ≤ 1042 * length (end_changes alive id counts ps)
+unfolding end_changes
+end-size alive id counts ps valid = sum_by-most change_size 1042 (end_changes alive id counts ps)
+    (All-append IsSmall (delete_session alive id ++ delete_nodes ps) (put_parents counts ps (parents ps))
+    (All-append IsSmall (delete_session alive id) (delete_nodes ps) (session-small alive id) (nodes-small ps valid))
+    (parents-small counts ps (parents ps) (parents-valid ps valid)))

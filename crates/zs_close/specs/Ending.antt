@@ -1,0 +1,60 @@
+-- What the end of a session changes (Programmer's Guide, "Ephemeral Nodes"): its life and the list of its nodes go, and each
+-- of its nodes; and each of their parents counts its children without them.
+use Rattle.std.specs.Prelude.{ℕ, ℤ, pos, nat_abs, ◌-◌, Bool, List, [], ◌∷◌, ◌++◌, flat_map, Option, Some, None, if◌then◌else◌}
+use Rattle.std.specs.List.{list_any, count_by}
+use Rattle.zk_model.specs.declared.node.Trigger.{Trigger}
+use Rattle.zk_model.specs.Paths.{parent, is_child}
+use Rattle.zk_model.specs.Single.{removal}
+use Rattle.zx_base.specs.Maps.{Bytes, same}
+use Rattle.zn_layout.specs.declared.record.CountRec.{CountRec}
+use Rattle.zn_layout.specs.Changes.{Change, put_key, delete_key}
+use Rattle.zn_layout.specs.Keys.{DataKey, CountsKey, SessionKey, LeaseKey}
+use Rattle.zn_layout.specs.Records.{counts_value}
+
+-- ---- the parents of nodes, each once, in the order of their first children
+
+abbrev pub with_parent : List Bytes → Option Bytes → List Bytes
+with_parent found None = found
+with_parent found (Some q) = if list_any (same q) found then found else found ++ q ∷ []
+
+abbrev pub parents_from : List Bytes → List Bytes → List Bytes
+parents_from found [] = found
+parents_from found (p ∷ ps) = parents_from (with_parent found (parent p)) ps
+
+abbrev pub parents : List Bytes → List Bytes
+parents ps = parents_from [] ps
+
+-- ---- the changes of keys
+
+-- a node's counts, with so many children less
+abbrev pub fewer : CountRec → ℕ → CountRec
+fewer c n = record { creates = c.creates; children = pos (nat_abs c.children - n) }
+
+-- a parent's counts without the nodes that go
+abbrev pub put_parent : List Bytes → Bytes → Option CountRec → List Change
+put_parent ps q None = []
+put_parent ps q (Some c) = put_key (CountsKey q) (counts_value (fewer c (count_by (is_child q) ps))) ∷ []
+
+-- by the counts that each node has
+abbrev pub put_parents : (Bytes → Option CountRec) → List Bytes → List Bytes → List Change
+put_parents counts ps [] = []
+put_parents counts ps (q ∷ qs) = put_parent ps q (counts q) ++ put_parents counts ps qs
+
+abbrev pub delete_nodes : List Bytes → List Change
+delete_nodes [] = []
+delete_nodes (p ∷ ps) = delete_key (DataKey p) ∷ delete_key (CountsKey p) ∷ delete_nodes ps
+
+-- a session that is closed lives until then; one that is reaped has lapsed before
+abbrev pub delete_life : Bool → ℤ → List Change
+delete_life alive id = if alive then delete_key (LeaseKey (nat_abs id)) ∷ [] else []
+
+abbrev pub delete_session : Bool → ℤ → List Change
+delete_session alive id = delete_life alive id ++ delete_key (SessionKey (nat_abs id)) ∷ []
+
+-- the end of a session with these nodes
+unfoldable pub end_changes : Bool → ℤ → (Bytes → Option CountRec) → List Bytes → List Change
+end_changes alive id counts ps = (delete_session alive id ++ delete_nodes ps) ++ put_parents counts ps (parents ps)
+
+-- what watches see of it: of each delete, in the order of the paths' bytes
+abbrev pub end_triggers : List Bytes → List Trigger
+end_triggers ps = flat_map removal ps

@@ -1,0 +1,4 @@
+pub mod Ending
+pub mod Closing
+pub mod Reaping
+pub mod Wanting

@@ -1,0 +1,70 @@
+-- What the end of a session that has lapsed is decided by, and what its plan is worth.
+use Rattle.std.specs.Prelude.{◌≡◌, ℤ, pos, nat_abs, ◌≤ℤ◌, ◌<ℤ◌, true, false, List, length, nat_le, Option, Some, None, Contains, MatchBool}
+use Rattle.ev_types.specs.declared.answer.Kv.{Kv}
+use Rattle.ev_types.specs.Ranges.{Keys}
+use Rattle.ev_types.specs.Store.{acts_applied, last_revision}
+use Rattle.zk_model.specs.Limits.{max_owned}
+use Rattle.zk_transcript.specs.History.{State, Session, IsSound, session_at, session_ended}
+use Rattle.zx_base.specs.Maps.{Bytes}
+use Rattle.zn_layout.specs.Keys.{SessionKey, LeaseKey, key_bytes}
+use Rattle.zn_layout.specs.StandsFor.{StandsFor}
+use Rattle.zn_view.specs.declared.plan.Plan.{Plan}
+use Rattle.zn_view.specs.Asks.{guards_of, again_of, ShowsHead}
+use Rattle.zn_view.specs.Lookups.{sees, IsNodesIn}
+use Rattle.zn_view.specs.Seen.{View}
+use Rattle.zn_view.specs.Views.{IsOf, MayCommit}
+use Rattle.zs_close.specs.declared.reap.Reaping.{Reaping}
+use Rattle.zs_close.specs.declared.reap.Reaping.TheVariants.{Planned, Kept, Gone, TooMany}
+use Rattle.zs_close.specs.Closing.{IsEndPlan}
+
+-- ---- by what was seen
+
+abbrev pub IsReapedWith : ℤ → View → List Bytes → Reaping → Type 0
+IsReapedWith id v ps r = MatchBool (nat_le (length ps) max_owned) ((p : Plan) × (r ≡ Planned p) × IsEndPlan false id v ps p) (r ≡ TooMany)
+
+abbrev pub IsReapedBy : ℤ → View → Option (Option Kv) → Reaping → Type 0
+IsReapedBy id v None r = ⊥
+IsReapedBy id v (Some None) r = r ≡ Gone
+IsReapedBy id v (Some (Some kv)) r = (ps : List Bytes) × IsNodesIn kv ps × IsReapedWith id v ps r
+
+abbrev pub IsReapBy : ℤ → View → Option (Option Kv) → Reaping → Type 0
+IsReapBy id v None r = ⊥
+IsReapBy id v (Some (Some kv)) r = r ≡ Kept
+IsReapBy id v (Some None) r = IsReapedBy id v (sees v (SessionKey (nat_abs id))) r
+
+abbrev pub IsReap : ℤ → View → Reaping → Type 0
+IsReap id v r = IsReapBy id v (sees v (LeaseKey (nat_abs id))) r
+
+-- ---- what it is worth
+
+-- a session that is open and has lapsed is to end; one that lives is kept, and one that isn't open is gone
+abbrev pub IsReapingOf : Option Session → Reaping → Type 0
+IsReapingOf None r = r ≡ Gone
+IsReapingOf (Some x) r = MatchBool x.lapsed ((p : Plan) × (r ≡ Planned p)) (r ≡ Kept)
+
+-- in each sound state that the view is of
+abbrev pub IsReapDecision : ℤ → View → Reaping → Type 0
+IsReapDecision id v r = (s : State) → IsSound s → IsOf v s → IsReapingOf (session_at id s) r
+
+abbrev pub IfReaped : (Plan → Type 0) → Reaping → Type 0
+IfReaped P (Planned p) = P p
+IfReaped P Kept = Unit {0}
+IfReaped P Gone = Unit {0}
+IfReaped P TooMany = Unit {0}
+
+-- the session has lapsed, and its end is carried out
+pub record IsEnd (id : ℤ) (p : Plan) (m : Keys) (s : State) (z : ℤ) : Type 0 where
+  pub session : Session
+  pub is_open : session_at id s ≡ Some session
+  pub lapsed : session.lapsed ≡ true
+  pub keys : StandsFor (acts_applied z m p.success) (session_ended s z id)
+  pub triggers : p.triggers ≡ (session_ended s z id).triggers
+
+-- In each later sound state whose keys meet the guards it ends the session, all of whose nodes go. It is guarded by all that
+-- the view saw, and by the absence of the record of the session's life.
+pub record IsReapPlan (id : ℤ) (v : View) (p : Plan) : Type 0 where
+  pub ends : (m : Keys) (s : State) (z : ℤ) → IsSound s → StandsFor m s → MayCommit p v m → s.zxid <ℤ z → z ≤ℤ last_revision → IsEnd id p m s z
+  pub guards : p.guards ≡ guards_of v.keys
+  pub again : p.again ≡ again_of v.keys
+  pub absent : Contains p.guards (record { key = key_bytes (LeaseKey (nat_abs id)); mod_revision = pos 0 })
+  pub shows : ShowsHead p.success

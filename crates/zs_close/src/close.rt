@@ -1,0 +1,102 @@
+//! closeSession (ZooKeeper API, `close`), planned on a view.
+
+ghost use Rattle.std.specs.Prelude.{◌≡◌, ◌≤ℤ◌, ℕ, All, Option, Some, pos, nat_abs, IfOk};
+ghost use Rattle.zk_model.specs.declared.request.Request.TheVariants as req;
+ghost use Rattle.zk_transcript.specs.History.{State, IsSound};
+ghost use Rattle.zn_layout.specs.Keys.{CountsKey, LeaseKey, SessionKey};
+ghost use Rattle.zn_layout.specs.Records.{IsSessionRec};
+ghost use Rattle.zn_view.specs.Asks.{IsAskedPlan};
+ghost use Rattle.zn_view.specs.Lookups.{sees, HasSeen};
+ghost use Rattle.zn_view.specs.Needs.{finished, AreNeeds};
+ghost use Rattle.zn_view.specs.Views.{IsDecision, IsOf, IsPlan};
+ghost use Rattle.zs_close.specs.Closing.{unsound as refusal, IfPlanned, IsClose, IsClosedBy, IsClosedWith, IsTaken, IsTrimmed, IsWhole};
+ghost use Rattle.zs_close.specs.Ending.{parents};
+ghost use Rattle.zs_close.specs.Wanting.{AreParentsSeen};
+
+use crate::plan::end_plan;
+use crate::wants::end_needs;
+use std::alloc::Global;
+use zk_model::code::SYSTEM_ERROR;
+use zk_model::limit::MAX_OWNED;
+use zk_model::{Path, Reply};
+use zn_view::{Decision, View, Want, Who};
+use zx_base::{Memory, Seq};
+
+/// What a close of a session has to look up: its life, the list of its nodes, and as soon as the view saw that, the counts
+/// of their parents. A session's number is at least 1.
+pub fn needs_close(alloc: Global, who: Who, view: &View) -> Result<Seq<Want>, Memory>
+    requires { pos 1 ≤ℤ who.session }
+    ensures { IfOk result (AreNeeds req.Close who view.now) }
+{
+    let wants = end_needs(alloc, view, who.session)?;
+    Ok(wants)
+}
+
+/// The answer on a view that no sound state has.
+fn unsound() -> Decision
+    ensures { result ≡ refusal }
+{
+    Decision::Answered {
+        reply: Reply::Refused(SYSTEM_ERROR),
+        arm: None,
+    }
+}
+
+/// Closes a session with these nodes, which are no more than it may own.
+fn close_with(alloc: Global, session: i64, view: &View, paths: &[Path]) -> Result<Decision, Memory>
+    requires real { pos 1 ≤ℤ session }
+    requires listed { IsSessionRec paths.now }
+    requires seen { All (λ q. HasSeen view.now (CountsKey q)) (parents paths.now) }
+    ensures { IfOk result (IsClosedWith session view.now paths.now) }
+{
+    if paths.len() > MAX_OWNED {
+        return Ok(unsound());
+    }
+    Ok(Decision::Planned(end_plan(alloc, view, true, session, paths)?))
+}
+
+/// Closes a session that is attached here.
+fn close_attached(alloc: Global, session: i64, view: &View) -> Result<Decision, Memory>
+    requires real { pos 1 ≤ℤ session }
+    requires seen { HasSeen view.now (SessionKey (nat_abs session)) }
+    requires parents { AreParentsSeen session view.now }
+    ensures { IfOk result (IsClosedBy session view.now (sees view.now (SessionKey (nat_abs session)))) }
+{
+    match view.nodes_of(session)? {
+        Some(nodes) => close_with(alloc, session, view, nodes.paths.as_slice()),
+        None => Ok(unsound()),
+    }
+}
+
+/// Closes a session that lives and is attached here.
+fn close(alloc: Global, who: Who, view: &View) -> Result<Decision, Memory>
+    requires real { pos 1 ≤ℤ who.session }
+    requires life { HasSeen view.now (LeaseKey (nat_abs who.session)) }
+    requires seen { HasSeen view.now (SessionKey (nat_abs who.session)) }
+    requires parents { AreParentsSeen who.session view.now }
+    ensures { IfOk result (IsClose who view.now) }
+{
+    let Some((_, life)) = view.life_of(who.session)? else {
+        return Ok(Decision::Expired);
+    };
+    if life.mod_revision != who.mine {
+        return Ok(Decision::Moved {
+            found: life.mod_revision,
+        });
+    }
+    close_attached(alloc, who.session, view)
+}
+
+/// Decides a close on a view that lacks nothing of what [`needs_close`] names. `Expired` and `Moved` as for each request;
+/// otherwise a plan by which the session and all its nodes go at one zxid.
+pub fn plan_close(alloc: Global, who: Who, view: &View) -> Result<Decision, Memory>
+    requires real { pos 1 ≤ℤ who.session }
+    requires whole { IsWhole req.Close who view.now }
+    ensures decision { IfOk result (IsDecision req.Close who view.now) }
+    ensures plan { IfOk result (IfPlanned (λ p. (now : ℕ) → IsPlan req.Close who now view.now p (λ z. finished z p.draft))) }
+    ensures asked { IfOk result (IfPlanned (IsAskedPlan who view.now)) }
+    ensures taken { IfOk result (IfPlanned (λ p. (s : State) → IsSound s → IsOf view.now s → IsTrimmed req.Close who view.now → IsTaken p)) }
+{
+    let decision = close(alloc, who, view)?;
+    Ok(decision)
+}

@@ -1,0 +1,58 @@
+//! The plan of the end of a session.
+
+ghost use Rattle.std.specs.Prelude.{◌≡◌, ◌≤◌, ◌≤ℤ◌, ◌∷◌, ◌++◌, [], All, pos, length, IfOk, IsTrue};
+ghost use Rattle.ev_types.specs.Reads.{read_key};
+ghost use Rattle.zk_model.specs.Limits.{max_owned};
+ghost use Rattle.zk_model.specs.Paths.{is_path};
+ghost use Rattle.zn_layout.specs.Changes.{act_of, head_put};
+ghost use Rattle.zn_layout.specs.Keys.{HeadKey, CountsKey, key_bytes};
+ghost use Rattle.zn_layout.specs.Records.{IsHeadRec};
+ghost use Rattle.zn_view.specs.Lookups.{HasSeen};
+ghost use Rattle.zs_close.specs.Closing.{IsEndPlan};
+ghost use Rattle.zs_close.specs.Ending.{parents};
+
+use crate::changes::{end_acts, end_triggers};
+use ev_types::Act;
+use std::alloc::Global;
+use zk_model::{Body, Path, Reply};
+use zn_layout::{HeadRec, get_head, put_head};
+use zn_view::{Plan, View};
+use zx_base::{Memory, Seq};
+
+/// The operations of an update, the put of the head and the read of it.
+fn success(alloc: Global, acts: Seq<Act>, head: &HeadRec) -> Result<Seq<Act>, Memory>
+    requires { IsHeadRec head.now.triggers }
+    ensures { IfOk result (λ l. l ≡ (acts ++ act_of (head_put head.now.triggers) ∷ []) ++ read_key (key_bytes HeadKey) ∷ []) }
+{
+    let mut list = acts;
+    list.push(put_head(alloc, head)?)?;
+    list.push(get_head(alloc)?)?;
+    Ok(list)
+}
+
+/// The plan that ends a session with these nodes. The view saw the counts of their parents.
+pub(crate) fn end_plan(
+    alloc: Global,
+    view: &View,
+    alive: bool,
+    session: i64,
+    paths: &[Path],
+) -> Result<Plan, Memory>
+    requires real { pos 1 ≤ℤ session }
+    requires valid { All (λ p. IsTrue (is_path p)) paths.now }
+    requires few { length paths.now ≤ max_owned }
+    requires seen { All (λ q. HasSeen view.now (CountsKey q)) (parents paths.now) }
+    ensures { IfOk result (IsEndPlan alive session view.now paths.now) }
+{
+    let acts = end_acts(alloc, view, alive, session, paths)?;
+    let head = HeadRec {
+        triggers: end_triggers(alloc, paths)?,
+    };
+    Ok(Plan {
+        guards: view.guards()?,
+        success: success(alloc, acts, &head)?,
+        again: view.again()?,
+        draft: Reply::Good(Body::Empty),
+        triggers: head.triggers,
+    })
+}

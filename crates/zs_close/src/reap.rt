@@ -1,0 +1,97 @@
+//! The end of a session that has lapsed, planned on a view.
+
+ghost use Rattle.std.specs.Prelude.{◌≡◌, ◌≤ℤ◌, ℤ, All, pos, nat_abs, IfOk};
+ghost use Rattle.zk_model.specs.declared.request.Request.TheVariants as req;
+ghost use Rattle.zk_transcript.specs.History.{State, IsSound};
+ghost use Rattle.zn_layout.specs.Keys.{CountsKey, LeaseKey, SessionKey};
+ghost use Rattle.zn_layout.specs.Records.{IsSessionRec};
+ghost use Rattle.zn_view.specs.Lookups.{sees, HasSeen};
+ghost use Rattle.zn_view.specs.Needs.{AreNeeds};
+ghost use Rattle.zn_view.specs.Views.{IsOf};
+ghost use Rattle.zs_close.specs.Closing.{IsTaken, IsTrimmed, IsWhole};
+ghost use Rattle.zs_close.specs.Ending.{parents};
+ghost use Rattle.zs_close.specs.Reaping.{IfReaped, IsReap, IsReapDecision, IsReapPlan, IsReapedBy, IsReapedWith};
+ghost use Rattle.zs_close.specs.Wanting.{AreParentsSeen};
+
+use crate::plan::end_plan;
+use crate::wants::end_needs;
+use std::alloc::Global;
+use zk_model::Path;
+use zk_model::limit::MAX_OWNED;
+use zn_view::{Plan, View, Want};
+use zx_base::{Memory, Seq};
+
+/// What becomes of a session of which a reaper asks.
+#[derive(Debug, Drop)]
+pub enum Reaping {
+    /// It has lapsed, and this ends it.
+    Planned(Plan),
+    /// The record of its life is there.
+    Kept,
+    /// It is not open: the list of its nodes is not there.
+    Gone,
+    /// The list has more nodes than a session may own, as in no sound state.
+    TooMany,
+}
+
+/// What a reaper of a session has to look up: the same as a close. The session's number is at least 1.
+pub fn needs_reap(alloc: Global, session: i64, view: &View) -> Result<Seq<Want>, Memory>
+    requires { pos 1 ≤ℤ session }
+    ensures { IfOk result (λ ws. (mine : ℤ) → AreNeeds req.Close (record { session = session; mine = mine }) view.now ws) }
+{
+    let wants = end_needs(alloc, view, session)?;
+    Ok(wants)
+}
+
+/// Ends a session with these nodes, which are no more than it may own.
+fn reap_with(alloc: Global, session: i64, view: &View, paths: &[Path]) -> Result<Reaping, Memory>
+    requires real { pos 1 ≤ℤ session }
+    requires listed { IsSessionRec paths.now }
+    requires seen { All (λ q. HasSeen view.now (CountsKey q)) (parents paths.now) }
+    ensures { IfOk result (IsReapedWith session view.now paths.now) }
+{
+    if paths.len() > MAX_OWNED {
+        return Ok(Reaping::TooMany);
+    }
+    Ok(Reaping::Planned(end_plan(alloc, view, false, session, paths)?))
+}
+
+/// Ends a session without a record of its life.
+fn reap_lapsed(alloc: Global, session: i64, view: &View) -> Result<Reaping, Memory>
+    requires real { pos 1 ≤ℤ session }
+    requires seen { HasSeen view.now (SessionKey (nat_abs session)) }
+    requires parents { AreParentsSeen session view.now }
+    ensures { IfOk result (IsReapedBy session view.now (sees view.now (SessionKey (nat_abs session)))) }
+{
+    match view.nodes_of(session)? {
+        Some(nodes) => reap_with(alloc, session, view, nodes.paths.as_slice()),
+        None => Ok(Reaping::Gone),
+    }
+}
+
+/// Ends a session that has lapsed.
+fn reap(alloc: Global, session: i64, view: &View) -> Result<Reaping, Memory>
+    requires real { pos 1 ≤ℤ session }
+    requires life { HasSeen view.now (LeaseKey (nat_abs session)) }
+    requires seen { HasSeen view.now (SessionKey (nat_abs session)) }
+    requires parents { AreParentsSeen session view.now }
+    ensures { IfOk result (IsReap session view.now) }
+{
+    if view.life_of(session)?.is_some() {
+        return Ok(Reaping::Kept);
+    }
+    reap_lapsed(alloc, session, view)
+}
+
+/// Decides what becomes of a session on a view that lacks nothing of what [`needs_reap`] names. Its plan leaves the session
+/// and all its nodes gone at one zxid, or changes nothing.
+pub fn plan_reap(alloc: Global, session: i64, view: &View) -> Result<Reaping, Memory>
+    requires real { pos 1 ≤ℤ session }
+    requires whole { IsWhole req.Close (record { session = session; mine = pos 0 }) view.now }
+    ensures decision { IfOk result (IsReapDecision session view.now) }
+    ensures plan { IfOk result (IfReaped (IsReapPlan session view.now)) }
+    ensures taken { IfOk result (IfReaped (λ p. (s : State) → IsSound s → IsOf view.now s → IsTrimmed req.Close (record { session = session; mine = pos 0 }) view.now → IsTaken p)) }
+{
+    let reaping = reap(alloc, session, view)?;
+    Ok(reaping)
+}

@@ -1,0 +1,8 @@
+-- What the parts so far found, behind which those to come stand.
+use Rattle.std.proofs.Common.{◌≡◌, drop}
+use Rattle.zn_view.specs.Asks.{last_part}
+use Rattle.zs_session.proofs.LastParts.{last_from}
+use Rattle.zs_session.proofs.attached.last_found.Given as goal
+
+abbrev pub invariant-loop-part : goal.invariant-loop-part
+invariant-loop-part l = last_from l.found (drop l.part-index l.parts) ≡ last_part l.parts

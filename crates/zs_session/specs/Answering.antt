@@ -1,0 +1,50 @@
+-- Which answers an ask may have, and what a look shows.
+use Rattle.std.specs.Prelude.{ℤ, Bool, List, Option, Some, None}
+use Rattle.ev_types.specs.declared.answer.ActAns.{ActAns}
+use Rattle.ev_types.specs.declared.answer.Answer.{Answer}
+use Rattle.ev_types.specs.declared.answer.Answer.TheVariants as answer
+use Rattle.ev_types.specs.declared.ask.Ask.{Ask}
+use Rattle.ev_types.specs.declared.ask.Ask.TheVariants as ask
+use Rattle.zn_view.specs.declared.want.Want.{Want}
+use Rattle.zn_view.specs.Adding.{AreNumbers, at_revision, IsFirstDamaged}
+use Rattle.zn_view.specs.Asks.{with_parts}
+use Rattle.zn_view.specs.Seen.{View, empty_view, IsCount}
+use Rattle.zs_session.specs.declared.fault.StepFault.{StepFault}
+use Rattle.zs_session.specs.declared.fault.StepFault.TheVariants.{Damaged, Memory}
+
+-- numbers in an etcd's range
+pub record IsTxnAnswer (revision : ℤ) (parts : List ActAns) : Type 0 where
+  pub revision_is : IsCount revision
+  pub numbers : AreNumbers parts
+
+-- an answer is of the kind of its ask
+abbrev pub IsAnswerTo : Ask → Answer → Type 0
+IsAnswerTo (ask.Txn t) (answer.Txn revision succeeded parts) = IsTxnAnswer revision parts
+IsAnswerTo (ask.Range q) (answer.Range revision found) = Unit {0}
+IsAnswerTo (ask.Grant id ttl) (answer.Granted revision i seconds) = Unit {0}
+IsAnswerTo (ask.Alive id) (answer.Alive revision i seconds) = Unit {0}
+IsAnswerTo _ _ = ⊥
+
+-- the first step has no answer; each other one has an answer to what was asked last
+abbrev pub IsAwaited : Option Ask → Option Answer → Type 0
+IsAwaited None None = Unit {0}
+IsAwaited (Some q) (Some a) = IsAnswerTo q a
+IsAwaited _ _ = ⊥
+
+abbrev pub OfTxn : Answer → (ℤ → Bool → List ActAns → Type 0) → Type 0
+OfTxn (answer.Txn revision succeeded parts) P = P revision succeeded parts
+OfTxn _ P = ⊥
+
+-- the seconds that a lease has left
+abbrev pub OfAlive : Answer → (ℤ → Type 0) → Type 0
+OfAlive (answer.Alive revision id seconds) P = P seconds
+OfAlive _ P = ⊥
+
+-- what a look at some keys shows
+abbrev pub viewed : ℤ → List Want → List ActAns → View
+viewed revision ws parts = with_parts (at_revision empty_view revision) ws parts
+
+-- what was found under a key isn't a record: the first one's key and value are given; or memory was refused
+abbrev pub IsLookFault : List Want → List ActAns → StepFault → Type 0
+IsLookFault ws parts (Damaged key value) = IsFirstDamaged ws parts key value
+IsLookFault ws parts Memory = Unit {0}

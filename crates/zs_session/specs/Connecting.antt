@@ -1,0 +1,197 @@
+-- How a connection gets its session (Programmer's Guide, "ZooKeeper Sessions"): what it asks in each phase, and what it does
+-- at the answer.
+use Rattle.std.specs.Prelude.{◌≡◌, ◌⊎◌, ℤ, pos, ◌≤ℤ◌, int_lt, Bool, true, false, ◌||◌, is_some, List, [], Option, Some, None, MatchBool}
+use Rattle.std.specs.Ordering.{int_eq}
+use Rattle.ev_types.specs.declared.answer.ActAns.{ActAns}
+use Rattle.ev_types.specs.declared.answer.Answer.{Answer}
+use Rattle.ev_types.specs.declared.answer.Answer.TheVariants as answer
+use Rattle.ev_types.specs.declared.answer.Kv.{Kv}
+use Rattle.ev_types.specs.declared.ask.Ask.{Ask}
+use Rattle.ev_types.specs.declared.ask.Ask.TheVariants as ask
+use Rattle.zk_model.specs.declared.connect.ConnectRequest.{ConnectRequest}
+use Rattle.zk_transcript.specs.Conversations.{answered_read_only}
+use Rattle.zk_transcript.specs.History.{granted_timeout}
+use Rattle.zx_base.specs.Maps.{Bytes}
+use Rattle.zn_layout.specs.declared.record.LeaseRec.{LeaseRec}
+use Rattle.zn_layout.specs.Keys.{Key, HeadKey, key_bytes}
+use Rattle.zn_layout.specs.Records.{IsLeaseRec}
+use Rattle.zn_view.specs.declared.want.Want.{Want}
+use Rattle.zn_view.specs.Adding.{AreRecords}
+use Rattle.zn_view.specs.Asks.{kept_under, last_part, reading}
+use Rattle.zn_view.specs.Lookups.{sees, IsLifeIn}
+use Rattle.zn_view.specs.Seen.{View, head_in, head_of, head_number, head_zxid}
+use Rattle.zs_session.specs.declared.connect.Connect.{Connect}
+use Rattle.zs_session.specs.declared.connect.ConnectStep.{ConnectStep}
+use Rattle.zs_session.specs.declared.connect.ConnectStep.TheVariants as steps
+use Rattle.zs_session.specs.declared.connect.Phase.{Phase}
+use Rattle.zs_session.specs.declared.connect.Phase.TheVariants.{Unasked, Looking, Granting, Creating, Keeping, LookingAgain, Attaching, Over}
+use Rattle.zs_session.specs.declared.fault.StepFault.{StepFault}
+use Rattle.zs_session.specs.Answering.{IsAwaited, IsLookFault, OfTxn, OfAlive, viewed}
+use Rattle.zs_session.specs.Sessions.{lease_seconds, life_key, nodes_key, session_wants, new_session_txn, attach_wants, attach_txn, first_wants}
+
+-- ---- what is asked in each phase
+
+abbrev pub timeout_in : Connect → ℤ
+timeout_in c = granted_timeout c.request.timeout
+
+abbrev pub asked_in : Connect → Phase → Option Ask
+asked_in c Unasked = None
+asked_in c Looking = Some (reading (pos 0) (first_wants c.request))
+asked_in c Granting = Some (ask.Grant c.fresh.id (lease_seconds (timeout_in c)))
+asked_in c Creating = Some (ask.Txn (new_session_txn c.fresh (timeout_in c)))
+asked_in c (Keeping seen life) = Some (ask.Alive c.request.session)
+asked_in c LookingAgain = Some (reading (pos 0) (attach_wants c.request.session))
+asked_in c (Attaching seen life) = Some (ask.Txn (attach_txn c.request.session seen life))
+asked_in c Over = None
+
+-- a step is made with an answer to what was asked last, and none behind the end
+pub record MayStep (c : Connect) (a : Option Answer) : Type 0 where
+  pub going : c.phase ≡ Over → ⊥
+  pub awaited : IsAwaited (asked_in c c.phase) a
+
+-- ---- what a connecting connection knows
+
+-- a session's number, and a record of its life with the client's password
+pub record IsResumable (r : ConnectRequest) (life : LeaseRec) : Type 0 where
+  pub session : pos 1 ≤ℤ r.session
+  pub within : IsLeaseRec life
+  pub passwd : life.passwd ≡ r.passwd
+
+abbrev pub IsInPhase : ConnectRequest → Phase → Type 0
+IsInPhase r Unasked = Unit {0}
+IsInPhase r Looking = Unit {0}
+IsInPhase r Granting = Unit {0}
+IsInPhase r Creating = Unit {0}
+IsInPhase r (Keeping seen life) = IsResumable r life
+IsInPhase r LookingAgain = pos 1 ≤ℤ r.session
+IsInPhase r (Attaching seen life) = IsResumable r life
+IsInPhase r Over = Unit {0}
+
+pub record IsHeld (c : Connect) : Type 0 where
+  pub fresh : pos 1 ≤ℤ c.fresh.id
+  pub phase : IsInPhase c.request c.phase
+
+-- ---- what a step answers
+
+abbrev pub asked_by : ConnectStep → Option Ask
+asked_by (steps.Ask q) = Some q
+asked_by _ = None
+
+-- it asks what this phase asks
+abbrev pub Waits : Connect → Phase → Phase → ConnectStep → Type 0
+Waits c next phase step = (phase ≡ next) × (asked_by step ≡ asked_in c next)
+
+abbrev pub Ends : ConnectStep → Phase → ConnectStep → Type 0
+Ends end phase step = (phase ≡ Over) × (step ≡ end)
+
+-- the number of the update, by the head that its transaction put and then read
+abbrev pub number_shown : List ActAns → ℤ
+number_shown parts = head_number (kept_under (key_bytes HeadKey) (last_part parts))
+
+-- the session is attached to this connection, by the transaction of this zxid
+abbrev pub attached : ConnectRequest → ℤ → ℤ → Bytes → ℤ → List ActAns → ConnectStep
+attached r id timeout passwd zxid parts = steps.Attached
+    (record { timeout = timeout; session = id; passwd = passwd; read_only = answered_read_only r })
+    (record { session = id; mine = zxid })
+    timeout
+    (number_shown parts)
+    zxid
+
+-- ---- what a view shows of a session
+
+abbrev pub is_there : View → Key → Bool
+is_there v k = is_some (head_in (sees v k))
+
+-- the view shows this record of a session's life, last put at this revision
+pub record SawLifeAt (v : View) (id : ℤ) (seen : ℤ) (life : LeaseRec) : Type 0 where
+  pub kv : Kv
+  pub shown : sees v (life_key id) ≡ Some (Some kv)
+  pub value : IsLifeIn kv life
+  pub revision : seen ≡ kv.mod_revision
+
+-- and the connect has the session's number and password
+pub record SawMine (r : ConnectRequest) (v : View) (seen : ℤ) (life : LeaseRec) : Type 0 where
+  pub session : pos 1 ≤ℤ r.session
+  pub saw : SawLifeAt v r.session seen life
+  pub passwd : life.passwd ≡ r.passwd
+
+abbrev pub SawNoneOfMine : ConnectRequest → View → Type 0
+SawNoneOfMine r v = (seen : ℤ) (life : LeaseRec) → SawMine r v seen life → ⊥
+
+-- a resume is refused, or goes on
+abbrev pub Resumes : Connect → View → (ℤ → LeaseRec → Phase) → Phase → ConnectStep → Type 0
+Resumes c v next phase step =
+    (SawNoneOfMine c.request v × Ends steps.Unknown phase step)
+    ⊎ ((seen : ℤ) × (life : LeaseRec) × SawMine c.request v seen life × Waits c (next seen life) phase step)
+
+-- ---- at each answer
+
+-- the client has seen no update behind the head; a session of number 0 is a new one
+abbrev pub LooksFirst : Connect → View → Phase → ConnectStep → Type 0
+LooksFirst c v phase step =
+    let head = head_zxid (head_of v) in
+    MatchBool (int_lt head c.request.last_zxid) (Ends (steps.Ahead c.request.last_zxid head) phase step)
+    (MatchBool (int_eq c.request.session (pos 0)) (Waits c Granting phase step) (Resumes c v Keeping phase step))
+
+abbrev pub Looked : Connect → ℤ → List ActAns → Phase → ConnectStep → Type 0
+Looked c revision parts phase step = AreRecords (first_wants c.request) parts × LooksFirst c (viewed revision (first_wants c.request) parts) phase step
+
+-- one of the two keys of the fresh number is there
+abbrev pub is_taken : ℤ → View → Bool
+is_taken id v = is_there v (life_key id) || is_there v (nodes_key id)
+
+-- where a guard failed and neither key is there, the transaction is asked again
+abbrev pub Created : Connect → ℤ → Bool → List ActAns → Phase → ConnectStep → Type 0
+Created c revision true parts phase step = Ends (attached c.request c.fresh.id (timeout_in c) c.fresh.passwd revision parts) phase step
+Created c revision false parts phase step =
+    AreRecords (session_wants c.fresh.id) parts
+    × MatchBool (is_taken c.fresh.id (viewed revision (session_wants c.fresh.id) parts)) (Ends (steps.Taken revision) phase step) (Waits c Creating phase step)
+
+-- after no seconds the lease has gone, or the session moves: it is looked at again
+abbrev pub Kept : Connect → ℤ → LeaseRec → ℤ → Phase → ConnectStep → Type 0
+Kept c seen life seconds phase step = MatchBool (int_eq seconds (pos 0)) (Waits c LookingAgain phase step) (Waits c (Attaching seen life) phase step)
+
+abbrev pub LookedAgain : Connect → ℤ → List ActAns → Phase → ConnectStep → Type 0
+LookedAgain c revision parts phase step = AreRecords (attach_wants c.request.session) parts × Resumes c (viewed revision (attach_wants c.request.session) parts) Attaching phase step
+
+-- where the guard failed, what is there now is tested, and asked again; the session's own timeout is kept
+abbrev pub Attached : Connect → LeaseRec → ℤ → Bool → List ActAns → Phase → ConnectStep → Type 0
+Attached c life revision true parts phase step = Ends (attached c.request c.request.session life.timeout life.passwd revision parts) phase step
+Attached c life revision false parts phase step = LookedAgain c revision parts phase step
+
+-- ---- one step
+
+abbrev pub Answers : Connect → Phase → Answer → Phase → ConnectStep → Type 0
+Answers c Unasked a phase step = ⊥
+Answers c Looking a phase step = OfTxn a (λ revision succeeded parts. Looked c revision parts phase step)
+Answers c Granting a phase step = Waits c Creating phase step
+Answers c Creating a phase step = OfTxn a (λ revision succeeded parts. Created c revision succeeded parts phase step)
+Answers c (Keeping seen life) a phase step = OfAlive a (λ seconds. Kept c seen life seconds phase step)
+Answers c LookingAgain a phase step = OfTxn a (λ revision succeeded parts. LookedAgain c revision parts phase step)
+Answers c (Attaching seen life) a phase step = OfTxn a (λ revision succeeded parts. Attached c life revision succeeded parts phase step)
+Answers c Over a phase step = ⊥
+
+abbrev pub Moves : Connect → Option Answer → Phase → ConnectStep → Type 0
+Moves c None phase step = Waits c Looking phase step
+Moves c (Some a) phase step = Answers c c.phase a phase step
+
+-- from a connect by an answer, with what it answers, to the next
+pub record Steps (c : Connect) (a : Option Answer) (step : ConnectStep) (new : Connect) : Type 0 where
+  pub same : new ≡ record { request = c.request; fresh = c.fresh; phase = new.phase }
+  pub moves : Moves c a new.phase step
+
+-- ---- what may be damaged: the parts of a look
+
+abbrev pub looked_at_in : Connect → Phase → Answer → List Want × List ActAns
+looked_at_in c Looking (answer.Txn revision succeeded parts) = (first_wants c.request, parts)
+looked_at_in c Creating (answer.Txn revision false parts) = (session_wants c.fresh.id, parts)
+looked_at_in c LookingAgain (answer.Txn revision succeeded parts) = (attach_wants c.request.session, parts)
+looked_at_in c (Attaching seen life) (answer.Txn revision false parts) = (attach_wants c.request.session, parts)
+looked_at_in _ _ _ = ([], [])
+
+abbrev pub IsFaultIn : Connect → Phase → Answer → StepFault → Type 0
+IsFaultIn c phase a fault = let x = looked_at_in c phase a in IsLookFault x.0 x.1 fault
+
+abbrev pub IsConnectFault : Connect → Option Answer → StepFault → Type 0
+IsConnectFault c None fault = IsLookFault [] [] fault
+IsConnectFault c (Some a) fault = IsFaultIn c c.phase a fault

@@ -1,0 +1,5 @@
+pub mod Sessions
+pub mod Answering
+pub mod Connecting
+pub mod Alive
+pub mod Laws

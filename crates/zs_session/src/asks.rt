@@ -1,0 +1,74 @@
+//! What is read for a session, and the lease of a new one.
+
+ghost use Rattle.std.specs.Prelude.{◌≡◌, pos, ◌≤ℤ◌, ◌∷◌, [], IfOk};
+ghost use Rattle.zk_transcript.specs.History.{granted_timeout as timeout_by};
+ghost use Rattle.zn_view.specs.Asks.{head_want};
+ghost use Rattle.zs_session.specs.Sessions.{lease_seconds as seconds_of, session_wants as wants_of_session, attach_wants as wants_of_attach, first_wants as wants_of_first};
+
+use std::alloc::Global;
+use zk_model::ConnectRequest;
+use zk_model::limit::{MAX_TIMEOUT, MIN_TIMEOUT};
+use zn_layout::{head_key, lease_key, session_key};
+use zn_view::Want;
+use zx_base::{Memory, Seq};
+
+/// A requested timeout, brought into the service's range. Both are in milliseconds.
+pub(crate) fn granted_timeout(asked: i32) -> i32
+    ensures { result ≡ timeout_by asked }
+{
+    if asked < MIN_TIMEOUT {
+        MIN_TIMEOUT
+    } else if MAX_TIMEOUT < asked {
+        MAX_TIMEOUT
+    } else {
+        asked
+    }
+}
+
+/// The seconds of a lease for a timeout in milliseconds, rounded up.
+pub(crate) fn lease_seconds(timeout: i32) -> i64
+    ensures { result ≡ seconds_of timeout }
+{
+    i64::from((timeout.unsigned_abs() + 999) / 1000)
+}
+
+/// The life of a session, its nodes, and the head.
+pub(crate) fn session_wants(alloc: Global, id: i64) -> Result<Seq<Want>, Memory>
+    requires { pos 1 ≤ℤ id }
+    ensures { IfOk result (λ wants. wants ≡ wants_of_session id) }
+{
+    let mut wants = Seq::new(alloc);
+    wants.push(Want::Key(lease_key(alloc, id)?))?;
+    wants.push(Want::Key(session_key(alloc, id)?))?;
+    wants.push(Want::Key(head_key(alloc)?))?;
+    Ok(wants)
+}
+
+/// The life of a session, and the head.
+pub(crate) fn attach_wants(alloc: Global, id: i64) -> Result<Seq<Want>, Memory>
+    requires { pos 1 ≤ℤ id }
+    ensures { IfOk result (λ wants. wants ≡ wants_of_attach id) }
+{
+    let mut wants = Seq::new(alloc);
+    wants.push(Want::Key(lease_key(alloc, id)?))?;
+    wants.push(Want::Key(head_key(alloc)?))?;
+    Ok(wants)
+}
+
+/// What is looked up first for a connect.
+pub(crate) fn first_wants(alloc: Global, request: &ConnectRequest) -> Result<Seq<Want>, Memory>
+    ensures { IfOk result (λ wants. wants ≡ wants_of_first request.now) }
+{
+    if request.session < 1 {
+        return head_wants(alloc);
+    }
+    attach_wants(alloc, request.session)
+}
+
+fn head_wants(alloc: Global) -> Result<Seq<Want>, Memory>
+    ensures { IfOk result (λ wants. wants ≡ head_want ∷ []) }
+{
+    let mut wants = Seq::new(alloc);
+    wants.push(Want::Key(head_key(alloc)?))?;
+    Ok(wants)
+}

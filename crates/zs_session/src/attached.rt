@@ -1,0 +1,91 @@
+//! The session that a connection got.
+
+ghost use Rattle.std.specs.Prelude.{◌≡◌, pos};
+ghost use Rattle.zk_transcript.specs.Conversations.{answered_read_only as read_only_by};
+ghost use Rattle.zn_layout.specs.Keys.{HeadKey, key_bytes};
+ghost use Rattle.zn_view.specs.Asks.{found_in as kvs_in, kept_under, last_part};
+ghost use Rattle.zn_view.specs.Seen.{head_number};
+ghost use Rattle.zs_session.specs.Connecting.{number_shown, attached as attached_by};
+
+use crate::connect::ConnectStep;
+use ev_types::{ActAns, Kv};
+use zk_model::{ConnectRequest, ConnectResponse};
+use zn_view::Who;
+
+fn found_in(part: &ActAns) -> &[Kv]
+    ensures { result.now ≡ kvs_in part.now }
+{
+    match part {
+        ActAns::Range(found) => found.kvs.as_slice(),
+        ActAns::Put | ActAns::Deleted(_) => &[],
+    }
+}
+
+/// What the last part found.
+fn last_found(parts: &[ActAns]) -> &[Kv]
+    ensures { result.now ≡ last_part parts.now }
+{
+    let mut found: &[Kv] = &[];
+    for part in parts {
+        found = found_in(part);
+    }
+    found
+}
+
+/// The version of the head that was found, 0 without one.
+#[tactic(auto, unfolding(zn_layout::specs::Keys::key_bytes))]
+fn number_among(kvs: &[Kv]) -> i64
+    ensures { result ≡ head_number (kept_under (key_bytes HeadKey) kvs.now) }
+{
+    for kv in kvs {
+        if kv.key.is(b"zk/head") {
+            return kv.version;
+        }
+    }
+    0
+}
+
+fn number_in(parts: &[ActAns]) -> i64
+    ensures { result ≡ number_shown parts.now }
+{
+    number_among(last_found(parts))
+}
+
+/// Present exactly where the request had it, and then false.
+fn answered_read_only(request: &ConnectRequest) -> Option<bool>
+    ensures { result ≡ read_only_by request.now }
+{
+    match request.read_only {
+        Some(_) => Some(false),
+        None => None,
+    }
+}
+
+/// The session `id` is attached by the transaction of this zxid, whose answer has these parts. The timeout is in
+/// milliseconds.
+pub(crate) fn attached(
+    request: &ConnectRequest,
+    id: i64,
+    timeout: i32,
+    passwd: [u8; 16],
+    zxid: i64,
+    parts: &[ActAns],
+) -> ConnectStep
+    ensures { result ≡ attached_by request.now id timeout passwd zxid parts.now }
+{
+    ConnectStep::Attached {
+        response: ConnectResponse {
+            timeout,
+            session: id,
+            passwd,
+            read_only: answered_read_only(request),
+        },
+        who: Who {
+            session: id,
+            mine: zxid,
+        },
+        timeout,
+        number: number_in(parts),
+        zxid,
+    }
+}

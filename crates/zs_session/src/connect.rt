@@ -1,0 +1,72 @@
+//! A connect, from its request to its session.
+
+use ev_types::Ask;
+use zk_model::{ConnectRequest, ConnectResponse};
+use zn_layout::LeaseRec;
+use zn_view::Who;
+
+/// What a new session is made with.
+#[derive(Clone, Copy, Debug)]
+pub struct Fresh {
+    /// The session's number, and that of its lease; at least 1.
+    pub id: i64,
+    pub passwd: [u8; 16],
+}
+
+/// What a connecting connection waits for.
+#[derive(Clone, Copy, Debug)]
+pub enum Phase {
+    /// Nothing was asked yet.
+    Unasked,
+    /// The head, and the life of the session that is to be resumed.
+    Looking,
+    /// The lease of a new session.
+    Granting,
+    /// The transaction of a new session.
+    Creating,
+    /// A keepalive of the session that is to be resumed, on the record that was seen.
+    Keeping { seen: i64, life: LeaseRec },
+    /// The same keys, after a keepalive of no seconds.
+    LookingAgain,
+    /// The transaction that attaches the session, on the record that was seen.
+    Attaching { seen: i64, life: LeaseRec },
+    /// Nothing more.
+    Over,
+}
+
+/// A connect and how far it has come.
+#[derive(Debug, Drop)]
+pub struct Connect {
+    pub request: ConnectRequest,
+    pub fresh: Fresh,
+    pub phase: Phase,
+}
+
+/// What a step of a connect answers.
+#[derive(Debug, Drop)]
+pub enum ConnectStep {
+    /// To be carried out; the next step takes its answer.
+    Ask(Ask),
+    /// The session is attached to this connection.
+    Attached {
+        response: ConnectResponse,
+        who: Who,
+        /// The session's, in milliseconds.
+        timeout: i32,
+        /// The number of the update that attached it.
+        number: i64,
+        /// The zxid of that update.
+        zxid: i64,
+    },
+    /// The client has seen an update, `client`, behind the last one, `head`. It gets no answer.
+    Ahead {
+        client: i64,
+        head: i64,
+    },
+    /// There is no session of that number and password: the client is refused.
+    Unknown,
+    /// The fresh number is in use at this revision. The client gets no answer.
+    Taken {
+        rev: i64,
+    },
+}

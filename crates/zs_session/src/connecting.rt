@@ -1,0 +1,98 @@
+//! The steps of a connect.
+
+ghost use Rattle.std.specs.Prelude.{◌≡◌, pos, ◌≤ℤ◌, option_copied, Some, IfOk, IfErr, OnErr};
+ghost use Rattle.zs_session.specs.Connecting.{Answers, IsConnectFault, IsFaultIn, IsHeld, MayStep, Moves, Steps, asked_in};
+ghost use Rattle.zs_session.specs.Answering.{IsAwaited, IsAnswerTo};
+ghost use Rattle.zs_session.specs.declared.connect.Phase.TheVariants as phases;
+
+use crate::answers::{attached_anew, created, kept_alive, looked, looked_again};
+use crate::connect::{Connect, ConnectStep, Fresh, Phase};
+use crate::fault::StepFault;
+use crate::moves::{Move, begin, create};
+use ev_types::Answer;
+use std::alloc::Global;
+use std::marker::Model;
+use zk_model::ConnectRequest;
+
+/// What follows an answer.
+fn answered(alloc: Global, connect: &Connect, answer: &Answer) -> Result<Move, StepFault>
+    requires held { IsHeld connect.now }
+    requires going { connect.now.phase ≡ phases.Over → ⊥ }
+    requires awaited { IsAwaited (asked_in connect.now connect.now.phase) (Some answer.now) }
+    ensures ok { IfOk result (λ m. Answers connect.now connect.now.phase answer.now m.phase m.step) }
+    ensures fault { IfErr result (IsFaultIn connect.now connect.now.phase answer.now) }
+{
+    match connect.phase {
+        Phase::Unasked | Phase::Over => unreachable!(),
+        Phase::Looking => looked(alloc, connect, answer),
+        Phase::Granting => Ok(create(alloc, connect)?),
+        Phase::Creating => created(alloc, connect, answer),
+        Phase::Keeping { seen, life } => kept_alive(alloc, connect, seen, life, answer),
+        Phase::LookingAgain => looked_again(alloc, connect, answer),
+        Phase::Attaching { seen, life } => attached_anew(alloc, connect, seen, life, answer),
+    }
+}
+
+fn moved(alloc: Global, connect: &Connect, answer: Option<&Answer>) -> Result<Move, StepFault>
+    requires held { IsHeld connect.now }
+    requires may { MayStep connect.now (option_copied answer) }
+    ensures ok { IfOk result (λ m. Moves connect.now (option_copied answer.entry) m.phase m.step) }
+    ensures fault { IfErr result (IsConnectFault connect.now (option_copied answer.entry)) }
+{
+    match answer {
+        None => Ok(begin(alloc, connect)?),
+        Some(answer) => answered(alloc, connect, answer),
+    }
+}
+
+/// A connect that gets its session, one ask a step.
+#[derive(Debug, Drop)]
+pub struct Connecting {
+    connect: Connect,
+    alloc: Global,
+}
+
+impl Model for Connecting {
+    ghost use Rattle.zs_session.specs.declared.connect.Connect.{Connect};
+
+    ghost Value = { Connect };
+
+    ghost use Rattle.zs_session.specs.Connecting.{IsHeld};
+
+    ghost view = { λ c. c.connect };
+
+    ghost invariant = { λ c. IsHeld c.connect };
+}
+
+impl Connecting {
+    /// A connect of which nothing was asked yet. The fresh number is at least 1; it and the password are those of a new
+    /// session.
+    pub fn new(alloc: Global, request: ConnectRequest, fresh: Fresh) -> Connecting
+        requires { pos 1 ≤ℤ fresh.id }
+        ensures { result ≡ record { request = request; fresh = fresh; phase = phases.Unasked } }
+    {
+        Connecting {
+            connect: Connect {
+                request,
+                fresh,
+                phase: Phase::Unasked,
+            },
+            alloc,
+        }
+    }
+
+    /// The next step. The first one has no answer; each other one has the answer to what was asked last. None is made behind a
+    /// step that asked nothing. Where it has a fault the connect is as it was: `Damaged` comes exactly where the answer shows,
+    /// under a key that was looked up, a value that is no record.
+    pub fn step(&mut self, answer: Option<&Answer>) -> Result<ConnectStep, StepFault>
+        requires { MayStep self.old (option_copied answer) }
+        ensures ok { IfOk result (λ step. Steps self.old (option_copied answer.entry) step self.new) }
+        ensures err { OnErr result (self.new ≡ self.old) }
+        ensures fault { IfErr result (IsConnectFault self.old (option_copied answer.entry)) }
+        ensures held { IsHeld self.new }
+    {
+        let moved = moved(self.alloc, &self.connect, answer)?;
+        self.connect.phase = moved.phase;
+        Ok(moved.step)
+    }
+}
