@@ -9,12 +9,13 @@
 //! - `numbered TEXT N = TEXT`: the name of a sequence node, which has to be a child of its parent.
 #![tactic(auto)]
 
-use anyhow::{Context, Result, bail};
+use anyhow::Result;
+use row_files::{Rows, Words, bytes_of, hex_of, try_file};
 use std::alloc::Global;
+use std::env;
 use std::process::ExitCode;
-use std::rt::Files;
-use std::{env, fs};
 use zk_model::{Path, PathFault};
+use zx_base::Memory;
 
 /// Looks in the file that its first argument names, and without one in `paths`.
 fn main(rt: HostRuntime) -> Result<ExitCode> {
@@ -23,73 +24,67 @@ fn main(rt: HostRuntime) -> Result<ExitCode> {
         Some(file) => file.as_str(),
         None => "paths",
     };
-    let text = text_of(&rt, file)?;
-    let (mut passed, mut failed) = (0u64, 0u64);
-    for line in text.lines() {
-        if line.is_empty() || line.starts_with("#") {
-            continue;
-        }
-        let Some((left, right)) = line.split_once(" = ") else {
-            bail!("no row: {line}");
-        };
-        let found = found_of(rt.alloc(), left)?;
-        if found.as_str() == right {
-            passed = passed.saturating_add(1);
-        } else {
-            eprintln!(rt; "differs: {line}: {found}")?;
-            failed = failed.saturating_add(1);
-        }
-    }
-    Ok(if failed == 0 && passed != 0 {
+    let mut rows = Paths;
+    Ok(if try_file(&rt, file, &mut rows)? == 0 {
         ExitCode::SUCCESS
     } else {
         ExitCode::FAILURE
     })
 }
 
-/// The text of a file.
-fn text_of<R: Files + AllocGlobal>(rt: &R, file: &str) -> Result<String> {
-    let text = fs::read_to_string(rt, file).context(format_args!("reading {file}"))?;
-    Ok(text)
+/// Rows of paths.
+#[derive(Clone, Copy)]
+struct Paths;
+
+impl Rows for Paths {
+    fn found(&mut self, alloc: Global, left: &str) -> Result<Option<String>, Memory> {
+        found_in(alloc, left)
+    }
 }
 
-/// What comes of the left of a row.
-fn found_of(alloc: Global, left: &str) -> Result<String> {
+/// What comes of the left side of a row; None where it is of no form.
+fn found_in(alloc: Global, left: &str) -> Result<Option<String>, Memory> {
     let Some((word, rest)) = left.split_once(' ') else {
-        bail!("no row: {left}");
+        return Ok(None);
     };
     match word {
-        "path" => read(alloc, bytes(alloc, rest)?.as_slice()),
-        "prefix" => read_prefix(alloc, bytes(alloc, rest)?.as_slice()),
-        "long" => length_of(alloc, rest, false),
-        "long-prefix" => length_of(alloc, rest, true),
-        "names" => names(alloc, bytes(alloc, rest)?.as_slice()),
-        "numbered" => numbered(alloc, rest),
-        _ => bail!("no row: {word}"),
+        "long" => return length_of(alloc, rest, false),
+        "long-prefix" => return length_of(alloc, rest, true),
+        "numbered" => return numbered(alloc, rest),
+        _ => {}
+    }
+    let Some(text) = bytes_of(alloc, rest)? else {
+        return Ok(None);
+    };
+    match word {
+        "path" => read(alloc, text.as_slice()),
+        "prefix" => read_prefix(alloc, text.as_slice()),
+        "names" => names(alloc, text.as_slice()),
+        _ => Ok(None),
     }
 }
 
 /// `read` where the text is read as itself, or the fault.
-fn read(alloc: Global, text: &[u8]) -> Result<String> {
+fn read(alloc: Global, text: &[u8]) -> Result<Option<String>, Memory> {
     match Path::read(alloc, text, false) {
-        Ok(path) if path.bytes() == text => Ok(String::from_str(alloc, "read")?),
-        Ok(_) => bail!("another path"),
-        Err(fault) => Ok(String::from_str(alloc, fault_name(fault))?),
+        Ok(path) if path.bytes() == text => said(alloc, "read"),
+        Ok(_) => said(alloc, "another path"),
+        Err(fault) => said(alloc, fault_name(fault)),
     }
 }
 
 /// The path that is tested of a sequential create, or the fault.
-fn read_prefix(alloc: Global, text: &[u8]) -> Result<String> {
+fn read_prefix(alloc: Global, text: &[u8]) -> Result<Option<String>, Memory> {
     match Path::read(alloc, text, true) {
-        Ok(path) => hexed(alloc, path.bytes()),
-        Err(fault) => Ok(String::from_str(alloc, fault_name(fault))?),
+        Ok(path) => Ok(Some(hex_of(alloc, path.bytes())?)),
+        Err(fault) => said(alloc, fault_name(fault)),
     }
 }
 
 /// The length of the path that is read of a slash and so many letters, or the fault.
-fn length_of(alloc: Global, letters: &str, sequential: bool) -> Result<String> {
+fn length_of(alloc: Global, letters: &str, sequential: bool) -> Result<Option<String>, Memory> {
     let Ok(letters) = letters.parse::<u32>() else {
-        bail!("no number: {letters}");
+        return Ok(None);
     };
     let mut text = Vec::new(alloc);
     text.push(b'/')?;
@@ -99,51 +94,47 @@ fn length_of(alloc: Global, letters: &str, sequential: bool) -> Result<String> {
     match Path::read(alloc, text.as_slice(), sequential) {
         Ok(path) => {
             let length = path.bytes().len();
-            Ok(format!(in alloc; "{length}")?)
+            Ok(Some(format!(in alloc; "{length}")?))
         }
-        Err(fault) => Ok(String::from_str(alloc, fault_name(fault))?),
+        Err(fault) => said(alloc, fault_name(fault)),
     }
 }
 
 /// A path's depth, last name and parent.
-fn names(alloc: Global, text: &[u8]) -> Result<String> {
+fn names(alloc: Global, text: &[u8]) -> Result<Option<String>, Memory> {
     let Ok(path) = Path::read(alloc, text, false) else {
-        bail!("no path");
+        return Ok(None);
     };
     let depth = path.depth();
-    let name = hexed(alloc, path.last_name())?;
-    match path.parent(alloc) {
-        Ok(Some(parent)) => {
-            let Ok(copy) = parent.copy(alloc) else {
-                bail!("out of memory");
-            };
-            let parent = hexed(alloc, copy.bytes())?;
-            Ok(format!(in alloc; "{depth} {name} {parent}")?)
-        }
-        Ok(None) => Ok(format!(in alloc; "{depth} {name} none")?),
-        Err(_) => bail!("out of memory"),
-    }
+    let name = hex_of(alloc, path.last_name())?;
+    let parent = match path.parent(alloc)? {
+        Some(parent) => hex_of(alloc, parent.copy(alloc)?.bytes())?,
+        None => String::from_str(alloc, "none")?,
+    };
+    Ok(Some(format!(in alloc; "{depth} {name} {parent}")?))
 }
 
 /// The name of a sequence node.
-fn numbered(alloc: Global, rest: &str) -> Result<String> {
-    let Some((prefix, number)) = rest.split_once(' ') else {
-        bail!("no prefix and number: {rest}");
+fn numbered(alloc: Global, rest: &str) -> Result<Option<String>, Memory> {
+    let mut words = Words::new(rest);
+    let (Some(prefix), Some(number)) = (words.word(), words.number()) else {
+        return Ok(None);
     };
-    let prefix = bytes(alloc, prefix)?;
-    let Ok(number) = number.parse::<u32>() else {
-        bail!("no number: {number}");
+    let Some(prefix) = bytes_of(alloc, prefix)? else {
+        return Ok(None);
     };
     if Path::read(alloc, prefix.as_slice(), true).is_err() {
-        bail!("no prefix");
+        return said(alloc, "no prefix");
     }
-    let Ok(path) = Path::numbered(alloc, prefix.as_slice(), number) else {
-        bail!("out of memory");
-    };
-    match path.parent(alloc) {
-        Ok(Some(parent)) if path.is_child_of(parent.bytes()) => hexed(alloc, path.bytes()),
-        _ => bail!("no child of its parent"),
+    let path = Path::numbered(alloc, prefix.as_slice(), number)?;
+    match path.parent(alloc)? {
+        Some(parent) if path.is_child_of(parent.bytes()) => Ok(Some(hex_of(alloc, path.bytes())?)),
+        _ => said(alloc, "no child of its parent"),
     }
+}
+
+fn said(alloc: Global, word: &str) -> Result<Option<String>, Memory> {
+    Ok(Some(String::from_str(alloc, word)?))
 }
 
 /// The name of a fault.
@@ -157,22 +148,4 @@ fn fault_name(fault: PathFault) -> &'static str {
         PathFault::TooLong => "too long",
         PathFault::Memory => "memory",
     }
-}
-
-/// The bytes that hex digits spell.
-fn bytes(alloc: Global, word: &str) -> Result<Vec<u8>> {
-    if word == "-" {
-        return Ok(Vec::new(alloc));
-    }
-    let bytes = hex::decode(alloc, word)?;
-    Ok(bytes)
-}
-
-/// Bytes as hex digits.
-fn hexed(alloc: Global, bytes: &[u8]) -> Result<String> {
-    if bytes.is_empty() {
-        return Ok(String::from_str(alloc, "-")?);
-    }
-    let text = hex::encode(alloc, bytes)?;
-    Ok(text)
 }

@@ -1,5 +1,6 @@
 //! Asks and their answers.
 
+use crate::changes::{compact, events, foreign, lapse};
 use crate::words::{bytes_of, number, word_of};
 use ev_store::{Denied, Store, StoreFault};
 use ev_types::{Act, ActAns, Answer, Ask, Guard, Kv, RangeAns, RangeReq, TxnReq};
@@ -9,7 +10,7 @@ use zx_base::{Memory, Seq};
 /// The seconds of a lease are below this.
 const MAX_SECONDS: i64 = 4_611_686_018_427_387_904;
 
-/// Carries out an ask over the store that the asks before left. `new` makes it a new one.
+/// Does what a row says to the store that the rows before left. `new` makes it a new one.
 pub fn carried_out(alloc: Global, store: &mut Store, left: &str) -> Result<Option<String>, Memory> {
     if left == "new" {
         *store = Store::new(alloc)?;
@@ -24,6 +25,10 @@ pub fn carried_out(alloc: Global, store: &mut Store, left: &str) -> Result<Optio
         "alive" => alive(alloc, store, rest),
         "range" => look(alloc, store, rest),
         "txn" => transact(alloc, store, rest),
+        "lapse" => lapse(alloc, store, rest),
+        "foreign" => foreign(alloc, store, rest),
+        "compact" => compact(alloc, store, rest),
+        "events" => events(alloc, store, rest),
         _ => Ok(None),
     }
 }
@@ -213,8 +218,15 @@ fn range(alloc: Global, rest: &str) -> Result<Option<RangeReq>, Memory> {
 fn text_of(alloc: Global, answered: Result<Answer, StoreFault>) -> Result<Option<String>, Memory> {
     match answered {
         Ok(answer) => Ok(Some(answer_text(alloc, &answer)?)),
-        Err(StoreFault::Denied(denied)) => Ok(Some(denial_text(alloc, &denied)?)),
-        Err(StoreFault::Memory) => Err(Memory),
+        Err(fault) => fault_text(alloc, fault),
+    }
+}
+
+/// A denial as it stands in a row.
+pub fn fault_text(alloc: Global, fault: StoreFault) -> Result<Option<String>, Memory> {
+    match fault {
+        StoreFault::Denied(denied) => Ok(Some(denial_text(alloc, &denied)?)),
+        StoreFault::Memory => Err(Memory),
     }
 }
 
@@ -274,7 +286,7 @@ fn push_found(alloc: Global, text: &mut String, found: &RangeAns) -> Result<(), 
     Ok(())
 }
 
-fn push_kv(alloc: Global, text: &mut String, kv: &Kv) -> Result<(), Memory> {
+pub fn push_kv(alloc: Global, text: &mut String, kv: &Kv) -> Result<(), Memory> {
     let key = word_of(kv.key.as_slice());
     let value = word_of(kv.value.as_slice());
     let (made, put, version, lease) = (kv.create_revision, kv.mod_revision, kv.version, kv.lease);

@@ -1,6 +1,7 @@
 //! Records as they are read, and written again.
 
-use crate::words::{hex_of, word_of};
+use crate::words::word_of;
+use row_files::hex_of;
 use std::alloc::Global;
 use zk_model::{Path, Trigger};
 use zn_layout::{

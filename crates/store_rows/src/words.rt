@@ -27,15 +27,10 @@ pub fn word_of<'a>(bytes: &'a [u8]) -> &'a str {
     }
 }
 
-/// Bytes as hex, `-` for none.
-pub fn hex_of(alloc: Global, bytes: &[u8]) -> Result<String, Memory> {
-    if bytes.is_empty() {
-        Ok(String::from_str(alloc, "-")?)
-    } else {
-        Ok(hex::encode(alloc, bytes)?)
-    }
-}
-
 pub fn number(word: &str) -> Option<i64> {
     word.parse::<i64>().ok()
+}
+
+pub fn count(word: &str) -> Option<usize> {
+    word.parse::<usize>().ok()
 }

@@ -1,7 +1,7 @@
 //! Rows of connects, of their answers and of notifications.
 
-use crate::hexes::{bytes_of, frame_of, hex_of};
-use crate::words::Words;
+use crate::packets::frame_of;
+use row_files::{Words, bytes_of, hex_of};
 use std::alloc::Global;
 use zk_model::{ConnectRequest, ConnectResponse, Notice};
 use zk_wire::{WireFault, notice_can_be_sent, read_connect, write_connect, write_notice};

@@ -1,6 +1,6 @@
 //! Rows of streams that are cut into frames.
 
-use crate::hexes::{bytes_of, hex_of};
+use row_files::{bytes_of, hex_of};
 use std::alloc::Global;
 use zk_wire::{CutFault, Cutter};
 use zx_base::{Bytes, Memory};

@@ -1,8 +1,8 @@
 //! Rows of replies.
 
-use crate::hexes::{bytes_of, frame_of, hex_of, is_written, text_of, texts_of};
+use crate::packets::{frame_of, is_written, text_of, texts_of};
 use crate::requests::fault_of;
-use crate::words::Words;
+use row_files::{Words, bytes_of, hex_of};
 use std::alloc::Global;
 use zk_model::{Body, PartResult, Reply, Stat};
 use zk_wire::{read_reply, reply_can_be_sent, write_reply};

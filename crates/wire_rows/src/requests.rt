@@ -1,6 +1,7 @@
 //! Rows of requests.
 
-use crate::hexes::{bytes_of, frame_of, hex_of, is_written, text_of, texts_of};
+use crate::packets::{frame_of, is_written, text_of, texts_of};
+use row_files::{bytes_of, hex_of};
 use std::alloc::Global;
 use zk_model::{Acl, Part, Request};
 use zk_wire::{WireFault, read_request, request_can_be_sent, write_request};

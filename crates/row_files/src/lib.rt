@@ -1,0 +1,13 @@
+//! Files of rows, which a program tries one after the other.
+//!
+//! A row is LEFT = RIGHT: what comes of the left side has to be the right side. A line that is empty or begins with `#` is
+//! passed over. What differs is told on standard error.
+#![tactic(auto)]
+
+mod hexes;
+mod tries;
+mod words;
+
+pub use hexes::{bytes_of, hex_of};
+pub use tries::{Rows, try_file};
+pub use words::Words;

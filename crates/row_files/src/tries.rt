@@ -1,0 +1,60 @@
+//! The rows of one file, in order.
+
+ghost use Rattle.std.specs.Prelude.{◌≡◌, None, string_bytes};
+
+use anyhow::{Context, Result, bail};
+use std::alloc::Global;
+use std::fs;
+use zx_base::Memory;
+
+/// What rows of one kind are.
+pub trait Rows {
+    /// What comes of the left side of a row; None where it is of no form.
+    fn found(&mut self, alloc: Global, left: &str) -> Result<Option<String>, Memory>;
+}
+
+/// How many rows of a file differ. A file in which no row passes counts as one that differs.
+pub fn try_file<T: Rows>(rt: &HostRuntime, path: &str, rows: &mut T) -> Result<u64> {
+    let text = fs::read_to_string(rt, path).context(format_args!("reading {path}"))?;
+    let (mut passed, mut failed) = (0u64, 0u64);
+    for (index, line) in text.lines().enumerate() {
+        if line.is_empty() || line.starts_with('#') {
+            continue;
+        }
+        match problem_in(rt.alloc(), rows, line) {
+            Ok(None) => passed = passed.saturating_add(1),
+            Ok(Some(problem)) => {
+                let number = index.saturating_add(1);
+                eprintln!(rt; "differs {path} line {number}: {problem}")?;
+                failed = failed.saturating_add(1);
+            }
+            Err(Memory) => bail!("out of memory"),
+        }
+    }
+    if passed == 0 {
+        eprintln!(rt; "differs {path}: no row passed")?;
+        failed = failed.saturating_add(1);
+    }
+    Ok(failed)
+}
+
+/// What is wrong with a row, or what comes of its left side instead of its right side.
+fn problem_in<T: Rows>(alloc: Global, rows: &mut T, line: &str) -> Result<Option<String>, Memory> {
+    let Some((left, right)) = line.split_once(" = ") else {
+        return Ok(Some(String::from_str(alloc, "no row")?));
+    };
+    match rows.found(alloc, left)? {
+        Some(found) => Ok(unless_same(found, right)),
+        None => Ok(Some(String::from_str(alloc, "the left side is unreadable")?)),
+    }
+}
+
+/// What was found, unless it is exactly what was wanted.
+fn unless_same(found: String, wanted: &str) -> Option<String>
+    ensures { result ≡ None → string_bytes found ≡ wanted.now }
+{
+    if found.as_str() == wanted {
+        return None;
+    }
+    Some(found)
+}

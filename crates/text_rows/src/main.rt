@@ -1,0 +1,66 @@
+//! Tries the rows of the files in `data/vectors` on the lines of scripts and transcripts and on `show`, and says on standard
+//! error where a row differs.
+//!
+//! A row is LEFT = RIGHT ([`row_files`]); each file says in its first lines what its rows are. A new row needs no proof.
+#![tactic(auto)]
+
+mod longest;
+mod scripts;
+mod shows;
+mod transcripts;
+
+use anyhow::Result;
+use row_files::{Rows, try_file};
+use std::alloc::Global;
+use std::env;
+use std::process::ExitCode;
+use zx_base::Memory;
+
+/// A file's rows are of the kind that it is named for.
+#[derive(Clone, Copy)]
+enum Kind {
+    Shows,
+    Scripts,
+    Transcripts,
+}
+
+impl Rows for Kind {
+    fn found(&mut self, alloc: Global, left: &str) -> Result<Option<String>, Memory> {
+        match self {
+            Kind::Shows => shows::shown(alloc, left),
+            Kind::Scripts => scripts::read(alloc, left),
+            Kind::Transcripts => transcripts::written(alloc, left),
+        }
+    }
+}
+
+const FILES: [(&'static str, Kind); 3] = [
+    ("shows", Kind::Shows),
+    ("scripts", Kind::Scripts),
+    ("transcripts", Kind::Transcripts),
+];
+
+/// Looks in the folder that its first argument names, and without one in `vectors`.
+fn main(rt: HostRuntime) -> Result<ExitCode> {
+    let alloc = rt.alloc();
+    let given = env::args(&rt)?.nth(1);
+    let folder = match &given {
+        Some(folder) => folder.as_str(),
+        None => "vectors",
+    };
+    let mut failed = 0u64;
+    for (name, kind) in FILES {
+        let path = format!(in alloc; "{folder}/{name}")?;
+        let mut rows = kind;
+        failed = failed.saturating_add(try_file(&rt, path.as_str(), &mut rows)?);
+    }
+    if longest::problem(alloc) != Ok(false) {
+        eprintln!(rt; "differs: the longest line of a script")?;
+        failed = failed.saturating_add(1);
+    }
+    Ok(if failed == 0 {
+        ExitCode::SUCCESS
+    } else {
+        ExitCode::FAILURE
+    })
+}
