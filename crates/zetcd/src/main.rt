@@ -4,10 +4,15 @@
 //! status's number.
 #![tactic(auto)]
 
-ghost use Rattle.std.specs.Prelude.{◌≡◌};
+ghost use Rattle.std.specs.Prelude.{◌≡◌, [], ◌∷◌, codes, IfOk};
 ghost use Rattle.std.specs.Process.{exit_status};
-ghost use Rattle.zetcd_cmd.specs.Outcomes.{number_of};
+ghost use Rattle.std.specs.Vec.Iter.{into_iter_items};
+ghost use Rattle.zetcd.specs.Arguments.{arguments};
+ghost use Rattle.zetcd_cmd.specs.Outcomes.{number_of, Did, Refuses, Replays, Shows};
 
+mod words;
+
+use crate::words::{lent, words_of};
 use std::alloc::{AllocError, Global};
 use std::env::{self, Args};
 use std::io::ErrorKind;
@@ -46,14 +51,13 @@ fn with_words<I: Source, O: Sink>(
     args: Args,
     input: &mut I,
     out: &mut O,
-) -> Result<Status, AllocError> {
-    let mut owned = Vec::new(alloc);
-    for word in args.skip(1) {
-        owned.push(word)?;
-    }
-    let mut words = Vec::new(alloc);
-    for word in &owned {
-        words.push(word.as_str())?;
-    }
+) -> Result<Status, AllocError>
+    ensures replay { IfOk result (λ s. arguments (into_iter_items args) ≡ codes "replay" ∷ [] → Did (Replays s (I.ended input.new) (I.left input.new)) (I.given input.old) (I.given input.new) (I.left input.old) (I.left input.new) (O.taken out.old) (O.taken out.new)) }
+    ensures show { IfOk result (λ s. arguments (into_iter_items args) ≡ codes "show" ∷ [] → Did (Shows s (I.ended input.new) (I.left input.new)) (I.given input.old) (I.given input.new) (I.left input.old) (I.left input.new) (O.taken out.old) (O.taken out.new)) }
+    ensures usage { IfOk result (λ s. ¬ (arguments (into_iter_items args) ≡ codes "replay" ∷ []) → ¬ (arguments (into_iter_items args) ≡ codes "show" ∷ []) → Refuses s (O.taken out.old) (O.taken out.new)) }
+{
+    let words = words_of(alloc, args)?;
+    let behind_name = words.len().min(1);
+    let words = lent(alloc, &words.as_slice()[behind_name..])?;
     Ok(zetcd(alloc, words.as_slice(), input, out))
 }
