@@ -1,5 +1,5 @@
 -- The session is tested on a view that lacks nothing, and where it is attached here the tree decides.
-use Rattle.std.proofs.Common.{◌≡◌, ℤ, pos, Bool, true, false, Option, Some, None, refl, ap, ◌∙◌, subst, inl, inr}
+use Rattle.std.proofs.Common.{◌≡◌, ℕ, ℤ, pos, Bool, true, false, Option, Some, None, refl, ap, ◌∙◌, subst, inl, inr}
 use Rattle.std.specs.Prelude.{nat_abs, ◌≤ℤ◌, if◌then◌else◌}
 use Rattle.std.specs.Ordering.{int_eq}
 use Rattle.zk_model.specs.declared.request.Request.{Request}
@@ -7,12 +7,12 @@ use Rattle.zk_model.specs.Watches.{no_watches}
 use Rattle.zk_transcript.specs.Answers.{plain_request}
 use Rattle.zk_transcript.specs.History.{Session, limit_of, session_at}
 use Rattle.zn_layout.specs.Keys.{LeaseKey}
-use Rattle.zn_ops.specs.Deciding.{IsAttachedAt}
-use Rattle.zn_reads.specs.Deciding.{IsReadDecision}
-use Rattle.zn_updates.specs.Deciding.{IsAttached, IsBySound, IsWhole}
+use Rattle.zn_ops.specs.Deciding.{IsAttachedAt, IsGood}
+use Rattle.zn_reads.specs.Deciding.{IsAnswered, IsReadDecision}
+use Rattle.zn_updates.specs.Deciding.{IfPlanned, IsAttached, IsBySound, IsGuarded, IsWhole}
 use Rattle.zn_updates.proofs.Meanings.{int_eq-same}
 use Rattle.zn_view.specs.declared.plan.Decision.{Decision}
-use Rattle.zn_view.specs.declared.plan.Decision.TheVariants.{Expired, Moved}
+use Rattle.zn_view.specs.declared.plan.Decision.TheVariants.{Answered, Planned, Expired, Moved}
 use Rattle.zn_view.specs.declared.plan.Who.{Who}
 use Rattle.zn_view.specs.Lookups.{HasSeen, sees}
 use Rattle.zn_view.specs.Needs.{life_want}
@@ -48,3 +48,18 @@ pub read-decided : (r : Request) (who : Who) (v : View) (d : Decision) → pos 1
 read-decided r who v d real plain attached whole read =
     tree-decides r who v d attached.0 real plain attached.1 (int_eq-same (attached.0).mod_revision who.mine attached.2)
     (λ m s x sound valid stands agrees lives. read.decided who (whole plain) s sound (λ _. valid) (m, stands, agrees) plain (limit_of x) who.session)
+
+-- ---- plans
+
+pub update-planned : (r : Request) (who : Who) (now : ℕ) (v : View) (d : Decision) → IsAttached who v → IfPlanned (IsGuarded r who now v) d → IfPlanned (IsGood r who now v) d
+update-planned r who now v (Planned p) attached h = record { commits = (h.commits attached).0; asked = (h.commits attached).1; reads = h.reads; writes = h.writes; small = h.small }
+update-planned r who now v (Answered x arm) attached h = tt
+update-planned r who now v Expired attached h = tt
+update-planned r who now v (Moved found) attached h = tt
+
+-- a read plans nothing
+pub read-planned : (r : Request) (who : Who) (now : ℕ) (v : View) (d : Decision) → IsAnswered d → IfPlanned (IsGood r who now v) d
+read-planned r who now v (Planned p) h = absurd h
+read-planned r who now v (Answered x arm) h = tt
+read-planned r who now v Expired h = tt
+read-planned r who now v (Moved found) h = tt

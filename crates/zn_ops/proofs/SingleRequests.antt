@@ -1,22 +1,18 @@
 -- A single request is an update, a read, or answered by its form.
 use Rattle.std.proofs.Common.{◌≡◌, true, false, [], List, Some, None, refl, sym, ◌∙◌, subst}
-use Rattle.zk_model.specs.declared.reply.Body.TheVariants as body
-use Rattle.zk_model.specs.declared.reply.Reply.TheVariants as reply
 use Rattle.zk_model.specs.declared.request.Request.{Request}
 use Rattle.zk_model.specs.declared.request.Request.TheVariants as req
 use Rattle.zk_model.specs.Watches.{no_watches}
 use Rattle.zk_transcript.specs.Answers.{Told, plain_request}
+use Rattle.zx_base.proofs.Options.{none_some}
 use Rattle.zn_ops.specs.Forms.{is_single}
 use Rattle.zn_reads.specs.Deciding.{is_read}
-use Rattle.zn_reads.proofs.Elements.{empty-contains}
 use Rattle.zn_updates.specs.Deciding.{is_update}
 use Rattle.zn_view.specs.declared.plan.Who.{Who}
 use Rattle.zn_view.specs.declared.want.Want.{Want}
 use Rattle.zn_view.specs.Needs.{AreNeeds}
 use Rattle.zn_view.specs.Seen.{View}
-
-none_some : {X : Type 0} {x : X} → None ≡ Some x → ⊥
-none_some e = cc
+use Rattle.zn_view.proofs.Wanted.{no-needs}
 
 -- a request that reads nothing and changes nothing is told by its form
 plain_told : (r : Request) → is_single r ≡ true → is_update r ≡ false → is_read r ≡ false → (t : Told) × (plain_request no_watches r ≡ Some t)
@@ -44,11 +40,7 @@ read-otherwise r single plain update = elim (is_read r) as (λ b. is_read r ≡ 
 ] refl
 
 told_needed : (r : Request) (who : Who) (v : View) (t : Told) → plain_request no_watches r ≡ Some t → AreNeeds r who v []
-told_needed r who v t plain = record {
-  only = λ w has. absurd (empty-contains [] w refl has);
-  enough = λ _ none. absurd (none_some (sym none ∙ plain));
-  none = λ u h. refl;
-}
+told_needed r who v t plain = no-needs r who v t [] refl plain
 
 -- and looks up nothing
 pub plain-needed : (r : Request) (who : Who) (v : View) (ws : List Want) → is_single r ≡ true → is_update r ≡ false → is_read r ≡ false → ws ≡ [] → AreNeeds r who v ws

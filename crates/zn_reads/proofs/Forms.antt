@@ -2,6 +2,7 @@
 use Rattle.std.proofs.Common.{◌≡◌, ℤ, Bool, true, false, Some, None, refl, sym, ap, ◌∙◌, subst}
 use Rattle.std.specs.Prelude.{IsTrue, if◌then◌else◌}
 use Rattle.zx_base.specs.Maps.{Bytes}
+use Rattle.zx_base.proofs.Options.{none_some, some_is}
 use Rattle.zk_model.specs.declared.reply.Reply.TheVariants as reply
 use Rattle.zk_model.specs.declared.request.Request.{Request}
 use Rattle.zk_model.specs.declared.request.Request.TheVariants as req
@@ -14,7 +15,7 @@ use Rattle.zn_layout.specs.ReadingSteps.{IsPathOf}
 use Rattle.zn_view.specs.declared.plan.Decision.{Decision}
 use Rattle.zn_view.specs.declared.plan.Decision.TheVariants.{Answered}
 use Rattle.zn_view.specs.Seen.{View}
-use Rattle.zn_reads.specs.Deciding.{IsDecided, IsReadDecision}
+use Rattle.zn_reads.specs.Deciding.{IsAnsweredBy, IsReadDecision}
 use Rattle.zn_reads.specs.Wanting.{IsFormed}
 
 -- ---- the form of each kind is that of its path
@@ -56,16 +57,11 @@ formed_false : (text : Bytes) (b : Bool) → is_path text ≡ b → (IsTrue (is_
 formed_false text true h bad = absurd (bad h)
 formed_false text false h bad = ap (λ b. if b then None else told no_watches (reply.Refused bad_arguments)) h
 
-none_some : {X : Type 0} {x : X} → None ≡ Some x → ⊥
-none_some e = cc
-
-some_is : {X : Type 0} {x y : X} → Some x ≡ Some y → x ≡ y
-some_is e = cc
-
-valid_decided : (r : Request) (text : Bytes) (v : View) (d : Decision) → IsFormed r text → is_path text ≡ true → IsDecided r v d → IsReadDecision r v d
+valid_decided : (r : Request) (text : Bytes) (v : View) (d : Decision) → IsFormed r text → is_path text ≡ true → IsAnsweredBy r v d → IsReadDecision r v d
 valid_decided r text v d formed valid decided = record {
   by_form = λ t h. absurd (none_some (sym (formed ∙ formed_true text valid) ∙ h));
-  decided = decided;
+  decided = decided.1;
+  answered = decided.0;
 }
 
 bad_decided : (r : Request) (text : Bytes) (v : View) → IsFormed r text → (IsTrue (is_path text) → ⊥) → IsReadDecision r v (Answered (reply.Refused bad_arguments) None)
@@ -73,13 +69,14 @@ bad_decided r text v formed bad =
     let plain : plain_request no_watches r ≡ told no_watches (reply.Refused bad_arguments) = formed ∙ formed_false text (is_path text) refl bad in record {
       by_form = λ t h. ap (λ (x : Told). Answered x.reply None) (some_is (sym plain ∙ h));
       decided = λ who whole s sound valid of none limit session. absurd (none_some (sym none ∙ plain));
+      answered = tt;
     }
 
 -- ---- as the path was read
 
-pub path-decided : (make : Bytes → Request) (text p : Bytes) (v : View) (d : Decision) → IsFormed (make text) text → IsPathOf text (Some p) → IsDecided (make p) v d → IsReadDecision (make text) v d
+pub path-decided : (make : Bytes → Request) (text p : Bytes) (v : View) (d : Decision) → IsFormed (make text) text → IsPathOf text (Some p) → IsAnsweredBy (make p) v d → IsReadDecision (make text) v d
 path-decided make text p v d formed path decided =
-    valid_decided (make text) text v d formed (subst (λ (q : Bytes). IsTrue (is_path q)) path.0 path.1) (subst (λ (q : Bytes). IsDecided (make q) v d) path.0 decided)
+    valid_decided (make text) text v d formed (subst (λ (q : Bytes). IsTrue (is_path q)) path.0 path.1) (subst (λ (q : Bytes). IsAnsweredBy (make q) v d) path.0 decided)
 
 pub no_path-decided : (make : Bytes → Request) (text : Bytes) (v : View) (d : Decision) → IsFormed (make text) text → IsPathOf text None → d ≡ Answered (reply.Refused bad_arguments) None → IsReadDecision (make text) v d
 no_path-decided make text v d formed bad is = subst (λ (x : Decision). IsReadDecision (make text) v x) (sym is) (bad_decided (make text) text v formed bad)

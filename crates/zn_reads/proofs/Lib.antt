@@ -7,7 +7,5 @@ pub mod Looking
 pub mod Forms
 pub mod Setting
 pub mod Remaining
-pub mod Elements
-pub mod Named
 pub mod Needed
 pub mod WatchKeys

@@ -15,7 +15,7 @@ use Rattle.zn_view.specs.Seen.{View, seen, listed}
 use Rattle.zn_view.specs.Views.{IsOf, reads, about_path}
 use Rattle.zn_reads.specs.Deciding.{LacksNothing}
 use Rattle.zn_reads.specs.Found.{HasLooked}
-use Rattle.zn_reads.proofs.Elements.{contains-first, contains-rest}
+use Rattle.zn_view.proofs.Elements.{contains-first, contains-rest}
 
 looked-all : (v : View) (ks : List Key) → ((k : Key) → Contains ks k → seen v (key_bytes k) ≡ None → ⊥) → HasLooked v ks
 looked-all v [] h = tt

@@ -1,7 +1,8 @@
 -- What is named is what is read and lacking, and all of it.
-use Rattle.std.proofs.Common.{◌≡◌, ℤ, not, Bool, true, false, List, [], ◌∷◌, ◌++◌, Option, Some, None, refl, sym, ap, ◌∙◌, subst, ◌⊎◌, ⊎_elim, inl, inr}
+use Rattle.std.proofs.Common.{◌≡◌, ◌≢◌, ℤ, not, Bool, true, false, List, [], ◌∷◌, ◌++◌, Option, Some, None, refl, sym, ap, ◌∙◌, subst, ◌⊎◌, ⊎_elim, inl, inr}
 use Rattle.std.specs.Prelude.{Contains, map, nat_abs, is_some, IsTrue, if◌then◌else◌}
-use Rattle.std.proofs.lemmas.List.Elements.{Contains-push, Contains-append_left, Contains-push_cases}
+use Rattle.std.proofs.lemmas.List.Elements.{Contains-get_or, Contains-push, Contains-append_left, Contains-push_cases}
+use Rattle.std.proofs.lemmas.List.Quantifiers.{all_pairs_push}
 use Rattle.zx_base.specs.Maps.{Bytes}
 use Rattle.zk_model.specs.declared.reply.Reply.TheVariants as reply
 use Rattle.zk_model.specs.declared.request.Request.{Request}
@@ -15,13 +16,15 @@ use Rattle.zn_layout.specs.ReadingSteps.{IsPathOf}
 use Rattle.zn_view.specs.declared.plan.Who.{Who}
 use Rattle.zn_view.specs.declared.want.Want.{Want}
 use Rattle.zn_view.specs.declared.want.Want.TheVariants as want
-use Rattle.zn_view.specs.Needs.{key_want, Follows, IsRead, IsLacking, AreNeeds}
+use Rattle.zn_view.specs.Needs.{key_want, Follows, IsRead, IsLacking, AreNeeds, is_multi}
 use Rattle.zn_view.specs.Seen.{View, listed}
 use Rattle.zn_view.specs.Views.{reads, about_path}
-use Rattle.zn_reads.specs.Wanting.{lacking, IsListingDue, with_listing, IsFormed, AreKeyNeeds, first_keys, AreListingWants}
+use Rattle.zn_view.specs.Lacking.{lacking}
+use Rattle.zn_view.proofs.Elements.{contains-first, contains-rest, contains-cases, contains-map, mapped-contained, empty-contains}
+use Rattle.zn_view.proofs.Named.{AreApart, IsNamed, lacking-once, named_all, only_all}
+use Rattle.zn_view.proofs.Wanted.{needs-from, no-needs}
+use Rattle.zn_reads.specs.Wanting.{IsListingDue, with_listing, IsFormed, AreKeyNeeds, first_keys, AreListingWants}
 use Rattle.zn_reads.proofs.Forms.{formed-exists, formed-get_data, formed-get_acl, formed-get_children, formed-get_children2, formed-check, formed-sync}
-use Rattle.zn_reads.proofs.Elements.{contains-first, contains-rest, contains-cases, contains-map, mapped-contained, empty-contains}
-use Rattle.zn_reads.proofs.Named.{IsNamed, named_all, only_all}
 
 -- ---- the keys of a request
 
@@ -55,9 +58,6 @@ pub record FollowsListing (r : Request) (who : Who) (v : View) (p : Bytes) (due 
   pub lacks : due ≡ true → listed v p ≡ None
   pub all : (w : Want) → Follows r who.session v w → IsLacking v w → (want.Children p ≡ w) × (due ≡ true)
 
-none_some : {X : Type 0} {x : X} → None ≡ Some x → ⊥
-none_some e = cc
-
 module _ (r : Request) (who : Who) (v : View) (p : Bytes) (due : Bool) (follows : FollowsListing r who v p due) where
   abbrev pub wanted : List Want
   wanted = with_listing p due (lacking v (read_keys r who))
@@ -68,31 +68,40 @@ module _ (r : Request) (who : Who) (v : View) (p : Bytes) (due : Bool) (follows 
       (λ h. (inr (inr (inr (subst (λ (x : Want). Follows r who.session v x) h.0 (follows.only h.1)))), subst (λ (x : Want). IsLacking v x) h.0 (follows.lacks h.1)))
       (listing_only p due (lacking v (read_keys r who)) w has)
 
-  key_wanted : (w : Want) (k : Key) → wanted ≡ [] → Contains (first_keys who ++ reads r who.session) k → w ≡ key_want k → IsLacking v w → ⊥
-  key_wanted w k none has is lacks = empty-contains wanted (key_want k) none
-      (listing_kept p due (lacking v (read_keys r who)) (key_want k)
+  key_wanted : (w : Want) (k : Key) → Contains (first_keys who ++ reads r who.session) k → w ≡ key_want k → IsLacking v w → Contains wanted w
+  key_wanted w k has is lacks = subst (Contains wanted) (sym is) (listing_kept p due (lacking v (read_keys r who)) (key_want k)
       (named_all v (read_keys r who) [] (key_bytes k) (contains-map key_bytes (first_keys who ++ reads r who.session) k has) (subst (λ (x : Want). IsLacking v x) is lacks)))
 
-  listing_wanted : (w : Want) → wanted ≡ [] → Follows r who.session v w → IsLacking v w → ⊥
-  listing_wanted w none h lacks =
-      let due_is = (follows.all w h lacks).1 in
-      empty-contains wanted (want.Children p) none (subst (λ (b : Bool). Contains (with_listing p b (lacking v (read_keys r who))) (want.Children p)) (sym due_is) (Contains-push (lacking v (read_keys r who)) (want.Children p)))
+  listing_wanted : (w : Want) → Follows r who.session v w → IsLacking v w → Contains wanted w
+  listing_wanted w h lacks =
+      let all = follows.all w h lacks in
+      subst (Contains wanted) all.0 (subst (λ (b : Bool). Contains (with_listing p b (lacking v (read_keys r who))) (want.Children p)) (sym all.1) (Contains-push (lacking v (read_keys r who)) (want.Children p)))
 
-  wanted_enough : wanted ≡ [] → (w : Want) → IsRead r who v w → IsLacking v w → ⊥
-  wanted_enough none w read lacks = ⊎_elim
-      (λ e. key_wanted w HeadKey none (contains-first HeadKey (LeaseKey (nat_abs who.session) ∷ reads r who.session)) e lacks)
+  wanted_all : (w : Want) → IsRead r who v w → IsLacking v w → Contains wanted w
+  wanted_all w read lacks = ⊎_elim
+      (λ e. key_wanted w HeadKey (contains-first HeadKey (LeaseKey (nat_abs who.session) ∷ reads r who.session)) e lacks)
       (λ h. ⊎_elim
-      (λ e. key_wanted w (LeaseKey (nat_abs who.session)) none (contains-rest HeadKey (LeaseKey (nat_abs who.session) ∷ reads r who.session) (LeaseKey (nat_abs who.session)) (contains-first (LeaseKey (nat_abs who.session)) (reads r who.session))) e lacks)
+      (λ e. key_wanted w (LeaseKey (nat_abs who.session)) (contains-rest HeadKey (LeaseKey (nat_abs who.session) ∷ reads r who.session) (LeaseKey (nat_abs who.session)) (contains-first (LeaseKey (nat_abs who.session)) (reads r who.session))) e lacks)
       (λ h. ⊎_elim
-      (λ k. key_wanted w k.0 none (contains-rest HeadKey (LeaseKey (nat_abs who.session) ∷ reads r who.session) k.0 (contains-rest (LeaseKey (nat_abs who.session)) (reads r who.session) k.0 k.1)) k.2 lacks)
-      (λ f. listing_wanted w none f lacks) h) h) read
+      (λ k. key_wanted w k.0 (contains-rest HeadKey (LeaseKey (nat_abs who.session) ∷ reads r who.session) k.0 (contains-rest (LeaseKey (nat_abs who.session)) (reads r who.session) k.0 k.1)) k.2 lacks)
+      (λ f. listing_wanted w f lacks) h) h) read
 
-  pub wanted-needed : plain_request no_watches r ≡ None → AreNeeds r who v wanted
-  wanted-needed plain = record {
-    only = wanted_only;
-    enough = λ none _ w read lacks. wanted_enough none w read lacks;
-    none = λ t h. absurd (none_some (sym plain ∙ h));
-  }
+  -- a listing is no key
+  no_listing_named : (w : Want) → Contains (lacking v (read_keys r who)) w → w ≡ want.Children p → ⊥
+  no_listing_named w has is = ⊎_elim
+      (λ none. absurd (empty-contains [] w refl none))
+      (λ named. let e : want.Children p ≡ want.Key named.0 = sym is ∙ named.2 in cc)
+      (only_all v (read_keys r who) [] w has)
+
+  wanted_once : AreApart wanted
+  wanted_once = once due
+    where
+      once : (b : Bool) → AreApart (with_listing p b (lacking v (read_keys r who)))
+      once true = all_pairs_push (λ (w u : Want). w ≢ u) (lacking v (read_keys r who)) (want.Children p) (lacking-once v (read_keys r who)) (λ i d lt is. no_listing_named _ (Contains-get_or (lacking v (read_keys r who)) i d lt) is)
+      once false = lacking-once v (read_keys r who)
+
+  pub wanted-needed : plain_request no_watches r ≡ None → is_multi r ≡ false → AreNeeds r who v wanted
+  wanted-needed plain single = needs-from r who v wanted wanted_only wanted_all wanted_once plain single
 
 -- ---- by the path
 
@@ -105,11 +114,7 @@ bad_formed text false h bad = ap (λ b. if b then None else told no_watches (rep
 
 -- a request whose path isn't valid reads nothing
 pub no_path-needed : (r : Request) (who : Who) (v : View) (text : Bytes) → IsFormed r text → IsPathOf text None → AreNeeds r who v []
-no_path-needed r who v text formed bad = record {
-  only = λ w has. absurd (empty-contains [] w refl has);
-  enough = λ _ none. absurd (none_some (sym none ∙ (formed ∙ bad_formed text (is_path text) refl bad)));
-  none = λ t h. refl;
-}
+no_path-needed r who v text formed bad = no-needs r who v _ [] refl (formed ∙ bad_formed text (is_path text) refl bad)
 
 pub no_listing : (r : Request) (who : Who) (v : View) (p : Bytes) → ((w : Want) → Follows r who.session v w → ⊥) → FollowsListing r who v p false
 no_listing r who v p none = record {
@@ -120,34 +125,34 @@ no_listing r who v p none = record {
 
 -- keys alone
 pub keys-needed : (text p : Bytes) (ks : List Key) (who : Who) (v : View) (ws : List Want) → IsPathOf text (Some p) → ws ≡ lacking v (map key_bytes (first_keys who ++ ks)) → AreKeyNeeds text ks who v ws
-keys-needed text p ks who v ws path is r formed reads_are none =
+keys-needed text p ks who v ws path is r formed single reads_are none =
     let all : lacking v (read_keys r who) ≡ ws = ap (λ (l : List Key). lacking v (map key_bytes (first_keys who ++ l))) reads_are ∙ sym is in
-    subst (λ (l : List Want). AreNeeds r who v l) all (wanted-needed r who v p false (no_listing r who v p none) (path_formed r text p formed path))
+    subst (λ (l : List Want). AreNeeds r who v l) all (wanted-needed r who v p false (no_listing r who v p none) (path_formed r text p formed path) single)
 
 pub no_path-key_needed : (text : Bytes) (ks : List Key) (who : Who) (v : View) (ws : List Want) → IsPathOf text None → ws ≡ [] → AreKeyNeeds text ks who v ws
-no_path-key_needed text ks who v ws bad is r formed reads_are none = subst (λ (l : List Want). AreNeeds r who v l) (sym is) (no_path-needed r who v text formed bad)
+no_path-key_needed text ks who v ws bad is r formed single reads_are none = subst (λ (l : List Want). AreNeeds r who v l) (sym is) (no_path-needed r who v text formed bad)
 
 -- ---- each kind
 
 pub exists-needed : (text : Bytes) (watch : Bool) (who : Who) (v : View) (ws : List Want) → AreKeyNeeds text (about_path text) who v ws → AreNeeds (req.Exists text watch) who v ws
 unfolding reads
-exists-needed text watch who v ws h = h (req.Exists text watch) (formed-exists text watch) refl (λ w f. f)
+exists-needed text watch who v ws h = h (req.Exists text watch) (formed-exists text watch) refl refl (λ w f. f)
 
 pub get_data-needed : (text : Bytes) (watch : Bool) (who : Who) (v : View) (ws : List Want) → AreKeyNeeds text (about_path text) who v ws → AreNeeds (req.GetData text watch) who v ws
 unfolding reads
-get_data-needed text watch who v ws h = h (req.GetData text watch) (formed-get_data text watch) refl (λ w f. f)
+get_data-needed text watch who v ws h = h (req.GetData text watch) (formed-get_data text watch) refl refl (λ w f. f)
 
 pub get_acl-needed : (text : Bytes) (who : Who) (v : View) (ws : List Want) → AreKeyNeeds text (about_path text) who v ws → AreNeeds (req.GetAcl text) who v ws
 unfolding reads
-get_acl-needed text who v ws h = h (req.GetAcl text) (formed-get_acl text) refl (λ w f. f)
+get_acl-needed text who v ws h = h (req.GetAcl text) (formed-get_acl text) refl refl (λ w f. f)
 
 pub check-needed : (text : Bytes) (version : ℤ) (who : Who) (v : View) (ws : List Want) → AreKeyNeeds text (DataKey text ∷ []) who v ws → AreNeeds (req.Check text version) who v ws
 unfolding reads
-check-needed text version who v ws h = h (req.Check text version) (formed-check text version) refl (λ w f. f)
+check-needed text version who v ws h = h (req.Check text version) (formed-check text version) refl refl (λ w f. f)
 
 pub sync-needed : (text : Bytes) (who : Who) (v : View) (ws : List Want) → AreKeyNeeds text [] who v ws → AreNeeds (req.Sync text) who v ws
 unfolding reads
-sync-needed text who v ws h = h (req.Sync text) (formed-sync text) refl (λ w f. f)
+sync-needed text who v ws h = h (req.Sync text) (formed-sync text) refl refl (λ w f. f)
 
 -- ---- getChildren
 
@@ -170,14 +175,14 @@ unfolding reads
 get_children-needed text p watch who v ws path wants =
     let here = subst (λ (q : Bytes). AreListingWants q who v ws) path.0 wants in
     subst (λ (l : List Want). AreNeeds (req.GetChildren text watch) who v l) (sym here.2)
-    (wanted-needed (req.GetChildren text watch) who v text here.0 (follows_names text watch who v here.0 here.1) (path_formed (req.GetChildren text watch) text p (formed-get_children text watch) path))
+    (wanted-needed (req.GetChildren text watch) who v text here.0 (follows_names text watch who v here.0 here.1) (path_formed (req.GetChildren text watch) text p (formed-get_children text watch) path) refl)
 
 pub get_children2-needed : (text p : Bytes) (watch : Bool) (who : Who) (v : View) (ws : List Want) → IsPathOf text (Some p) → AreListingWants p who v ws → AreNeeds (req.GetChildren2 text watch) who v ws
 unfolding reads
 get_children2-needed text p watch who v ws path wants =
     let here = subst (λ (q : Bytes). AreListingWants q who v ws) path.0 wants in
     subst (λ (l : List Want). AreNeeds (req.GetChildren2 text watch) who v l) (sym here.2)
-    (wanted-needed (req.GetChildren2 text watch) who v text here.0 (follows_stat text watch who v here.0 here.1) (path_formed (req.GetChildren2 text watch) text p (formed-get_children2 text watch) path))
+    (wanted-needed (req.GetChildren2 text watch) who v text here.0 (follows_stat text watch who v here.0 here.1) (path_formed (req.GetChildren2 text watch) text p (formed-get_children2 text watch) path) refl)
 
 -- the children weren't listed
 unlisted : (o : Option (List Bytes)) → not (is_some o) ≡ true → o ≡ None

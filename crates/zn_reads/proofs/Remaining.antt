@@ -22,6 +22,7 @@ set_watches_read : (since : ℤ) (exists datas children : List Bytes) (v : View)
 set_watches_read since exists datas children v = record {
   by_form = λ t h. absurd (set_watches_plain since exists datas children t h);
   decided = λ who whole s sound valid of none limit session. set_watches-decided s.tree limit session since exists datas children;
+  answered = tt;
 }
 
 -- it is none of the others

@@ -17,7 +17,8 @@ use Rattle.zn_view.specs.declared.want.Want.{Want}
 use Rattle.zn_view.specs.Needs.{AreNeeds}
 use Rattle.zn_view.specs.Seen.{View}
 use Rattle.zn_view.specs.Views.{reads, about_path, valid}
-use Rattle.zn_reads.specs.Wanting.{lacking, first_keys}
+use Rattle.zn_view.specs.Lacking.{lacking}
+use Rattle.zn_reads.specs.Wanting.{first_keys}
 use Rattle.zn_reads.proofs.Needed.{read_keys, no_listing, wanted-needed}
 
 set_watches_formed : (since : ℤ) (exists datas children : List Bytes) → plain_request no_watches (req.SetWatches since exists datas children) ≡ None
@@ -38,7 +39,7 @@ pub set_watches-needed : (since : ℤ) (who : Who) (v : View) (datas exists chil
 set_watches-needed since who v datas exists children keys ws keys_are is =
     let r = req.SetWatches since exists datas children in
     subst (λ (l : List Want). AreNeeds r who v l) (ap (lacking v) (set_watches_read since who datas exists children ∙ sym keys_are) ∙ sym is)
-    (wanted-needed r who v [] false (no_listing r who v [] (λ w f. f)) (set_watches_formed since exists datas children))
+    (wanted-needed r who v [] false (no_listing r who v [] (λ w f. f)) (set_watches_formed since exists datas children) refl)
 
 -- a text more
 valid-more : (texts : List Bytes) (i : ℕ) (t : Bytes) → i < length texts → t ≡ get_or texts i t → valid (take (i + 1) texts) ≡ valid (take i texts) ++ valid (t ∷ [])

@@ -7,7 +7,7 @@ use Rattle.zk_transcript.specs.Answers.{Told, plain_request, tree_reply}
 use Rattle.zk_transcript.specs.History.{State, IsSound}
 use Rattle.zn_layout.specs.Listing.{HasValidPaths}
 use Rattle.zn_view.specs.declared.plan.Decision.{Decision}
-use Rattle.zn_view.specs.declared.plan.Decision.TheVariants.{Answered}
+use Rattle.zn_view.specs.declared.plan.Decision.TheVariants.{Answered, Planned, Expired, Moved}
 use Rattle.zn_view.specs.declared.plan.Who.{Who}
 use Rattle.zn_view.specs.declared.want.Want.{Want}
 use Rattle.zn_view.specs.Needs.{IsRead, IsLacking}
@@ -47,6 +47,17 @@ IsDecided r v d =
     (who : Who) → LacksNothing r who v → (s : State) → IsSound s → (lists r ≡ true → HasValidPaths s.tree) → IsOf v s
     → plain_request no_watches r ≡ None → (limit : ℕ) (session : ℤ) → IsByTree r d (tree_reply s.tree limit session no_watches r)
 
+-- nothing is planned, and no session is tested
+abbrev pub IsAnswered : Decision → Type 0
+IsAnswered (Answered reply arm) = Unit {0}
+IsAnswered (Planned p) = ⊥
+IsAnswered Expired = ⊥
+IsAnswered (Moved found) = ⊥
+
+abbrev pub IsAnsweredBy : Request → View → Decision → Type 0
+IsAnsweredBy r v d = IsAnswered d × IsDecided r v d
+
 pub record IsReadDecision (r : Request) (v : View) (d : Decision) : Type 0 where
   pub by_form : IsToldByForm r d
   pub decided : IsDecided r v d
+  pub answered : IsAnswered d

@@ -1,7 +1,6 @@
 -- What a request still wants, as it is found.
-use Rattle.std.specs.Prelude.{◌≡◌, nat_abs, Bool, true, false, ◌||◌, cond, List, [], ◌∷◌, ◌++◌, map, fold, None, is_some}
-use Rattle.std.specs.List.{list_any}
-use Rattle.zx_base.specs.Maps.{Bytes, same}
+use Rattle.std.specs.Prelude.{◌≡◌, nat_abs, Bool, true, false, cond, List, [], ◌∷◌, ◌++◌, map, None}
+use Rattle.zx_base.specs.Maps.{Bytes}
 use Rattle.zk_model.specs.declared.request.Request.{Request}
 use Rattle.zk_model.specs.Watches.{no_watches}
 use Rattle.zk_transcript.specs.Answers.{plain_request, told_of_path}
@@ -9,22 +8,10 @@ use Rattle.zn_layout.specs.Keys.{Key, HeadKey, LeaseKey, key_bytes}
 use Rattle.zn_view.specs.declared.want.Want.{Want}
 use Rattle.zn_view.specs.declared.want.Want.TheVariants as want
 use Rattle.zn_view.specs.declared.plan.Who.{Who}
-use Rattle.zn_view.specs.Needs.{Follows, AreNeeds}
-use Rattle.zn_view.specs.Seen.{View, seen, listed}
+use Rattle.zn_view.specs.Lacking.{lacking}
+use Rattle.zn_view.specs.Needs.{Follows, AreNeeds, is_multi}
+use Rattle.zn_view.specs.Seen.{View, listed}
 use Rattle.zn_view.specs.Views.{reads, about_path}
-
--- ---- keys
-
-abbrev pub is_want_of : Bytes → Want → Bool
-is_want_of k (want.Key q) = same q k
-is_want_of k (want.Children p) = false
-
--- a key is named where it was not looked up and isn't named yet
-abbrev pub with_want : View → List Want → Bytes → List Want
-with_want v ws k = cond (is_some (seen v k) || list_any (is_want_of k) ws) ws (ws ++ want.Key k ∷ [])
-
-abbrev pub lacking : View → List Bytes → List Want
-lacking v ks = fold (with_want v) [] ks
 
 -- ---- children
 
@@ -44,7 +31,7 @@ IsFormed r text = plain_request no_watches r ≡ told_of_path no_watches text
 
 -- what is needed of each request of this path that looks up these keys and nothing that follows from them
 abbrev pub AreKeyNeeds : Bytes → List Key → Who → View → List Want → Type 0
-AreKeyNeeds text ks who v ws = (r : Request) → IsFormed r text → reads r who.session ≡ ks → ((w : Want) → Follows r who.session v w → ⊥) → AreNeeds r who v ws
+AreKeyNeeds text ks who v ws = (r : Request) → IsFormed r text → is_multi r ≡ false → reads r who.session ≡ ks → ((w : Want) → Follows r who.session v w → ⊥) → AreNeeds r who v ws
 
 -- the keys of each request: the head's, the session's life, and those of the row
 abbrev pub first_keys : Who → List Key

@@ -3,7 +3,7 @@
 ghost use Rattle.std.specs.Prelude.{IsTrue, ◌≡◌, IfOk};
 ghost use Rattle.zk_model.specs.Paths.{is_path};
 ghost use Rattle.zk_model.specs.declared.request.Request.TheVariants as req;
-ghost use Rattle.zn_reads.specs.Deciding.{IsDecided, IsReadDecision};
+ghost use Rattle.zn_reads.specs.Deciding.{IsAnsweredBy, IsReadDecision};
 ghost use Rattle.zn_reads.specs.Replies.{acl_reply};
 
 use crate::answer::bad_path;
@@ -26,7 +26,7 @@ fn acl_reply(stat: Option<Stat>) -> Reply
 
 fn get_acl_at(alloc: Global, path: &Path, view: &View) -> Result<Decision, Memory>
     requires { IsTrue (is_path path.now) }
-    ensures { IfOk result (IsDecided (req.GetAcl path.now) view.now) }
+    ensures { IfOk result (IsAnsweredBy (req.GetAcl path.now) view.now) }
 {
     Ok(Decision::Answered {
         reply: acl_reply(stat_at(alloc, path, view)?),

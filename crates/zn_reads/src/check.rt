@@ -4,7 +4,7 @@ ghost use Rattle.std.specs.Prelude.{IsTrue, ◌≡◌, IfOk};
 ghost use Rattle.zk_model.specs.Paths.{is_path};
 ghost use Rattle.zk_model.specs.Single.{matches};
 ghost use Rattle.zk_model.specs.declared.request.Request.TheVariants as req;
-ghost use Rattle.zn_reads.specs.Deciding.{IsDecided, IsReadDecision};
+ghost use Rattle.zn_reads.specs.Deciding.{IsAnsweredBy, IsReadDecision};
 ghost use Rattle.zn_reads.specs.Replies.{check_reply};
 
 use crate::answer::bad_path;
@@ -35,7 +35,7 @@ fn check_reply(asked: i32, version: Option<i32>) -> Reply
 
 fn check_at(alloc: Global, path: &Path, version: i32, view: &View) -> Result<Decision, Memory>
     requires { IsTrue (is_path path.now) }
-    ensures { IfOk result (IsDecided (req.Check path.now version) view.now) }
+    ensures { IfOk result (IsAnsweredBy (req.Check path.now version) view.now) }
 {
     Ok(Decision::Answered {
         reply: check_reply(version, version_at(alloc, path, view)?),

@@ -3,7 +3,7 @@
 ghost use Rattle.std.specs.Prelude.{IsTrue, ◌≡◌, is_some, IfOk};
 ghost use Rattle.zk_model.specs.Paths.{is_path};
 ghost use Rattle.zk_model.specs.declared.request.Request.TheVariants as req;
-ghost use Rattle.zn_reads.specs.Deciding.{IsDecided, IsReadDecision};
+ghost use Rattle.zn_reads.specs.Deciding.{IsAnsweredBy, IsReadDecision};
 ghost use Rattle.zn_reads.specs.Replies.{names_reply, names_stat_reply};
 
 use crate::answer::{bad_path, watch_if_good};
@@ -45,7 +45,7 @@ fn is_there(version: Option<i32>) -> bool
 /// Arms a child watch where the node is there.
 fn get_children_at(alloc: Global, path: &Path, watch: bool, view: &View) -> Result<Decision, Memory>
     requires { IsTrue (is_path path.now) }
-    ensures { IfOk result (IsDecided (req.GetChildren path.now watch) view.now) }
+    ensures { IfOk result (IsAnsweredBy (req.GetChildren path.now watch) view.now) }
 {
     let is_there = is_there(version_at(alloc, path, view)?);
     let reply = names_reply(names_at(alloc, path, view)?, is_there);
@@ -75,7 +75,7 @@ fn get_children2_at(
     view: &View,
 ) -> Result<Decision, Memory>
     requires { IsTrue (is_path path.now) }
-    ensures { IfOk result (IsDecided (req.GetChildren2 path.now watch) view.now) }
+    ensures { IfOk result (IsAnsweredBy (req.GetChildren2 path.now watch) view.now) }
 {
     let stat = stat_at(alloc, path, view)?;
     let reply = names_stat_reply(names_at(alloc, path, view)?, stat);

@@ -3,7 +3,7 @@
 ghost use Rattle.std.specs.Prelude.{IsTrue, ◌≡◌, IfOk};
 ghost use Rattle.zk_model.specs.Paths.{is_path};
 ghost use Rattle.zk_model.specs.declared.request.Request.TheVariants as req;
-ghost use Rattle.zn_reads.specs.Deciding.{IsDecided, IsReadDecision};
+ghost use Rattle.zn_reads.specs.Deciding.{IsAnsweredBy, IsReadDecision};
 ghost use Rattle.zn_reads.specs.Replies.{data_reply};
 
 use crate::answer::{bad_path, watch_if_good};
@@ -27,7 +27,7 @@ fn data_reply(content: Bytes, stat: Option<Stat>) -> Reply
 /// Arms a data watch where the node is there.
 fn get_data_at(alloc: Global, path: &Path, watch: bool, view: &View) -> Result<Decision, Memory>
     requires { IsTrue (is_path path.now) }
-    ensures { IfOk result (IsDecided (req.GetData path.now watch) view.now) }
+    ensures { IfOk result (IsAnsweredBy (req.GetData path.now watch) view.now) }
 {
     let stat = stat_at(alloc, path, view)?;
     let reply = data_reply(content_at(alloc, path, view)?, stat);

@@ -3,7 +3,7 @@
 ghost use Rattle.std.specs.Prelude.{IsTrue, ◌≡◌, IfOk};
 ghost use Rattle.zk_model.specs.Paths.{is_path};
 ghost use Rattle.zk_model.specs.declared.request.Request.TheVariants as req;
-ghost use Rattle.zn_reads.specs.Deciding.{IsDecided, IsReadDecision};
+ghost use Rattle.zn_reads.specs.Deciding.{IsAnsweredBy, IsReadDecision};
 ghost use Rattle.zn_reads.specs.Replies.{exists_reply};
 
 use crate::answer::{bad_path, watch_if};
@@ -27,7 +27,7 @@ fn exists_reply(stat: Option<Stat>) -> Reply
 /// Arms a data watch whether the node is there or not.
 fn exists_at(alloc: Global, path: &Path, watch: bool, view: &View) -> Result<Decision, Memory>
     requires { IsTrue (is_path path.now) }
-    ensures { IfOk result (IsDecided (req.Exists path.now watch) view.now) }
+    ensures { IfOk result (IsAnsweredBy (req.Exists path.now watch) view.now) }
 {
     let reply = exists_reply(stat_at(alloc, path, view)?);
     let arm = watch_if(alloc, watch, false, path)?;

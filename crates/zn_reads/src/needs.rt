@@ -1,14 +1,15 @@
 //! What a request that reads still has to look up.
 
 ghost use Rattle.std.specs.Prelude.{◌≡◌, ℤ, Bool, ◌∷◌, ◌++◌, ◌≤ℤ◌, [], pos, true, map, is_some, IfOk, IsTrue, OnOk};
-ghost use Rattle.std.specs.List.{flat_map, list_any};
+ghost use Rattle.std.specs.List.{flat_map};
 ghost use Rattle.zk_model.specs.Paths.{is_path};
 ghost use Rattle.zk_model.specs.declared.request.Request.TheVariants as req;
 ghost use Rattle.zn_layout.specs.Keys.{DataKey, key_bytes};
 ghost use Rattle.zn_reads.specs.Deciding.{is_read};
-ghost use Rattle.zn_reads.specs.Wanting.{is_want_of, with_want, lacking, first_keys, with_listing, IsListingDue, AreKeyNeeds, AreListingWants};
+ghost use Rattle.zn_reads.specs.Wanting.{first_keys, with_listing, IsListingDue, AreKeyNeeds, AreListingWants};
+ghost use Rattle.zn_view.specs.Lacking.{lacking};
 ghost use Rattle.zn_view.specs.Needs.{AreNeeds};
-ghost use Rattle.zn_view.specs.Seen.{seen, listed};
+ghost use Rattle.zn_view.specs.Seen.{listed};
 ghost use Rattle.zn_view.specs.Views.{about_path, valid};
 
 use crate::form::read_path;
@@ -17,52 +18,13 @@ use std::alloc::Global;
 use zk_model::{Path, Request};
 use zn_layout::{head_key, lease_key};
 use zn_view::{View, Want, Who};
-use zx_base::{Bytes, Memory, Text};
+use zx_base::{Bytes, Memory, Seq, Text};
 
-fn is_want_of(key: &[u8], want: &Want) -> bool
-    ensures { result ≡ is_want_of key.now want.now }
-{
-    match want {
-        Want::Key(wanted) => wanted.is(key),
-        Want::Children(_) => false,
-    }
-}
-
-fn is_wanted(wants: &[Want], key: &[u8]) -> bool
-    ensures { result ≡ list_any (is_want_of key.now) wants.now }
-{
-    wants.iter().any(|want| is_want_of(key, want))
-}
-
-fn is_seen(view: &View, key: &[u8]) -> bool
-    ensures { result ≡ is_some (seen view.now key.now) }
-{
-    match view.found(key) {
-        Some(_) => true,
-        None => false,
-    }
-}
-
-/// Names a key that was not looked up and is not named yet.
-fn want_key(wants: &mut Vec<Want>, key: Bytes, view: &View) -> Result<(), Memory>
-    ensures { OnOk result (wants.new.items ≡ with_want view.now wants.old.items key) }
-{
-    if is_seen(view, key.as_slice()) || is_wanted(wants.as_slice(), key.as_slice()) {
-        return Ok(());
-    }
-    wants.push(Want::Key(key))?;
-    Ok(())
-}
-
-/// Each key once that was not looked up. Takes time in proportion to the square of their number.
-fn lacking(alloc: Global, keys: Vec<Bytes>, view: &View) -> Result<Vec<Want>, Memory>
+/// Each key once that was not looked up.
+fn lacking(keys: Vec<Bytes>, view: &View) -> Result<Vec<Want>, Memory>
     ensures { IfOk result (λ ws. ws.items ≡ lacking view.now keys.items) }
 {
-    let mut wants = Vec::new(alloc);
-    for key in keys {
-        want_key(&mut wants, key, view)?;
-    }
-    Ok(wants)
+    Ok(view.lacking(Seq::from_vec(keys))?.into_vec())
 }
 
 /// The keys that each request reads: the head's and that of the session's life.
@@ -102,7 +64,7 @@ fn about_wants(alloc: Global, path: &Path, who: Who, view: &View) -> Result<Vec<
 {
     let mut keys = first_keys(alloc, who)?;
     push_about(alloc, path, &mut keys)?;
-    lacking(alloc, keys, view)
+    lacking(keys, view)
 }
 
 /// Of exists, getData and getACL.
@@ -123,7 +85,7 @@ fn data_wants(alloc: Global, path: &Path, who: Who, view: &View) -> Result<Vec<W
 {
     let mut keys = first_keys(alloc, who)?;
     push_data(alloc, path, &mut keys)?;
-    lacking(alloc, keys, view)
+    lacking(keys, view)
 }
 
 /// Of a check.
@@ -142,7 +104,7 @@ fn first_wants(alloc: Global, who: Who, view: &View) -> Result<Vec<Want>, Memory
     ensures { IfOk result (λ ws. ws.items ≡ lacking view.now (map key_bytes (first_keys who ++ []))) }
 {
     let keys = first_keys(alloc, who)?;
-    lacking(alloc, keys, view)
+    lacking(keys, view)
 }
 
 fn sync_needs(alloc: Global, text: &[u8], who: Who, view: &View) -> Result<Vec<Want>, Memory>
@@ -275,7 +237,7 @@ fn set_watches_needs(
     ensures { IfOk result (λ ws. (since : ℤ) → AreNeeds (req.SetWatches since exists.now datas.now children.now) who view.now ws.items) }
 {
     let keys = set_watches_keys(alloc, datas, exists, children, who)?;
-    lacking(alloc, keys, view)
+    lacking(keys, view)
 }
 
 /// What a request that reads still has to look up; nothing where the view lacks nothing, and where the request's path is not

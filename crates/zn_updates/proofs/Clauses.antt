@@ -1,44 +1,41 @@
 -- From the decision of a choice to what is promised of it.
-use Rattle.std.proofs.Common.{◌≡◌, ℕ, ◌≤◌, ℤ, pos, true, false, Bool, cond, List, [], ◌∷◌, ◌++◌, Option, Some, None, refl, sym, ap, ◌∙◌, subst, inl, inr, arith}
-use Rattle.std.specs.Prelude.{◌≤ℤ◌, nat_abs, IsTrue, if◌then◌else◌}
-use Rattle.std.proofs.lemmas.List.Elements.{All-cons, All-nil}
-use Rattle.ev_types.specs.declared.ask.Guard.{Guard}
-use Rattle.ev_types.specs.declared.answer.Kv.{Kv}
-use Rattle.ev_types.specs.Store.{mod_of}
-use Rattle.zx_base.specs.Maps.{Bytes, same}
-use Rattle.zx_base.proofs.MapLaws.{same-true}
+use Rattle.std.proofs.Common.{◌≡◌, ℕ, ◌≤◌, ℤ, pos, true, false, Bool, cond, length, List, None, refl, sym, ap, ◌∙◌, subst, arith}
+use Rattle.std.specs.Prelude.{◌≤ℤ◌, nat_abs, map, All, Contains}
+use Rattle.std.proofs.lemmas.List.{length-map}
+use Rattle.std.proofs.lemmas.List.Elements.{All-map}
+use Rattle.zx_base.specs.Maps.{Bytes}
+use Rattle.zx_base.proofs.Options.{none_some}
 use Rattle.zk_model.specs.declared.node.Trigger.{Trigger}
 use Rattle.zk_model.specs.declared.reply.PartResult.{PartResult}
 use Rattle.zk_model.specs.declared.request.Part.{Part}
 use Rattle.zk_model.specs.declared.request.Request.{Request}
 use Rattle.zk_model.specs.Limits.{max_moment, max_owned}
-use Rattle.zk_model.specs.Paths.{is_path}
 use Rattle.zk_model.specs.Watches.{no_watches}
-use Rattle.zk_transcript.specs.Answers.{Told, plain_request, tree_reply}
-use Rattle.zn_layout.specs.Changes.{Change, acts_of, head_put}
-use Rattle.zn_layout.specs.Keys.{HeadKey, LeaseKey, key_bytes}
-use Rattle.zn_layout.specs.Records.{trigger_path, IsHeadRec}
-use Rattle.zn_layout.proofs.Keys.{key_bytes-injective}
+use Rattle.zk_transcript.specs.Answers.{plain_request, tree_reply}
+use Rattle.zk_transcript.specs.History.{State, IsSound}
+use Rattle.zn_layout.specs.Changes.{Change}
+use Rattle.zn_layout.specs.Keys.{Key, LeaseKey, key_bytes}
 use Rattle.zn_view.specs.declared.plan.Decision.{Decision}
+use Rattle.zn_view.specs.declared.plan.Plan.{Plan}
 use Rattle.zn_view.specs.declared.plan.Who.{Who}
-use Rattle.zn_view.specs.declared.snapshot.SeenKey.{SeenKey}
-use Rattle.zn_view.specs.Asks.{guards_of, lease_guard, IsAskedPlan}
-use Rattle.zn_view.specs.Seen.{View, seen_in}
-use Rattle.zn_view.specs.Views.{IsByTree}
+use Rattle.zn_view.specs.declared.want.Want.{Want}
+use Rattle.zn_view.specs.declared.want.Want.TheVariants as want
+use Rattle.zn_view.specs.Asks.{again_of, WritesOnce}
+use Rattle.zn_view.specs.Lookups.{sees}
+use Rattle.zn_view.specs.Needs.{key_want, GuardsReads, IsRead}
+use Rattle.zn_view.specs.Seen.{View}
+use Rattle.zn_view.specs.Views.{IsByTree, IsOf, IsSmallPlan}
+use Rattle.zn_view.proofs.Elements.{contains-map, mapped-contained}
+use Rattle.zn_view.proofs.Members.{In, contains_in, in_contains, in_mapped}
+use Rattle.zn_view.proofs.Narrowing.{narrowed-asked, narrowed-plan, narrowed-seen}
+use Rattle.zn_view.proofs.PlanSizes.{plan-small}
+use Rattle.zn_view.proofs.Sizes.{again-present}
 use Rattle.zn_updates.specs.declared.chosen.Chosen.{Chosen}
 use Rattle.zn_updates.specs.Choices.{Choice, Refuse, Make}
-use Rattle.zn_updates.specs.Deciding.{IfMakes, IfMade, IfPlanned, IsAttached, IsByForm, IsBySound, IsGuarded, decision_of, plan_of}
+use Rattle.zn_updates.specs.Deciding.{IfMakes, IfMade, IfPlanned, IsAttached, IsToldByForm, IsBySound, IsGuarded, decision_of, on_keys, plan_of}
 use Rattle.zn_updates.specs.Making.{chosen_of}
 use Rattle.zn_updates.proofs.Deciding.{IsPart, IsChosen, by_tree, plan_is}
-use Rattle.zn_updates.proofs.Lacking.{In, in_contains}
-
--- ---- triggers within their bounds
-
-pub one_trigger : (t : Trigger) → IsTrue (is_path (trigger_path t)) → IsHeadRec (t ∷ [])
-one_trigger t valid = record { count = omega arith; valid = All-cons (λ u. IsTrue (is_path (trigger_path u))) t [] valid (All-nil (λ u. IsTrue (is_path (trigger_path u)))) }
-
-pub two_triggers : (t u : Trigger) → IsTrue (is_path (trigger_path t)) → IsTrue (is_path (trigger_path u)) → IsHeadRec (t ∷ u ∷ [])
-two_triggers t u valid also = record { count = omega arith; valid = All-cons (λ w. IsTrue (is_path (trigger_path w))) t (u ∷ []) valid (one_trigger u also).valid }
+use Rattle.zn_updates.proofs.WellMade.{AreWellMade, IfChanges}
 
 pub makes_cond : (P : List Trigger → Type 0) (b : Bool) (x y : Choice) → IfMakes P x → IfMakes P y → IfMakes P (cond b x y)
 makes_cond P true x y f g = f
@@ -51,63 +48,88 @@ made_makes P (Make cs ts draft) h = h
 pub if_made : (P : List Trigger → Type 0) (chosen : Chosen) (c : Choice) → chosen ≡ chosen_of c → IfMakes P c → IfMade P chosen
 if_made P chosen c e h = subst (IfMade P) (sym e) (made_makes P c h)
 
--- ---- the session's record is guarded
+-- ---- the keys that were looked up
 
-true_false : true ≡ false → ⊥
-true_false e = cc
+-- a key of these is seen on them as on the whole view
+pub near_sees : (v : View) (ks : List Key) (k : Key) → In k ks → sees (on_keys v ks) k ≡ sees v k
+near_sees v ks k h = narrowed-seen v (map key_bytes ks) (key_bytes k) (in_mapped key_bytes k ks h)
 
-some_same : {X : Type 0} (x y : X) → Some x ≡ Some y → x ≡ y
-some_same x y e = cc
+abbrev pub IsShortKey : Key → Type 0
+IsShortKey k = length (key_bytes k) ≤ 1033
 
-abbrev guard_on : Bytes → Option Kv → Guard
-guard_on k o = record { key = k; mod_revision = mod_of o }
+-- these keys are those that the request reads
+pub record AreKeys (r : Request) (who : Who) (v : View) (ks : List Key) : Type 0 where
+  pub few : length ks ≤ 8
+  pub short : All IsShortKey ks
+  pub life : In (LeaseKey (nat_abs who.session)) ks
+  pub from : (k : Key) → In k ks → IsRead r who v (key_want k)
+  pub to : (w : Want) → IsRead r who v w → (k : Key) × In k ks × (w ≡ key_want k)
 
-guard_in : (k : Bytes) (xs : List SeenKey) (o : Option Kv) → same k (key_bytes HeadKey) ≡ false → seen_in k xs ≡ Some o → In (guard_on k o) (guards_of xs)
-guard_in k [] o apart e = absurd (cc)
-guard_in k (x ∷ xs) o apart e =
-    elim (same x.key k) as (λ b. same x.key k ≡ b → (if b then Some x.found else seen_in k xs) ≡ Some o → In (guard_on k o) (guards_of (x ∷ xs))) [
-      | true ↦ λ h is. subst (λ b. In (guard_on k o) (if b then guards_of xs else guard_on x.key x.found ∷ guards_of xs)) (sym (ap (λ (y : Bytes). same y (key_bytes HeadKey)) (same-true x.key k h) ∙ apart))
-          (inl (λ i. guard_on (same-true x.key k h i) (some_same x.found o is i)))
-      | false ↦ λ h is. elim (same x.key (key_bytes HeadKey)) as (λ b. In (guard_on k o) (if b then guards_of xs else guard_on x.key x.found ∷ guards_of xs)) [
-        | true ↦ guard_in k xs o apart is
-        | false ↦ inr (guard_in k xs o apart is)
-      ]
-    ] refl e
-
-life_apart : (n : ℕ) → same (key_bytes (LeaseKey n)) (key_bytes HeadKey) ≡ false
-life_apart n = elim (same (key_bytes (LeaseKey n)) (key_bytes HeadKey)) as (λ b. same (key_bytes (LeaseKey n)) (key_bytes HeadKey) ≡ b → b ≡ false) [
-  | true ↦ λ h. let e : LeaseKey n ≡ HeadKey = key_bytes-injective (LeaseKey n) HeadKey (same-true _ _ h) in absurd (cc)
-  | false ↦ λ h. refl
-] refl
-
-pub asked : (who : Who) (v : View) (cs : List Change) (ts : List Trigger) (draft : PartResult) → IsAttached who v → IsAskedPlan who v (plan_of v cs ts draft)
-asked who v cs ts draft attached = record {
-  guards = refl;
-  again = refl;
-  lease = in_contains (lease_guard who) (guards_of v.keys)
-      (subst (λ (n : ℤ). In (record { key = key_bytes (LeaseKey (nat_abs who.session)); mod_revision = n }) (guards_of v.keys)) attached.2
-      (guard_in (key_bytes (LeaseKey (nat_abs who.session))) v.keys (Some attached.0) (life_apart (nat_abs who.session)) attached.1));
-  shows = (acts_of (cs ++ head_put ts ∷ []), refl);
-}
+abbrev key_in : Want → Bytes
+key_in (want.Key k) = k
+key_in (want.Children q) = q
 
 -- ---- all that is promised
 
-module _ (r : Request) (p : Part) (who : Who) (v : View) (choice : ℕ → Choice) (now : ℕ) (part : IsPart r p) (chosen : IsChosen p who v choice) (moment : now ≤ max_moment) (real : pos 1 ≤ℤ who.session)
-    (plain : plain_request no_watches r ≡ None) (bounds : IfMakes IsHeadRec (choice now)) (d : Decision) (is : d ≡ decision_of v (choice now)) where
-  never : (o : Option Told) (t : Told) → o ≡ None → o ≡ Some t → ⊥
-  never None t e f = cc
-  never (Some x) t e f = cc
-
-  pub by_form : IsByForm r d
-  by_form t e = absurd (never (plain_request no_watches r) t plain e)
+module _ (r : Request) (p : Part) (who : Who) (v : View) (ks : List Key) (choice : ℕ → Choice) (now : ℕ) (part : IsPart r p) (chosen : IsChosen p who v choice) (moment : now ≤ max_moment) (real : pos 1 ≤ℤ who.session)
+    (plain : plain_request no_watches r ≡ None) (d : Decision) (is : d ≡ decision_of (on_keys v ks) (choice now)) where
+  pub by_form : IsToldByForm r d
+  by_form t e = absurd (none_some (sym plain ∙ e))
 
   pub by_sound : IsBySound r who v d
   by_sound _ s sound of x opened = subst (λ (y : Decision). IsByTree r y (tree_reply s.tree max_owned who.session no_watches r)) (sym is)
-      (by_tree r p who v choice now part chosen s sound of x opened)
+      (by_tree r p who v (on_keys v ks) choice now part chosen s sound of x opened)
 
-  planned_by : (c : Choice) → choice now ≡ c → IfMakes IsHeadRec c → IfPlanned (IsGuarded r who now v) (decision_of v c)
-  planned_by (Refuse code) e h = tt
-  planned_by (Make cs ts draft) e h = λ attached. (plan_is r p who v choice now part chosen moment cs ts draft e h real attached, asked who v cs ts draft attached)
+  -- ---- a plan
 
-  pub planned : IfPlanned (IsGuarded r who now v) d
-  planned = subst (IfPlanned (IsGuarded r who now v)) (sym is) (planned_by (choice now) refl bounds)
+  module _ (near : IsChosen p who (on_keys v ks) choice) (keys : AreKeys r who v ks) where
+    key_read : (k : Bytes) → Contains (map key_bytes ks) k → IsRead r who v (want.Key k)
+    key_read k has =
+        let key = mapped-contained key_bytes ks k has in
+        subst (λ (b : Bytes). IsRead r who v (want.Key b)) (sym key.2) (keys.from key.0 (contains_in key.0 ks key.1))
+
+    read_key : (k : Bytes) → IsRead r who v (want.Key k) → Contains (map key_bytes ks) k
+    read_key k reads =
+        let key = keys.to (want.Key k) reads in
+        subst (Contains (map key_bytes ks)) (sym (ap key_in key.2)) (contains-map key_bytes ks key.0 (in_contains key.0 ks key.1))
+
+    module _ (cs : List Change) (ts : List Trigger) (draft : PartResult) (made : choice now ≡ Make cs ts draft) (well : AreWellMade v cs ts) where
+      abbrev plan : Plan
+      plan = plan_of (on_keys v ks) cs ts draft
+
+      guards_reads : GuardsReads r who v plan
+      guards_reads = record { keys = map key_bytes ks; guards = refl; again = refl; all = read_key; only = key_read }
+
+      writes : WritesOnce plan
+      writes = record { changes = cs; acts = refl; once = well.once; leases = well.leases; triggers = well.triggers; reads = again-present (again_of (on_keys v ks).keys) }
+
+      small : (s : State) → IsSound s → IsOf v s → IsSmallPlan plan
+      small s sound of = plan-small v (map key_bytes ks) plan cs (omega (arith, length-map ks key_bytes, keys.few)) (All-map (λ (k : Bytes). length k ≤ 1033) key_bytes ks keys.short) well.few (well.small s sound of) well.told well.triggers refl refl refl
+
+      life_inside : In (key_bytes (LeaseKey (nat_abs who.session))) (map key_bytes ks)
+      life_inside = in_mapped key_bytes (LeaseKey (nat_abs who.session)) ks keys.life
+
+      near_attached : IsAttached who v → IsAttached who (on_keys v ks)
+      near_attached a = (a.0, near_sees v ks (LeaseKey (nat_abs who.session)) keys.life ∙ a.1, a.2)
+
+      guarded : IsGuarded r who now v plan
+      guarded = record {
+        commits = λ attached. (
+          narrowed-plan r who now v (map key_bytes ks) plan _ refl (plan_is r p who (on_keys v ks) choice now part near moment cs ts draft made well.triggers real (near_attached attached)),
+          narrowed-asked who v (map key_bytes ks) plan cs attached.0 refl refl refl life_inside attached.1 attached.2,
+        );
+        reads = guards_reads;
+        writes = writes;
+        small = small;
+      }
+
+    planned_by : (c : Choice) → choice now ≡ c → IfChanges (AreWellMade v) c → IfPlanned (IsGuarded r who now v) (decision_of (on_keys v ks) c)
+    planned_by (Refuse code) e h = tt
+    planned_by (Make cs ts draft) e h = guarded cs ts draft e h
+
+    pub planned : IfChanges (AreWellMade v) (choice now) → IfPlanned (IsGuarded r who now v) d
+    planned well = subst (IfPlanned (IsGuarded r who now v)) (sym is) (planned_by (choice now) refl well)
+
+-- a refusal is no plan
+pub refused_plans : (r : Request) (who : Who) (v near : View) (now : ℕ) (code : ℤ) (d : Decision) → d ≡ decision_of near (Refuse code) → IfPlanned (IsGuarded r who now v) d
+refused_plans r who v near now code d is = subst (IfPlanned (IsGuarded r who now v)) (sym is) tt

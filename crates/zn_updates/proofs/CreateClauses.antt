@@ -1,11 +1,14 @@
 -- The decision of a create is what is promised of it.
-use Rattle.std.proofs.Common.{◌≡◌, ℕ, ◌≤◌, ℤ, pos, true, false, Bool, cond, List, [], ◌++◌, length, Option, Some, None, refl, sym, ap, ◌∙◌, subst, inl, inr, ⊎_elim, is_some}
-use Rattle.std.specs.Prelude.{◌≤ℤ◌, not, nat_abs, IsTrue, nat_le, if◌then◌else◌}
+use Rattle.std.proofs.Common.{◌≡◌, ℕ, ◌≤◌, ℤ, pos, true, false, Bool, cond, List, [], ◌∷◌, ◌++◌, length, arith, Option, Some, None, refl, sym, ap, ◌∙◌, subst, inl, inr, ⊎_elim, is_some}
+use Rattle.std.specs.Prelude.{◌≤ℤ◌, All, not, nat_abs, map, IsTrue, nat_le, if◌then◌else◌}
+use Rattle.std.proofs.lemmas.List.{length-append}
+use Rattle.std.proofs.lemmas.List.Elements.{All-append, All-cons, All-nil}
 use Rattle.std.specs.FinMap.{get}
 use Rattle.std.specs.Ordering.{int_eq}
 use Rattle.ev_types.specs.declared.answer.Kv.{Kv}
 use Rattle.ev_types.specs.Ranges.{Keys}
 use Rattle.zx_base.specs.Maps.{Bytes}
+use Rattle.zx_base.proofs.Options.{some_is}
 use Rattle.zk_model.specs.declared.node.Node.{Node}
 use Rattle.zk_model.specs.declared.node.Trigger.TheVariants.{Created, Children}
 use Rattle.zk_model.specs.declared.request.Acl.{Acl}
@@ -26,7 +29,8 @@ use Rattle.zk_transcript.specs.History.{State, Session, IsSound, commit, session
 use Rattle.zn_layout.specs.declared.record.CountRec.{CountRec}
 use Rattle.zn_layout.specs.Keys.{Key, HeadKey, DataKey, CountsKey, SessionKey, LeaseKey, key_bytes}
 use Rattle.zn_layout.specs.Reading.{IsValueOf}
-use Rattle.zn_layout.specs.Records.{counts_value, IsCountRec, IsHeadRec, IsLongCount}
+use Rattle.zn_layout.specs.Records.{counts_value, IsCountRec, IsHeadRec, IsLongCount, IsSessionRec}
+use Rattle.zn_layout.proofs.Paths.{path_short}
 use Rattle.zn_layout.specs.StandsFor.{StandsFor}
 use Rattle.zn_layout.proofs.Nodes.{counts_value-injective}
 use Rattle.zn_view.specs.declared.plan.Decision.{Decision}
@@ -34,28 +38,29 @@ use Rattle.zn_view.specs.declared.plan.Who.{Who}
 use Rattle.zn_view.specs.declared.want.Want.{Want}
 use Rattle.zn_view.specs.Lookups.{HasSeen, sees}
 use Rattle.zn_view.specs.Needs.{AreNeeds, Follows, IsRead, key_want}
+use Rattle.zn_view.specs.Lacking.{lacking}
 use Rattle.zn_view.specs.Seen.{View, seen}
 use Rattle.zn_view.specs.Views.{reads, about_parent}
+use Rattle.zn_view.proofs.Members.{In, contains_in, in_contains, in_left, in_right, in_either}
+use Rattle.zn_view.proofs.Sizes.{counts-size, data-size, head-size, life-size, session-size}
+use Rattle.zn_view.proofs.Wanted.{are-needs}
 use Rattle.zn_updates.specs.declared.seen.SeenData.{SeenData}
 use Rattle.zn_updates.specs.declared.seen.SeenCounts.{SeenCounts}
 use Rattle.zn_updates.specs.Choices.{Choice, Refuse, create_choice, create_owned}
 use Rattle.zn_updates.specs.declared.form.Form.{Form}
 use Rattle.zn_updates.specs.Forms.{IsFormOf}
-use Rattle.zn_updates.specs.Deciding.{IfMakes, IfPlanned, IsByForm, IsBySound, IsCreate, IsGuarded, IsOwnPaths, IsUpLookedUp, IsWhole, creates_in, path_for}
-use Rattle.zn_updates.specs.Lacking.{lacking_from, create_keys, numbered, numbered_at, plain_data, session_nodes, IsCreatesSeen, IsParentCreates}
-use Rattle.zn_updates.specs.Making.{IsDataSeen, IsCountsSeen, has_found}
+use Rattle.zn_updates.specs.Deciding.{IfMakes, IfPlanned, IsToldByForm, IsBySound, IsCreate, IsGuarded, IsOwnPaths, IsUpLookedUp, IsWhole, creates_in, creates_seen, decision_of, on_keys, path_for}
+use Rattle.zn_updates.specs.KeysRead.{create_keys, numbered, numbered_at, plain_data, session_nodes, IsCreatesSeen, IsParentCreates}
+use Rattle.zn_updates.specs.Making.{IsDataSeen, IsCountsSeen, IsPathsSeen, has_found}
 use Rattle.zn_updates.specs.Right.{IsRight}
 use Rattle.zn_updates.specs.Seen.{ShowsCounts, ShowsOwned}
-use Rattle.zn_updates.proofs.Clauses.{makes_cond, two_triggers, by_form, by_sound, planned}
+use Rattle.zn_updates.proofs.Clauses.{AreKeys, IsShortKey, makes_cond, by_form, by_sound, near_sees, planned, refused_plans}
 use Rattle.zn_updates.proofs.CreateRight.{create_right, created_under}
 use Rattle.zn_updates.proofs.Deciding.{IsPart, IsChosen, code_of}
-use Rattle.zn_updates.proofs.Lacking.{In, contains_in, in_contains, in_left, in_right, in_either, are_needs}
+use Rattle.zn_updates.proofs.WellMade.{create-made, paths-listed, two_triggers}
 use Rattle.zn_updates.proofs.Meanings.{of_abs}
 use Rattle.zn_updates.proofs.Showing.{data-shown, counts-shown, paths-shown, there-shown}
 use Rattle.zn_updates.proofs.Telling.{Tells}
-
-some_same : {X : Type 0} (x y : X) → Some x ≡ Some y → x ≡ y
-some_same x y e = cc
 
 -- whatever node is there, without the parent's counts nothing is created
 same_taken : (p q content : Bytes) (now : ℕ) (ephemeral : Bool) (session : ℤ) (x : Option SeenData) (paths : Option (List Bytes)) (a b : Bool)
@@ -112,6 +117,42 @@ create_refused path content acl flags code e = ap (told_refusal no_watches) e
 pub form_at : (path : Bytes) (acl : List Acl) (flags was : ℤ) (form value : Form) → was ≡ flags → form ≡ value → ((content : Bytes) → IsFormOf (is_sequential was) path (form_refusal (Create path content acl was)) form)
     → (content : Bytes) → IsFormOf (is_sequential flags) path (form_refusal (Create path content acl flags)) value
 form_at path acl flags was form value same is h content = subst (λ (t : ℤ × Form). IsFormOf (is_sequential t.0) path (form_refusal (Create path content acl t.0)) t.1) (λ i. (same i, is i)) (h content)
+
+-- ---- the keys of a create
+
+path-in : (sequential ephemeral : Bool) (path q : Bytes) (id : ℤ) (w : SeenCounts) → In (DataKey (path_for sequential path (Some w))) (create_keys sequential ephemeral path (Some q) id (creates_seen (Some w)))
+path-in true ephemeral path q id w = inr (inr (inr (inr (in_right _ (plain_data true path ++ session_nodes ephemeral id) (numbered true path (creates_seen (Some w))) (inl refl)))))
+path-in false ephemeral path q id w = inr (inr (inr (inr (in_left _ (plain_data false path ++ session_nodes ephemeral id) (numbered false path (creates_seen (Some w))) (in_left _ (plain_data false path) (session_nodes ephemeral id) (inl refl))))))
+
+own-in : (sequential ephemeral : Bool) (path q : Bytes) (id : ℤ) (creates : Option ℕ) → ephemeral ≡ true → In (SessionKey (nat_abs id)) (create_keys sequential ephemeral path (Some q) id creates)
+own-in sequential ephemeral path q id creates e = inr (inr (inr (inr (in_left _ (plain_data sequential path ++ session_nodes ephemeral id) (numbered sequential path creates)
+    (in_right _ (plain_data sequential path) (session_nodes ephemeral id) (subst (λ b. In (SessionKey (nat_abs id)) (session_nodes b id)) (sym e) (inl refl)))))))
+
+plain-few : (sequential : Bool) (path : Bytes) → length (plain_data sequential path) ≤ 1
+plain-few true path = omega arith
+plain-few false path = omega arith
+
+own-few : (ephemeral : Bool) (id : ℤ) → length (session_nodes ephemeral id) ≤ 1
+own-few true id = omega arith
+own-few false id = omega arith
+
+numbered-few : (sequential : Bool) (path : Bytes) (creates : Option ℕ) → length (numbered sequential path creates) ≤ 1
+numbered-few true path None = omega arith
+numbered-few true path (Some n) = omega arith
+numbered-few false path creates = omega arith
+
+plain-short : (sequential : Bool) (path : Bytes) → is_valid sequential path ≡ true → All IsShortKey (plain_data sequential path)
+plain-short true path h = All-nil IsShortKey
+plain-short false path h = All-cons IsShortKey (DataKey path) [] (omega (arith, data-size path, path_short path h)) (All-nil IsShortKey)
+
+own-short : (ephemeral : Bool) (id : ℤ) → All IsShortKey (session_nodes ephemeral id)
+own-short true id = All-cons IsShortKey (SessionKey (nat_abs id)) [] (omega (arith, session-size (nat_abs id))) (All-nil IsShortKey)
+own-short false id = All-nil IsShortKey
+
+numbered-short : (sequential : Bool) (path : Bytes) (creates : Option ℕ) → is_valid sequential path ≡ true → All IsShortKey (numbered sequential path creates)
+numbered-short true path None h = All-nil IsShortKey
+numbered-short true path (Some n) h = All-cons IsShortKey (DataKey (sequence_path path n)) [] (omega (arith, data-size (sequence_path path n), path_short (sequence_path path n) (sequence-valid path n h))) (All-nil IsShortKey)
+numbered-short false path creates h = All-nil IsShortKey
 
 module _ (path content : Bytes) (acl : List Acl) (flags : ℤ) (formed : form_refusal (Create path content acl flags) ≡ None) (valid : is_valid (is_sequential flags) path ≡ true) where
   create_plain : plain_request no_watches (req.Create path content acl flags) ≡ told_refusal no_watches (form_refusal (Create path content acl flags))
@@ -203,31 +244,6 @@ module _ (path content : Bytes) (acl : List Acl) (flags : ℤ) (formed : form_re
     same_code = λ now. refl;
   }
 
-  -- ---- what is promised
-
-  module _ (who : Who) (v : View) (now : ℕ) (moment : now ≤ max_moment) (short : length content ≤ max_frame) (real : pos 1 ≤ℤ who.session) (long : IsLongCount who.session) (d : Decision) where
-    pub all_promised : (q : Option Bytes) → parent (named flags path) ≡ q → ((w : SeenCounts) (r : Bytes) → q ≡ Some r → IsCountsSeen (sees v (CountsKey r)) (Some w) → HasSeen v (DataKey (path_for (is_sequential flags) path (Some w)))) → IsCreate v path content now (is_sequential flags) (is_ephemeral flags) who.session q d
-        → IsByForm (req.Create path content acl flags) d × IsBySound (req.Create path content acl flags) who v d × IfPlanned (IsGuarded (req.Create path content acl flags) who now v) d
-    all_promised None none looked_up is =
-        let chosen = root_chosen who v none in
-        let choice : ℕ → Choice = λ _. Refuse node_exists in
-        let bounds : IfMakes IsHeadRec (choice now) = tt in (
-          by_form (req.Create path content acl flags) (Create path content acl flags) who v choice now create_part chosen moment real create_formed bounds d is,
-          by_sound (req.Create path content acl flags) (Create path content acl flags) who v choice now create_part chosen moment real create_formed bounds d is,
-          planned (req.Create path content acl flags) (Create path content acl flags) who v choice now create_part chosen moment real create_formed bounds d is,
-        )
-    all_promised (Some q) up looked_up is =
-        let p = path_for (is_sequential flags) path is.1 in
-        let seen_at : (w : SeenCounts) → is.1 ≡ Some w → HasSeen v (DataKey p) = λ w e.
-        subst (λ (o : Option SeenCounts). HasSeen v (DataKey (path_for (is_sequential flags) path o))) (sym e) (looked_up w q refl (subst (λ (o : Option SeenCounts). IsCountsSeen (sees v (CountsKey q)) o) e is.4)) in
-        let chosen = below_chosen who v q up short long is.0 is.1 is.2 is.3 is.4 is.5 seen_at in
-        let choice : ℕ → Choice = λ at_moment. create_choice p q content at_moment (is_ephemeral flags) who.session is.0 is.1 (has_found (sees v (DataKey p))) is.2 in
-        let bounds : IfMakes IsHeadRec (choice now) = create_bounds p q content now (is_ephemeral flags) who.session is.0 is.1 (has_found (sees v (DataKey p))) is.2 (valid_path (creates_in is.1)) (parent_is_valid q up) in (
-          by_form (req.Create path content acl flags) (Create path content acl flags) who v choice now create_part chosen moment real create_formed bounds d is.6,
-          by_sound (req.Create path content acl flags) (Create path content acl flags) who v choice now create_part chosen moment real create_formed bounds d is.6,
-          planned (req.Create path content acl flags) (Create path content acl flags) who v choice now create_part chosen moment real create_formed bounds d is.6,
-        )
-
   -- ---- what it reads
 
   abbrev fixed : ℤ → List Key
@@ -242,7 +258,7 @@ module _ (path content : Bytes) (acl : List Acl) (flags : ℤ) (formed : form_re
   number_follows who v q n sequential up = elim (sees v (CountsKey q)) as (λ o. sees v (CountsKey q) ≡ o → IsCreatesSeen o (Some n) → Follows (req.Create path content acl flags) who.session v (key_want (DataKey (sequence_path path n)))) [
     | None ↦ λ e h. absurd (cc)
     | Some None ↦ λ e h. absurd (cc)
-    | Some (Some kv) ↦ λ e h. (sequential, q, sym (ap (λ b. parent (if b then with_one path else path)) sequential) ∙ up, h.0, (h.1.0, (kv, e, h.1.1)), ap (λ (k : ℕ). key_want (DataKey (sequence_path path k))) (some_same n _ h.2))
+    | Some (Some kv) ↦ λ e h. (sequential, q, sym (ap (λ b. parent (if b then with_one path else path)) sequential) ∙ up, h.0, (h.1.0, (kv, e, h.1.1)), ap (λ (k : ℕ). key_want (DataKey (sequence_path path k))) (some_is h.2))
   ] refl
 
   numbered_follows : (who : Who) (v : View) (creates : Option ℕ) → IsParentCreates v (parent (named flags path)) creates → (k : Key) → In k (numbered (is_sequential flags) path creates) → Follows (req.Create path content acl flags) who.session v (key_want k)
@@ -286,11 +302,11 @@ module _ (path content : Bytes) (acl : List Acl) (flags : ℤ) (formed : form_re
       subst (λ (t : Bool × Option ℕ). In (DataKey (sequence_path path (nat_abs r.creates))) (numbered t.0 path t.1)) (λ i. (sym sequential i, sym number i)) (inl refl) in
       (DataKey (sequence_path path (nat_abs r.creates)), inr (inr (in_right _ (fixed who.session) (numbered (is_sequential flags) path creates) inside)), e)
 
-  pub create_needs : (who : Who) (v : View) (ws : List Want) (q : Option Bytes) (creates : Option ℕ) → q ≡ parent (named flags path) → IsParentCreates v q creates → ws ≡ lacking_from v [] (create_keys (is_sequential flags) (is_ephemeral flags) path q who.session creates)
+  pub create_needs : (who : Who) (v : View) (ws : List Want) (q : Option Bytes) (creates : Option ℕ) → q ≡ parent (named flags path) → IsParentCreates v q creates → ws ≡ lacking v (map key_bytes (create_keys (is_sequential flags) (is_ephemeral flags) path q who.session creates))
       → AreNeeds (req.Create path content acl flags) who v ws
   create_needs who v ws q creates up is e =
-      are_needs (req.Create path content acl flags) who v (create_keys (is_sequential flags) (is_ephemeral flags) path (parent (named flags path)) who.session creates) ws
-      (e ∙ ap (λ (o : Option Bytes). lacking_from v [] (create_keys (is_sequential flags) (is_ephemeral flags) path o who.session creates)) up) create_formed
+      are-needs (req.Create path content acl flags) who v (create_keys (is_sequential flags) (is_ephemeral flags) path (parent (named flags path)) who.session creates) ws
+      (e ∙ ap (λ (o : Option Bytes). lacking v (map key_bytes (create_keys (is_sequential flags) (is_ephemeral flags) path o who.session creates))) up) create_formed refl
       (reads_from who v creates (subst (λ (o : Option Bytes). IsParentCreates v o creates) up is)) (reads_to who v creates (subst (λ (o : Option Bytes). IsParentCreates v o creates) up is))
 
   fixed_seen : (who : Who) (v : View) → IsWhole (req.Create path content acl flags) who v → (k : Key) → In k (fixed who.session) → HasSeen v k
@@ -320,3 +336,102 @@ module _ (path content : Bytes) (acl : List Acl) (flags : ℤ) (formed : form_re
   pub up_looked_up : (who : Who) (v : View) → IsWhole (req.Create path content acl flags) who v → (q : Option Bytes) → parent (named flags path) ≡ q → IsUpLookedUp v q
   up_looked_up who v whole None up = tt
   up_looked_up who v whole (Some q) up = up_seen who v whole q up
+
+  -- ---- the keys that a plan guards
+
+  -- the creates that the view saw
+  creates_are : (o : Option (Option Kv)) (c : Option SeenCounts) → IsCountsSeen o c → IsCreatesSeen o (creates_seen c)
+  creates_are None c h = absurd h
+  creates_are (Some None) None h = refl
+  creates_are (Some None) (Some w) h = absurd h
+  creates_are (Some (Some kv)) None h = absurd h
+  creates_are (Some (Some kv)) (Some w) h = (h.0, h.1, ap (λ (k : SeenCounts). Some (nat_abs k.counts.creates)) h.2)
+
+  plan_keys : (who : Who) (v : View) (q : Bytes) (c : Option SeenCounts) → parent (named flags path) ≡ Some q → IsCountsSeen (sees v (CountsKey q)) c
+      → AreKeys (req.Create path content acl flags) who v (create_keys (is_sequential flags) (is_ephemeral flags) path (Some q) who.session (creates_seen c))
+  plan_keys who v q c up counts_seen =
+      let plain : List Key = plain_data (is_sequential flags) path in
+      let own : List Key = session_nodes (is_ephemeral flags) who.session in
+      let last : List Key = numbered (is_sequential flags) path (creates_seen c) in
+      let above = path_short q (parent_is_valid q up) in
+      let is : IsParentCreates v (parent (named flags path)) (creates_seen c) = subst (λ (o : Option Bytes). IsParentCreates v o (creates_seen c)) (sym up) (creates_are (sees v (CountsKey q)) c counts_seen) in
+      let same : (l : Option Bytes) → List Key = λ l. create_keys (is_sequential flags) (is_ephemeral flags) path l who.session (creates_seen c) in
+      let few_plain = plain-few (is_sequential flags) path in
+      let few_own = own-few (is_ephemeral flags) who.session in
+      let few_last = numbered-few (is_sequential flags) path (creates_seen c) in
+      record {
+        few = omega (arith, few_plain, few_own, few_last, length-append (plain ++ own) last, length-append plain own);
+        short = All-cons IsShortKey HeadKey (LeaseKey (nat_abs who.session) ∷ DataKey q ∷ CountsKey q ∷ (plain ++ own) ++ last) (omega (arith, head-size))
+            (All-cons IsShortKey (LeaseKey (nat_abs who.session)) (DataKey q ∷ CountsKey q ∷ (plain ++ own) ++ last) (omega (arith, life-size (nat_abs who.session)))
+            (All-cons IsShortKey (DataKey q) (CountsKey q ∷ (plain ++ own) ++ last) (omega (arith, data-size q, above))
+            (All-cons IsShortKey (CountsKey q) ((plain ++ own) ++ last) (omega (arith, counts-size q, above))
+            (All-append IsShortKey (plain ++ own) last (All-append IsShortKey plain own (plain-short (is_sequential flags) path valid) (own-short (is_ephemeral flags) who.session)) (numbered-short (is_sequential flags) path (creates_seen c) valid)))));
+        life = inr (inl refl);
+        from = λ k h. reads_from who v (creates_seen c) is k (subst (λ (o : Option Bytes). In k (same o)) (sym up) h);
+        to = λ w reads. let k = reads_to who v (creates_seen c) is w reads in (k.0, subst (λ (o : Option Bytes). In k.0 (same o)) up k.1, k.2);
+      }
+
+  -- ---- what is promised
+
+  module _ (who : Who) (v : View) (now : ℕ) (moment : now ≤ max_moment) (short : length content ≤ max_frame) (real : pos 1 ≤ℤ who.session) (long : IsLongCount who.session) (d : Decision) where
+    module _ (q : Bytes) (up : parent (named flags path) ≡ Some q) (looked_up : (w : SeenCounts) → IsCountsSeen (sees v (CountsKey q)) (Some w) → HasSeen v (DataKey (path_for (is_sequential flags) path (Some w))))
+        (is : IsCreate v path content now (is_sequential flags) (is_ephemeral flags) who.session (Some q) d) where
+      abbrev node : Bytes
+      node = path_for (is_sequential flags) path is.1
+
+      abbrev keys : List Key
+      keys = create_keys (is_sequential flags) (is_ephemeral flags) path (Some q) who.session (creates_seen is.1)
+
+      abbrev decided : ℕ → Choice
+      decided at_moment = create_choice node q content at_moment (is_ephemeral flags) who.session is.0 is.1 (has_found (sees v (DataKey node))) is.2
+
+      path_seen : (w : SeenCounts) → is.1 ≡ Some w → HasSeen v (DataKey node)
+      path_seen w e = subst (λ (o : Option SeenCounts). HasSeen v (DataKey (path_for (is_sequential flags) path o))) (sym e) (looked_up w (subst (λ (o : Option SeenCounts). IsCountsSeen (sees v (CountsKey q)) o) e is.4))
+
+      chosen : IsChosen (Create path content acl flags) who v decided
+      chosen = below_chosen who v q up short long is.0 is.1 is.2 is.3 is.4 is.5 path_seen
+
+      -- the node's key is among those
+      path_near : (w : SeenCounts) → is.1 ≡ Some w → sees (on_keys v keys) (DataKey node) ≡ sees v (DataKey node)
+      path_near w e = near_sees v keys (DataKey node) (subst (λ (o : Option SeenCounts). In (DataKey (path_for (is_sequential flags) path o)) (create_keys (is_sequential flags) (is_ephemeral flags) path (Some q) who.session (creates_seen o))) (sym e) (path-in (is_sequential flags) (is_ephemeral flags) path q who.session w))
+
+      near_taken : (o : Option SeenCounts) → is.1 ≡ o → (at_moment : ℕ) → create_choice node q content at_moment (is_ephemeral flags) who.session is.0 is.1 (has_found (sees (on_keys v keys) (DataKey node))) is.2 ≡ decided at_moment
+      near_taken None e at_moment =
+          subst (λ (o : Option SeenCounts). create_choice node q content at_moment (is_ephemeral flags) who.session is.0 o (has_found (sees (on_keys v keys) (DataKey node))) is.2 ≡ create_choice node q content at_moment (is_ephemeral flags) who.session is.0 o (has_found (sees v (DataKey node))) is.2) (sym e)
+          (same_taken node q content at_moment (is_ephemeral flags) who.session is.0 is.2 _ _)
+      near_taken (Some w) e at_moment = ap (λ (o : Option (Option Kv)). create_choice node q content at_moment (is_ephemeral flags) who.session is.0 is.1 (has_found o) is.2) (path_near w e)
+
+      near_own : IsOwnPaths (on_keys v keys) (is_ephemeral flags) who.session is.2
+      near_own e = subst (λ (o : Option (Option Kv)). IsPathsSeen o is.2) (sym (near_sees v keys (SessionKey (nat_abs who.session)) (own-in (is_sequential flags) (is_ephemeral flags) path q who.session (creates_seen is.1) e))) (is.5 e)
+
+      near : IsChosen (Create path content acl flags) who (on_keys v keys) decided
+      near = subst (λ (f : ℕ → Choice). IsChosen (Create path content acl flags) who (on_keys v keys) f) (λ i at_moment. near_taken is.1 refl at_moment i)
+          (below_chosen who (on_keys v keys) q up short long is.0 is.1 is.2
+          (subst (λ (o : Option (Option Kv)). IsDataSeen o is.0) (sym (near_sees v keys (DataKey q) (inr (inr (inl refl))))) is.3)
+          (subst (λ (o : Option (Option Kv)). IsCountsSeen o is.1) (sym (near_sees v keys (CountsKey q) (inr (inr (inr (inl refl)))))) is.4)
+          near_own (λ w e none. path_seen w e (sym (path_near w e) ∙ none)))
+
+      listed : is_ephemeral flags ≡ true → (ps : List Bytes) → is.2 ≡ Some ps → IsSessionRec ps
+      listed e ps es = paths-listed (sees v (SessionKey (nat_abs who.session))) ps (subst (λ (o : Option (List Bytes)). IsPathsSeen (sees v (SessionKey (nat_abs who.session))) o) es (is.5 e))
+
+      below_promised : IsToldByForm (req.Create path content acl flags) d × IsBySound (req.Create path content acl flags) who v d × IfPlanned (IsGuarded (req.Create path content acl flags) who now v) d
+      below_promised = (
+        by_form (req.Create path content acl flags) (Create path content acl flags) who v keys decided now create_part chosen moment real create_formed d is.6,
+        by_sound (req.Create path content acl flags) (Create path content acl flags) who v keys decided now create_part chosen moment real create_formed d is.6,
+        planned (req.Create path content acl flags) (Create path content acl flags) who v keys decided now create_part chosen moment real create_formed d is.6 near (plan_keys who v q is.1 up is.4)
+            (create-made node q (valid_path (creates_in is.1)) (made_below q up (creates_in is.1)) v content short now (is_ephemeral flags) who.session is.0 is.1 (has_found (sees v (DataKey node))) is.2 listed),
+      )
+
+    root_promised : parent (named flags path) ≡ None → d ≡ decision_of v (Refuse node_exists) → IsToldByForm (req.Create path content acl flags) d × IsBySound (req.Create path content acl flags) who v d × IfPlanned (IsGuarded (req.Create path content acl flags) who now v) d
+    root_promised none is =
+        let chosen = root_chosen who v none in
+        let choice : ℕ → Choice = λ _. Refuse node_exists in (
+          by_form (req.Create path content acl flags) (Create path content acl flags) who v [] choice now create_part chosen moment real create_formed d is,
+          by_sound (req.Create path content acl flags) (Create path content acl flags) who v [] choice now create_part chosen moment real create_formed d is,
+          refused_plans (req.Create path content acl flags) who v v now node_exists d is,
+        )
+
+    pub all_promised : (q : Option Bytes) → parent (named flags path) ≡ q → ((w : SeenCounts) (r : Bytes) → q ≡ Some r → IsCountsSeen (sees v (CountsKey r)) (Some w) → HasSeen v (DataKey (path_for (is_sequential flags) path (Some w)))) → IsCreate v path content now (is_sequential flags) (is_ephemeral flags) who.session q d
+        → IsToldByForm (req.Create path content acl flags) d × IsBySound (req.Create path content acl flags) who v d × IfPlanned (IsGuarded (req.Create path content acl flags) who now v) d
+    all_promised None none looked_up is = root_promised none is
+    all_promised (Some q) up looked_up is = below_promised q up (λ w h. looked_up w q refl h) is

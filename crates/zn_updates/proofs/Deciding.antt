@@ -5,6 +5,7 @@ use Rattle.std.proofs.lemmas.Int.{ints}
 use Rattle.ev_types.specs.declared.answer.Kv.{Kv}
 use Rattle.ev_types.specs.Ranges.{Keys}
 use Rattle.ev_types.specs.Store.{acts_applied, last_revision}
+use Rattle.zx_base.proofs.Options.{some_is}
 use Rattle.zk_model.specs.declared.node.Trigger.{Trigger}
 use Rattle.zk_model.specs.declared.reply.PartResult.{PartResult}
 use Rattle.zk_model.specs.declared.reply.PartResult.TheVariants as result
@@ -33,7 +34,8 @@ use Rattle.zn_view.specs.Views.{IsByTree, IsDone, IsOf, IsPlan, MayCommit, done_
 use Rattle.zn_updates.specs.Choices.{Choice, Refuse, Make}
 use Rattle.zn_updates.specs.Deciding.{IsAttached, decision_of, plan_of}
 use Rattle.zn_updates.specs.Right.{IsRight, IsOutcome, with_tree}
-use Rattle.zn_updates.proofs.Telling.{Tells, agreed, guarded}
+use Rattle.zn_view.proofs.AsSeen.{agrees-as_seen, commits-as_seen}
+use Rattle.zn_updates.proofs.Telling.{Tells, told}
 
 -- the request is this part, asked alone
 pub record IsPart (r : Request) (p : Part) : Type 0 where
@@ -52,11 +54,8 @@ pub record IsChosen (p : Part) (who : Who) (v : View) (choice : ℕ → Choice) 
       → IsRight z s (choice now) (single s.tree max_owned who.session p z now)
   pub same_code : (now : ℕ) → code_of (choice now) ≡ code_of (choice 0)
 
-some_same : {X : Type 0} (x y : X) → Some x ≡ Some y → x ≡ y
-some_same x y e = cc
-
 refuse_of : (c : Choice) (code : ℤ) → code_of c ≡ Some code → c ≡ Refuse code
-refuse_of (Refuse x) code e = ap Refuse (some_same x code e)
+refuse_of (Refuse x) code e = ap Refuse (some_is e)
 refuse_of (Make cs ts draft) code e = absurd (cc)
 
 -- ---- by the tree
@@ -73,12 +72,13 @@ by_choice : (r : Request) (v : View) (s : State) (zero_choice c : Choice) (o : O
 by_choice r v s first (Refuse code) o e right = refused_told r code o (subst (λ (x : Choice). IsRight (pos 0) s x o) (refuse_of first code (sym e)) right)
 by_choice r v s first (Make cs ts draft) o e right = done_told r v cs ts draft (pos 0) s first o (sym e) right
 
-pub by_tree : (r : Request) (p : Part) (who : Who) (v : View) (choice : ℕ → Choice) (now : ℕ) → IsPart r p → IsChosen p who v choice → (s : State) → IsSound s → IsOf v s → (x : Session) → session_at who.session s ≡ Some x
-    → IsByTree r (decision_of v (choice now)) (tree_reply s.tree max_owned who.session no_watches r)
-by_tree r p who v choice now part chosen s sound of x opened =
-    subst (IsByTree r (decision_of v (choice now))) (sym (part.told s.tree max_owned who.session))
-    (by_choice r v s (choice 0) (choice now) _ (chosen.same_code now)
-    (chosen.right of.0 s (pos 0) 0 (omega arith) sound of.1 (agreed v of.0 of.2.keys) x opened))
+-- whatever keys its plan guards
+pub by_tree : (r : Request) (p : Part) (who : Who) (v near : View) (choice : ℕ → Choice) (now : ℕ) → IsPart r p → IsChosen p who v choice → (s : State) → IsSound s → IsOf v s → (x : Session) → session_at who.session s ≡ Some x
+    → IsByTree r (decision_of near (choice now)) (tree_reply s.tree max_owned who.session no_watches r)
+by_tree r p who v near choice now part chosen s sound of x opened =
+    subst (IsByTree r (decision_of near (choice now))) (sym (part.told s.tree max_owned who.session))
+    (by_choice r near s (choice 0) (choice now) _ (chosen.same_code now)
+    (chosen.right of.0 s (pos 0) 0 (omega arith) sound of.1 (told v of.0 (agrees-as_seen v of.0 of.2)) x opened))
 
 -- ---- the plan
 
@@ -117,7 +117,7 @@ module _ (r : Request) (p : Part) (who : Who) (v : View) (choice : ℕ → Choic
 
   module _ (m : Keys) (s : State) (z : ℤ) (sound : IsSound s) (stands : StandsFor m s) (may : MayCommit plan v m) (above : s.zxid <ℤ z) where
     tells : Tells v m
-    tells = guarded v m may.holds may.same may.put
+    tells = told v m (commits-as_seen plan v m refl may)
 
     id_is : pos (nat_abs who.session) ≡ who.session
     id_is = omega (arith, ints, real)

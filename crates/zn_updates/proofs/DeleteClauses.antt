@@ -1,6 +1,7 @@
 -- The decision of a delete is what is promised of it.
-use Rattle.std.proofs.Common.{◌≡◌, ◌≢◌, ℕ, ◌≤◌, ℤ, pos, true, false, Bool, cond, List, [], ◌∷◌, ◌++◌, Option, Some, None, refl, sym, ap, ◌∙◌, subst, inl, inr, ⊎_elim}
-use Rattle.std.specs.Prelude.{◌≤ℤ◌, not, nat_abs, IsTrue, ◌&&◌}
+use Rattle.std.proofs.Common.{◌≡◌, ◌≢◌, ℕ, ◌≤◌, ℤ, pos, true, false, Bool, cond, List, [], ◌∷◌, ◌++◌, Option, Some, None, refl, sym, ap, ◌∙◌, subst, inl, inr, ⊎_elim, length, arith}
+use Rattle.std.specs.Prelude.{◌≤ℤ◌, All, not, nat_abs, map, IsTrue, ◌&&◌}
+use Rattle.std.proofs.lemmas.List.Elements.{All-cons, All-nil}
 use Rattle.std.specs.FinMap.{get}
 use Rattle.std.specs.Ordering.{int_eq}
 use Rattle.std.proofs.lemmas.Bool.Decides.{Decides-int_eq}
@@ -26,30 +27,37 @@ use Rattle.zn_layout.specs.Keys.{Key, HeadKey, DataKey, CountsKey, SessionKey, L
 use Rattle.zn_layout.specs.Reading.{IsValueOf}
 use Rattle.zn_layout.specs.Records.{node_value, IsNodeRec, IsHeadRec}
 use Rattle.zn_layout.specs.StandsFor.{StandsFor}
+use Rattle.zn_layout.specs.Records.{IsSessionRec}
 use Rattle.zn_layout.proofs.Nodes.{node_value-injective}
+use Rattle.zn_layout.proofs.Paths.{path_short}
 use Rattle.zn_view.specs.declared.plan.Decision.{Decision}
 use Rattle.zn_view.specs.declared.plan.Who.{Who}
 use Rattle.zn_view.specs.declared.want.Want.{Want}
 use Rattle.zn_view.specs.Lookups.{HasSeen, sees}
 use Rattle.zn_view.specs.Needs.{AreNeeds, Follows, IsRead, key_want}
+use Rattle.zn_view.specs.Lacking.{lacking}
 use Rattle.zn_view.specs.Seen.{View, seen}
-use Rattle.zn_view.specs.Views.{reads, about_path, counts_of_parent}
+use Rattle.zn_view.specs.Views.{IsOf, reads, about_path, counts_of_parent}
+use Rattle.zn_view.proofs.AsSeen.{agrees-as_seen}
+use Rattle.zn_view.proofs.Members.{In, contains_in, in_contains, in_left, in_right, in_either}
+use Rattle.zn_view.proofs.Sizes.{counts-size, data-size, head-size, life-size, session-size}
+use Rattle.zn_view.proofs.Wanted.{are-needs}
 use Rattle.zn_updates.specs.declared.seen.SeenData.{SeenData}
 use Rattle.zn_updates.specs.declared.seen.SeenCounts.{SeenCounts}
 use Rattle.zn_updates.specs.Choices.{Choice, Refuse, delete_choice, delete_here, delete_owned}
-use Rattle.zn_updates.specs.Deciding.{IfMakes, IfPlanned, IsByForm, IsBySound, IsDelete, IsGuarded, IsOwnerLookedUp, IsOwnerPaths, IsWhole}
-use Rattle.zn_updates.specs.Lacking.{lacking_from, owner_nodes, delete_keys, IsOwnerSeen}
+use Rattle.zn_updates.specs.Deciding.{decision_of, IfMakes, IfPlanned, IsToldByForm, IsBySound, IsDelete, IsGuarded, IsOwnerLookedUp, IsOwnerPaths, IsWhole, on_keys, owner_seen}
+use Rattle.zn_updates.specs.KeysRead.{owner_nodes, delete_keys, IsOwnerSeen}
 use Rattle.zn_updates.specs.Making.{IsDataSeen, IsCountsSeen, IsPathsSeen}
 use Rattle.zn_updates.specs.Right.{IsRight}
 use Rattle.zn_updates.specs.Seen.{ShowsData, ShowsOwned}
-use Rattle.zn_updates.proofs.Clauses.{makes_cond, two_triggers, by_form, by_sound, planned}
+use Rattle.zn_updates.proofs.Clauses.{AreKeys, IsShortKey, makes_cond, by_form, by_sound, near_sees, planned, refused_plans}
 use Rattle.zn_updates.proofs.Deciding.{IsPart, IsChosen}
 use Rattle.zn_updates.proofs.DeleteRight.{delete_right}
 use Rattle.zn_updates.proofs.Forms.{delete_refusal}
-use Rattle.zn_updates.proofs.Lacking.{In, contains_in, in_contains, in_left, in_right, in_either, are_needs}
+use Rattle.zn_updates.proofs.WellMade.{delete-made, paths-listed, two_triggers}
 use Rattle.zn_updates.proofs.Meanings.{int_eq-apart, of_abs}
 use Rattle.zn_updates.proofs.Showing.{data-shown, counts-shown, paths-shown}
-use Rattle.zn_updates.proofs.Telling.{Tells}
+use Rattle.zn_updates.proofs.Telling.{Tells, told}
 
 both : (a b : Bool) → (a && b) ≡ true → (a ≡ true) × (b ≡ true)
 both true b h = (refl, h)
@@ -73,6 +81,16 @@ module _ (v : View) (m : Keys) (s : State) (sound : IsSound s) (stands : StandsF
       let same_owner : y.owner ≡ n.owner = ap (λ (w : SeenData). w.owner) shows.is in
       let session = sound.owners p n there (λ e. owns (same_owner ∙ e)) in
       by_session y.owner shows.within.owner.least (session.0, ap (λ (o : ℤ). session_at o s) same_owner ∙ session.1) seen_paths
+
+-- and they are few
+few_owned : (v : View) (m : Keys) (s : State) → IsSound s → StandsFor m s → Tells v m → (p : Bytes) (y : SeenData) (ps : List Bytes) (n : Option Node) → get s.tree p ≡ n → ShowsData (pos 0) (Some y) n → (y.owner ≡ pos 0 → ⊥)
+    → IsPathsSeen (sees v (SessionKey (nat_abs y.owner))) (Some ps) → length ps ≤ max_owned
+few_owned v m s sound stands tells p y ps None there shows owns seen_paths = absurd shows
+few_owned v m s sound stands tells p y ps (Some n) there shows owns seen_paths =
+    let same_owner : y.owner ≡ n.owner = ap (λ (w : SeenData). w.owner) shows.is in
+    let session = sound.owners p n there (λ e. owns (same_owner ∙ e)) in
+    let shown = by_node v m s sound stands tells (pos 0) p y (Some ps) (Some n) there shows owns seen_paths in
+    subst (λ (l : List Bytes). length l ≤ max_owned) (sym shown.is) (sound.limited y.owner session.0 (ap (λ (o : ℤ). session_at o s) same_owner ∙ session.1))
 
 module _ (p : Bytes) (version : ℤ) where
   pub delete_plain : plain_request no_watches (req.Delete p version) ≡ told_refusal no_watches (form_refusal (Delete p version))
@@ -129,28 +147,6 @@ module _ (p : Bytes) (version : ℤ) where
     right = λ m s z now moment sound stands tells y opened. effect_is s who.session z now valid ∙ no_parent s z sound (not_root p (both _ _ valid).1) none (get s.tree p) refl;
     same_code = λ now. refl;
   }
-
-  -- ---- what is promised
-
-  module _ (who : Who) (v : View) (now : ℕ) (valid : (is_path p && not (same p root)) ≡ true) (moment : now ≤ max_moment) (real : pos 1 ≤ℤ who.session) (d : Decision) where
-    pub all_promised : (q : Option Bytes) → parent p ≡ q → IsDelete v p version q d → IsByForm (req.Delete p version) d × IsBySound (req.Delete p version) who v d × IfPlanned (IsGuarded (req.Delete p version) who now v) d
-    all_promised None none is =
-        let chosen = orphan_chosen who v valid none in
-        let choice : ℕ → Choice = λ _. Refuse no_node in
-        let bounds : IfMakes IsHeadRec (choice now) = tt in (
-          by_form (req.Delete p version) (Delete p version) who v choice now delete_part chosen moment real (delete_valid valid) bounds d is,
-          by_sound (req.Delete p version) (Delete p version) who v choice now delete_part chosen moment real (delete_valid valid) bounds d is,
-          planned (req.Delete p version) (Delete p version) who v choice now delete_part chosen moment real (delete_valid valid) bounds d is,
-        )
-    all_promised (Some q) below is =
-        let path = (both _ _ valid).0 in
-        let chosen = delete_chosen who v q is.0 is.1 is.2 is.3 valid below is.4 is.5 is.6 is.7 in
-        let choice : ℕ → Choice = λ _. delete_choice p q version is.0 is.1 is.2 is.3 in
-        let bounds : IfMakes IsHeadRec (choice now) = delete_bounds q is.0 is.1 is.2 is.3 path (parent-valid p q path below).0 in (
-          by_form (req.Delete p version) (Delete p version) who v choice now delete_part chosen moment real (delete_valid valid) bounds d is.8,
-          by_sound (req.Delete p version) (Delete p version) who v choice now delete_part chosen moment real (delete_valid valid) bounds d is.8,
-          planned (req.Delete p version) (Delete p version) who v choice now delete_part chosen moment real (delete_valid valid) bounds d is.8,
-        )
 
   -- ---- what it reads
 
@@ -211,9 +207,9 @@ module _ (p : Bytes) (version : ℤ) where
       let same_owner = same_node v owner is h.0 node in
       (SessionKey (nat_abs owner), inr (inr (in_right _ fixed (owner_nodes owner) (owner_in owner (λ e. h.2 (sym same_owner ∙ e))))), h.3 ∙ ap (λ (o : ℤ). key_want (SessionKey (nat_abs o))) (sym same_owner))
 
-  pub delete_needs : (who : Who) (v : View) (ws : List Want) (q : Option Bytes) (owner : ℤ) → (is_path p && not (same p root)) ≡ true → q ≡ parent p → IsOwnerSeen (sees v (DataKey p)) owner → ws ≡ lacking_from v [] (delete_keys p q who.session owner) → AreNeeds (req.Delete p version) who v ws
+  pub delete_needs : (who : Who) (v : View) (ws : List Want) (q : Option Bytes) (owner : ℤ) → (is_path p && not (same p root)) ≡ true → q ≡ parent p → IsOwnerSeen (sees v (DataKey p)) owner → ws ≡ lacking v (map key_bytes (delete_keys p q who.session owner)) → AreNeeds (req.Delete p version) who v ws
   delete_needs who v ws q owner valid up is e =
-      are_needs (req.Delete p version) who v (delete_keys p (parent p) who.session owner) ws (e ∙ ap (λ (o : Option Bytes). lacking_from v [] (delete_keys p o who.session owner)) up) (delete_valid valid) (reads_from who v owner is) (reads_to who v owner is)
+      are-needs (req.Delete p version) who v (delete_keys p (parent p) who.session owner) ws (e ∙ ap (λ (o : Option Bytes). lacking v (map key_bytes (delete_keys p o who.session owner))) up) (delete_valid valid) refl (reads_from who v owner is) (reads_to who v owner is)
 
   pub delete_seen : (who : Who) (v : View) (k : Key) → (is_path p && not (same p root)) ≡ true → IsWhole (req.Delete p version) who v → In k fixed → HasSeen v k
   delete_seen who v k valid whole inside none = whole (delete_valid valid) (key_want k) (inr (inr (inl (k, in_contains k _ (subst (In k) (sym (reads_are who.session)) inside), refl)))) none
@@ -234,3 +230,105 @@ module _ (p : Bytes) (version : ℤ) where
             let same_owner : y.owner ≡ g.0.owner = ap (λ (w : SeenData). w.owner) g.2 in
             (g.0, (g.1.0, (kv, e, g.1.1)), (λ z. owns (same_owner ∙ z)), ap (λ (o : ℤ). key_want (SessionKey (nat_abs o))) same_owner)
       ] refl h
+
+  -- ---- the keys that a plan guards
+
+  owner_few : (owner : ℤ) → length (owner_nodes owner) ≤ 1
+  owner_few owner = elim (int_eq owner (pos 0)) as (λ b. length (cond b [] (SessionKey (nat_abs owner) ∷ [])) ≤ 1) [ true ↦ omega arith | false ↦ omega arith ]
+
+  owner_short : (owner : ℤ) → All IsShortKey (owner_nodes owner)
+  owner_short owner = elim (int_eq owner (pos 0)) as (λ b. All IsShortKey (cond b [] (SessionKey (nat_abs owner) ∷ []))) [
+    | true ↦ All-nil IsShortKey
+    | false ↦ All-cons IsShortKey (SessionKey (nat_abs owner)) [] (omega (arith, session-size (nat_abs owner))) (All-nil IsShortKey)
+  ]
+
+  -- the owner that the view saw
+  owner_is : (o : Option (Option Kv)) (x : Option SeenData) → IsDataSeen o x → IsOwnerSeen o (owner_seen x)
+  owner_is None x h = absurd h
+  owner_is (Some None) None h = refl
+  owner_is (Some None) (Some x) h = absurd h
+  owner_is (Some (Some kv)) None h = absurd h
+  owner_is (Some (Some kv)) (Some x) h = (h.0, h.1, ap (λ (w : SeenData). w.owner) h.2)
+
+  plan_keys : (who : Who) (v : View) (q : Bytes) (x : Option SeenData) → is_path p ≡ true → parent p ≡ Some q → IsDataSeen (sees v (DataKey p)) x → AreKeys (req.Delete p version) who v (delete_keys p (Some q) who.session (owner_seen x))
+  plan_keys who v q x path below data_seen =
+      let owner : ℤ = owner_seen x in
+      let is = owner_is (sees v (DataKey p)) x data_seen in
+      let few = owner_few owner in
+      let own = path_short p path in
+      let up = path_short q (parent-valid p q path below).0 in
+      record {
+        few = omega (arith, few);
+        short = All-cons IsShortKey HeadKey (LeaseKey (nat_abs who.session) ∷ DataKey p ∷ CountsKey p ∷ CountsKey q ∷ owner_nodes owner) (omega (arith, head-size))
+            (All-cons IsShortKey (LeaseKey (nat_abs who.session)) (DataKey p ∷ CountsKey p ∷ CountsKey q ∷ owner_nodes owner) (omega (arith, life-size (nat_abs who.session)))
+            (All-cons IsShortKey (DataKey p) (CountsKey p ∷ CountsKey q ∷ owner_nodes owner) (omega (arith, data-size p, own))
+            (All-cons IsShortKey (CountsKey p) (CountsKey q ∷ owner_nodes owner) (omega (arith, counts-size p, own))
+            (All-cons IsShortKey (CountsKey q) (owner_nodes owner) (omega (arith, counts-size q, up)) (owner_short owner)))));
+        life = inr (inl refl);
+        from = λ k h. reads_from who v owner is k (subst (λ (o : Option Bytes). In k (delete_keys p o who.session owner)) (sym below) h);
+        to = λ w reads. let k = reads_to who v owner is w reads in (k.0, subst (λ (o : Option Bytes). In k.0 (delete_keys p o who.session owner)) below k.1, k.2);
+      }
+
+  -- ---- what is promised
+
+  not_owned : (owner : ℤ) → int_eq owner (pos 0) ≡ false → owner ≡ pos 0 → ⊥
+  not_owned owner e is = true_false (sym ((Decides-int_eq owner (pos 0)).1 is) ∙ e)
+
+  module _ (who : Who) (v : View) (now : ℕ) (valid : (is_path p && not (same p root)) ≡ true) (moment : now ≤ max_moment) (real : pos 1 ≤ℤ who.session) (d : Decision) where
+    module _ (q : Bytes) (below : parent p ≡ Some q) (is : IsDelete v p version who.session (Some q) d) where
+      path : is_path p ≡ true
+      path = (both _ _ valid).0
+
+      abbrev keys : List Key
+      keys = delete_keys p (Some q) who.session (owner_seen is.0)
+
+      abbrev choice : ℕ → Choice
+      choice at_moment = delete_choice p q version is.0 is.1 is.2 is.3
+
+      chosen : IsChosen (Delete p version) who v choice
+      chosen = delete_chosen who v q is.0 is.1 is.2 is.3 valid below is.4 is.5 is.6 is.7
+
+      near_owner : (x : Option SeenData) → is.0 ≡ x → IsOwnerPaths v x is.3 → IsOwnerPaths (on_keys v keys) x is.3
+      near_owner None e h = tt
+      near_owner (Some x) e h = λ owns. subst (λ (o : Option (Option Kv)). IsPathsSeen o is.3)
+          (sym (near_sees v keys (SessionKey (nat_abs x.owner)) (subst (λ (o : Option SeenData). In (SessionKey (nat_abs x.owner)) (delete_keys p (Some q) who.session (owner_seen o))) (sym e)
+          (inr (inr (in_right (SessionKey (nat_abs x.owner)) (DataKey p ∷ CountsKey p ∷ CountsKey q ∷ []) (owner_nodes x.owner) (owner_in x.owner owns))))))) (h owns)
+
+      near : IsChosen (Delete p version) who (on_keys v keys) choice
+      near = delete_chosen who (on_keys v keys) q is.0 is.1 is.2 is.3 valid below
+          (subst (λ (o : Option (Option Kv)). IsDataSeen o is.0) (sym (near_sees v keys (DataKey p) (inr (inr (inl refl))))) is.4)
+          (subst (λ (o : Option (Option Kv)). IsCountsSeen o is.1) (sym (near_sees v keys (CountsKey p) (inr (inr (inr (inl refl)))))) is.5)
+          (subst (λ (o : Option (Option Kv)). IsCountsSeen o is.2) (sym (near_sees v keys (CountsKey q) (inr (inr (inr (inr (inl refl))))))) is.6)
+          (near_owner is.0 refl is.7)
+
+      few_paths : (y : SeenData) (ps : List Bytes) → is.0 ≡ Some y → int_eq y.owner (pos 0) ≡ false → is.3 ≡ Some ps → IsSessionRec ps × ((s : State) → IsSound s → IsOf v s → length ps ≤ max_owned)
+      few_paths y ps e owns es =
+          let apart = not_owned y.owner owns in
+          let seen_paths : IsPathsSeen (sees v (SessionKey (nat_abs y.owner))) (Some ps) =
+          subst (λ (o : Option (List Bytes)). IsPathsSeen (sees v (SessionKey (nat_abs y.owner))) o) es (subst (λ (o : Option SeenData). IsOwnerPaths v o is.3) e is.7 apart) in
+          let data_seen : IsDataSeen (sees v (DataKey p)) (Some y) = subst (IsDataSeen (sees v (DataKey p))) e is.4 in (
+            paths-listed (sees v (SessionKey (nat_abs y.owner))) ps seen_paths,
+            λ s sound of.
+                let tells = told v of.0 (agrees-as_seen v of.0 of.2) in
+                few_owned v of.0 s sound of.1 tells p y ps (get s.tree p) refl (data-shown v of.0 s of.1 tells (pos 0) p (Some y) data_seen) apart seen_paths,
+          )
+
+      below_promised : IsToldByForm (req.Delete p version) d × IsBySound (req.Delete p version) who v d × IfPlanned (IsGuarded (req.Delete p version) who now v) d
+      below_promised = (
+        by_form (req.Delete p version) (Delete p version) who v keys choice now delete_part chosen moment real (delete_valid valid) d is.8,
+        by_sound (req.Delete p version) (Delete p version) who v keys choice now delete_part chosen moment real (delete_valid valid) d is.8,
+        planned (req.Delete p version) (Delete p version) who v keys choice now delete_part chosen moment real (delete_valid valid) d is.8 near (plan_keys who v q is.0 path below is.4) (delete-made p q path below v version is.0 is.1 is.2 is.3 few_paths),
+      )
+
+    orphan_promised : parent p ≡ None → d ≡ decision_of v (Refuse no_node) → IsToldByForm (req.Delete p version) d × IsBySound (req.Delete p version) who v d × IfPlanned (IsGuarded (req.Delete p version) who now v) d
+    orphan_promised none is =
+        let chosen = orphan_chosen who v valid none in
+        let choice : ℕ → Choice = λ _. Refuse no_node in (
+          by_form (req.Delete p version) (Delete p version) who v [] choice now delete_part chosen moment real (delete_valid valid) d is,
+          by_sound (req.Delete p version) (Delete p version) who v [] choice now delete_part chosen moment real (delete_valid valid) d is,
+          refused_plans (req.Delete p version) who v v now no_node d is,
+        )
+
+    pub all_promised : (q : Option Bytes) → parent p ≡ q → IsDelete v p version who.session q d → IsToldByForm (req.Delete p version) d × IsBySound (req.Delete p version) who v d × IfPlanned (IsGuarded (req.Delete p version) who now v) d
+    all_promised None none is = orphan_promised none is
+    all_promised (Some q) below is = below_promised q below is

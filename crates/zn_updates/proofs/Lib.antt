@@ -11,10 +11,10 @@ pub mod CreateRight
 pub mod Forms
 pub mod Values
 pub mod Places
-pub mod Lacking
 pub mod Telling
 pub mod Deciding
 pub mod Showing
+pub mod WellMade
 pub mod Clauses
 pub mod SetDataClauses
 pub mod Plans

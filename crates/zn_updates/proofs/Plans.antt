@@ -17,12 +17,12 @@ use Rattle.zn_view.specs.declared.want.Want.{Want}
 use Rattle.zn_view.specs.Asks.{again_of, guards_of}
 use Rattle.zn_view.specs.Needs.{AreNeeds}
 use Rattle.zn_view.specs.Seen.{View}
+use Rattle.zn_view.proofs.Wanted.{no-needs}
 use Rattle.zn_updates.specs.declared.chosen.Chosen.TheVariants.{Refused, Made}
 use Rattle.zn_updates.specs.declared.chosen.Update.{Update}
 use Rattle.zn_updates.specs.Choices.{Choice, Refuse, Make}
-use Rattle.zn_updates.specs.Deciding.{IsByForm, IsBySound, decision_of}
+use Rattle.zn_updates.specs.Deciding.{IsToldByForm, IsBySound, decision_of}
 use Rattle.zn_updates.specs.Making.{chosen_of}
-use Rattle.zn_updates.proofs.Lacking.{no_needs}
 
 acts_push : (cs : List Change) (c : Change) → acts_of (cs ++ c ∷ []) ≡ acts_of cs ++ act_of c ∷ []
 acts_push [] c = refl
@@ -57,7 +57,7 @@ module _ (r : Request) (code : ℤ) (plain : plain_request no_watches r ≡ told
   reply_is None t e f = absurd (cc)
   reply_is (Some x) t e f = let a : x ≡ record { reply = reply.Refused code; notices = []; watches = no_watches } = cc in let b : x ≡ t = cc in ap (λ (y : Told). y.reply) (sym a ∙ b)
 
-  pub refused_form : (d : Decision) → d ≡ Answered (reply.Refused code) None → IsByForm r d
+  pub refused_form : (d : Decision) → d ≡ Answered (reply.Refused code) None → IsToldByForm r d
   refused_form d is t e = is ∙ ap (λ x. Answered x None) (reply_is (plain_request no_watches r) t plain e)
 
   not_none : (o : Option Told) → o ≡ told_refusal no_watches (Some code) → o ≡ None → ⊥
@@ -68,4 +68,4 @@ module _ (r : Request) (code : ℤ) (plain : plain_request no_watches r ≡ told
   refused_sound who v d none = absurd (not_none (plain_request no_watches r) plain none)
 
   pub refused_needs : (who : Who) (v : View) (ws : List Want) → ws ≡ [] → AreNeeds r who v ws
-  refused_needs who v ws is = no_needs r who v _ ws is plain
+  refused_needs who v ws is = no-needs r who v _ ws is plain

@@ -1,6 +1,8 @@
 -- The decision of a setData is what is promised of it.
-use Rattle.std.proofs.Common.{◌≡◌, ℕ, ◌≤◌, ℤ, pos, true, false, Bool, cond, List, [], ◌∷◌, length, Option, Some, None, refl, sym, ap, ◌∙◌, subst, inl, inr}
-use Rattle.std.specs.Prelude.{◌≤ℤ◌, not, nat_abs, IsTrue}
+use Rattle.std.proofs.Common.{◌≡◌, ℕ, ◌≤◌, ℤ, pos, true, false, Bool, cond, List, [], ◌∷◌, length, Option, Some, None, refl, sym, ap, ◌∙◌, subst, inl, inr, arith}
+use Rattle.std.specs.Prelude.{◌≤ℤ◌, not, nat_abs, map, IsTrue}
+use Rattle.std.proofs.lemmas.List.Elements.{All-cons, All-nil}
+use Rattle.ev_types.specs.declared.answer.Kv.{Kv}
 use Rattle.std.specs.FinMap.{get}
 use Rattle.std.specs.Ordering.{int_eq}
 use Rattle.zx_base.specs.Maps.{Bytes}
@@ -14,8 +16,9 @@ use Rattle.zk_model.specs.Single.{form_refusal, single, effect, set_data, unless
 use Rattle.zk_model.specs.Watches.{no_watches}
 use Rattle.zk_transcript.specs.Answers.{plain_request, told_refusal, tree_reply}
 use Rattle.zk_transcript.specs.History.{State, commit}
-use Rattle.zn_layout.specs.Keys.{Key, HeadKey, DataKey, CountsKey, LeaseKey}
+use Rattle.zn_layout.specs.Keys.{Key, HeadKey, DataKey, CountsKey, LeaseKey, key_bytes}
 use Rattle.zn_layout.specs.Records.{IsHeadRec}
+use Rattle.zn_layout.proofs.Paths.{path_short}
 use Rattle.zn_view.specs.declared.plan.Decision.{Decision}
 use Rattle.zn_view.specs.declared.plan.Who.{Who}
 use Rattle.zn_view.specs.declared.want.Want.{Want}
@@ -23,19 +26,23 @@ use Rattle.zn_view.specs.Lookups.{HasSeen, sees}
 use Rattle.zn_view.specs.Needs.{AreNeeds, IsRead, key_want}
 use Rattle.zn_view.specs.Seen.{View}
 use Rattle.zn_view.specs.Views.{reads}
+use Rattle.zn_view.specs.Lacking.{lacking}
+use Rattle.zn_view.proofs.Members.{In, contains_in, in_contains}
+use Rattle.zn_view.proofs.Sizes.{counts-size, data-size, head-size, life-size}
+use Rattle.zn_view.proofs.Wanted.{are-needs}
 use Rattle.zn_updates.specs.declared.seen.SeenData.{SeenData}
 use Rattle.zn_updates.specs.declared.seen.SeenCounts.{SeenCounts}
 use Rattle.zn_updates.specs.Choices.{Choice, set_data_choice}
-use Rattle.zn_updates.specs.Deciding.{IfMakes, IfPlanned, IsByForm, IsBySound, IsGuarded, IsSetData, IsWhole}
-use Rattle.zn_updates.specs.Lacking.{lacking_from, set_data_keys}
+use Rattle.zn_updates.specs.Deciding.{IfMakes, IfPlanned, IsToldByForm, IsBySound, IsGuarded, IsSetData, IsWhole, on_keys}
+use Rattle.zn_updates.specs.KeysRead.{set_data_keys}
 use Rattle.zn_updates.specs.Making.{IsDataSeen, IsCountsSeen}
 use Rattle.zn_updates.specs.Right.{IsRight}
-use Rattle.zn_updates.proofs.Clauses.{makes_cond, one_trigger, by_form, by_sound, planned}
+use Rattle.zn_updates.proofs.Clauses.{AreKeys, IsShortKey, by_form, by_sound, makes_cond, near_sees, planned}
 use Rattle.zn_updates.proofs.Deciding.{IsPart, IsChosen, code_of}
 use Rattle.zn_updates.proofs.Forms.{set_refusal}
-use Rattle.zn_updates.proofs.Lacking.{In, contains_in, in_contains, are_needs}
 use Rattle.zn_updates.proofs.SetDataRight.{set_data_right}
 use Rattle.zn_updates.proofs.Showing.{data-shown, counts-shown}
+use Rattle.zn_updates.proofs.WellMade.{one_trigger, set_data-made}
 
 module _ (p content : Bytes) (version : ℤ) where
   pub set_plain : plain_request no_watches (req.SetData p content version) ≡ told_refusal no_watches (form_refusal (SetData p content version))
@@ -81,21 +88,6 @@ module _ (p content : Bytes) (version : ℤ) where
     same_code = set_codes x c;
   }
 
-  -- ---- what is promised
-
-  module _ (who : Who) (v : View) (now : ℕ) (valid : is_path p ≡ true) (moment : now ≤ max_moment) (short : length content ≤ max_frame) (real : pos 1 ≤ℤ who.session) (d : Decision) (is : IsSetData v p content version now d) where
-    abbrev choice : ℕ → Choice
-    choice at_moment = set_data_choice p content version at_moment is.0 is.1
-
-    pub set_by_form : IsByForm (req.SetData p content version) d
-    set_by_form = by_form (req.SetData p content version) (SetData p content version) who v choice now set_part (set_chosen who v is.0 is.1 valid short is.2 is.3) moment real (set_valid valid) (set_bounds is.0 is.1 now valid) d is.4
-
-    pub set_by_sound : IsBySound (req.SetData p content version) who v d
-    set_by_sound = by_sound (req.SetData p content version) (SetData p content version) who v choice now set_part (set_chosen who v is.0 is.1 valid short is.2 is.3) moment real (set_valid valid) (set_bounds is.0 is.1 now valid) d is.4
-
-    pub set_planned : IfPlanned (IsGuarded (req.SetData p content version) who now v) d
-    set_planned = planned (req.SetData p content version) (SetData p content version) who v choice now set_part (set_chosen who v is.0 is.1 valid short is.2 is.3) moment real (set_valid valid) (set_bounds is.0 is.1 now valid) d is.4
-
   -- ---- what it reads
 
   reads_are : (id : ℤ) → reads (req.SetData p content version) id ≡ DataKey p ∷ CountsKey p ∷ []
@@ -113,8 +105,44 @@ module _ (p content : Bytes) (version : ℤ) where
   reads_to who v w (inr (inr (inl h))) = (h.0, inr (inr (subst (In h.0) (reads_are who.session) (contains_in h.0 _ h.1))), h.2)
   reads_to who v w (inr (inr (inr h))) = absurd h
 
-  pub set_needs : (who : Who) (v : View) (ws : List Want) → is_path p ≡ true → ws ≡ lacking_from v [] (set_data_keys p who.session) → AreNeeds (req.SetData p content version) who v ws
-  set_needs who v ws valid is = are_needs (req.SetData p content version) who v (set_data_keys p who.session) ws is (set_valid valid) (reads_from who v) (reads_to who v)
+  pub set_needs : (who : Who) (v : View) (ws : List Want) → is_path p ≡ true → ws ≡ lacking v (map key_bytes (set_data_keys p who.session)) → AreNeeds (req.SetData p content version) who v ws
+  set_needs who v ws valid is = are-needs (req.SetData p content version) who v (set_data_keys p who.session) ws is (set_valid valid) refl (reads_from who v) (reads_to who v)
 
   pub set_seen : (who : Who) (v : View) (k : Key) → is_path p ≡ true → IsWhole (req.SetData p content version) who v → In k (set_data_keys p who.session) → HasSeen v k
   set_seen who v k valid whole inside none = whole (set_valid valid) (key_want k) (reads_from who v k inside) none
+
+  -- ---- what is promised
+
+  set_keys : (who : Who) (v : View) → is_path p ≡ true → AreKeys (req.SetData p content version) who v (set_data_keys p who.session)
+  set_keys who v valid = record {
+    few = omega arith;
+    short = All-cons IsShortKey HeadKey (LeaseKey (nat_abs who.session) ∷ DataKey p ∷ CountsKey p ∷ []) (omega (arith, head-size))
+        (All-cons IsShortKey (LeaseKey (nat_abs who.session)) (DataKey p ∷ CountsKey p ∷ []) (omega (arith, life-size (nat_abs who.session)))
+        (All-cons IsShortKey (DataKey p) (CountsKey p ∷ []) (omega (arith, data-size p, path_short p valid))
+        (All-cons IsShortKey (CountsKey p) [] (omega (arith, counts-size p, path_short p valid)) (All-nil IsShortKey))));
+    life = inr (inl refl);
+    from = reads_from who v;
+    to = reads_to who v;
+  }
+
+  module _ (who : Who) (v : View) (now : ℕ) (valid : is_path p ≡ true) (moment : now ≤ max_moment) (short : length content ≤ max_frame) (real : pos 1 ≤ℤ who.session) (d : Decision) (is : IsSetData v p content version now who.session d) where
+    abbrev choice : ℕ → Choice
+    choice at_moment = set_data_choice p content version at_moment is.0 is.1
+
+    abbrev keys : List Key
+    keys = set_data_keys p who.session
+
+    near : IsChosen (SetData p content version) who (on_keys v keys) choice
+    near = set_chosen who (on_keys v keys) is.0 is.1 valid short
+        (subst (λ (o : Option (Option Kv)). IsDataSeen o is.0) (sym (near_sees v keys (DataKey p) (inr (inr (inl refl))))) is.2)
+        (subst (λ (o : Option (Option Kv)). IsCountsSeen o is.1) (sym (near_sees v keys (CountsKey p) (inr (inr (inr (inl refl)))))) is.3)
+
+    pub set_by_form : IsToldByForm (req.SetData p content version) d
+    set_by_form = by_form (req.SetData p content version) (SetData p content version) who v keys choice now set_part (set_chosen who v is.0 is.1 valid short is.2 is.3) moment real (set_valid valid) d is.4
+
+    pub set_by_sound : IsBySound (req.SetData p content version) who v d
+    set_by_sound = by_sound (req.SetData p content version) (SetData p content version) who v keys choice now set_part (set_chosen who v is.0 is.1 valid short is.2 is.3) moment real (set_valid valid) d is.4
+
+    pub set_planned : IfPlanned (IsGuarded (req.SetData p content version) who now v) d
+    set_planned = planned (req.SetData p content version) (SetData p content version) who v keys choice now set_part (set_chosen who v is.0 is.1 valid short is.2 is.3) moment real (set_valid valid) d is.4
+        near (set_keys who v valid) (set_data-made v p content version is.0 is.1 now valid short)

@@ -1,17 +1,12 @@
--- What a view saw, the keys have: those that agree with it, and those in which a plan's guards hold.
-use Rattle.std.proofs.Common.{◌≡◌, ℕ, ℤ, pos, true, false, Bool, cond, List, [], ◌∷◌, Option, Some, None, refl, sym, ap, ◌∙◌, subst, arith, ◌&&◌}
-use Rattle.std.specs.Prelude.{◌≤ℤ◌, All, IfSome, if◌then◌else◌}
-use Rattle.std.specs.FinMap.{get}
-use Rattle.std.specs.List.{list_all}
+-- What a view saw of records, keys that have what it saw have too.
+use Rattle.std.proofs.Common.{◌≡◌, ℕ, ℤ, pos, true, false, cond, List, Option, Some, None, refl, sym, ap, ◌∙◌, subst, arith}
+use Rattle.std.specs.Prelude.{◌≤ℤ◌}
 use Rattle.std.specs.Ordering.{int_eq}
 use Rattle.std.proofs.lemmas.Int.{ints}
-use Rattle.std.proofs.lemmas.List.Elements.{All-head, All-tail}
 use Rattle.ev_types.specs.declared.answer.Kv.{Kv}
-use Rattle.ev_types.specs.declared.ask.Guard.{Guard}
 use Rattle.ev_types.specs.Ranges.{Keys}
-use Rattle.ev_types.specs.Store.{holds, mod_of, last_revision}
-use Rattle.zx_base.specs.Maps.{Bytes, same}
-use Rattle.zx_base.proofs.MapLaws.{same-true}
+use Rattle.ev_types.specs.Store.{last_revision}
+use Rattle.zx_base.specs.Maps.{Bytes}
 use Rattle.zk_model.specs.declared.node.Node.{Node}
 use Rattle.zk_transcript.specs.History.{Session}
 use Rattle.zn_layout.specs.declared.record.NodeRec.{NodeRec}
@@ -21,11 +16,9 @@ use Rattle.zn_layout.specs.StandsFor.{stored_of, at, czxid_of, data_record, Data
 use Rattle.zn_layout.proofs.Lookups.{data_read, counts_read}
 use Rattle.zn_layout.proofs.Keys.{key_bytes-injective}
 use Rattle.zn_layout.proofs.ListRecords.{session_value-injective}
-use Rattle.zn_view.specs.declared.snapshot.SeenKey.{SeenKey}
-use Rattle.zn_view.specs.Asks.{guards_of}
 use Rattle.zn_view.specs.Needs.{own}
-use Rattle.zn_view.specs.Seen.{View, seen, seen_in}
-use Rattle.zn_view.specs.Views.{WasPut}
+use Rattle.zn_view.specs.Seen.{View, seen}
+use Rattle.zn_view.specs.Views.{AreAsSeen}
 use Rattle.zn_updates.specs.declared.seen.SeenData.{SeenData}
 use Rattle.zn_updates.specs.declared.seen.SeenCounts.{SeenCounts}
 use Rattle.zn_updates.specs.Making.{IsDataSeen, IsCountsSeen, IsPathsSeen, data_of}
@@ -36,96 +29,9 @@ use Rattle.zn_updates.proofs.Meanings.{int_eq-is, int_eq-same}
 abbrev pub Tells : View → Keys → Type 0
 Tells v m = (k : Key) → (k ≡ HeadKey → ⊥) → (o : Option Kv) → seen v (key_bytes k) ≡ Some o → at m k ≡ o
 
-some_same : {X : Type 0} (x y : X) → Some x ≡ Some y → x ≡ y
-some_same x y e = cc
-
--- ---- keys that agree with the view
-
-agrees_in : (m : Keys) (k : Bytes) (xs : List SeenKey) (o : Option Kv) → All (λ (x : SeenKey). get m x.key ≡ x.found) xs → seen_in k xs ≡ Some o → get m k ≡ o
-agrees_in m k [] o all e = absurd (cc)
-agrees_in m k (x ∷ xs) o all e =
-    elim (same x.key k) as (λ b. same x.key k ≡ b → (if b then Some x.found else seen_in k xs) ≡ Some o → get m k ≡ o) [
-      | true ↦ λ h is. ap (get m) (sym (same-true x.key k h)) ∙ All-head (λ (y : SeenKey). get m y.key ≡ y.found) x xs all ∙ some_same x.found o is
-      | false ↦ λ h is. agrees_in m k xs o (All-tail (λ (y : SeenKey). get m y.key ≡ y.found) x xs all) is
-    ] refl e
-
-pub agreed : (v : View) (m : Keys) → All (λ (x : SeenKey). get m x.key ≡ x.found) v.keys → Tells v m
-agreed v m all k apart o e = agrees_in m (key_bytes k) v.keys o all e
-
--- ---- keys in which the guards hold
-
--- the guard of a key, and what was seen under it
-record IsHeld (v : View) (m : Keys) (k : Bytes) (o : Option Kv) : Type 0 where
-  revision : mod_of (get m k) ≡ mod_of o
-  was : (kv : Kv) → get m k ≡ Some kv → seen v k ≡ Some (Some kv)
-  put : IfSome o (λ kv. pos 1 ≤ℤ kv.mod_revision)
-
-abbrev IsAsSeen : View → Keys → Guard → Type 0
-IsAsSeen v m g = (kv : Kv) → get m g.key ≡ Some kv → seen v g.key ≡ Some (Some kv)
-
-both : (a b : Bool) → (a && b) ≡ true → (a ≡ true) × (b ≡ true)
-both true b h = (refl, h)
-both false b h = absurd (cc)
-
-true_not_false : true ≡ false → ⊥
-true_not_false h = cc
-
--- one key that was seen, and the rest
-module _ (v : View) (m : Keys) (k : Bytes) (x : SeenKey) (xs : List SeenKey) (o : Option Kv) (apart : same k (key_bytes HeadKey) ≡ false) (put : All WasPut (x ∷ xs))
-    (later : list_all (holds m) (guards_of xs) ≡ true → All (IsAsSeen v m) (guards_of xs) → seen_in k xs ≡ Some o → IsHeld v m k o)
-    (e : (if same x.key k then Some x.found else seen_in k xs) ≡ Some o) where
-  abbrev guard : Guard
-  guard = record { key = x.key; mod_revision = mod_of x.found }
-
-  passed_over : same x.key (key_bytes HeadKey) ≡ true → list_all (holds m) (guards_of xs) ≡ true → All (IsAsSeen v m) (guards_of xs) → IsHeld v m k o
-  passed_over h all was = elim (same x.key k) as (λ b. same x.key k ≡ b → (if b then Some x.found else seen_in k xs) ≡ Some o → IsHeld v m k o) [
-    | true ↦ λ g is. absurd (true_not_false (sym (ap (λ (y : Bytes). same y (key_bytes HeadKey)) (sym (same-true x.key k g)) ∙ h) ∙ apart))
-    | false ↦ λ g is. later all was is
-  ] refl e
-
-  here : list_all (holds m) (guard ∷ guards_of xs) ≡ true → All (IsAsSeen v m) (guard ∷ guards_of xs) → k ≡ x.key → x.found ≡ o → IsHeld v m k o
-  here all was is found = record {
-    revision = ap (λ (y : Bytes). mod_of (get m y)) is ∙ int_eq-is _ _ (both _ _ all).0 ∙ ap mod_of found;
-    was = λ kv there. ap (seen v) is ∙ All-head (IsAsSeen v m) guard (guards_of xs) was kv (sym (ap (get m) is) ∙ there);
-    put = subst (λ (y : Option Kv). IfSome y (λ kv. pos 1 ≤ℤ kv.mod_revision)) found (All-head WasPut x xs put);
-  }
-
-  guarded_here : list_all (holds m) (guard ∷ guards_of xs) ≡ true → All (IsAsSeen v m) (guard ∷ guards_of xs) → IsHeld v m k o
-  guarded_here all was = elim (same x.key k) as (λ b. same x.key k ≡ b → (if b then Some x.found else seen_in k xs) ≡ Some o → IsHeld v m k o) [
-    | true ↦ λ g is. here all was (sym (same-true x.key k g)) (some_same x.found o is)
-    | false ↦ λ g is. later (both _ _ all).1 (All-tail (IsAsSeen v m) guard (guards_of xs) was) is
-  ] refl e
-
-  first_held : list_all (holds m) (guards_of (x ∷ xs)) ≡ true → All (IsAsSeen v m) (guards_of (x ∷ xs)) → IsHeld v m k o
-  first_held all was =
-      elim (same x.key (key_bytes HeadKey)) as (λ b. same x.key (key_bytes HeadKey) ≡ b
-      → list_all (holds m) (if b then guards_of xs else guard ∷ guards_of xs) ≡ true → All (IsAsSeen v m) (if b then guards_of xs else guard ∷ guards_of xs) → IsHeld v m k o) [
-        | true ↦ passed_over
-        | false ↦ λ h. guarded_here
-      ] refl all was
-
-held_in : (v : View) (m : Keys) (k : Bytes) (xs : List SeenKey) (o : Option Kv) → same k (key_bytes HeadKey) ≡ false → list_all (holds m) (guards_of xs) ≡ true → All (IsAsSeen v m) (guards_of xs) → All WasPut xs
-    → seen_in k xs ≡ Some o → IsHeld v m k o
-held_in v m k [] o apart holds_all as_seen put e = absurd (cc)
-held_in v m k (x ∷ xs) o apart holds_all as_seen put e =
-    first_held v m k x xs o apart put (λ all was is. held_in v m k xs o apart all was (All-tail WasPut x xs put) is) e holds_all as_seen
-
--- a key whose last put is the one that was seen has what was seen
-same_found : (now o : Option Kv) → mod_of now ≡ mod_of o → ((kv : Kv) → now ≡ Some kv → o ≡ Some kv) → IfSome o (λ kv. pos 1 ≤ℤ kv.mod_revision) → now ≡ o
-same_found (Some kv) o e was put = sym (was kv refl)
-same_found None None e was put = refl
-same_found None (Some kv) e was put = absurd (omega (arith, ints, e, put))
-
-not_head : (k : Key) → (k ≡ HeadKey → ⊥) → same (key_bytes k) (key_bytes HeadKey) ≡ false
-not_head k apart = elim (same (key_bytes k) (key_bytes HeadKey)) as (λ b. same (key_bytes k) (key_bytes HeadKey) ≡ b → b ≡ false) [
-  | true ↦ λ h. absurd (apart (key_bytes-injective k HeadKey (same-true _ _ h)))
-  | false ↦ λ h. refl
-] refl
-
-pub guarded : (v : View) (m : Keys) → list_all (holds m) (guards_of v.keys) ≡ true → All (λ (g : Guard). (kv : Kv) → get m g.key ≡ Some kv → seen v g.key ≡ Some (Some kv)) (guards_of v.keys) → All WasPut v.keys → Tells v m
-guarded v m all was put k apart o e =
-    let held = held_in v m (key_bytes k) v.keys o (not_head k apart) all was put e in
-    same_found (at m k) o held.revision (λ kv there. some_same o (Some kv) (sym e ∙ held.was kv there)) held.put
+-- and so it is where keys have what the view saw
+pub told : (v : View) (m : Keys) → AreAsSeen v m → Tells v m
+told v m as_seen k apart o e = as_seen (key_bytes k) o (λ is. apart (key_bytes-injective k HeadKey is)) e
 
 -- ---- records show what the state has
 

@@ -1,5 +1,5 @@
 -- What a decision on an update is worth, and the plan that a choice makes.
-use Rattle.std.specs.Prelude.{◌≡◌, ℕ, ℤ, nat_abs, Option, Some, None}
+use Rattle.std.specs.Prelude.{◌≡◌, ℕ, ℤ, nat_abs, map, Option, Some, None}
 use Rattle.ev_types.specs.declared.answer.Kv.{Kv}
 use Rattle.zk_model.specs.declared.reply.PartResult.{PartResult}
 use Rattle.zk_model.specs.declared.reply.Reply.TheVariants as reply
@@ -11,16 +11,16 @@ use Rattle.std.specs.Prelude.{List, [], Bool, true, false, pos, if◌then◌else
 use Rattle.zk_transcript.specs.Answers.{Told, plain_request, tree_reply}
 use Rattle.zk_transcript.specs.History.{State, Session, IsSound, limit_of, response_of, session_at}
 use Rattle.zn_layout.specs.Changes.{Change, update_acts}
-use Rattle.zn_layout.specs.Keys.{DataKey, CountsKey, SessionKey, LeaseKey, key_bytes}
+use Rattle.zn_layout.specs.Keys.{Key, DataKey, CountsKey, SessionKey, LeaseKey, key_bytes}
 use Rattle.zn_view.specs.declared.plan.Decision.{Decision}
 use Rattle.zn_view.specs.declared.plan.Decision.TheVariants.{Answered, Planned, Expired, Moved}
 use Rattle.zn_view.specs.declared.plan.Plan.{Plan}
 use Rattle.zn_view.specs.declared.plan.Who.{Who}
 use Rattle.zn_view.specs.declared.want.Want.{Want}
-use Rattle.zn_view.specs.Asks.{again_of, guards_of, IsAskedPlan}
-use Rattle.zn_view.specs.Needs.{IsRead, IsLacking, finished}
+use Rattle.zn_view.specs.Asks.{again_of, guards_of, narrowed, IsAskedPlan, WritesOnce}
+use Rattle.zn_view.specs.Needs.{IsRead, IsLacking, GuardsReads, finished}
 use Rattle.zn_view.specs.Seen.{View, seen}
-use Rattle.zn_view.specs.Views.{IsByTree, IsOf, IsPlan}
+use Rattle.zn_view.specs.Views.{IsByTree, IsOf, IsPlan, IsSmallPlan}
 use Rattle.zn_view.specs.Lookups.{HasSeen, sees}
 use Rattle.zk_model.specs.Codes.{no_node, node_exists}
 use Rattle.zk_model.specs.Paths.{sequence_path}
@@ -30,6 +30,7 @@ use Rattle.zn_updates.specs.declared.chosen.Chosen.TheVariants.{Refused, Made}
 use Rattle.zn_updates.specs.declared.seen.SeenData.{SeenData}
 use Rattle.zn_updates.specs.declared.seen.SeenCounts.{SeenCounts}
 use Rattle.zn_updates.specs.Choices.{Choice, Refuse, Make, set_data_choice, delete_choice, create_choice}
+use Rattle.zn_updates.specs.KeysRead.{set_data_keys, delete_keys, create_keys}
 use Rattle.zn_updates.specs.Making.{IsDataSeen, IsCountsSeen, IsPathsSeen, has_found}
 
 -- create, delete and setData
@@ -47,7 +48,10 @@ IsWhole r who v = plain_request no_watches r ≡ None → (w : Want) → IsRead 
 abbrev pub IsAttached : Who → View → Type 0
 IsAttached who v = (kv : Kv) × (seen v (key_bytes (LeaseKey (nat_abs who.session))) ≡ Some (Some kv)) × (kv.mod_revision ≡ who.mine)
 
--- ---- the decision of a choice
+-- ---- the decision of a choice, on the view of the keys that the request looks up
+
+abbrev pub on_keys : View → List Key → View
+on_keys v ks = narrowed v (map key_bytes ks)
 
 abbrev pub plan_of : View → List Change → List Trigger → PartResult → Plan
 plan_of v cs ts draft = record {
@@ -65,8 +69,8 @@ decision_of v (Make cs ts draft) = Planned (plan_of v cs ts draft)
 -- ---- what it is worth
 
 -- the refusal of the request's form
-abbrev pub IsByForm : Request → Decision → Type 0
-IsByForm r d = (t : Told) → plain_request no_watches r ≡ Some t → d ≡ Answered t.reply None
+abbrev pub IsToldByForm : Request → Decision → Type 0
+IsToldByForm r d = (t : Told) → plain_request no_watches r ≡ Some t → d ≡ Answered t.reply None
 
 -- in each sound state that the view is of and in which the session is open
 abbrev pub IsBySound : Request → Who → View → Decision → Type 0
@@ -79,9 +83,13 @@ IfPlanned P (Answered x arm) = Unit {0}
 IfPlanned P Expired = Unit {0}
 IfPlanned P (Moved found) = Unit {0}
 
--- the plan of a connection that is attached commits the update, and is asked under guards on all that was seen
-abbrev pub IsGuarded : Request → Who → ℕ → View → Plan → Type 0
-IsGuarded r who now v p = IsAttached who v → IsPlan r who now v p (λ z. finished z p.draft) × IsAskedPlan who v p
+-- The plan of a connection that is attached carries the update out, and may be asked. It guards what the request reads and writes
+-- each key once; and on a view of a sound state it is small enough for an etcd.
+pub record IsGuarded (r : Request) (who : Who) (now : ℕ) (v : View) (p : Plan) : Type 0 where
+  pub commits : IsAttached who v → IsPlan r who now v p (λ z. finished z p.draft) × IsAskedPlan who v p
+  pub reads : GuardsReads r who v p
+  pub writes : WritesOnce p
+  pub small : (s : State) → IsSound s → IsOf v s → IsSmallPlan p
 
 -- ---- what the code chose on
 
@@ -94,9 +102,10 @@ IfMade P (Refused code) = Unit {0}
 IfMade P (Made u) = P u.triggers
 
 -- the decision of a setData's choice on the records that the view saw
-abbrev pub IsSetData : View → Bytes → Bytes → ℤ → ℕ → Decision → Type 0
-IsSetData v p content version now d =
-    (x : Option SeenData) × (c : Option SeenCounts) × IsDataSeen (sees v (DataKey p)) x × IsCountsSeen (sees v (CountsKey p)) c × (d ≡ decision_of v (set_data_choice p content version now x c))
+abbrev pub IsSetData : View → Bytes → Bytes → ℤ → ℕ → ℤ → Decision → Type 0
+IsSetData v p content version now session d =
+    (x : Option SeenData) × (c : Option SeenCounts) × IsDataSeen (sees v (DataKey p)) x × IsCountsSeen (sees v (CountsKey p)) c
+    × (d ≡ decision_of (on_keys v (set_data_keys p session)) (set_data_choice p content version now x c))
 
 -- the nodes of the owner, where the node has one
 abbrev pub IsOwnerLookedUp : View → Option SeenData → Type 0
@@ -107,17 +116,26 @@ abbrev pub IsOwnerPaths : View → Option SeenData → Option (List Bytes) → T
 IsOwnerPaths v None paths = Unit {0}
 IsOwnerPaths v (Some x) paths = (x.owner ≡ pos 0 → ⊥) → IsPathsSeen (sees v (SessionKey (nat_abs x.owner))) paths
 
+-- the owner of a node, 0 where it has none
+abbrev pub owner_seen : Option SeenData → ℤ
+owner_seen None = pos 0
+owner_seen (Some x) = x.owner
+
 -- of a delete of p below q, or of a path without parent, where no node but the root is
-abbrev pub IsDelete : View → Bytes → ℤ → Option Bytes → Decision → Type 0
-IsDelete v p version None d = d ≡ decision_of v (Refuse no_node)
-IsDelete v p version (Some q) d =
+abbrev pub IsDelete : View → Bytes → ℤ → ℤ → Option Bytes → Decision → Type 0
+IsDelete v p version session None d = d ≡ decision_of v (Refuse no_node)
+IsDelete v p version session (Some q) d =
     (x : Option SeenData) × (c : Option SeenCounts) × (a : Option SeenCounts) × (paths : Option (List Bytes))
     × IsDataSeen (sees v (DataKey p)) x × IsCountsSeen (sees v (CountsKey p)) c × IsCountsSeen (sees v (CountsKey q)) a × IsOwnerPaths v x paths
-    × (d ≡ decision_of v (delete_choice p q version x c a paths))
+    × (d ≡ decision_of (on_keys v (delete_keys p (Some q) session (owner_seen x))) (delete_choice p q version x c a paths))
 
 abbrev pub creates_in : Option SeenCounts → ℕ
 creates_in None = 0
 creates_in (Some c) = nat_abs c.counts.creates
+
+abbrev pub creates_seen : Option SeenCounts → Option ℕ
+creates_seen None = None
+creates_seen (Some c) = Some (nat_abs c.counts.creates)
 
 -- the path that the node gets
 abbrev pub path_for : Bool → Bytes → Option SeenCounts → Bytes
@@ -131,7 +149,7 @@ abbrev pub IsCreateBelow : View → Bytes → Bytes → ℕ → Bool → Bool �
 IsCreateBelow v path content now sequential ephemeral session q d =
     (x : Option SeenData) × (c : Option SeenCounts) × (paths : Option (List Bytes))
     × IsDataSeen (sees v (DataKey q)) x × IsCountsSeen (sees v (CountsKey q)) c × IsOwnPaths v ephemeral session paths
-    × (d ≡ decision_of v (create_choice (path_for sequential path c) q content now ephemeral session x c (has_found (sees v (DataKey (path_for sequential path c)))) paths))
+    × (d ≡ decision_of (on_keys v (create_keys sequential ephemeral path (Some q) session (creates_seen c))) (create_choice (path_for sequential path c) q content now ephemeral session x c (has_found (sees v (DataKey (path_for sequential path c)))) paths))
 
 -- or of the root
 abbrev pub IsCreate : View → Bytes → Bytes → ℕ → Bool → Bool → ℤ → Option Bytes → Decision → Type 0

@@ -4,5 +4,5 @@ pub mod Choices
 pub mod Right
 pub mod Forms
 pub mod Making
-pub mod Lacking
+pub mod KeysRead
 pub mod Deciding

@@ -3,7 +3,7 @@
 
 ghost use Rattle.std.specs.Prelude.{◌≡◌, ◌≤◌, ◌≤ℤ◌, ◌<◌, ◌∷◌, [], ◌++◌, ◌^◌, ◌-◌, pos, false, length, option_copied, IfOk, IfSome, IsTrue};
 ghost use Rattle.std.specs.Ordering.{int_eq};
-ghost use Rattle.zk_model.specs.Limits.{max_creates, max_frame, max_moment, max_owned};
+ghost use Rattle.zk_model.specs.Limits.{max_creates, max_frame, max_moment, max_owned, max_path};
 ghost use Rattle.zk_model.specs.Paths.{is_path};
 ghost use Rattle.zk_model.specs.declared.reply.PartResult.TheVariants as results;
 ghost use Rattle.zn_layout.specs.Begin.{new_record as record_of_new, no_counts};
@@ -15,7 +15,7 @@ ghost use Rattle.std.specs.Prelude.{nat_abs, IsFalse};
 ghost use Rattle.zk_model.specs.Paths.{is_sequence_prefix};
 ghost use Rattle.zn_layout.specs.Keys.{CountsKey, DataKey, SessionKey};
 ghost use Rattle.zn_view.specs.Lookups.{HasSeen};
-ghost use Rattle.zn_updates.specs.Deciding.{IfPlanned, IsByForm, IsBySound, IsCreate, IsCreateBelow, IsGuarded, IsOwnPaths, IsUpLookedUp, IsWhole, path_for};
+ghost use Rattle.zn_updates.specs.Deciding.{IfPlanned, IsToldByForm, IsBySound, IsCreate, IsCreateBelow, IsGuarded, IsOwnPaths, IsUpLookedUp, IsWhole, creates_seen, path_for};
 ghost use Rattle.zk_model.specs.Paths.{parent as parent_of};
 ghost use Rattle.zk_model.specs.declared.request.Request.TheVariants as req;
 ghost use Rattle.zn_view.specs.Needs.{AreNeeds};
@@ -24,10 +24,10 @@ ghost use Rattle.zx_base.specs.Maps.{Bytes as ByteList};
 use crate::changes::{put_data, put_owned};
 use crate::chosen::{Chosen, Update};
 use crate::form::{Form, create_form, is_ephemeral, is_sequential};
+use crate::keys::{create_keys, create_wants};
 use crate::owned::placed;
 use crate::plan::{decision, refused};
 use crate::seen::{SeenCounts, SeenData, counts_seen, data_seen, is_there, paths_seen};
-use crate::wants::create_wants;
 use ev_types::Act;
 use std::alloc::Global;
 use zk_model::code::{NO_CHILDREN_FOR_EPHEMERALS, NO_NODE, NODE_EXISTS, SYSTEM_ERROR};
@@ -272,6 +272,16 @@ fn path_of(
     Path::numbered(alloc, path, creates)
 }
 
+/// The parent's count of creates, where the parent is there.
+fn creates_of(above: &Option<SeenCounts>) -> Option<u32>
+    ensures { result ≡ creates_seen above.now }
+{
+    match above {
+        Some(above) => Some(above.counts.creates.unsigned_abs()),
+        None => None,
+    }
+}
+
 /// The paths of the session's nodes, for an ephemeral node.
 fn own_paths(view: &View, session: i64, ephemeral: bool) -> Result<Option<Seq<Path>>, Memory>
     requires real { pos 1 ≤ℤ session }
@@ -305,6 +315,7 @@ fn create_at(
     requires real { pos 1 ≤ℤ session }
     requires prefix { IsTrue sequential → IsTrue (is_sequence_prefix path.now) }
     requires named { IsFalse sequential → named ≡ path.now }
+    requires long { IsFalse sequential → length path.now ≤ max_path }
     requires up { HasSeen view.now (DataKey parent.now) }
     requires above { HasSeen view.now (CountsKey parent.now) }
     requires own { IsTrue ephemeral → HasSeen view.now (SessionKey (nat_abs session)) }
@@ -312,6 +323,15 @@ fn create_at(
 {
     let up = data_seen(view, parent)?;
     let above = counts_seen(view, parent)?;
+    let keys = create_keys(
+        alloc,
+        session,
+        path,
+        parent,
+        sequential,
+        ephemeral,
+        creates_of(&above),
+    )?;
     let path = path_of(alloc, path, named, sequential, &above)?;
     let taken = is_there(alloc, view, &path)?;
     let paths = own_paths(view, session, ephemeral)?;
@@ -328,7 +348,7 @@ fn create_at(
         taken,
         paths,
     )?;
-    decision(alloc, view, chosen)
+    decision(alloc, view, keys.as_slice(), chosen)
 }
 
 /// Decides a create by its path with `1` behind it where it is sequential. The root has no parent, and is there.
@@ -348,6 +368,7 @@ fn create_named(
     requires real { pos 1 ≤ℤ session }
     requires prefix { IsTrue sequential → IsTrue (is_sequence_prefix path.now) }
     requires named { IsFalse sequential → named ≡ path.now }
+    requires long { IsFalse sequential → length path.now ≤ max_path }
     requires up { IsUpLookedUp view.now (parent_of named) }
     requires own { IsTrue ephemeral → HasSeen view.now (SessionKey (nat_abs session)) }
     ensures { IfOk result (IsCreate view.now path.now content.now now sequential ephemeral session (parent_of named)) }
@@ -375,7 +396,7 @@ pub(crate) fn decide_create(
     requires moment { now ≤ max_moment }
     requires short { length content.now ≤ max_frame }
     requires whole { IsWhole (req.Create path.now content.now acl.now flags) who view.now }
-    ensures form { IfOk result (IsByForm (req.Create path.now content.now acl.now flags)) }
+    ensures form { IfOk result (IsToldByForm (req.Create path.now content.now acl.now flags)) }
     ensures sound { IfOk result (IsBySound (req.Create path.now content.now acl.now flags) who view.now) }
     ensures plan { IfOk result (IfPlanned (IsGuarded (req.Create path.now content.now acl.now flags) who now view.now)) }
 {

@@ -16,18 +16,18 @@ ghost use Rattle.zk_model.specs.declared.request.Request.TheVariants as req;
 ghost use Rattle.zn_layout.specs.Keys.{CountsKey, DataKey};
 ghost use Rattle.zn_view.specs.Lookups.{HasSeen, sees};
 ghost use Rattle.zn_view.specs.Needs.{AreNeeds};
-ghost use Rattle.zn_updates.specs.Deciding.{IfPlanned, IsByForm, IsBySound, IsDelete, IsGuarded, IsOwnerLookedUp, IsOwnerPaths, IsWhole};
+ghost use Rattle.zn_updates.specs.Deciding.{IfPlanned, IsToldByForm, IsBySound, IsDelete, IsGuarded, IsOwnerLookedUp, IsOwnerPaths, IsWhole, owner_seen};
 ghost use Rattle.zn_updates.specs.Making.{IsDataSeen};
 ghost use Rattle.zn_updates.specs.declared.seen.SeenData.{SeenData as AnySeenData};
 
 use crate::changes::put_owned;
 use crate::chosen::{Chosen, Update};
 use crate::form::inner_path;
+use crate::keys::{delete_keys, delete_wants};
 use crate::owned::without;
 use crate::plan::{decision, refused};
 use crate::seen::{SeenCounts, SeenData, counts_seen, data_seen, paths_seen};
 use crate::set_data::matches;
-use crate::wants::delete_wants;
 use ev_types::Act;
 use std::alloc::Global;
 use zk_model::code::{BAD_ARGUMENTS, BAD_VERSION, NO_NODE, NOT_EMPTY, SYSTEM_ERROR};
@@ -194,26 +194,41 @@ fn owner_paths(view: &View, node: &Option<SeenData>) -> Result<Option<Seq<Path>>
     }
 }
 
+/// The owner of a node, 0 where it has none.
+fn owner_of(node: &Option<SeenData>) -> i64
+    requires { IfSome node.now IsDataWithin }
+    ensures is { result ≡ owner_seen node.now }
+    ensures least { pos 0 ≤ℤ result }
+{
+    match node {
+        Some(node) => node.owner,
+        None => 0,
+    }
+}
+
 /// Decides a delete below a parent.
 fn delete_at(
     alloc: Global,
     path: &Path,
     parent: &Path,
     version: i32,
+    session: i64,
     view: &View,
 ) -> Result<Decision, Memory>
+    requires real { pos 1 ≤ℤ session }
     requires valid { IsTrue (is_path path.now) }
     requires parent { IsTrue (is_path parent.now) }
     requires node { HasSeen view.now (DataKey path.now) }
     requires counts { HasSeen view.now (CountsKey path.now) }
     requires above { HasSeen view.now (CountsKey parent.now) }
     requires owner { (x : Option AnySeenData) → IsDataSeen (sees view.now (DataKey path.now)) x → IsOwnerLookedUp view.now x }
-    ensures { IfOk result (IsDelete view.now path.now version (Some parent.now)) }
+    ensures { IfOk result (IsDelete view.now path.now version session (Some parent.now)) }
 {
     let node = data_seen(view, path)?;
     let counts = counts_seen(view, path)?;
     let above = counts_seen(view, parent)?;
     let paths = owner_paths(view, &node)?;
+    let keys = delete_keys(alloc, session, path, parent, owner_of(&node))?;
     let chosen = choose_delete(
         alloc,
         path,
@@ -224,20 +239,27 @@ fn delete_at(
         above.as_ref(),
         paths,
     )?;
-    decision(alloc, view, chosen)
+    decision(alloc, view, keys.as_slice(), chosen)
 }
 
 /// Decides a delete of a valid path that is not the root. A path without parent has no node.
-fn delete_below(alloc: Global, path: &Path, version: i32, view: &View) -> Result<Decision, Memory>
+fn delete_below(
+    alloc: Global,
+    path: &Path,
+    version: i32,
+    session: i64,
+    view: &View,
+) -> Result<Decision, Memory>
+    requires real { pos 1 ≤ℤ session }
     requires valid { IsTrue (is_path path.now) }
     requires node { HasSeen view.now (DataKey path.now) }
     requires counts { HasSeen view.now (CountsKey path.now) }
     requires above { IfSome (parent_of path.now) (λ q. HasSeen view.now (CountsKey q)) }
     requires owner { (x : Option AnySeenData) → IsDataSeen (sees view.now (DataKey path.now)) x → IsOwnerLookedUp view.now x }
-    ensures { IfOk result (IsDelete view.now path.now version (parent_of path.now)) }
+    ensures { IfOk result (IsDelete view.now path.now version session (parent_of path.now)) }
 {
     match path.parent(alloc)? {
-        Some(parent) => delete_at(alloc, path, &parent, version, view),
+        Some(parent) => delete_at(alloc, path, &parent, version, session, view),
         None => Ok(refused(NO_NODE)),
     }
 }
@@ -254,12 +276,12 @@ pub(crate) fn decide_delete(
     requires real { pos 1 ≤ℤ who.session }
     requires moment { now ≤ max_moment }
     requires whole { IsWhole (req.Delete path.now version) who view.now }
-    ensures form { IfOk result (IsByForm (req.Delete path.now version)) }
+    ensures form { IfOk result (IsToldByForm (req.Delete path.now version)) }
     ensures sound { IfOk result (IsBySound (req.Delete path.now version) who view.now) }
     ensures plan { IfOk result (IfPlanned (IsGuarded (req.Delete path.now version) who now view.now)) }
 {
     match inner_path(alloc, path)? {
-        Some(path) => delete_below(alloc, &path, version, view),
+        Some(path) => delete_below(alloc, &path, version, who.session, view),
         None => Ok(refused(BAD_ARGUMENTS)),
     }
 }

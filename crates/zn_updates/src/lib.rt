@@ -1,8 +1,9 @@
 //! Create, delete and setData, planned on a view.
 //!
 //! A request names what it still has to read ([`update_needs`]), and is decided once the view lacks nothing of that
-//! ([`decide_update`]): a refusal, or a plan whose transaction is guarded by all that the view saw but the head. The reply
-//! of a plan waits for the zxid of its update ([`finish`]).
+//! ([`decide_update`]): a refusal, or a plan whose transaction is guarded by what the request read, but for the head, whatever
+//! else the view saw. So a plan stays small, also after many updates of others came first. The reply of a plan waits for the
+//! zxid of its update ([`finish`]).
 //!
 //! Each request is decided in two steps. What the view saw is read as records (`seen`), without a node's data. Then a pure
 //! function of these records chooses a refusal or the changes of an update (`specs/Choices`): [`choose_create`],
@@ -20,12 +21,12 @@ mod create;
 mod delete;
 mod draft;
 mod form;
+mod keys;
 mod owned;
 mod plan;
 mod requests;
 mod seen;
 mod set_data;
-mod wants;
 
 pub use chosen::{Chosen, Update};
 pub use create::choose_create;

@@ -6,7 +6,7 @@ ghost use Rattle.zk_transcript.specs.History.{response_of};
 ghost use Rattle.zn_layout.specs.Changes.{act_of, head_put};
 ghost use Rattle.zn_layout.specs.Keys.{HeadKey, key_bytes};
 ghost use Rattle.zn_layout.specs.Records.{IsHeadRec};
-ghost use Rattle.zn_view.specs.Asks.{again_of, guards_of};
+ghost use Rattle.zn_view.specs.Asks.{again_of, guards_of, narrowed, picked};
 ghost use Rattle.zn_updates.specs.Choices.{Choice as AnyChoice};
 ghost use Rattle.zn_updates.specs.Deciding.{IfMade, decision_of};
 ghost use Rattle.zn_updates.specs.Making.{chosen_of};
@@ -17,7 +17,7 @@ use std::alloc::Global;
 use zk_model::{Body, PartResult, Reply, Trigger};
 use zn_layout::{HeadRec, get_head, put_head};
 use zn_view::{Decision, Plan, View};
-use zx_base::{Memory, Seq};
+use zx_base::{Bytes, Memory, Seq};
 
 fn body_of(draft: PartResult) -> Body
     ensures { result ≡ response_of draft }
@@ -40,12 +40,12 @@ fn success(alloc: Global, acts: Seq<Act>, head: &HeadRec) -> Result<Seq<Act>, Me
     Ok(list)
 }
 
-/// The plan of an update. Its guards are on all that the view saw but the head.
-fn plan(alloc: Global, view: &View, update: Update) -> Result<Plan, Memory>
+/// The plan of an update. Its guards are on these keys but for the head.
+fn plan(alloc: Global, view: &View, keys: &[Bytes], update: Update) -> Result<Plan, Memory>
     requires { IsHeadRec update.triggers }
-    ensures guards { IfOk result (λ p. p.guards ≡ guards_of view.now.keys) }
+    ensures guards { IfOk result (λ p. p.guards ≡ guards_of (picked view.now keys.now)) }
     ensures success { IfOk result (λ p. p.success ≡ (update.acts ++ act_of (head_put update.triggers) ∷ []) ++ read_key (key_bytes HeadKey) ∷ []) }
-    ensures again { IfOk result (λ p. p.again ≡ again_of view.now.keys) }
+    ensures again { IfOk result (λ p. p.again ≡ again_of (picked view.now keys.now)) }
     ensures draft { IfOk result (λ p. p.draft ≡ Reply.Good (response_of update.draft)) }
     ensures triggers { IfOk result (λ p. p.triggers ≡ update.triggers) }
 {
@@ -53,9 +53,9 @@ fn plan(alloc: Global, view: &View, update: Update) -> Result<Plan, Memory>
         triggers: update.triggers,
     };
     Ok(Plan {
-        guards: view.guards()?,
+        guards: view.guards_on(keys)?,
         success: success(alloc, update.acts, &head)?,
-        again: view.again()?,
+        again: view.again_on(keys)?,
         draft: Reply::Good(body_of(update.draft)),
         triggers: head.triggers,
     })
@@ -71,13 +71,18 @@ pub(crate) fn refused(code: i32) -> Decision
     }
 }
 
-/// The decision of a choice.
-pub(crate) fn decision(alloc: Global, view: &View, chosen: Chosen) -> Result<Decision, Memory>
+/// The decision of a choice that was made on these keys.
+pub(crate) fn decision(
+    alloc: Global,
+    view: &View,
+    keys: &[Bytes],
+    chosen: Chosen,
+) -> Result<Decision, Memory>
     requires { IfMade IsHeadRec chosen }
-    ensures { IfOk result (λ d. (choice : AnyChoice) → chosen ≡ chosen_of choice → d ≡ decision_of view.now choice) }
+    ensures { IfOk result (λ d. (choice : AnyChoice) → chosen ≡ chosen_of choice → d ≡ decision_of (narrowed view.now keys.now) choice) }
 {
     match chosen {
         Chosen::Refused(code) => Ok(refused(code)),
-        Chosen::Made(update) => Ok(Decision::Planned(plan(alloc, view, update)?)),
+        Chosen::Made(update) => Ok(Decision::Planned(plan(alloc, view, keys, update)?)),
     }
 }

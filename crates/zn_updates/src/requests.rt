@@ -3,7 +3,7 @@
 ghost use Rattle.std.specs.Prelude.{◌≡◌, ◌≤◌, ◌≤ℤ◌, pos, length, IfOk, IsTrue};
 ghost use Rattle.zk_model.specs.Limits.{max_frame, max_moment};
 ghost use Rattle.zn_view.specs.Needs.{AreNeeds};
-ghost use Rattle.zn_updates.specs.Deciding.{content_in, is_update, IfPlanned, IsByForm, IsBySound, IsGuarded, IsWhole};
+ghost use Rattle.zn_updates.specs.Deciding.{content_in, is_update, IfPlanned, IsToldByForm, IsBySound, IsGuarded, IsWhole};
 
 use crate::create::{create_needs, decide_create};
 use crate::delete::{decide_delete, delete_needs};
@@ -52,7 +52,7 @@ pub fn decide_update(
     requires moment { now ≤ max_moment }
     requires short { length (content_in request.now) ≤ max_frame }
     requires whole { IsWhole request.now who view.now }
-    ensures form { IfOk result (IsByForm request.now) }
+    ensures form { IfOk result (IsToldByForm request.now) }
     ensures sound { IfOk result (IsBySound request.now who view.now) }
     ensures plan { IfOk result (IfPlanned (IsGuarded request.now who now view.now)) }
 {

@@ -18,15 +18,15 @@ ghost use Rattle.zk_model.specs.declared.request.Request.TheVariants as req;
 ghost use Rattle.zn_layout.specs.Keys.{CountsKey, DataKey};
 ghost use Rattle.zn_view.specs.Lookups.{HasSeen};
 ghost use Rattle.zn_view.specs.Needs.{AreNeeds};
-ghost use Rattle.zn_updates.specs.Deciding.{IfPlanned, IsByForm, IsBySound, IsGuarded, IsSetData, IsWhole};
+ghost use Rattle.zn_updates.specs.Deciding.{IfPlanned, IsToldByForm, IsBySound, IsGuarded, IsSetData, IsWhole};
 ghost use Rattle.zx_base.specs.Maps.{Bytes as ByteList};
 
 use crate::changes::put_data;
 use crate::chosen::{Chosen, Update};
 use crate::form::read_path;
+use crate::keys::{set_data_keys, set_data_wants};
 use crate::plan::{decision, refused};
 use crate::seen::{SeenCounts, SeenData, counts_seen, data_seen};
-use crate::wants::set_data_wants;
 use std::alloc::Global;
 use zk_model::code::{BAD_ARGUMENTS, BAD_VERSION, NO_NODE, SYSTEM_ERROR};
 use zk_model::{PartResult, Path, Stat, Trigger};
@@ -176,15 +176,17 @@ fn set_data_at(
     path: &Path,
     content: &[u8],
     version: i32,
+    session: i64,
     now: u64,
     view: &View,
 ) -> Result<Decision, Memory>
     requires valid { IsTrue (is_path path.now) }
+    requires real { pos 1 ≤ℤ session }
     requires moment { now ≤ max_moment }
     requires short { length content.now ≤ max_frame }
     requires node { HasSeen view.now (DataKey path.now) }
     requires counts { HasSeen view.now (CountsKey path.now) }
-    ensures { IfOk result (IsSetData view.now path.now content.now version now) }
+    ensures { IfOk result (IsSetData view.now path.now content.now version now session) }
 {
     let node = data_seen(view, path)?;
     let counts = counts_seen(view, path)?;
@@ -197,7 +199,8 @@ fn set_data_at(
         node.as_ref(),
         counts.as_ref(),
     )?;
-    decision(alloc, view, chosen)
+    let keys = set_data_keys(alloc, session, path)?;
+    decision(alloc, view, keys.as_slice(), chosen)
 }
 
 /// Decides a setData.
@@ -214,12 +217,12 @@ pub(crate) fn decide_set_data(
     requires moment { now ≤ max_moment }
     requires short { length content.now ≤ max_frame }
     requires whole { IsWhole (req.SetData path.now content.now version) who view.now }
-    ensures form { IfOk result (IsByForm (req.SetData path.now content.now version)) }
+    ensures form { IfOk result (IsToldByForm (req.SetData path.now content.now version)) }
     ensures sound { IfOk result (IsBySound (req.SetData path.now content.now version) who view.now) }
     ensures plan { IfOk result (IfPlanned (IsGuarded (req.SetData path.now content.now version) who now view.now)) }
 {
     match read_path(alloc, path, false)? {
-        Some(path) => set_data_at(alloc, &path, content, version, now, view),
+        Some(path) => set_data_at(alloc, &path, content, version, who.session, now, view),
         None => Ok(refused(BAD_ARGUMENTS)),
     }
 }

@@ -2,7 +2,7 @@
 use Rattle.std.proofs.Common.{◌≡◌, ℕ, zero, suc, ℤ, pos, refl, sym, ◌∙◌, subst, arith, Bool, true, false, List, [], ◌∷◌, ◌++◌}
 use Rattle.std.specs.Prelude.{Option, Some, None, All, IfSome, Contains, nat_abs, ◌≤ℤ◌, if◌then◌else◌}
 use Rattle.std.specs.FinMap.{get}
-use Rattle.std.proofs.lemmas.List.Elements.{All-weaker}
+use Rattle.std.proofs.lemmas.List.Elements.{All-contains_itself, All-weaker}
 use Rattle.ev_types.specs.declared.answer.Kv.{Kv}
 use Rattle.ev_types.specs.declared.ask.Guard.{Guard}
 use Rattle.ev_types.specs.Ranges.{Keys}
@@ -45,7 +45,7 @@ pub seen-guarded : (k : Bytes) (kv : Kv) (xs : List SeenKey) → (k ≡ key_byte
 seen-guarded k kv [] apart h = absurd (cc)
 seen-guarded k kv (x ∷ xs) apart h = guard_at_first k kv x xs (same x.key k) refl apart (seen-guarded k kv xs apart) h
 
-life-apart : (n : ℕ) → key_bytes (LeaseKey n) ≡ key_bytes HeadKey → ⊥
+pub life-apart : (n : ℕ) → key_bytes (LeaseKey n) ≡ key_bytes HeadKey → ⊥
 life-apart n h = let e = key_bytes-injective (LeaseKey n) HeadKey h in absurd (cc)
 
 -- ---- the plan
@@ -56,6 +56,8 @@ plan-asked who v p cs ts kv guards again acts saw mine =
     let k = key_bytes (LeaseKey (nat_abs who.session)) in
     let guarded = seen-guarded k kv v.keys (life-apart (nat_abs who.session)) saw in
     record {
+      keys = v.keys;
+      among = All-contains_itself v.keys;
       guards = guards;
       again = again;
       lease = subst (λ (gs : List Guard). Contains gs (lease_guard who)) (sym guards) (subst (λ (n : ℤ). Contains (guards_of v.keys) (record { key = k; mod_revision = n })) mine guarded);

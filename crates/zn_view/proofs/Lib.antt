@@ -10,3 +10,10 @@ pub mod Showing
 pub mod Asked
 pub mod Listing
 pub mod LastUpdate
+pub mod Elements
+pub mod Members
+pub mod Named
+pub mod Narrowing
+pub mod Wanted
+pub mod Sizes
+pub mod PlanSizes

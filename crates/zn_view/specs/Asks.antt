@@ -1,6 +1,6 @@
 -- How a view is read from an etcd: ranges at one revision, and what their answers show. How a plan is asked: a guarded
 -- transaction whose failure reads what was guarded.
-use Rattle.std.specs.Prelude.{◌≡◌, ◌+◌, ℤ, pos, nat_abs, Bool, true, false, List, [], ◌∷◌, ◌++◌, map, filter, drop, Option, Some, None, Contains, codes, if◌then◌else◌}
+use Rattle.std.specs.Prelude.{◌≡◌, ◌+◌, ℤ, pos, nat_abs, Bool, true, false, List, [], ◌∷◌, ◌++◌, map, filter, drop, Option, Some, None, All, Contains, IfSome, codes, if◌then◌else◌}
 use Rattle.ev_types.specs.declared.answer.ActAns.{ActAns}
 use Rattle.ev_types.specs.declared.answer.ActAns.TheVariants as part
 use Rattle.ev_types.specs.declared.answer.Kv.{Kv}
@@ -12,16 +12,19 @@ use Rattle.ev_types.specs.declared.ask.Guard.{Guard}
 use Rattle.ev_types.specs.declared.ask.RangeReq.{RangeReq}
 use Rattle.ev_types.specs.declared.ask.TxnReq.{TxnReq}
 use Rattle.ev_types.specs.Ranges.{is_within}
+use Rattle.ev_types.specs.Reads.{are_present_reads}
 use Rattle.ev_types.specs.Store.{mod_of}
 use Rattle.zk_model.specs.Paths.{depth, root, slash}
 use Rattle.zx_base.specs.Maps.{Bytes, same}
+use Rattle.zn_layout.specs.Changes.{Change, Put, are_distinct, head_put, update_acts}
 use Rattle.zn_layout.specs.Keys.{HeadKey, LeaseKey, key_bytes, four_digits}
+use Rattle.zn_layout.specs.Records.{IsHeadRec}
 use Rattle.zn_view.specs.declared.plan.Plan.{Plan}
 use Rattle.zn_view.specs.declared.plan.Who.{Who}
 use Rattle.zn_view.specs.declared.snapshot.SeenKey.{SeenKey}
 use Rattle.zn_view.specs.declared.want.Want.{Want}
 use Rattle.zn_view.specs.declared.want.Want.TheVariants as want
-use Rattle.zn_view.specs.Seen.{View}
+use Rattle.zn_view.specs.Seen.{View, seen}
 
 -- ---- the ranges that are read
 
@@ -93,9 +96,24 @@ last_part [] = []
 last_part (a ∷ []) = found_in a
 last_part (a ∷ b ∷ more) = last_part (b ∷ more)
 
+-- ---- some of the keys that a view saw
+
+abbrev pub with_found : Bytes → Option (Option Kv) → List SeenKey → List SeenKey
+with_found k None xs = xs
+with_found k (Some o) xs = record { key = k; found = o } ∷ xs
+
+-- these keys as the view saw them; one that was not looked up is left out
+abbrev pub picked : View → List Bytes → List SeenKey
+picked v [] = []
+picked v (k ∷ ks) = with_found k (seen v k) (picked v ks)
+
+-- the view with these keys alone
+abbrev pub narrowed : View → List Bytes → View
+narrowed v ks = record v { keys = picked v ks }
+
 -- ---- what a plan that is asked says, beside what it is worth
 
--- a guard on each key that the view saw, but for the head, at the revision that it saw
+-- a guard on each of these keys, but for the head, at the revision that was seen
 abbrev pub guards_of : List SeenKey → List Guard
 guards_of [] = []
 guards_of (x ∷ xs) = if same x.key (key_bytes HeadKey) then guards_of xs else record { key = x.key; mod_revision = mod_of x.found } ∷ guards_of xs
@@ -119,8 +137,27 @@ ShowsHead acts = (first : List Act) × (acts ≡ first ++ ranges_of (pos 0) (hea
 abbrev pub lease_guard : Who → Guard
 lease_guard who = record { key = key_bytes (LeaseKey (nat_abs who.session)); mod_revision = who.mine }
 
+-- Some of the keys that the view saw are guarded as it saw them, the session's life among them, and are read again where a
+-- guard does not hold. (Which ones: a plan of a single request guards what the request reads, see `Needs`.)
 pub record IsAskedPlan (who : Who) (v : View) (p : Plan) : Type 0 where
-  pub guards : p.guards ≡ guards_of v.keys
-  pub again : p.again ≡ again_of v.keys
+  pub keys : List SeenKey
+  pub among : All (Contains v.keys) keys
+  pub guards : p.guards ≡ guards_of keys
+  pub again : p.again ≡ again_of keys
   pub lease : Contains p.guards (lease_guard who)
   pub shows : ShowsHead p.success
+
+-- ---- what a plan writes
+
+abbrev pub IsLeaseless : Change → Type 0
+IsLeaseless c = IfSome c.put (λ (w : Put). w.lease ≡ pos 0)
+
+-- Each key is written once, and no put has a lease. The head is put last, with what watches see, and then read. Where a guard
+-- does not hold nothing is written.
+pub record WritesOnce (p : Plan) : Type 0 where
+  pub changes : List Change
+  pub acts : p.success ≡ update_acts changes p.triggers
+  pub once : are_distinct (changes ++ head_put p.triggers ∷ []) ≡ true
+  pub leases : All IsLeaseless changes
+  pub triggers : IsHeadRec p.triggers
+  pub reads : are_present_reads (ranges_of (pos 0) p.again) ≡ true

@@ -4,4 +4,5 @@ pub mod Adding
 pub mod Views
 pub mod Lookups
 pub mod Needs
+pub mod Lacking
 pub mod Laws

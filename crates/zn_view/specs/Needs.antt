@@ -1,5 +1,5 @@
 -- What a request looks up before it can be decided, and what a finished draft is.
-use Rattle.std.specs.Prelude.{◌≡◌, ℤ, pos, nat_abs, ◌⊎◌, List, [], map, Some, None, IsTrue, Contains, if◌then◌else◌}
+use Rattle.std.specs.Prelude.{◌≡◌, ◌≢◌, ℤ, pos, nat_abs, ◌⊎◌, Bool, true, false, List, [], map, Some, None, IsTrue, AllPairs, Contains, if◌then◌else◌}
 use Rattle.std.specs.Ordering.{int_eq}
 use Rattle.ev_types.specs.declared.answer.Kv.{Kv}
 use Rattle.zk_model.specs.declared.node.Stat.{Stat}
@@ -23,8 +23,9 @@ use Rattle.zn_layout.specs.Keys.{Key, DataKey, CountsKey, SessionKey, LeaseKey, 
 use Rattle.zn_layout.specs.Records.{node_value, counts_value, session_value, lease_value, IsNodeRec, IsCountRec, IsSessionRec, IsLeaseRec}
 use Rattle.zn_view.specs.declared.want.Want.{Want}
 use Rattle.zn_view.specs.declared.want.Want.TheVariants as want
+use Rattle.zn_view.specs.declared.plan.Plan.{Plan}
 use Rattle.zn_view.specs.declared.plan.Who.{Who}
-use Rattle.zn_view.specs.Asks.{head_want}
+use Rattle.zn_view.specs.Asks.{again_of, guards_of, head_want, picked}
 use Rattle.zn_view.specs.Seen.{View, seen, listed}
 use Rattle.zn_view.specs.Views.{reads}
 
@@ -73,11 +74,28 @@ abbrev pub IsLacking : View → Want → Type 0
 IsLacking v (want.Key k) = seen v k ≡ None
 IsLacking v (want.Children p) = listed v p ≡ None
 
--- The wants name only what is read and lacking, and nothing only where nothing is lacking. What needs no tree reads nothing.
+abbrev pub is_multi : Request → Bool
+is_multi (req.Multi parts) = true
+is_multi _ = false
+
+-- The wants name what is read and lacking, all of it at once and each once, and so nothing only where nothing is lacking. What
+-- needs no tree reads nothing. What a multi reads isn't said here: no wants are its needs, unless its form is refused.
 pub record AreNeeds (r : Request) (who : Who) (v : View) (ws : List Want) : Type 0 where
   pub only : (w : Want) → Contains ws w → IsRead r who v w × IsLacking v w
   pub enough : ws ≡ [] → plain_request no_watches r ≡ None → (w : Want) → IsRead r who v w → IsLacking v w → ⊥
+  pub all : plain_request no_watches r ≡ None → (w : Want) → IsRead r who v w → IsLacking v w → Contains ws w
+  pub once : AllPairs (λ (w u : Want). w ≢ u) ws
   pub none : (t : Told) → plain_request no_watches r ≡ Some t → ws ≡ []
+  pub known : plain_request no_watches r ≡ None → is_multi r ≡ false
+
+-- A plan guards what its request reads, but for the head, as the view saw it, and no other key, whatever else the view saw. The
+-- same keys are read again where a guard does not hold.
+pub record GuardsReads (r : Request) (who : Who) (v : View) (p : Plan) : Type 0 where
+  pub keys : List Bytes
+  pub guards : p.guards ≡ guards_of (picked v keys)
+  pub again : p.again ≡ again_of (picked v keys)
+  pub all : (k : Bytes) → IsRead r who v (want.Key k) → Contains keys k
+  pub only : (k : Bytes) → Contains keys k → IsRead r who v (want.Key k)
 
 -- ---- a draft has 0 in each place of the zxid that its update gets
 

@@ -82,7 +82,7 @@ own_data flags p = if is_sequential flags then [] else DataKey p ∷ []
 abbrev pub valid : List Bytes → List Bytes
 valid ps = filter is_path ps
 
--- The keys that follow from the request alone. (What a multi looks up isn't said here.)
+-- The keys that follow from the request alone. What a multi looks up isn't said here (see `AreNeeds`).
 unfoldable pub reads : Request → ℤ → List Key
 reads (req.Create p d a f) id = about_parent (parent (named f p)) ++ own_data f p ++ own_nodes f id
 reads (req.Delete p v) id = about_path p ++ counts_of_parent (parent p)

@@ -16,7 +16,7 @@ use zn_layout::head_key;
 use zx_base::{Bytes, Memory, Seq};
 
 #[tactic(auto, unfolding(zn_layout::specs::Keys::key_bytes))]
-fn is_head(key: &Bytes) -> bool
+pub(crate) fn is_head(key: &Bytes) -> bool
     ensures { result ≡ same key.now (key_bytes HeadKey) }
 {
     key.is(b"zk/head")

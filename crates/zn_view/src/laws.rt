@@ -1,6 +1,7 @@
 //! The laws of views. Each function does nothing, and its contract is the law.
 
 ghost use Rattle.std.specs.Prelude.{◌≡◌, ℕ, ◌≤◌, ℤ, pos, ◌≤ℤ◌, ◌<ℤ◌, Bool, true, false, List, length, Option, Some, None, All, Contains, IsTrue};
+ghost use Rattle.std.specs.FinMap.{get};
 ghost use Rattle.std.specs.List.{list_all};
 ghost use Rattle.std.specs.Ordering.{int_eq};
 ghost use Rattle.ev_types.specs.declared.answer.ActAns.{ActAns};
@@ -27,8 +28,9 @@ ghost use Rattle.zn_view.specs.declared.plan.Decision.{Decision as AnyDecision};
 ghost use Rattle.zn_view.specs.declared.plan.Decision.TheVariants.{Answered, Expired, Moved};
 ghost use Rattle.zn_view.specs.declared.plan.Plan.{Plan as AnyPlan};
 ghost use Rattle.zn_view.specs.declared.plan.Who.{Who as AnyWho};
+ghost use Rattle.zn_view.specs.declared.snapshot.SeenKey.{SeenKey as AnySeen};
 ghost use Rattle.zn_view.specs.declared.want.Want.{Want as AnyWant};
-ghost use Rattle.zn_view.specs.Asks.{again_of, guards_of, reading, transaction, with_parts, IsAskedPlan, ShowsHead};
+ghost use Rattle.zn_view.specs.Asks.{again_of, guards_of, narrowed, picked, reading, transaction, with_parts, IsAskedPlan, ShowsHead};
 ghost use Rattle.zn_view.specs.Laws.{IsShown, IsCarriedOut, life_seen};
 ghost use Rattle.zn_view.specs.Needs.{IsLacking};
 ghost use Rattle.zn_view.specs.Seen.{View, empty_view, head_number, head_of, head_zxid, seen, listed};
@@ -72,6 +74,16 @@ pub fn guarded_keys_are_as_seen()
     ensures agrees { (v : View) (m : Keys) → Agrees v m → AreAsSeen v m }
     ensures commits { (p : AnyPlan) (v : View) (m : Keys) → p.guards ≡ guards_of v.keys → MayCommit p v m → AreAsSeen v m }
     ensures hold { (p : AnyPlan) (v : View) (m : Keys) → p.guards ≡ guards_of v.keys → IsUnchanged v m → list_all (holds m) p.guards ≡ true }
+{}
+
+/// A view with some of its keys alone shows these as the whole view does, and agrees with all that the whole view agrees with.
+/// A plan that guards these keys alone is worth on the whole view what it is worth on them. So what a plan guards had, in keys
+/// that the view agrees with, what was found.
+pub fn some_keys_are_enough()
+    ensures shown { (v : View) (ks : List ByteList) (k : ByteList) → Contains ks k → seen (narrowed v ks) k ≡ seen v k }
+    ensures agrees { (v : View) (ks : List ByteList) (m : Keys) → Agrees v m → Agrees (narrowed v ks) m }
+    ensures plan { (r : Request) (who : AnyWho) (now : ℕ) (v : View) (ks : List ByteList) (p : AnyPlan) (finish : ℤ → AnyReply) → p.guards ≡ guards_of (picked v ks) → IsPlan r who now (narrowed v ks) p finish → IsPlan r who now v p finish }
+    ensures found { (who : AnyWho) (v : View) (p : AnyPlan) (m : Keys) → (asked : IsAskedPlan who v p) → Agrees v m → All (λ (x : AnySeen). get m x.key ≡ x.found) asked.keys }
 {}
 
 /// A plan carries out its update where its changes are those of the update in each sound state whose keys have what the

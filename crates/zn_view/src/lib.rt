@@ -2,13 +2,13 @@
 //!
 //! A request is answered in rounds. What it has to look up is a list of [`Want`]s; what an etcd answers to them is added to
 //! a [`View`], all of whose keys are of one revision; and when nothing is wanted any more, a [`Decision`] is made on the
-//! view. A [`Plan`] is an update: a transaction that guards what the view saw, so that it takes place only where the keys
-//! still are as they were seen, and otherwise reads them again.
+//! view. A [`Plan`] is an update: a transaction that guards what its request read, so that it takes place only where these
+//! keys still are as they were seen, and otherwise reads them again.
 //!
 //! In `specs/`, in reading order: `Seen` (a view, and what it saw), `Asks` (the ranges that are read, and what their
 //! answers show), `Adding` (what a view takes), `Views` (which states a view is of, and what a decision and a plan are
-//! worth), `Needs` (what a request looks up), `Lookups`, `Laws`. The laws are the functions of `laws`, and stand in
-//! `proofs/` by topic: `SeenAfter`, `Showing`, `AsSeen`, `Tested`, `Committing`, `Asked`. Who shows that a request's
+//! worth), `Needs` (what a request looks up), `Lacking`, `Lookups`, `Laws`. The laws are the functions of `laws`, and stand
+//! in `proofs/` by topic: `SeenAfter`, `Showing`, `AsSeen`, `Narrowing`, `Tested`, `Committing`, `Asked`. Who shows that a request's
 //! changes are those of its update, in each state whose keys have what the view saw, has shown that its plan carries it
 //! out ([`a_plan_commits`]).
 //!
@@ -21,8 +21,10 @@ mod children;
 mod fault;
 mod guards;
 mod kind;
+mod lacking;
 mod laws;
 mod lookup;
+mod narrow;
 mod plan;
 mod round;
 mod snapshot;
@@ -33,7 +35,7 @@ pub use children::{children_end, children_start};
 pub use fault::ViewFault;
 pub use laws::{
     a_plan_commits, a_plan_is_answered, a_plan_may_be_asked, a_round_agrees, a_session_is_tested,
-    children_are_listed, guarded_keys_are_as_seen, the_last_update_is_told,
+    children_are_listed, guarded_keys_are_as_seen, some_keys_are_enough, the_last_update_is_told,
     what_was_wanted_is_seen,
 };
 pub use plan::{Arm, Decision, Plan, Who};

@@ -1,5 +1,5 @@
 -- The record of the session's life was looked up, and is not there, or was put elsewhere.
-use Rattle.std.proofs.Common.{◌≡◌, ℤ, false, Option, Some, None, sym, subst, w64, rules, arith}
+use Rattle.std.proofs.Common.{◌≡◌, ℤ, false, Option, sym, subst, w64, rules, arith}
 use Rattle.std.specs.Prelude.{nat_abs}
 use Rattle.std.specs.Ordering.{int_eq}
 use Rattle.std.proofs.lemmas.Grind.{common_steps}

@@ -1,7 +1,7 @@
 -- What is no update is a read.
 use Rattle.std.proofs.Common.{◌∙◌, sym}
 use Rattle.zn_ops.proofs.SingleRequests.{read-otherwise}
-use Rattle.zn_ops.proofs.SessionTests.{update-decided, read-decided}
+use Rattle.zn_ops.proofs.SessionTests.{read-decided, read-planned, update-decided, update-planned}
 use Rattle.zn_ops.proofs.deciding.decide_by_tree.Goals as goal
 
 pub returns-then-is_update-clause-decision : goal.returns-then-is_update-clause-decision
@@ -12,3 +12,9 @@ decide_read-requires c = read-otherwise c.args.request.now c.requires.single c.r
 
 pub returns-clause-decision : goal.returns-clause-decision
 returns-clause-decision c = read-decided c.args.request.now c.args.who c.args.view.now _ c.requires.real c.requires.formed c.requires.attached c.requires.whole c.in_ok-decide_read.ensures
+
+pub returns-then-is_update-clause-plan : goal.returns-then-is_update-clause-plan
+returns-then-is_update-clause-plan c = update-planned c.args.request.now c.args.who c.args.now c.args.view.now _ c.requires.attached c.in_ok-decide_update.ensures.plan
+
+pub returns-clause-plan : goal.returns-clause-plan
+returns-clause-plan c = read-planned c.args.request.now c.args.who c.args.now c.args.view.now _ c.in_ok-decide_read.ensures.answered

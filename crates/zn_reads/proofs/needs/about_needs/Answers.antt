@@ -5,7 +5,8 @@ use Rattle.zx_base.specs.Maps.{Bytes}
 use Rattle.zn_layout.specs.Keys.{key_bytes}
 use Rattle.zn_layout.specs.ReadingSteps.{IsPathOf}
 use Rattle.zn_view.specs.Views.{about_path}
-use Rattle.zn_reads.specs.Wanting.{lacking, first_keys}
+use Rattle.zn_view.specs.Lacking.{lacking}
+use Rattle.zn_reads.specs.Wanting.{first_keys}
 use Rattle.zn_reads.proofs.Needed.{keys-needed, no_path-key_needed}
 use Rattle.zn_reads.proofs.needs.about_needs.Goals as goal
 

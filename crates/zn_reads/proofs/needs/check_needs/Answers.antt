@@ -4,7 +4,8 @@ use Rattle.std.proofs.lemmas.Result.{IfOk-weaker}
 use Rattle.zx_base.specs.Maps.{Bytes}
 use Rattle.zn_layout.specs.Keys.{DataKey, key_bytes}
 use Rattle.zn_layout.specs.ReadingSteps.{IsPathOf}
-use Rattle.zn_reads.specs.Wanting.{lacking, first_keys}
+use Rattle.zn_view.specs.Lacking.{lacking}
+use Rattle.zn_reads.specs.Wanting.{first_keys}
 use Rattle.zn_reads.proofs.Needed.{keys-needed, no_path-key_needed}
 use Rattle.zn_reads.proofs.needs.check_needs.Goals as goal
 

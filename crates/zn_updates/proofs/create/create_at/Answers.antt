@@ -1,13 +1,51 @@
--- The paths that are told are valid.
-use Rattle.std.proofs.Common.{rules}
-use Rattle.std.specs.Prelude.{IsTrue}
+-- The paths that are told are valid, and the keys that are guarded are those that were looked up.
+use Rattle.std.proofs.Common.{◌≡◌, ◌∙◌, ℤ, List, Some, ap, subst, w64, rules, arith}
+use Rattle.std.specs.Prelude.{IsTrue, map}
+use Rattle.std.proofs.lemmas.Grind.{common_steps}
+use Rattle.std.proofs.lemmas.Int.{to_z-of_z}
+use Rattle.std.proofs.lemmas.Result.{IfOk-weaker}
+use mir.Val.{SFits}
 use Rattle.zk_model.specs.Paths.{is_path}
+use Rattle.zn_layout.proofs.Paths.{path_short}
+use Rattle.zn_layout.specs.Keys.{DataKey, key_bytes}
 use Rattle.zn_layout.specs.Records.{IsHeadRec}
+use Rattle.zn_view.specs.Asks.{narrowed}
+use Rattle.zn_view.specs.Lookups.{sees}
+use Rattle.zx_base.specs.Maps.{Bytes}
+use Rattle.zn_updates.specs.Choices.{create_choice}
+use Rattle.zn_updates.specs.Deciding.{creates_seen, decision_of, path_for, IsOwnPaths}
+use Rattle.zn_updates.specs.KeysRead.{create_keys}
+use Rattle.zn_updates.specs.Making.{chosen_of, has_found}
 use Rattle.zn_updates.proofs.Clauses.{if_made}
 use Rattle.zn_updates.proofs.CreateClauses.{create_bounds}
 use Rattle.zn_updates.proofs.create.create_at.Goals as goal
+
+pub create_keys-requires-clause-parent : goal.create_keys-requires-clause-parent
+create_keys-requires-clause-parent c = path_short c.args.parent.now c.requires.parent
 
 pub decision-requires : goal.decision-requires
 decision-requires c =
     let valid : IsTrue (is_path c.in_ok-path.path) = search rules in
     if_made IsHeadRec c.in_ok-chosen.chosen _ c.in_ok-chosen.ensures (create_bounds c.in_ok-path.path c.args.parent.now c.args.content.now c.args.now c.args.ephemeral _ _ _ _ _ valid c.requires.parent)
+
+pub returns : goal.returns
+returns c =
+    let fits : SFits w64 c.args.session = search rules in
+    let creates : c.creates_of.result ≡ creates_seen c.in_ok-above.above = c.creates_of.ensures in
+    let keys : c.as_slice.result.now ≡ map key_bytes (create_keys c.args.sequential c.args.ephemeral c.args.path.now (Some c.args.parent.now) c.args.session (creates_seen c.in_ok-above.above)) =
+    first_of (search rules, grind (arith, common_steps, creates, to_z-of_z w64 _ fits)) in
+    let path : c.in_ok-path.path ≡ path_for c.args.sequential c.args.path.now c.in_ok-above.above = c.in_ok-path.ensures in
+    let taken : c.in_ok-taken.taken ≡ has_found (sees c.args.view.now (DataKey (path_for c.args.sequential c.args.path.now c.in_ok-above.above))) = c.in_ok-taken.ensures ∙ ap (λ (q : Bytes). has_found (sees c.args.view.now (DataKey q))) path in
+    let made : c.in_ok-chosen.chosen ≡ chosen_of (create_choice c.in_ok-path.path c.args.parent.now c.args.content.now c.args.now c.args.ephemeral c.args.session c.in_ok-up.up c.in_ok-above.above c.in_ok-taken.taken c.in_ok-paths.paths) =
+    first_of (search rules, grind (arith, common_steps)) in
+    let chosen = made ∙ (λ i. chosen_of (create_choice (path i) c.args.parent.now c.args.content.now c.args.now c.args.ephemeral c.args.session c.in_ok-up.up c.in_ok-above.above (taken i) c.in_ok-paths.paths)) in
+    IfOk-weaker c.decision.result _ _ (λ d is. (
+      c.in_ok-up.up,
+      c.in_ok-above.above,
+      c.in_ok-paths.paths,
+      c.in_ok-up.ensures.is,
+      c.in_ok-above.ensures.is,
+      subst (λ (z : ℤ). IsOwnPaths c.args.view.now c.args.ephemeral z c.in_ok-paths.paths) (to_z-of_z w64 _ fits) c.in_ok-paths.ensures.is,
+      is _ chosen ∙ ap (λ (ks : List Bytes). decision_of (narrowed c.args.view.now ks) (create_choice (path_for c.args.sequential c.args.path.now c.in_ok-above.above) c.args.parent.now c.args.content.now c.args.now c.args.ephemeral c.args.session c.in_ok-up.up c.in_ok-above.above
+          (has_found (sees c.args.view.now (DataKey (path_for c.args.sequential c.args.path.now c.in_ok-above.above)))) c.in_ok-paths.paths)) keys,
+    )) c.decision.ensures

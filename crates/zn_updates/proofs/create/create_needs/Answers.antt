@@ -1,6 +1,6 @@
 -- What the form leaves is read, or nothing.
 use Rattle.std.proofs.Common.{◌≡◌, ◌≤◌, ◌<◌, true, ◌∙◌, sym, ap, subst, length, w32, w64, rules, arith}
-use Rattle.std.specs.Prelude.{Option, Some, None, [], IfSome, IsTrue}
+use Rattle.std.specs.Prelude.{Option, Some, None, [], map, IfSome, IsTrue}
 use Rattle.std.proofs.lemmas.Int.{to_z-of_z}
 use Rattle.std.proofs.lemmas.Result.{IfOk-weaker}
 use mir.Val.{SFits}
@@ -11,7 +11,9 @@ use Rattle.zk_model.specs.Single.{is_ephemeral, is_sequential}
 use Rattle.zk_model.specs.declared.request.Request.TheVariants as req
 use Rattle.zn_layout.proofs.Paths.{path_short}
 use Rattle.zx_base.specs.Maps.{Bytes}
-use Rattle.zn_updates.specs.Lacking.{lacking_from, create_keys}
+use Rattle.zn_view.specs.Lacking.{lacking}
+use Rattle.zn_layout.specs.Keys.{key_bytes}
+use Rattle.zn_updates.specs.KeysRead.{create_keys}
 use Rattle.zn_updates.proofs.Forms.{create_path_valid}
 use Rattle.zn_updates.proofs.Plans.{refused_needs}
 use Rattle.zn_updates.proofs.CreateClauses.{form_at, create_refused, create_needs}
@@ -59,7 +61,7 @@ returns-in_ok-parent-in-Valid c =
     let valid = create_path_valid c.args.path.now content c.args.acl.now c.args.flags form.1 in
     create_needs c.args.path.now content c.args.acl.now c.args.flags form.1 valid c.args.who c.args.view.now ws c.in_ok-parent-in-Valid.field-0 is.0
     (c.in_ok-parent-in-Valid.ensures.parent ∙ ap parent form.0) is.1
-    (is.2 ∙ (λ i. lacking_from c.args.view.now [] (create_keys (sequential i) (ephemeral i) c.args.path.now c.in_ok-parent-in-Valid.field-0 (session i) is.0)))) c.create_wants.ensures
+    (is.2 ∙ (λ i. lacking c.args.view.now (map key_bytes (create_keys (sequential i) (ephemeral i) c.args.path.now c.in_ok-parent-in-Valid.field-0 (session i) is.0))))) c.create_wants.ensures
 
 pub returns-in-Refused : goal.returns-in-Refused
 returns-in-Refused c = λ content.

@@ -9,6 +9,7 @@ use Rattle.zk_model.specs.PathFaults.{is_valid, tested}
 use Rattle.zk_model.specs.Paths.{parent}
 use Rattle.zk_model.specs.Single.{is_ephemeral, is_sequential}
 use Rattle.zk_model.specs.declared.request.Request.TheVariants as req
+use Rattle.zn_layout.proofs.Paths.{path_short}
 use Rattle.zn_layout.specs.Keys.{SessionKey}
 use Rattle.zn_layout.specs.Records.{IsLongCount}
 use Rattle.zn_view.specs.declared.plan.Decision.TheVariants.{Answered}
@@ -30,6 +31,15 @@ create_named-requires-clause-prefix c =
     let form = form_at c.args.path.now c.args.acl.now c.args.flags _ _ _ flags c.in-Valid.is c.in_ok-named.ensures c.args.content.now in
     let valid = create_path_valid c.args.path.now c.args.content.now c.args.acl.now c.args.flags form.1 in
     λ t. subst (λ b. is_valid b c.args.path.now ≡ true) (sym sequential ∙ t) valid
+
+pub create_named-requires-clause-long : goal.create_named-requires-clause-long
+create_named-requires-clause-long c =
+    let fits : SFits w32 c.args.flags = search rules in
+    let flags = to_z-of_z w32 _ fits in
+    let sequential : c.is_sequential-sequential.result ≡ is_sequential c.args.flags = c.is_sequential-sequential.ensures ∙ ap is_sequential flags in
+    let form = form_at c.args.path.now c.args.acl.now c.args.flags _ _ _ flags c.in-Valid.is c.in_ok-named.ensures c.args.content.now in
+    let valid = create_path_valid c.args.path.now c.args.content.now c.args.acl.now c.args.flags form.1 in
+    λ f. path_short c.args.path.now (subst (λ b. is_valid b c.args.path.now ≡ true) (sym sequential ∙ f) valid)
 
 pub create_named-requires-clause-named : goal.create_named-requires-clause-named
 create_named-requires-clause-named c =

@@ -1,5 +1,5 @@
 -- The decision is by the records that were seen, or by the form.
-use Rattle.std.proofs.Common.{◌≡◌, ℤ, refl, inl, inr, sym, subst, w32, rules}
+use Rattle.std.proofs.Common.{◌≡◌, ℤ, refl, inl, inr, sym, subst, w32, w64, rules}
 use Rattle.std.specs.Prelude.{Option, Some, None, IfSome}
 use Rattle.std.proofs.lemmas.Int.{to_z-of_z}
 use Rattle.std.proofs.lemmas.Result.{IfOk-weaker}
@@ -48,25 +48,28 @@ pub returns-in-Some-clause-form : goal.returns-in-Some-clause-form
 returns-in-Some-clause-form c =
     let path = subst (λ (o : Option Bytes). IsInnerPath c.args.path.now o) c.in-Some.is c.in_ok-path.ensures in
     let fits : SFits w32 c.args.version = search rules in
+    let session : SFits w64 c.args.who.session = search rules in
     IfOk-weaker c.delete_below.result _ _ (λ d is.
     (all_promised c.args.path.now c.args.version c.args.who c.args.view.now c.args.now path.1 c.requires.moment c.requires.real d (parent c.args.path.now) refl
-    (subst (λ (t : Bytes × ℤ). IsDelete c.args.view.now t.0 t.1 (parent t.0) d) (λ i. (path.0 i, to_z-of_z w32 _ fits i)) is)).0) c.delete_below.ensures
+    (subst (λ (t : Bytes × ℤ × ℤ). IsDelete c.args.view.now t.0 t.1 t.2 (parent t.0) d) (λ i. (path.0 i, to_z-of_z w32 _ fits i, to_z-of_z w64 _ session i)) is)).0) c.delete_below.ensures
 
 pub returns-in-Some-clause-sound : goal.returns-in-Some-clause-sound
 returns-in-Some-clause-sound c =
     let path = subst (λ (o : Option Bytes). IsInnerPath c.args.path.now o) c.in-Some.is c.in_ok-path.ensures in
     let fits : SFits w32 c.args.version = search rules in
+    let session : SFits w64 c.args.who.session = search rules in
     IfOk-weaker c.delete_below.result _ _ (λ d is.
     (all_promised c.args.path.now c.args.version c.args.who c.args.view.now c.args.now path.1 c.requires.moment c.requires.real d (parent c.args.path.now) refl
-    (subst (λ (t : Bytes × ℤ). IsDelete c.args.view.now t.0 t.1 (parent t.0) d) (λ i. (path.0 i, to_z-of_z w32 _ fits i)) is)).1) c.delete_below.ensures
+    (subst (λ (t : Bytes × ℤ × ℤ). IsDelete c.args.view.now t.0 t.1 t.2 (parent t.0) d) (λ i. (path.0 i, to_z-of_z w32 _ fits i, to_z-of_z w64 _ session i)) is)).1) c.delete_below.ensures
 
 pub returns-in-Some-clause-plan : goal.returns-in-Some-clause-plan
 returns-in-Some-clause-plan c =
     let path = subst (λ (o : Option Bytes). IsInnerPath c.args.path.now o) c.in-Some.is c.in_ok-path.ensures in
     let fits : SFits w32 c.args.version = search rules in
+    let session : SFits w64 c.args.who.session = search rules in
     IfOk-weaker c.delete_below.result _ _ (λ d is.
     (all_promised c.args.path.now c.args.version c.args.who c.args.view.now c.args.now path.1 c.requires.moment c.requires.real d (parent c.args.path.now) refl
-    (subst (λ (t : Bytes × ℤ). IsDelete c.args.view.now t.0 t.1 (parent t.0) d) (λ i. (path.0 i, to_z-of_z w32 _ fits i)) is)).2) c.delete_below.ensures
+    (subst (λ (t : Bytes × ℤ × ℤ). IsDelete c.args.view.now t.0 t.1 t.2 (parent t.0) d) (λ i. (path.0 i, to_z-of_z w32 _ fits i, to_z-of_z w64 _ session i)) is)).2) c.delete_below.ensures
 
 pub returns-in-None-clause-form : goal.returns-in-None-clause-form
 returns-in-None-clause-form c =

@@ -1,6 +1,6 @@
 -- The keys of a valid path that isn't the root's, or none.
 use Rattle.std.proofs.Common.{◌≡◌, ◌≤◌, ◌<◌, ◌∙◌, true, Bool, refl, length, sym, ap, subst, w64, rules, arith}
-use Rattle.std.specs.Prelude.{Option, Some, None, [], ◌&&◌, IfSome, false}
+use Rattle.std.specs.Prelude.{Option, Some, None, map, ◌&&◌, IfSome, false}
 use Rattle.std.proofs.lemmas.Int.{to_z-of_z}
 use Rattle.std.proofs.lemmas.Result.{IfOk-weaker}
 use mir.Val.{SFits}
@@ -9,11 +9,12 @@ use Rattle.zk_model.specs.Limits.{max_path}
 use Rattle.zk_model.specs.Paths.{parent}
 use Rattle.zk_model.specs.declared.request.Request.TheVariants as req
 use Rattle.zn_layout.proofs.Paths.{path_short}
-use Rattle.zn_layout.specs.Keys.{DataKey}
+use Rattle.zn_layout.specs.Keys.{DataKey, key_bytes}
 use Rattle.zn_view.specs.Lookups.{sees}
 use Rattle.zx_base.specs.Maps.{Bytes}
 use Rattle.zn_updates.specs.Forms.{IsInnerPath}
-use Rattle.zn_updates.specs.Lacking.{lacking_from, delete_keys, IsOwnerSeen}
+use Rattle.zn_view.specs.Lacking.{lacking}
+use Rattle.zn_updates.specs.KeysRead.{delete_keys, IsOwnerSeen}
 use Rattle.zn_updates.proofs.Plans.{refused_needs}
 use Rattle.zn_updates.proofs.DeleteClauses.{delete_needs, delete_invalid}
 use Rattle.zn_updates.proofs.delete.delete_needs.Goals as goal
@@ -43,7 +44,7 @@ returns-in_ok-parent-in-Some c =
     IfOk-weaker c.delete_wants.result _ _ (λ ws is. λ version.
     delete_needs c.args.path.now version c.args.who c.args.view.now ws c.in_ok-parent-in-Some.field-0 is.0 path.1 (c.in_ok-parent-in-Some.ensures.parent ∙ ap parent path.0)
     (subst (λ (p : Bytes). IsOwnerSeen (sees c.args.view.now (DataKey p)) is.0) path.0 is.1)
-    (is.2 ∙ (λ i. lacking_from c.args.view.now [] (delete_keys (path.0 i) c.in_ok-parent-in-Some.field-0 (to_z-of_z w64 _ fits i) is.0)))) c.delete_wants.ensures
+    (is.2 ∙ (λ i. lacking c.args.view.now (map key_bytes (delete_keys (path.0 i) c.in_ok-parent-in-Some.field-0 (to_z-of_z w64 _ fits i) is.0))))) c.delete_wants.ensures
 
 pub returns-in-None : goal.returns-in-None
 returns-in-None c = λ version.

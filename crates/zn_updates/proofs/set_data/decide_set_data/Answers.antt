@@ -1,5 +1,5 @@
 -- The decision is by the records that were seen, or by the form.
-use Rattle.std.proofs.Common.{ℤ, false, refl, inl, inr, sym, subst, w32, rules}
+use Rattle.std.proofs.Common.{ℤ, false, refl, inl, inr, sym, subst, w32, w64, rules}
 use Rattle.std.specs.Prelude.{Option}
 use Rattle.std.proofs.lemmas.Int.{to_z-of_z}
 use Rattle.std.proofs.lemmas.Result.{IfOk-weaker}
@@ -29,25 +29,28 @@ pub returns-in-Some-clause-form : goal.returns-in-Some-clause-form
 returns-in-Some-clause-form c =
     let path = subst (λ (o : Option Bytes). IsPathOf false c.args.path.now o) c.in-Some.is c.in_ok-path.ensures in
     let fits : SFits w32 c.args.version = search rules in
+    let session : SFits w64 c.args.who.session = search rules in
     IfOk-weaker c.set_data_at.result _ _ (λ d is.
     set_by_form c.args.path.now c.args.content.now c.args.version c.args.who c.args.view.now c.args.now path.1 c.requires.moment c.requires.short c.requires.real d
-    (subst (λ (t : Bytes × ℤ). IsSetData c.args.view.now t.0 c.args.content.now t.1 c.args.now d) (λ i. (path.0 i, to_z-of_z w32 _ fits i)) is)) c.set_data_at.ensures
+    (subst (λ (t : Bytes × ℤ × ℤ). IsSetData c.args.view.now t.0 c.args.content.now t.1 c.args.now t.2 d) (λ i. (path.0 i, to_z-of_z w32 _ fits i, to_z-of_z w64 _ session i)) is)) c.set_data_at.ensures
 
 pub returns-in-Some-clause-sound : goal.returns-in-Some-clause-sound
 returns-in-Some-clause-sound c =
     let path = subst (λ (o : Option Bytes). IsPathOf false c.args.path.now o) c.in-Some.is c.in_ok-path.ensures in
     let fits : SFits w32 c.args.version = search rules in
+    let session : SFits w64 c.args.who.session = search rules in
     IfOk-weaker c.set_data_at.result _ _ (λ d is.
     set_by_sound c.args.path.now c.args.content.now c.args.version c.args.who c.args.view.now c.args.now path.1 c.requires.moment c.requires.short c.requires.real d
-    (subst (λ (t : Bytes × ℤ). IsSetData c.args.view.now t.0 c.args.content.now t.1 c.args.now d) (λ i. (path.0 i, to_z-of_z w32 _ fits i)) is)) c.set_data_at.ensures
+    (subst (λ (t : Bytes × ℤ × ℤ). IsSetData c.args.view.now t.0 c.args.content.now t.1 c.args.now t.2 d) (λ i. (path.0 i, to_z-of_z w32 _ fits i, to_z-of_z w64 _ session i)) is)) c.set_data_at.ensures
 
 pub returns-in-Some-clause-plan : goal.returns-in-Some-clause-plan
 returns-in-Some-clause-plan c =
     let path = subst (λ (o : Option Bytes). IsPathOf false c.args.path.now o) c.in-Some.is c.in_ok-path.ensures in
     let fits : SFits w32 c.args.version = search rules in
+    let session : SFits w64 c.args.who.session = search rules in
     IfOk-weaker c.set_data_at.result _ _ (λ d is.
     set_planned c.args.path.now c.args.content.now c.args.version c.args.who c.args.view.now c.args.now path.1 c.requires.moment c.requires.short c.requires.real d
-    (subst (λ (t : Bytes × ℤ). IsSetData c.args.view.now t.0 c.args.content.now t.1 c.args.now d) (λ i. (path.0 i, to_z-of_z w32 _ fits i)) is)) c.set_data_at.ensures
+    (subst (λ (t : Bytes × ℤ × ℤ). IsSetData c.args.view.now t.0 c.args.content.now t.1 c.args.now t.2 d) (λ i. (path.0 i, to_z-of_z w32 _ fits i, to_z-of_z w64 _ session i)) is)) c.set_data_at.ensures
 
 pub returns-in-None-clause-form : goal.returns-in-None-clause-form
 returns-in-None-clause-form c =

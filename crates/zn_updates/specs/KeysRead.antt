@@ -1,5 +1,5 @@
--- The keys that each request looks up, and those of them that a view lacks.
-use Rattle.std.specs.Prelude.{◌≡◌, ℕ, ℤ, pos, nat_abs, Bool, List, [], ◌∷◌, ◌++◌, Option, Some, None, is_some, if◌then◌else◌}
+-- The keys that each request looks up.
+use Rattle.std.specs.Prelude.{◌≡◌, ℕ, ℤ, pos, nat_abs, Bool, List, [], ◌∷◌, ◌++◌, Option, Some, None, if◌then◌else◌}
 use Rattle.std.specs.Ordering.{int_eq}
 use Rattle.ev_types.specs.declared.answer.Kv.{Kv}
 use Rattle.zk_model.specs.Paths.{sequence_path}
@@ -9,18 +9,8 @@ use Rattle.zn_layout.specs.declared.record.NodeRec.{NodeRec}
 use Rattle.zn_layout.specs.Keys.{Key, HeadKey, DataKey, CountsKey, SessionKey, LeaseKey, key_bytes}
 use Rattle.zn_layout.specs.Reading.{IsValueOf}
 use Rattle.zn_layout.specs.Records.{node_value, counts_value, IsNodeRec, IsCountRec}
-use Rattle.zn_view.specs.declared.want.Want.{Want}
-use Rattle.zn_view.specs.Needs.{key_want}
 use Rattle.zn_view.specs.Seen.{View, seen}
 use Rattle.zn_view.specs.Views.{about_path, about_parent, counts_of_parent}
-
-abbrev pub lacking_one : View → Key → List Want
-lacking_one v k = if is_some (seen v (key_bytes k)) then [] else key_want k ∷ []
-
--- behind the wants that there are, those for the keys that weren't looked up
-abbrev pub lacking_from : View → List Want → List Key → List Want
-lacking_from v ws [] = ws
-lacking_from v ws (k ∷ ks) = lacking_from v (ws ++ lacking_one v k) ks
 
 -- of every request
 abbrev pub start_keys : ℤ → List Key

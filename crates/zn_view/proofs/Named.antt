@@ -1,16 +1,17 @@
 -- Keys that are wanted: each that was not looked up is named, and no other.
-use Rattle.std.proofs.Common.{◌≡◌, Bool, true, false, cond, ◌||◌, List, [], ◌∷◌, ◌++◌, Option, Some, None, refl, sym, ap, ◌∙◌, subst, ◌⊎◌, ⊎_elim, inl, inr, arith}
-use Rattle.std.specs.Prelude.{Contains, fold, is_some}
+use Rattle.std.proofs.Common.{◌≡◌, ◌≢◌, ℕ, zero, suc, ◌<◌, length, get_or, Bool, true, false, cond, ◌||◌, List, [], ◌∷◌, ◌++◌, Option, Some, None, refl, sym, ap, ◌∙◌, subst, ◌⊎◌, ⊎_elim, inl, inr, arith}
+use Rattle.std.specs.Prelude.{AllPairs, Contains, fold, is_some}
 use Rattle.std.specs.List.{list_any}
 use Rattle.std.proofs.lemmas.List.Elements.{Contains-push, Contains-append_left, Contains-push_cases}
+use Rattle.std.proofs.lemmas.List.Quantifiers.{all_pairs_push}
 use Rattle.ev_types.specs.declared.answer.Kv.{Kv}
 use Rattle.zx_base.specs.Maps.{Bytes}
-use Rattle.zx_base.proofs.MapLaws.{same-true}
+use Rattle.zx_base.proofs.MapLaws.{same-true, same-refl}
 use Rattle.zn_view.specs.declared.want.Want.{Want}
 use Rattle.zn_view.specs.declared.want.Want.TheVariants as want
 use Rattle.zn_view.specs.Seen.{View, seen}
-use Rattle.zn_reads.specs.Wanting.{is_want_of, with_want}
-use Rattle.zn_reads.proofs.Elements.{contains-first, contains-rest, contains-cases}
+use Rattle.zn_view.specs.Lacking.{is_want_of, with_want, lacking}
+use Rattle.zn_view.proofs.Elements.{contains-first, contains-rest, contains-cases}
 
 -- ---- one key
 
@@ -83,3 +84,38 @@ only_all v (x ∷ ks) ws w has = ⊎_elim
     (λ h. ⊎_elim (λ a. inl a) (λ a. inr (x, contains-first x ks, a.0, a.1)) (only_one v ws x w h))
     (λ h. inr (named_more v x ks w h))
     (only_all v ks (with_want v ws x) w has)
+
+-- ---- each once
+
+or_right : (a b : Bool) → b ≡ true → (a || b) ≡ true
+or_right true b h = refl
+or_right false b h = h
+
+or_second : (a b : Bool) → (a || b) ≡ false → b ≡ false
+or_second true b h = absurd (cc)
+or_second false b h = h
+
+wanted_at : (k : Bytes) (ws : List Want) (i : ℕ) (d : Want) → i < length ws → get_or ws i d ≡ want.Key k → list_any (is_want_of k) ws ≡ true
+wanted_at k [] i d lt e = absurd (omega (arith, lt))
+wanted_at k (w ∷ ws) zero d lt e = ap (λ b. b || list_any (is_want_of k) ws) (ap (is_want_of k) e ∙ same-refl k)
+wanted_at k (w ∷ ws) (suc i) d lt e = or_right (is_want_of k w) (list_any (is_want_of k) ws) (wanted_at k ws i d (omega (arith, lt)) e)
+
+true_false : true ≡ false → ⊥
+true_false e = cc
+
+abbrev pub AreApart : List Want → Type 0
+AreApart ws = AllPairs (λ (w u : Want). w ≢ u) ws
+
+apart_one : (v : View) (ws : List Want) (k : Bytes) → AreApart ws → AreApart (with_want v ws k)
+apart_one v ws k apart =
+    elim (is_some (seen v k) || list_any (is_want_of k) ws) as (λ b. (is_some (seen v k) || list_any (is_want_of k) ws) ≡ b → AreApart (cond b ws (ws ++ want.Key k ∷ []))) [
+      | true ↦ λ e. apart
+      | false ↦ λ e. all_pairs_push (λ (w u : Want). w ≢ u) ws (want.Key k) apart (λ i d lt is. true_false (sym (wanted_at k ws i d lt is) ∙ or_second (is_some (seen v k)) (list_any (is_want_of k) ws) e))
+    ] refl
+
+apart_all : (v : View) (ks : List Bytes) (ws : List Want) → AreApart ws → AreApart (fold (with_want v) ws ks)
+apart_all v [] ws apart = apart
+apart_all v (k ∷ ks) ws apart = apart_all v ks (with_want v ws k) (apart_one v ws k apart)
+
+pub lacking-once : (v : View) (ks : List Bytes) → AreApart (lacking v ks)
+lacking-once v ks = apart_all v ks [] (λ i j d lt bad. absurd (omega (arith, bad)))

@@ -1,0 +1,224 @@
+-- The changes of each update write each key once, with no lease, and are small.
+use Rattle.std.proofs.Common.{◌≡◌, ℕ, ◌<◌, ◌≤◌, ℤ, pos, true, false, Bool, cond, length, List, [], ◌∷◌, ◌++◌, Option, Some, None, refl, ap, arith}
+use Rattle.std.specs.Prelude.{All, IsTrue, nat_abs, nat_le, not, ◌&&◌, ◌||◌}
+use Rattle.std.specs.List.{sum_by}
+use Rattle.std.specs.Ordering.{int_eq}
+use Rattle.std.proofs.lemmas.Bool.{leb-false}
+use Rattle.std.proofs.lemmas.List.Elements.{All-nil, All-cons}
+use Rattle.ev_types.specs.declared.answer.Kv.{Kv}
+use Rattle.zx_base.specs.Maps.{Bytes, same}
+use Rattle.zx_base.proofs.MapLaws.{same-false}
+use Rattle.zk_model.specs.declared.node.Trigger.{Trigger}
+use Rattle.zk_model.specs.declared.node.Trigger.TheVariants.{Created, Deleted, Changed, Children}
+use Rattle.zk_model.specs.Limits.{max_creates, max_frame, max_owned, max_version}
+use Rattle.zk_model.specs.Paths.{is_path, parent}
+use Rattle.zk_model.specs.Single.{matches}
+use Rattle.zk_model.proofs.ValidPaths.{parent-valid}
+use Rattle.zk_transcript.specs.History.{State, IsSound}
+use Rattle.zn_layout.specs.declared.record.CountRec.{CountRec}
+use Rattle.zn_layout.specs.Begin.{new_record, no_counts}
+use Rattle.zn_layout.specs.Changes.{Change, are_distinct, change_size, delete_key, head_put, put_key}
+use Rattle.zn_layout.specs.Keys.{DataKey, CountsKey}
+use Rattle.zn_layout.specs.Records.{counts_value, node_value, trigger_path, IsHeadRec, IsSessionRec}
+use Rattle.zn_layout.proofs.Paths.{path_short}
+use Rattle.zn_view.specs.Asks.{IsLeaseless}
+use Rattle.zn_view.specs.Seen.{View}
+use Rattle.zn_view.specs.Views.{IsOf}
+use Rattle.zn_view.proofs.Sizes.{counts-size, counts_value-size, data-size, node_value-size, session-size, session_value-size}
+use Rattle.zn_updates.specs.declared.seen.SeenData.{SeenData}
+use Rattle.zn_updates.specs.declared.seen.SeenCounts.{SeenCounts}
+use Rattle.zn_updates.specs.Choices.{Choice, Refuse, Make, create_changes, create_choice, create_owned, create_triggers, delete_changes, delete_choice, delete_here, delete_owned, delete_triggers, one_less, one_more, put_owned, set_data_choice, set_record}
+use Rattle.zn_updates.specs.Making.{IsPathsSeen}
+use Rattle.zn_updates.specs.OwnedLists.{placed, without}
+use Rattle.zn_updates.proofs.ListBounds.{placed-length, placed-within, without-length, without-within}
+
+-- ---- triggers within their bounds
+
+pub one_trigger : (t : Trigger) → IsTrue (is_path (trigger_path t)) → IsHeadRec (t ∷ [])
+one_trigger t valid = record { count = omega arith; valid = All-cons (λ u. IsTrue (is_path (trigger_path u))) t [] valid (All-nil (λ u. IsTrue (is_path (trigger_path u)))) }
+
+pub two_triggers : (t u : Trigger) → IsTrue (is_path (trigger_path t)) → IsTrue (is_path (trigger_path u)) → IsHeadRec (t ∷ u ∷ [])
+two_triggers t u valid also = record { count = omega arith; valid = All-cons (λ w. IsTrue (is_path (trigger_path w))) t (u ∷ []) valid (one_trigger u also).valid }
+
+-- ---- changes
+
+abbrev pub IfChanges : (List Change → List Trigger → Type 0) → Choice → Type 0
+IfChanges P (Refuse code) = Unit {0}
+IfChanges P (Make cs ts draft) = P cs ts
+
+-- each key once and with no lease, and on a view of a sound state few and small ones
+pub record AreWellMade (v : View) (cs : List Change) (ts : List Trigger) : Type 0 where
+  pub once : are_distinct (cs ++ head_put ts ∷ []) ≡ true
+  pub leases : All IsLeaseless cs
+  pub triggers : IsHeadRec ts
+  pub told : length ts ≤ 2
+  pub few : length cs ≤ 8
+  pub small : (s : State) → IsSound s → IsOf v s → sum_by change_size cs ≤ 1400000
+
+changes_cond : (P : List Change → List Trigger → Type 0) (b : Bool) (x y : Choice) → (b ≡ true → IfChanges P x) → (b ≡ false → IfChanges P y) → IfChanges P (cond b x y)
+changes_cond P true x y f g = f refl
+changes_cond P false x y f g = g refl
+
+-- ---- setData
+
+pub set_data-made : (v : View) (p content : Bytes) (version : ℤ) (x : Option SeenData) (c : Option SeenCounts) (now : ℕ) → is_path p ≡ true → length content ≤ max_frame → IfChanges (AreWellMade v) (set_data_choice p content version now x c)
+unfolding set_data_choice
+set_data-made v p content version None c now valid short = tt
+set_data-made v p content version (Some x) None now valid short = tt
+set_data-made v p content version (Some x) (Some c) now valid short =
+    changes_cond (AreWellMade v) (not (matches version x.version)) _ _ (λ _. tt) (λ _. changes_cond (AreWellMade v) (int_eq x.version max_version) _ _ (λ _. tt) (λ _. record {
+      once = refl;
+      leases = All-cons IsLeaseless (put_key (DataKey p) (node_value (set_record x content now))) [] refl (All-nil IsLeaseless);
+      triggers = one_trigger (Changed p) valid;
+      told = omega arith;
+      few = omega arith;
+      small = λ s sound of. omega (arith, data-size p, path_short p valid, node_value-size (set_record x content now), short);
+    }))
+
+-- ---- a node and its parent
+
+module _ (p q : Bytes) (valid : is_path p ≡ true) (below : parent p ≡ Some q) where
+  pub parent-path : is_path q ≡ true
+  parent-path = (parent-valid p q valid below).0
+
+  other : same p q ≡ false
+  other = same-false p q (λ e. let shorter = (parent-valid p q valid below).1 in omega (arith, shorter, ap length e))
+
+  -- the keys of the node, then the parent's counts, and further keys
+  counts_once : (not (same p q || false) && true) ≡ true
+  counts_once = ap (λ b. not (b || false) && true) other
+
+  keys_short : (length p ≤ 1024) × (length q ≤ 1024)
+  keys_short = (path_short p valid, path_short q parent-path)
+
+  module _ (v : View) where
+    -- ---- delete
+
+    delete_leases : (above : CountRec) (more : List Change) → All IsLeaseless more → All IsLeaseless (delete_changes p q above ++ more)
+    delete_leases above more rest = All-cons IsLeaseless (delete_key (DataKey p)) (delete_key (CountsKey p) ∷ put_key (CountsKey q) (counts_value (one_less above)) ∷ more) tt
+        (All-cons IsLeaseless (delete_key (CountsKey p)) (put_key (CountsKey q) (counts_value (one_less above)) ∷ more) tt
+        (All-cons IsLeaseless (put_key (CountsKey q) (counts_value (one_less above))) more refl rest))
+
+    delete_plain : (above : CountRec) → AreWellMade v (delete_changes p q above) (delete_triggers p q)
+    delete_plain above = record {
+      once = counts_once;
+      leases = delete_leases above [] (All-nil IsLeaseless);
+      triggers = two_triggers (Deleted p) (Children q) valid parent-path;
+      told = omega arith;
+      few = omega arith;
+      small = λ s sound of. omega (arith, data-size p, counts-size p, counts-size q, counts_value-size (one_less above), keys_short.0, keys_short.1);
+    }
+
+    delete_from : (above : CountRec) (owner : ℤ) (ps : List Bytes) → IsSessionRec ps → ((s : State) → IsSound s → IsOf v s → length ps ≤ max_owned) → AreWellMade v (delete_changes p q above ++ put_owned owner (without p ps) ∷ []) (delete_triggers p q)
+    delete_from above owner ps listed few = record {
+      once = counts_once;
+      leases = delete_leases above (put_owned owner (without p ps) ∷ []) (All-cons IsLeaseless (put_owned owner (without p ps)) [] refl (All-nil IsLeaseless));
+      triggers = two_triggers (Deleted p) (Children q) valid parent-path;
+      told = omega arith;
+      few = omega arith;
+      small = λ s sound of. omega (
+        arith,
+        data-size p,
+        counts-size p,
+        counts-size q,
+        counts_value-size (one_less above),
+        session-size (nat_abs owner),
+        session_value-size (without p ps) (without-within p ps listed).valid,
+        without-length p ps,
+        few s sound of,
+        keys_short.0,
+        keys_short.1,
+      );
+    }
+
+    pub delete-made : (version : ℤ) (x : Option SeenData) (c a : Option SeenCounts) (paths : Option (List Bytes))
+        → ((y : SeenData) (ps : List Bytes) → x ≡ Some y → int_eq y.owner (pos 0) ≡ false → paths ≡ Some ps → IsSessionRec ps × ((s : State) → IsSound s → IsOf v s → length ps ≤ max_owned))
+        → IfChanges (AreWellMade v) (delete_choice p q version x c a paths)
+    unfolding delete_choice
+    delete-made version None c a paths few = tt
+    delete-made version (Some x) None a paths few = tt
+    delete-made version (Some x) (Some c) a paths few =
+        changes_cond (AreWellMade v) (not (matches version x.version)) _ _ (λ _. tt) (λ _. changes_cond (AreWellMade v) (not (int_eq c.counts.children (pos 0))) _ _ (λ _. tt) (λ _. here a))
+      where
+        owned_by : int_eq x.owner (pos 0) ≡ false → (o : Option (List Bytes)) → paths ≡ o → (above : SeenCounts) → IfChanges (AreWellMade v) (delete_owned p q above.counts x.owner o)
+        owned_by owns None e above = tt
+        owned_by owns (Some ps) e above = let listed = few x ps refl owns e in delete_from above.counts x.owner ps listed.0 listed.1
+
+        here : (o : Option SeenCounts) → IfChanges (AreWellMade v) (delete_here p q x o paths)
+        here None = tt
+        here (Some above) = changes_cond (AreWellMade v) (int_eq x.owner (pos 0)) _ _ (λ _. delete_plain above.counts) (λ owns. owned_by owns paths refl above)
+
+    -- ---- create
+
+    module _ (content : Bytes) (short : length content ≤ max_frame) (now : ℕ) where
+      create_leases : (owner : ℤ) (above : CountRec) (more : List Change) → All IsLeaseless more → All IsLeaseless (create_changes p q content now owner above ++ more)
+      create_leases owner above more rest = All-cons IsLeaseless (put_key (DataKey p) (node_value (new_record content now owner))) (put_key (CountsKey p) (counts_value no_counts) ∷ put_key (CountsKey q) (counts_value (one_more above)) ∷ more) refl
+          (All-cons IsLeaseless (put_key (CountsKey p) (counts_value no_counts)) (put_key (CountsKey q) (counts_value (one_more above)) ∷ more) refl
+          (All-cons IsLeaseless (put_key (CountsKey q) (counts_value (one_more above))) more refl rest))
+
+      create_plain : (above : CountRec) → AreWellMade v (create_changes p q content now (pos 0) above) (create_triggers p q)
+      create_plain above = record {
+        once = counts_once;
+        leases = create_leases (pos 0) above [] (All-nil IsLeaseless);
+        triggers = two_triggers (Created p) (Children q) valid parent-path;
+        told = omega arith;
+        few = omega arith;
+        small = λ s sound of. omega (
+          arith,
+          data-size p,
+          counts-size p,
+          counts-size q,
+          node_value-size (new_record content now (pos 0)),
+          counts_value-size no_counts,
+          counts_value-size (one_more above),
+          keys_short.0,
+          keys_short.1,
+          short,
+        );
+      }
+
+      create_among : (above : CountRec) (session : ℤ) (ps : List Bytes) → IsSessionRec ps → length ps < 40 → AreWellMade v (create_changes p q content now session above ++ put_owned session (placed p ps) ∷ []) (create_triggers p q)
+      create_among above session ps listed few = record {
+        once = counts_once;
+        leases = create_leases session above (put_owned session (placed p ps) ∷ []) (All-cons IsLeaseless (put_owned session (placed p ps)) [] refl (All-nil IsLeaseless));
+        triggers = two_triggers (Created p) (Children q) valid parent-path;
+        told = omega arith;
+        few = omega arith;
+        small = λ s sound of. omega (
+          arith,
+          data-size p,
+          counts-size p,
+          counts-size q,
+          node_value-size (new_record content now session),
+          counts_value-size no_counts,
+          counts_value-size (one_more above),
+          session-size (nat_abs session),
+          session_value-size (placed p ps) (placed-within p ps valid (omega (arith, few)) listed).valid,
+          placed-length p ps,
+          few,
+          keys_short.0,
+          keys_short.1,
+          short,
+        );
+      }
+
+      create_for : (above : CountRec) (session : ℤ) (paths : Option (List Bytes)) → ((ps : List Bytes) → paths ≡ Some ps → IsSessionRec ps) → IfChanges (AreWellMade v) (create_owned p q content now above session paths)
+      create_for above session None listed = tt
+      create_for above session (Some ps) listed = changes_cond (AreWellMade v) (nat_le max_owned (length ps)) _ _ (λ _. tt) (λ e. create_among above session ps (listed ps refl) (leb-false max_owned (length ps) e))
+
+      pub create-made : (ephemeral : Bool) (session : ℤ) (x : Option SeenData) (c : Option SeenCounts) (taken : Bool) (paths : Option (List Bytes)) → (ephemeral ≡ true → (ps : List Bytes) → paths ≡ Some ps → IsSessionRec ps)
+          → IfChanges (AreWellMade v) (create_choice p q content now ephemeral session x c taken paths)
+      unfolding create_choice
+      create-made ephemeral session None c taken paths listed = tt
+      create-made ephemeral session (Some x) None taken paths listed = tt
+      create-made ephemeral session (Some x) (Some c) true paths listed = tt
+      create-made ephemeral session (Some x) (Some c) false paths listed =
+          changes_cond (AreWellMade v) (not (int_eq x.owner (pos 0))) _ _ (λ _. tt)
+          (λ _. changes_cond (AreWellMade v) (int_eq c.counts.creates max_creates) _ _ (λ _. tt)
+          (λ _. changes_cond (AreWellMade v) ephemeral _ _ (λ e. create_for c.counts session paths (listed e)) (λ _. create_plain c.counts)))
+
+-- the paths of a session's nodes that were seen
+pub paths-listed : (o : Option (Option Kv)) (ps : List Bytes) → IsPathsSeen o (Some ps) → IsSessionRec ps
+paths-listed None ps h = absurd h
+paths-listed (Some None) ps h = absurd h
+paths-listed (Some (Some kv)) ps h = h.0
