@@ -5,6 +5,7 @@ use Rattle.std.specs.Ordering.{int_eq}
 use Rattle.std.proofs.lemmas.Bool.{le-leb}
 use Rattle.std.proofs.lemmas.Bool.Decides.{Decides-int_eq}
 use Rattle.std.proofs.lemmas.Int.{ints}
+use Rattle.std.proofs.lemmas.List.Elements.{All-contains_itself}
 use Rattle.ev_types.specs.declared.answer.Kv.{Kv}
 use Rattle.ev_types.specs.declared.ask.Guard.{Guard}
 use Rattle.ev_types.specs.Ranges.{Keys}
@@ -161,6 +162,8 @@ module _ (who : Who) (v : View) (real : pos 1 ≤ℤ who.session) where
     close-asked =
         let guarded = seen-guarded (key_bytes (LeaseKey (nat_abs who.session))) is.life v.keys (life-not_head (nat_abs who.session)) is.saw_life in
         record {
+          keys = v.keys;
+          among = All-contains_itself v.keys;
           guards = (is.plan).guards;
           again = (is.plan).again;
           lease = subst (λ (gs : List Guard). Contains gs (lease_guard who)) (sym (is.plan).guards)

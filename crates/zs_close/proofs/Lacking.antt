@@ -1,62 +1,37 @@
 -- What a view lacks of the keys that a close looks up is what the close needs.
-use Rattle.std.proofs.Common.{◌≡◌, ℕ, zero, suc, ◌<◌, ℤ, true, false, Bool, cond, ◌||◌, List, [], ◌∷◌, ◌++◌, length, get_or, Option, Some, None, refl, sym, ap, ◌∙◌, subst, ◌⊎◌, inl, inr, ⊎_elim, arith, is_some}
-use Rattle.std.specs.Prelude.{nat_abs, map, Contains}
+use Rattle.std.proofs.Common.{◌≡◌, zero, ℤ, true, false, Bool, cond, ◌||◌, List, [], ◌∷◌, ◌++◌, Option, Some, None, refl, sym, ap, ◌∙◌, subst, ◌⊎◌, inl, inr, ⊎_elim, arith, is_some}
+use Rattle.std.specs.Prelude.{◌≢◌, nat_abs, map, AllPairs, Contains}
+use Rattle.std.proofs.lemmas.List.{append-nil}
+use Rattle.std.proofs.lemmas.List.Quantifiers.{all_pairs_push}
 use Rattle.std.specs.List.{list_any}
-use Rattle.std.proofs.lemmas.List.Elements.{All-weaker, All-contains_itself}
+use Rattle.std.proofs.lemmas.List.Elements.{All-weaker, All-contains_itself, Contains-get_or}
 use Rattle.ev_types.specs.declared.answer.Kv.{Kv}
 use Rattle.zx_base.specs.Maps.{Bytes, same}
+use Rattle.zx_base.proofs.Options.{none_some}
 use Rattle.zk_model.specs.declared.request.Request.TheVariants as req
 use Rattle.zk_model.specs.Paths.{parent, is_child}
 use Rattle.zk_model.specs.Watches.{no_watches}
 use Rattle.zk_model.proofs.Paths.{is_child-yes, parent-from_child}
-use Rattle.zk_transcript.specs.Answers.{Told, plain_request}
+use Rattle.zk_transcript.specs.Answers.{plain_request}
 use Rattle.zn_layout.specs.Keys.{Key, HeadKey, CountsKey, SessionKey, LeaseKey, key_bytes}
+use Rattle.zn_layout.proofs.Keys.{key_bytes-injective}
 use Rattle.zn_layout.proofs.ListRecords.{session_value-injective}
 use Rattle.zn_view.specs.declared.want.Want.{Want}
+use Rattle.zn_view.specs.declared.want.Want.TheVariants as want
 use Rattle.zn_view.specs.declared.plan.Who.{Who}
 use Rattle.zn_view.specs.Lookups.{sees, HasSeen, IsNodesIn}
 use Rattle.zn_view.specs.Needs.{key_want, IsRead, IsLacking, AreNeeds, SawNodes}
 use Rattle.zn_view.specs.Seen.{View, seen}
 use Rattle.zn_view.specs.Views.{reads}
+pub use Rattle.zn_view.proofs.Members.{In, in_contains, in_left}
+use Rattle.zn_view.proofs.Members.{contains_in, in_either, in_right}
 use Rattle.zs_close.specs.Closing.{IsWhole}
 use Rattle.zs_close.specs.Ending.{parents}
 use Rattle.zs_close.specs.Wanting.{lacking_one, lacking_from, end_keys, IsNodesSeen, AreParentsSeen}
 use Rattle.zs_close.proofs.Members.{any-member}
 use Rattle.zs_close.proofs.Membership.{any-contained, contained-any}
-use Rattle.zs_close.proofs.ParentPaths.{parents-any}
-
--- ---- members of a list
-
-abbrev pub In : {X : Type 0} → X → List X → Type 0
-In x [] = ⊥
-In x (y ∷ ys) = (y ≡ x) ⊎ In x ys
-
-pub in_contains : {X : Type 0} (x : X) (xs : List X) → In x xs → Contains xs x
-in_contains x [] h = absurd h
-in_contains x (y ∷ ys) (inl e) = (zero, omega arith, e)
-in_contains x (y ∷ ys) (inr h) = let c = in_contains x ys h in let lt = c.1 in (suc c.0, omega (arith, lt), c.2)
-
-in_at : {X : Type 0} (x : X) (xs : List X) (k : ℕ) → k < length xs → get_or xs k x ≡ x → In x xs
-in_at x [] k lt e = absurd (omega (arith, lt))
-in_at x (y ∷ ys) zero lt e = inl e
-in_at x (y ∷ ys) (suc k) lt e = inr (in_at x ys k (omega (arith, lt)) e)
-
-contains_in : {X : Type 0} (x : X) (xs : List X) → Contains xs x → In x xs
-contains_in x xs c = in_at x xs c.0 c.1 c.2
-
-pub in_left : {X : Type 0} (x : X) (xs ys : List X) → In x xs → In x (xs ++ ys)
-in_left x [] ys h = absurd h
-in_left x (z ∷ zs) ys (inl e) = inl e
-in_left x (z ∷ zs) ys (inr h) = inr (in_left x zs ys h)
-
-in_right : {X : Type 0} (x : X) (xs ys : List X) → In x ys → In x (xs ++ ys)
-in_right x [] ys h = h
-in_right x (z ∷ zs) ys h = inr (in_right x zs ys h)
-
-in_either : {X : Type 0} (x : X) (xs ys : List X) → In x (xs ++ ys) → In x xs ⊎ In x ys
-in_either x [] ys h = inr h
-in_either x (z ∷ zs) ys (inl e) = inl (inl e)
-in_either x (z ∷ zs) ys (inr h) = ⊎_elim (λ a. inl (inr a)) (λ b. inr b) (in_either x zs ys h)
+use Rattle.zs_close.proofs.ParentPaths.{parents-any, parents-apart}
+use Rattle.zs_close.proofs.Removed.{AreApart}
 
 -- ---- what is lacking
 
@@ -139,6 +114,61 @@ child_any q (r ∷ ps) p e (inr h) = or_right (is_child q r) (list_any (is_child
 of_parent : (ps : List Bytes) (p q : Bytes) → Contains ps p → parent p ≡ Some q → In q (parents ps)
 of_parent ps p q c e = contains_in q (parents ps) (contained-any q (parents ps) (parents-any ps q ∙ child_any q ps p (is_child-yes p q e) (contains_in p ps c)))
 
+-- ---- each want once
+
+abbrev KeysApart : List Key → Type 0
+KeysApart [] = Unit {0}
+KeysApart (k ∷ ks) = ((j : Key) → In j ks → k ≡ j → ⊥) × KeysApart ks
+
+abbrev AreApartWants : List Want → Type 0
+AreApartWants ws = AllPairs (λ (w u : Want). w ≢ u) ws
+
+abbrev key_in : Want → Bytes
+key_in (want.Key k) = k
+key_in (want.Children p) = p
+
+lacking-once : (v : View) (ws : List Want) (ks : List Key) → AreApartWants ws → KeysApart ks → ((k : Key) → In k ks → In (key_want k) ws → ⊥) → AreApartWants (lacking_from v ws ks)
+lacking-once v ws [] apart keys fresh = apart
+lacking-once v ws (k ∷ ks) apart keys fresh =
+    elim (is_some (seen v (key_bytes k))) as (λ b. AreApartWants (lacking_from v (ws ++ cond b [] (key_want k ∷ [])) ks)) [
+      | true ↦ subst (λ (l : List Want). AreApartWants (lacking_from v l ks)) (sym (append-nil ws)) (lacking-once v ws ks apart keys.1 (λ j h. fresh j (inr h)))
+      | false ↦ lacking-once v (ws ++ key_want k ∷ []) ks
+          (all_pairs_push (λ (w u : Want). w ≢ u) ws (key_want k) apart (λ i d lt e. fresh k (inl refl) (contains_in (key_want k) ws (subst (Contains ws) e (Contains-get_or ws i d lt)))))
+          keys.1
+          (λ j h inside. ⊎_elim (λ old. fresh j (inr h) old) (λ new. ⊎_elim (λ same. keys.0 j h (key_bytes-injective k j (ap key_in same))) (λ bad. bad) new) (in_either (key_want j) ws (key_want k ∷ []) inside))
+    ]
+
+counts_apart : (qs : List Bytes) → AreApart qs → KeysApart (map CountsKey qs)
+counts_apart [] apart = tt
+counts_apart (q ∷ qs) apart = (
+  λ j h e.
+      let c = counts_in j qs h in
+      let same_path : CountsKey q ≡ CountsKey c.path = e ∙ c.is in
+      let is : q ≡ c.path = cc in
+      let inside : list_any (same q) qs ≡ true = any-contained q qs (in_contains q qs (subst (λ (x : Bytes). In x qs) (sym is) c.inside)) in
+      let bad : true ≡ false = sym inside ∙ apart.0 in
+      cc,
+  counts_apart qs apart.1,
+)
+
+no_counts : (k : Key) (qs : List Bytes) → ((q : Bytes) → k ≡ CountsKey q → ⊥) → (j : Key) → In j (map CountsKey qs) → k ≡ j → ⊥
+no_counts k qs apart j h e = let c = counts_in j qs h in apart c.path (e ∙ c.is)
+
+end-apart : (id : ℤ) (ps : List Bytes) → KeysApart (end_keys id ps)
+end-apart id ps = (
+  head,
+  (life, (no_counts (SessionKey (nat_abs id)) (parents ps) (λ q e. cc), counts_apart (parents ps) (parents-apart ps))),
+)
+  where
+    head : (j : Key) → In j (LeaseKey (nat_abs id) ∷ SessionKey (nat_abs id) ∷ map CountsKey (parents ps)) → HeadKey ≡ j → ⊥
+    head j (inl s) e = let bad : HeadKey ≡ LeaseKey (nat_abs id) = e ∙ sym s in cc
+    head j (inr (inl s)) e = let bad : HeadKey ≡ SessionKey (nat_abs id) = e ∙ sym s in cc
+    head j (inr (inr h)) e = no_counts HeadKey (parents ps) (λ q f. cc) j h e
+
+    life : (j : Key) → In j (SessionKey (nat_abs id) ∷ map CountsKey (parents ps)) → LeaseKey (nat_abs id) ≡ j → ⊥
+    life j (inl s) e = let bad : LeaseKey (nat_abs id) ≡ SessionKey (nat_abs id) = e ∙ sym s in cc
+    life j (inr h) e = no_counts (LeaseKey (nat_abs id)) (parents ps) (λ q f. cc) j h e
+
 -- ---- what a close reads
 
 reads_close : (id : ℤ) → reads req.Close id ≡ SessionKey (nat_abs id) ∷ []
@@ -148,10 +178,6 @@ reads_close id = refl
 plain : plain_request no_watches req.Close ≡ None
 unfolding plain_request
 plain = refl
-
-some_none : (o : Option Told) (t : Told) → o ≡ None → o ≡ Some t → ⊥
-some_none None t e f = cc
-some_none (Some x) t e f = cc
 
 saw_nodes : (v : View) (id : ℤ) (kv : Kv) (ps : List Bytes) → sees v (SessionKey (nat_abs id)) ≡ Some (Some kv) → IsNodesIn kv ps → SawNodes v id ps
 saw_nodes v id kv ps saw nodes = (nodes.0, (kv, saw, nodes.1))
@@ -223,7 +249,12 @@ module _ (v : View) (who : Who) (ps : List Bytes) where
         let k = read_to nodes w reads in
         let inside : In (key_want k.0) ws = subst (In (key_want k.0)) (sym is) (lacking-all v [] (end_keys id ps) k.0 k.1 (subst (IsLacking v) k.2 lacks)) in
         subst (In (key_want k.0)) none inside;
-    none = λ t e. absurd (some_none (plain_request no_watches req.Close) t plain e);
+    all = λ _ w reads lacks.
+        let k = read_to nodes w reads in
+        subst (Contains ws) (sym k.2) (in_contains (key_want k.0) ws (subst (In (key_want k.0)) (sym is) (lacking-all v [] (end_keys id ps) k.0 k.1 (subst (IsLacking v) k.2 lacks))));
+    once = subst AreApartWants (sym is) (lacking-once v [] (end_keys id ps) (λ i j d lt bad. absurd (omega (arith, bad))) (end-apart id ps) (λ k h bad. bad));
+    none = λ t e. absurd (none_some (sym plain ∙ e));
+    known = λ _. refl;
   }
 
 -- ---- a view that lacks nothing

@@ -24,9 +24,9 @@ use Rattle.zn_view.proofs.AsSeen.{agrees-as_seen, commits-as_seen}
 use Rattle.zn_view.proofs.Committing.{zxid-least}
 use Rattle.zs_close.specs.declared.reap.Reaping.{Reaping}
 use Rattle.zs_close.specs.declared.reap.Reaping.TheVariants.{Planned, Kept, Gone, TooMany}
-use Rattle.zs_close.specs.Closing.{IsEndPlan, IsTaken, IsTrimmed}
+use Rattle.zs_close.specs.Closing.{IsEndPlan, IsNarrow, IsTaken, IsTrimmed}
 use Rattle.zs_close.specs.Reaping.{IfReaped, IsReap, IsReapBy, IsReapDecision, IsReapPlan, IsReapedBy, IsReapedWith, IsReapingOf}
-use Rattle.zs_close.proofs.Taken.{end-taken}
+use Rattle.zs_close.proofs.Taken.{end-taken, narrow-taken}
 use Rattle.zs_close.proofs.EndPlans.{life-not_head, nodes-few, nodes-mean, life-means, session-open, ended-carries, ended-triggers}
 
 true_false : {b : Bool} → b ≡ true → b ≡ false → ⊥
@@ -167,6 +167,11 @@ module _ (id : ℤ) (v : View) (real : pos 1 ≤ℤ id) where
 
   pub reap-plan : (r : Reaping) → IsReap id v r → IfReaped (IsReapPlan id v) r
   reap-plan r h = along (IsPlannedReap id v) (IsReapPlan id v) r reap_plan (life_planned r life refl h)
+
+  pub reap-narrow : (r : Reaping) → IsReap id v r → IfReaped (λ p. (s : State) → IsSound s → IsOf v s → IsNarrow v → IsTaken p) r
+  reap-narrow r h = along (IsPlannedReap id v) (λ p. (s : State) → IsSound s → IsOf v s → IsNarrow v → IsTaken p) r
+      (λ p is. narrow-taken false (record { session = id; mine = pos 0 }) v real is.kv is.ps is.saw is.nodes p is.plan)
+      (life_planned r life refl h)
 
   pub reap-taken : (r : Reaping) → IsReap id v r → IfReaped (λ p. (s : State) → IsSound s → IsOf v s → IsTrimmed req.Close (record { session = id; mine = pos 0 }) v → IsTaken p) r
   reap-taken r h = along (IsPlannedReap id v) (λ p. (s : State) → IsSound s → IsOf v s → IsTrimmed req.Close (record { session = id; mine = pos 0 }) v → IsTaken p) r

@@ -1,80 +1,19 @@
 -- How many bytes the changes at the end of a session have, and its head.
-use Rattle.std.proofs.Common.{◌≡◌, ℕ, zero, suc, ◌+◌, ◌*◌, ◌/◌, ◌%◌, ◌≤◌, ℤ, Bool, true, false, length, List, [], ◌∷◌, ◌++◌, Option, Some, None, refl, arith, length-append}
+use Rattle.std.proofs.Common.{◌+◌, ◌*◌, ◌≤◌, ℤ, Bool, true, false, length, List, [], ◌∷◌, ◌++◌, Option, Some, None, arith, length-append}
 use Rattle.std.specs.Prelude.{All, IsTrue, nat_abs}
 use Rattle.std.specs.List.{sum_by, count_by}
-use Rattle.std.proofs.lemmas.List.Concat.{length-flat_map}
-use Rattle.std.proofs.lemmas.List.Elements.{All-nil, All-cons, All-head, All-tail, All-append, All-weaker}
-use Rattle.std.proofs.lemmas.List.Sums.{sum_by-cons}
-use Rattle.zk_model.specs.declared.node.Trigger.{Trigger}
-use Rattle.zk_model.specs.declared.node.Trigger.TheVariants.{Created, Deleted, Changed, Children}
+use Rattle.std.proofs.lemmas.List.Elements.{All-nil, All-cons, All-head, All-tail, All-append}
 use Rattle.zk_model.specs.Paths.{is_child, is_path}
-use Rattle.zk_jute.proofs.Lengths.{length-int_bytes, length-string_bytes, length-vector_bytes}
-use Rattle.zk_jute.specs.JuteWriting.{int_bytes}
 use Rattle.zx_base.specs.Maps.{Bytes}
 use Rattle.zn_layout.specs.declared.record.CountRec.{CountRec}
-use Rattle.zn_layout.specs.Changes.{Change, head_put, put_key, delete_key, change_size}
-use Rattle.zn_layout.specs.Keys.{HeadKey, DataKey, CountsKey, SessionKey, LeaseKey, key_bytes, hex_digits, hex_digit}
-use Rattle.zn_layout.specs.Records.{counts_value, head_value, trigger_bytes, trigger_path, IsHeadRec}
+use Rattle.zn_layout.specs.Changes.{Change, put_key, delete_key, change_size}
+use Rattle.zn_layout.specs.Keys.{DataKey, CountsKey, SessionKey, LeaseKey}
+use Rattle.zn_layout.specs.Records.{counts_value}
 use Rattle.zn_layout.proofs.Paths.{path_short}
+pub use Rattle.zn_view.proofs.Sizes.{sum_by-most, head-size, counts-size, session-size, life-size, head_put-size}
+use Rattle.zn_view.proofs.Sizes.{data-size, counts_value-size}
 use Rattle.zs_close.specs.Ending.{fewer, put_parent, put_parents, parents, delete_nodes, delete_session, end_changes}
 use Rattle.zs_close.proofs.ParentPaths.{parents-valid, parents-length}
-
--- ---- sums
-
-pub sum_by-most : {X : Type 0} (f : X → ℕ) (b : ℕ) (xs : List X) → All (λ x. f x ≤ b) xs → sum_by f xs ≤ b * length xs
-sum_by-most f b [] all = omega arith
-sum_by-most f b (x ∷ xs) all = omega (arith, sum_by-cons f x xs, All-head (λ y. f y ≤ b) x xs all, sum_by-most f b xs (All-tail (λ y. f y ≤ b) x xs all))
-
--- ---- keys
-
-hex-length : (k n : ℕ) (rest : Bytes) → length (hex_digits k n rest) ≡ length rest + k + 1
-unfolding hex_digits
-hex-length zero n rest = omega arith
-hex-length (suc k) n rest = omega (arith, hex-length k (n / 16) (hex_digit (n % 16) ∷ rest))
-
-pub head-size : length (key_bytes HeadKey) ≡ 7
-unfolding key_bytes
-head-size = refl
-
-data-size : (p : Bytes) → length (key_bytes (DataKey p)) ≡ 9 + length p
-unfolding key_bytes
-data-size p = omega arith
-
-pub counts-size : (p : Bytes) → length (key_bytes (CountsKey p)) ≡ 9 + length p
-unfolding key_bytes
-counts-size p = omega arith
-
-pub session-size : (n : ℕ) → length (key_bytes (SessionKey n)) ≡ 21
-unfolding key_bytes
-session-size n = omega (arith, hex-length 15 n [])
-
-pub life-size : (n : ℕ) → length (key_bytes (LeaseKey n)) ≡ 21
-unfolding key_bytes
-life-size n = omega (arith, hex-length 15 n [])
-
--- ---- values
-
-counts_value-size : (c : CountRec) → length (counts_value c) ≡ 9
-unfolding counts_value
-counts_value-size c = omega (arith, length-append (int_bytes c.creates) (int_bytes c.children), length-int_bytes c.creates, length-int_bytes c.children)
-
-trigger-size : (t : Trigger) → IsTrue (is_path (trigger_path t)) → length (trigger_bytes t) ≤ 1029
-trigger-size (Created p) h = omega (arith, length-string_bytes p, path_short p h)
-trigger-size (Deleted p) h = omega (arith, length-string_bytes p, path_short p h)
-trigger-size (Changed p) h = omega (arith, length-string_bytes p, path_short p h)
-trigger-size (Children p) h = omega (arith, length-string_bytes p, path_short p h)
-
-head_value-size : (ts : List Trigger) → IsHeadRec ts → length (head_value ts) ≤ 5 + 1029 * length ts
-unfolding head_value
-head_value-size ts within = omega (
-  arith,
-  length-vector_bytes trigger_bytes ts,
-  length-flat_map trigger_bytes ts,
-  sum_by-most (λ t. length (trigger_bytes t)) 1029 ts (All-weaker (λ t. IsTrue (is_path (trigger_path t))) (λ t. length (trigger_bytes t) ≤ 1029) trigger-size ts within.valid),
-)
-
-pub head_put-size : (ts : List Trigger) → IsHeadRec ts → change_size (head_put ts) ≤ 12 + 1029 * length ts
-head_put-size ts within = omega (arith, head-size, head_value-size ts within)
 
 -- ---- changes
 

@@ -32,7 +32,7 @@ use Rattle.zn_view.specs.Lookups.{sees, IsNodesIn}
 use Rattle.zn_view.specs.Seen.{View}
 use Rattle.zn_view.specs.Views.{IsOf}
 use Rattle.zn_view.proofs.AsSeen.{agrees-as_seen}
-use Rattle.zs_close.specs.Closing.{IsEndPlan, IsTaken, IsTrimmed}
+use Rattle.zs_close.specs.Closing.{IsEndPlan, IsNarrow, IsTaken, IsTrimmed}
 use Rattle.zs_close.specs.Ending.{end_changes}
 use Rattle.zs_close.specs.Wanting.{IsNodesSeen}
 use Rattle.zs_close.proofs.Distinct.{end-distinct, end-leases, with_head-distinct}
@@ -41,11 +41,11 @@ use Rattle.zs_close.proofs.EndPlans.{counts_in, counts-told, session-open, nodes
 use Rattle.zs_close.proofs.Members.{rising-apart}
 use Rattle.zs_close.proofs.Sizes.{sum_by-most, head-size, head_put-size, end-length, end-size}
 use Rattle.zs_close.proofs.TriggerBounds.{end_triggers-length, end_triggers-within}
-use Rattle.zs_close.proofs.Trimmed.{keys-few, keys-short, guards-length, guards-short, again-length, again-short, again-present}
+use Rattle.zs_close.proofs.Trimmed.{guards-short, again-length, again-short, again-present, trimmed-narrow}
 use Rattle.zs_close.proofs.Written.{written-head}
 
 module _ (alive : Bool) (who : Who) (v : View) (real : pos 1 ≤ℤ who.session) (kv : Kv) (ps : List Bytes) (saw : sees v (SessionKey (nat_abs who.session)) ≡ Some (Some kv)) (nodes : IsNodesIn kv ps)
-    (p : Plan) (plan : IsEndPlan alive who.session v ps p) (s : State) (sound : IsSound s) (of : IsOf v s) (trimmed : IsTrimmed req.Close who v) where
+    (p : Plan) (plan : IsEndPlan alive who.session v ps p) (s : State) (sound : IsSound s) (of : IsOf v s) where
   abbrev id : ℤ
   id = who.session
 
@@ -79,18 +79,15 @@ module _ (alive : Bool) (who : Who) (v : View) (real : pos 1 ≤ℤ who.session)
   few_triggers : length p.triggers ≤ 80
   few_triggers = subst (λ (ts : List Trigger). length ts ≤ 80) (sym plan.triggers) (omega (arith, end_triggers-length ps, few))
 
-  few_keys : length v.keys ≤ 43
-  few_keys = omega (arith, keys-few who v ps was_seen valid trimmed, few)
-
   few_changes : length changes ≤ 122
   few_changes = omega (arith, end-length alive id (counts_in s) ps, few)
 
-  sendable : IsSendable txn
-  sendable =
-      let short = keys-short who v ps was_seen valid trimmed in
-      let guards_few = guards-length v.keys in
+  sendable : IsNarrow v → IsSendable txn
+  sendable narrow =
+      let short = narrow.short in
+      let guards_few = narrow.few in
       let again_few = again-length v.keys in
-      update-sendable (guards_of v.keys) changes p.triggers again (omega (arith, guards_few, few_keys)) (omega (arith, few_changes)) (omega (arith, again_few, few_keys))
+      update-sendable (guards_of v.keys) changes p.triggers again (omega (arith, guards_few)) (omega (arith, few_changes)) (omega (arith, again_few, guards_few))
       (omega (
         arith,
         sum_by-most guard_size 1033 (guards_of v.keys) (guards-short v.keys short),
@@ -100,7 +97,6 @@ module _ (alive : Bool) (who : Who) (v : View) (real : pos 1 ≤ℤ who.session)
         sum_by-most act_size 1033 again (again-short v.keys short),
         guards_few,
         again_few,
-        few_keys,
         few_changes,
         few_triggers,
       ))
@@ -116,13 +112,16 @@ module _ (alive : Bool) (who : Who) (v : View) (real : pos 1 ≤ℤ who.session)
   once : are_distinct (changes ++ head_put p.triggers ∷ []) ≡ true
   once = with_head-distinct p.triggers changes (written-head alive id (counts_in s) ps) (end-distinct (counts_in s) ps no_children alive id (rising-apart ps nodes.0.rising))
 
-  allowed : (t : Store) → revision t <ℤ last_revision → is_denied t (ask.Txn txn) ≡ false
-  allowed t room = update-not_denied t (guards_of v.keys) changes p.triggers again
-      (omega (arith, guards-length v.keys, few_keys)) (omega (arith, few_changes)) (omega (arith, again-length v.keys, few_keys))
+  allowed : IsNarrow v → (t : Store) → revision t <ℤ last_revision → is_denied t (ask.Txn txn) ≡ false
+  allowed narrow t room = update-not_denied t (guards_of v.keys) changes p.triggers again
+      (omega (arith, narrow.few)) (omega (arith, few_changes)) (omega (arith, again-length v.keys, narrow.few))
       once (end-leases t alive id (counts_in s) ps) (again-present (again_of v.keys)) room
 
-  pub end-taken : IsTaken p
-  end-taken = record {
-    small = subst IsSendable is_txn sendable;
-    allowed = λ t room. subst (λ (x : TxnReq). is_denied t (ask.Txn x) ≡ false) is_txn (allowed t room);
+  pub narrow-taken : IsNarrow v → IsTaken p
+  narrow-taken narrow = record {
+    small = subst IsSendable is_txn (sendable narrow);
+    allowed = λ t room. subst (λ (x : TxnReq). is_denied t (ask.Txn x) ≡ false) is_txn (allowed narrow t room);
   }
+
+  pub end-taken : IsTrimmed req.Close who v → IsTaken p
+  end-taken trimmed = narrow-taken (trimmed-narrow who v ps was_seen valid few trimmed)

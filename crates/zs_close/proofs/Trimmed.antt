@@ -22,7 +22,7 @@ use Rattle.zn_view.specs.Asks.{range_of, ranges_of, guards_of, guarded_wants, he
 use Rattle.zn_view.specs.Lookups.{sees}
 use Rattle.zn_view.specs.Needs.{IsRead}
 use Rattle.zn_view.specs.Seen.{View, seen_in}
-use Rattle.zs_close.specs.Closing.{AreOnce, IsTrimmed}
+use Rattle.zs_close.specs.Closing.{AreOnce, IsNarrow, IsTrimmed}
 use Rattle.zs_close.specs.Ending.{parents}
 use Rattle.zs_close.specs.Wanting.{end_keys, IsNodesSeen}
 use Rattle.zs_close.proofs.Lacking.{In, in_contains, counts_in, read_to}
@@ -152,14 +152,14 @@ guards-short (x ∷ xs) all = elim (same x.key (key_bytes HeadKey)) as (λ b. Al
   | false ↦ All-cons IsShortGuard (guard_on x) (guards_of xs) (All-head IsShortKey x xs all) (guards-short xs (All-tail IsShortKey x xs all))
 ]
 
-wants-length : (xs : List SeenKey) → length (guarded_wants xs) ≤ length xs
+wants-length : (xs : List SeenKey) → length (guarded_wants xs) ≤ length (guards_of xs)
 wants-length [] = omega arith
-wants-length (x ∷ xs) = elim (same x.key (key_bytes HeadKey)) as (λ b. length (if b then guarded_wants xs else want.Key x.key ∷ guarded_wants xs) ≤ length (x ∷ xs)) [
+wants-length (x ∷ xs) = elim (same x.key (key_bytes HeadKey)) as (λ b. length (if b then guarded_wants xs else want.Key x.key ∷ guarded_wants xs) ≤ length (if b then guards_of xs else guard_on x ∷ guards_of xs)) [
   | true ↦ omega (arith, wants-length xs)
   | false ↦ omega (arith, wants-length xs)
 ]
 
-pub again-length : (xs : List SeenKey) → length (ranges_of (pos 0) (again_of xs)) ≤ length xs + 1
+pub again-length : (xs : List SeenKey) → length (ranges_of (pos 0) (again_of xs)) ≤ length (guards_of xs) + 1
 again-length xs = omega (arith, length-map (again_of xs) (λ w. act.Range (range_of (pos 0) w)), length-append (guarded_wants xs) (head_want ∷ []), wants-length xs)
 
 abbrev IsShortWant : Want → Type 0
@@ -186,3 +186,11 @@ pub again-present : (ws : List Want) → are_present_reads (ranges_of (pos 0) ws
 again-present [] = refl
 again-present (want.Key k ∷ ws) = again-present ws
 again-present (want.Children p ∷ ws) = again-present ws
+
+-- ---- a session owns at most 40 nodes
+
+pub trimmed-narrow : (who : Who) (v : View) (ps : List Bytes) → IsNodesSeen (sees v (SessionKey (nat_abs who.session))) ps → All (λ p. IsTrue (is_path p)) ps → length ps ≤ 40 → IsTrimmed req.Close who v → IsNarrow v
+trimmed-narrow who v ps nodes valid owned trimmed = record {
+  few = omega (arith, guards-length v.keys, keys-few who v ps nodes valid trimmed, owned);
+  short = keys-short who v ps nodes valid trimmed;
+}

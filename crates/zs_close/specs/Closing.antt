@@ -1,5 +1,5 @@
 -- What the end of a session is decided by, and what its plan is worth.
-use Rattle.std.specs.Prelude.{◌≡◌, ℤ, nat_abs, ◌<ℤ◌, Bool, true, false, List, [], ◌∷◌, length, nat_le, Option, Some, None, All, MatchBool}
+use Rattle.std.specs.Prelude.{◌≡◌, ℤ, nat_abs, ◌≤◌, ◌<ℤ◌, Bool, true, false, List, [], ◌∷◌, length, nat_le, Option, Some, None, All, MatchBool}
 use Rattle.std.specs.Ordering.{int_eq}
 use Rattle.ev_types.specs.declared.answer.Kv.{Kv}
 use Rattle.ev_types.specs.Denials.{is_denied}
@@ -93,6 +93,11 @@ AreOnce (x ∷ xs) = (seen_in x.key xs ≡ None) × AreOnce xs
 pub record IsTrimmed (r : Request) (who : Who) (v : View) : Type 0 where
   pub read : All (λ (x : SeenKey). IsRead r who v (want.Key x.key)) v.keys
   pub once : AreOnce v.keys
+
+-- the keys that the view saw are few and short: so are the guards of a plan made on it, and what it reads again
+pub record IsNarrow (v : View) : Type 0 where
+  pub few : length (guards_of v.keys) ≤ 100
+  pub short : All (λ (x : SeenKey). length x.key ≤ 1033) v.keys
 
 -- the plan is small enough, and an etcd that has room does not deny it
 pub record IsTaken (p : Plan) : Type 0 where

@@ -8,10 +8,10 @@ ghost use Rattle.zn_layout.specs.Records.{IsSessionRec};
 ghost use Rattle.zn_view.specs.Lookups.{sees, HasSeen};
 ghost use Rattle.zn_view.specs.Needs.{AreNeeds};
 ghost use Rattle.zn_view.specs.Views.{IsOf};
-ghost use Rattle.zs_close.specs.Closing.{IsTaken, IsTrimmed, IsWhole};
+ghost use Rattle.zs_close.specs.Closing.{IsNarrow, IsTaken, IsTrimmed, IsWhole};
 ghost use Rattle.zs_close.specs.Ending.{parents};
 ghost use Rattle.zs_close.specs.Reaping.{IfReaped, IsReap, IsReapDecision, IsReapPlan, IsReapedBy, IsReapedWith};
-ghost use Rattle.zs_close.specs.Wanting.{AreParentsSeen};
+ghost use Rattle.zs_close.specs.Wanting.{AreEndWants, AreParentsSeen};
 
 use crate::plan::end_plan;
 use crate::wants::end_needs;
@@ -37,7 +37,8 @@ pub enum Reaping {
 /// What a reaper of a session has to look up: the same as a close. The session's number is at least 1.
 pub fn needs_reap(alloc: Global, session: i64, view: &View) -> Result<Seq<Want>, Memory>
     requires { pos 1 ≤ℤ session }
-    ensures { IfOk result (λ ws. (mine : ℤ) → AreNeeds req.Close (record { session = session; mine = mine }) view.now ws) }
+    ensures needs { IfOk result (λ ws. (mine : ℤ) → AreNeeds req.Close (record { session = session; mine = mine }) view.now ws) }
+    ensures are { IfOk result (AreEndWants session view.now) }
 {
     let wants = end_needs(alloc, view, session)?;
     Ok(wants)
@@ -84,12 +85,15 @@ fn reap(alloc: Global, session: i64, view: &View) -> Result<Reaping, Memory>
 }
 
 /// Decides what becomes of a session on a view that lacks nothing of what [`needs_reap`] names. Its plan leaves the session
-/// and all its nodes gone at one zxid, or changes nothing.
+/// and all its nodes gone at one zxid, or changes nothing. `TooMany` comes exactly where the session has lapsed and the list
+/// of its nodes has more than 40.
 pub fn plan_reap(alloc: Global, session: i64, view: &View) -> Result<Reaping, Memory>
     requires real { pos 1 ≤ℤ session }
     requires whole { IsWhole req.Close (record { session = session; mine = pos 0 }) view.now }
+    ensures seen { IfOk result (IsReap session view.now) }
     ensures decision { IfOk result (IsReapDecision session view.now) }
     ensures plan { IfOk result (IfReaped (IsReapPlan session view.now)) }
+    ensures narrow { IfOk result (IfReaped (λ p. (s : State) → IsSound s → IsOf view.now s → IsNarrow view.now → IsTaken p)) }
     ensures taken { IfOk result (IfReaped (λ p. (s : State) → IsSound s → IsOf view.now s → IsTrimmed req.Close (record { session = session; mine = pos 0 }) view.now → IsTaken p)) }
 {
     let reaping = reap(alloc, session, view)?;

@@ -6,3 +6,4 @@ pub mod NewSessions
 pub mod Attachments
 pub mod Sizes
 pub mod Holding
+pub mod Welcomes

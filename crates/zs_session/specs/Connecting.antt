@@ -180,6 +180,11 @@ pub record Steps (c : Connect) (a : Option Answer) (step : ConnectStep) (new : C
   pub same : new ≡ record { request = c.request; fresh = c.fresh; phase = new.phase }
   pub moves : Moves c a new.phase step
 
+-- what a connect waits for behind a step: an answer to what the step asked; behind a step that asked nothing it is over
+pub record IsWaiting (step : ConnectStep) (new : Connect) : Type 0 where
+  pub asked : asked_by step ≡ asked_in new new.phase
+  pub ends : asked_by step ≡ None → new.phase ≡ Over
+
 -- ---- what may be damaged: the parts of a look
 
 abbrev pub looked_at_in : Connect → Phase → Answer → List Want × List ActAns

@@ -1,7 +1,7 @@
 //! The steps of a connect.
 
 ghost use Rattle.std.specs.Prelude.{◌≡◌, pos, ◌≤ℤ◌, option_copied, Some, IfOk, IfErr, OnErr};
-ghost use Rattle.zs_session.specs.Connecting.{Answers, IsConnectFault, IsFaultIn, IsHeld, MayStep, Moves, Steps, asked_in};
+ghost use Rattle.zs_session.specs.Connecting.{Answers, IsConnectFault, IsFaultIn, IsHeld, IsWaiting, MayStep, Moves, Steps, asked_in};
 ghost use Rattle.zs_session.specs.Answering.{IsAwaited, IsAnswerTo};
 ghost use Rattle.zs_session.specs.declared.connect.Phase.TheVariants as phases;
 
@@ -87,6 +87,7 @@ impl Connecting {
     pub fn step(&mut self, answer: Option<&Answer>) -> Result<ConnectStep, StepFault>
         requires { MayStep self.old (option_copied answer) }
         ensures ok { IfOk result (λ step. Steps self.old (option_copied answer.entry) step self.new) }
+        ensures waits { IfOk result (λ step. IsWaiting step self.new) }
         ensures err { OnErr result (self.new ≡ self.old) }
         ensures fault { IfErr result (IsConnectFault self.old (option_copied answer.entry)) }
         ensures held { IsHeld self.new }

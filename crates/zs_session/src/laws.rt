@@ -2,11 +2,15 @@
 
 ghost use Rattle.std.specs.Prelude.{◌≡◌, ℕ, ℤ, pos, ◌≤ℤ◌, ◌<ℤ◌, true, List, length, Some};
 ghost use Rattle.std.specs.List.{list_all};
+ghost use Rattle.ev_types.specs.declared.answer.ActAns.{ActAns};
+ghost use Rattle.ev_types.specs.declared.answer.Answer.TheVariants as answer;
 ghost use Rattle.ev_types.specs.declared.answer.Kv.{Kv as KeyValue};
+ghost use Rattle.ev_types.specs.declared.ask.Ask.TheVariants as ask;
+ghost use Rattle.ev_types.specs.Denials.{carry};
 ghost use Rattle.ev_types.specs.Ranges.{Keys};
 ghost use Rattle.ev_types.specs.Reads.{are_present_reads};
 ghost use Rattle.ev_types.specs.Sizes.{IsSendable};
-ghost use Rattle.ev_types.specs.Store.{holds, last_revision};
+ghost use Rattle.ev_types.specs.Store.{Store, holds, last_revision, present};
 ghost use Rattle.zk_model.specs.declared.connect.ConnectRequest.{ConnectRequest};
 ghost use Rattle.zk_transcript.specs.declared.transcript.TranscriptLine.{TranscriptLine};
 ghost use Rattle.zk_transcript.specs.History.{State, IsSound, connect, granted_timeout, opening};
@@ -14,6 +18,7 @@ ghost use Rattle.zn_layout.specs.declared.record.LeaseRec.{LeaseRec};
 ghost use Rattle.zn_layout.specs.Records.{IsLeaseRec, lease_value};
 ghost use Rattle.zn_layout.specs.StandsFor.{StandsFor, at};
 ghost use Rattle.zs_session.specs.declared.connect.Fresh.{Fresh as AnyFresh};
+ghost use Rattle.zs_session.specs.Connecting.{number_shown};
 ghost use Rattle.zs_session.specs.Laws.{IsOpened, IsAttachedAnew};
 ghost use Rattle.zs_session.specs.Sessions.{attach_guards, attach_txn, life_key, new_session_guards, new_session_txn};
 
@@ -40,4 +45,11 @@ pub fn a_session_is_sendable()
 pub fn sessions_are_read_again()
     ensures opened { (f : AnyFresh) (timeout : ℤ) → are_present_reads (new_session_txn f timeout).failure ≡ true }
     ensures attached { (id seen : ℤ) (life : LeaseRec) → are_present_reads (attach_txn id seen life).failure ≡ true }
+{}
+
+/// The answer of a session's transaction that succeeded shows the number of its update, which is that of the state for which the
+/// keys stand then.
+pub fn a_session_shows_its_number()
+    ensures opened { (f : AnyFresh) (timeout : ℤ) (s new : Store) (z : ℤ) (parts : List ActAns) (t : State) → carry s (ask.Txn (new_session_txn f timeout)) ≡ Some (new, answer.Txn z true parts) → StandsFor (present new) t → number_shown parts ≡ pos t.updates }
+    ensures attached { (id seen : ℤ) (life : LeaseRec) (s new : Store) (z : ℤ) (parts : List ActAns) (t : State) → carry s (ask.Txn (attach_txn id seen life)) ≡ Some (new, answer.Txn z true parts) → StandsFor (present new) t → number_shown parts ≡ pos t.updates }
 {}

@@ -33,5 +33,7 @@ pub use connect::{Connect, ConnectStep, Fresh, Phase};
 pub use connecting::Connecting;
 pub use fault::StepFault;
 pub use laws::{
-    a_new_session_commits, a_session_is_attached, a_session_is_sendable, sessions_are_read_again,
+    a_new_session_commits, a_session_is_attached, a_session_is_sendable,
+    a_session_shows_its_number, sessions_are_read_again,
 };
+pub use looks::look;

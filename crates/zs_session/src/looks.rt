@@ -15,8 +15,9 @@ use zn_layout::{LeaseRec, lease_key, session_key};
 use zn_view::{View, ViewFault, Want};
 use zx_base::Memory;
 
-/// What some keys had at a revision.
-pub(crate) fn look(
+/// What some keys had at a revision of an etcd, 0 to 2^62 - 1: a part for each want, in their order. `Damaged`: what was found
+/// for the first of them that is no record of its key's kind.
+pub fn look(
     alloc: Global,
     wants: &[Want],
     revision: i64,

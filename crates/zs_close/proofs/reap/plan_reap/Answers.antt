@@ -8,7 +8,7 @@ use Rattle.zn_view.specs.Lookups.{HasSeen}
 use Rattle.zs_close.specs.Reaping.{IsReap}
 use Rattle.zs_close.specs.Wanting.{AreParentsSeen}
 use Rattle.zs_close.proofs.Lacking.{whole-life, whole-session, whole-parents}
-use Rattle.zs_close.proofs.Reaps.{reap-decides, reap-plan, reap-taken}
+use Rattle.zs_close.proofs.Reaps.{reap-decides, reap-narrow, reap-plan, reap-taken}
 use Rattle.zs_close.proofs.reap.plan_reap.Goals as goal
 
 pub reap-requires-clause-life : goal.reap-requires-clause-life
@@ -25,6 +25,12 @@ pub reap-requires-clause-parents : goal.reap-requires-clause-parents
 reap-requires-clause-parents c =
     let fits : SFits w64 c.args.session = c.ranges.session in
     subst (λ (i : ℤ). AreParentsSeen i c.args.view.now) (sym (to_z-of_z w64 c.args.session fits)) (whole-parents (record { session = c.args.session; mine = pos 0 }) c.args.view.now c.requires.whole)
+
+pub returns-clause-seen : goal.returns-clause-seen
+returns-clause-seen c = subst (λ (i : ℤ). IsReap i c.args.view.now c.in_ok-reaping.reaping) (to_z-of_z w64 c.args.session c.ranges.session) c.in_ok-reaping.ensures
+
+pub returns-clause-narrow : goal.returns-clause-narrow
+returns-clause-narrow c = reap-narrow c.args.session c.args.view.now c.requires.real c.in_ok-reaping.reaping (subst (λ (i : ℤ). IsReap i c.args.view.now c.in_ok-reaping.reaping) (to_z-of_z w64 c.args.session c.ranges.session) c.in_ok-reaping.ensures)
 
 pub returns-clause-decision : goal.returns-clause-decision
 returns-clause-decision c = reap-decides c.args.session c.args.view.now c.requires.real c.in_ok-reaping.reaping (subst (λ (i : ℤ). IsReap i c.args.view.now c.in_ok-reaping.reaping) (to_z-of_z w64 c.args.session c.ranges.session) c.in_ok-reaping.ensures)

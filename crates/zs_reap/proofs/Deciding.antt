@@ -1,0 +1,109 @@
+-- What a look leads to.
+use Rattle.std.proofs.Common.{◌≡◌, ◌≤◌, ℤ, length, List, [], ◌∷◌, Some, None, refl, sym, ap, ◌∙◌, subst, arith}
+use Rattle.std.specs.Prelude.{Result, Ok, Err, IfOk, nat_abs}
+use Rattle.ev_types.specs.declared.answer.ActAns.{ActAns}
+use Rattle.ev_types.specs.declared.answer.Kv.{Kv}
+use Rattle.zk_model.specs.declared.request.Request.TheVariants as req
+use Rattle.zk_model.specs.Limits.{max_owned}
+use Rattle.zk_model.specs.Watches.{no_watches}
+use Rattle.zk_transcript.specs.Answers.{plain_request}
+use Rattle.zk_transcript.specs.History.{State, IsSound}
+use Rattle.zx_base.specs.declared.memory.Memory.{Memory as Refused}
+use Rattle.zx_base.specs.Maps.{Bytes}
+use Rattle.zx_base.proofs.Options.{some_is}
+use Rattle.zn_layout.specs.Keys.{SessionKey}
+use Rattle.zn_layout.proofs.ListRecords.{session_value-injective}
+use Rattle.zn_view.specs.declared.plan.Plan.{Plan}
+use Rattle.zn_view.specs.declared.plan.Who.{Who}
+use Rattle.zn_view.specs.declared.want.Want.{Want}
+use Rattle.zn_view.specs.declared.want.Want.TheVariants as want
+use Rattle.zn_view.specs.Adding.{at_revision}
+use Rattle.zn_view.specs.Asks.{transaction, with_part, with_parts}
+use Rattle.zn_view.specs.Lookups.{sees, IsNodesIn}
+use Rattle.zn_view.specs.Needs.{AreNeeds}
+use Rattle.zn_view.specs.Seen.{View, empty_view}
+use Rattle.zn_view.specs.Views.{IsOf}
+use Rattle.zs_close.specs.declared.reap.Reaping.{Reaping}
+use Rattle.zs_close.specs.declared.reap.Reaping.TheVariants.{Planned, Kept, Gone, TooMany}
+use Rattle.zs_close.specs.Closing.{IsNarrow, IsTaken, IsWhole}
+use Rattle.zs_close.specs.Reaping.{IfReaped, IsReap, IsReapDecision, IsReapPlan}
+use Rattle.zs_session.specs.Answering.{viewed}
+use Rattle.zs_reap.specs.declared.moves.Move.{Move}
+use Rattle.zs_reap.specs.declared.reap.Phase.{Phase}
+use Rattle.zs_reap.specs.declared.reap.Phase.TheVariants.{Removing}
+use Rattle.zs_reap.specs.declared.reap.ReapStep.{ReapStep}
+use Rattle.zs_reap.specs.Steps.{AreFew, AreNarrow, Asks, Decides, Follows, IsInPhase, IsLookedAt, LooksFirst, whose}
+use Rattle.zs_reap.proofs.Narrow.{again-narrow}
+
+-- ---- a view of which nothing is lacking
+
+plain : plain_request no_watches req.Close ≡ None
+unfolding plain_request
+plain = refl
+
+no_wants : (ws : List Want) → length ws ≡ 0 → ws ≡ []
+no_wants [] e = refl
+no_wants (w ∷ ws) e = absurd (omega (arith, e))
+
+pub nothing-whole : (who : Who) (v : View) (ws : List Want) → AreNeeds req.Close who v ws → length ws ≡ 0 → IsWhole req.Close who v
+nothing-whole who v ws needs none w reads lacks = needs.enough (no_wants ws none) plain w reads lacks
+
+-- ---- a view of which something is lacking
+
+pub looked-at : (id r : ℤ) (ws : List Want) (parts : List ActAns) (v : View) (phase : Phase) (step : ReapStep) (lacking : List Want) → v ≡ viewed r ws parts
+    → AreNeeds req.Close (whose id) v lacking → (length lacking ≡ 0 → ⊥) → LooksFirst id phase step → IsLookedAt id (viewed r ws parts) phase step
+looked-at id r ws parts v phase step lacking is needs some asks =
+    subst (λ (w : View). IsLookedAt id w phase step) is (record { wants = lacking; lacking = record { needs = needs; some = λ e. some (ap (λ (l : List Want). length l) e) }; asks = asks })
+
+-- ---- an etcd takes the plan
+
+pub narrow-taken : (v : View) (r : Reaping) → IsNarrow v → IfReaped (λ p. (s : State) → IsSound s → IsOf v s → IsNarrow v → IsTaken p) r → IfReaped (λ p. (s : State) → IsSound s → IsOf v s → IsTaken p) r
+narrow-taken v (Planned p) narrow h = λ s sound of. h s sound of narrow
+narrow-taken v Kept narrow h = tt
+narrow-taken v Gone narrow h = tt
+narrow-taken v TooMany narrow h = tt
+
+-- ---- the list of nodes that a view saw is one
+
+pub few-seen : (id : ℤ) (v : View) (kv : Kv) (ps : List Bytes) → sees v (SessionKey (nat_abs id)) ≡ Some (Some kv) → IsNodesIn kv ps → length ps ≤ max_owned → AreFew id v
+few-seen id v kv ps saw nodes few other qs also are =
+    let one : other ≡ kv = some_is (some_is (sym also ∙ saw)) in
+    let same : qs ≡ ps = session_value-injective qs ps are.0 nodes.0 (sym are.1 ∙ ap (λ (x : Kv). x.value) one ∙ nodes.1) in
+    subst (λ (l : List Bytes). length l ≤ max_owned) (sym same) few
+
+-- ---- a plan is asked
+
+module _ (id : ℤ) (v : View) (r : Reaping) (p : Plan) (is : r ≡ Planned p) (narrow : IsNarrow v) where
+  abbrev AsksPlan : Move → Type 0
+  AsksPlan m = Asks (Removing p.again) (transaction p) m.phase m.step
+
+  pub planned-decides : (result : Result Move Refused) → IsWhole req.Close (whose id) v → IsReap id v r → IsReapDecision id v r → IfReaped (IsReapPlan id v) r
+      → IfReaped (λ q. (s : State) → IsSound s → IsOf v s → IsNarrow v → IsTaken q) r → IfOk result AsksPlan → IfOk result (λ m. Decides id v m.phase m.step)
+  planned-decides (Err e) whole seen worth plan taken asks = tt
+  planned-decides (Ok m) whole seen worth plan taken asks = record {
+    whole = whole;
+    reaping = r;
+    seen = seen;
+    worth = worth;
+    plan = plan;
+    taken = narrow-taken v r narrow taken;
+    follows = subst (λ (x : Reaping). Follows v x m.phase m.step) (sym is) asks;
+  }
+
+  again-held : IsReapPlan id v p → AreNarrow p.again
+  again-held plan = subst AreNarrow (sym plan.again) (again-narrow v narrow)
+
+  pub planned-held : (result : Result Move Refused) → IfReaped (IsReapPlan id v) r → IfOk result AsksPlan → IfOk result (λ m. IsInPhase m.phase)
+  planned-held (Err e) plan asks = tt
+  planned-held (Ok m) plan asks = subst IsInPhase (sym asks.0) (again-held (subst (IfReaped (IsReapPlan id v)) is plan))
+
+-- ---- the revision of a view
+
+parts-revision : (v : View) (ws : List Want) (parts : List ActAns) → (with_parts v ws parts).revision ≡ v.revision
+parts-revision v [] parts = refl
+parts-revision v (w ∷ ws) [] = refl
+parts-revision v (want.Key k ∷ ws) (a ∷ more) = parts-revision (with_part v (want.Key k) a) ws more
+parts-revision v (want.Children p ∷ ws) (a ∷ more) = parts-revision (with_part v (want.Children p) a) ws more
+
+pub viewed-revision : (r : ℤ) (ws : List Want) (parts : List ActAns) → (viewed r ws parts).revision ≡ r
+viewed-revision r ws parts = parts-revision (at_revision empty_view r) ws parts

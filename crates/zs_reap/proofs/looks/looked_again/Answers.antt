@@ -1,0 +1,34 @@
+-- The view lacks nothing, and has few keys; or the session is looked at anew.
+use Rattle.std.proofs.Common.{rules, arith, ◌≡◌, length, ℤ, w64, to_z, of_z, pos, sym, ap, ◌∙◌, subst, inr}
+use Rattle.std.proofs.lemmas.Int.{to_z-of_z}
+use Rattle.zk_model.specs.declared.request.Request.TheVariants as req
+use Rattle.zn_view.specs.Needs.{AreNeeds}
+use Rattle.zs_close.specs.Closing.{IsNarrow}
+use Rattle.zs_session.specs.Answering.{viewed}
+use Rattle.zs_reap.specs.Steps.{IsTested, LooksFirst, whose}
+use Rattle.zs_reap.proofs.Deciding.{looked-at, nothing-whole}
+use Rattle.zs_reap.proofs.Narrow.{viewed-narrow}
+use Rattle.zs_reap.proofs.looks.looked_again.Goals as goal
+
+pub decided-requires-clause-whole : goal.decided-requires-clause-whole
+decided-requires-clause-whole c =
+    let none : length c.in_ok-lacking.lacking ≡ 0 = search (arith, rules) in
+    nothing-whole _ c.in_ok-view.view c.in_ok-lacking.lacking (c.in_ok-lacking.ensures.needs (pos 0)) none
+
+pub decided-requires-clause-narrow : goal.decided-requires-clause-narrow
+decided-requires-clause-narrow c = subst IsNarrow (sym c.in_ok-view.ensures.ok) (viewed-narrow (to_z w64 (of_z w64 c.args.revision)) c.args.wants.now c.args.parts.now c.requires.narrow)
+
+pub returns-clause-ok : goal.returns-clause-ok
+returns-clause-ok c =
+    let own = λ (P : ℤ → Type 0). subst P (to_z-of_z w64 c.args.session c.ranges.session) in
+    let at = to_z-of_z w64 c.args.revision c.ranges.revision in
+    let ws = c.args.wants.now in
+    let parts = c.args.parts.now in
+    let some : length c.in_ok-lacking.lacking ≡ 0 → ⊥ = search (arith, rules) in (
+      subst (λ (r : ℤ). IsTested c.args.session ws r parts) at (own (λ i. IsTested i ws (to_z w64 (of_z w64 c.args.revision)) parts) c.in_ok-view.ensures.tested),
+      inr (looked-at c.args.session c.args.revision ws parts c.in_ok-view.view c.in_ok-look.field-0.phase c.in_ok-look.field-0.step c.in_ok-lacking.lacking
+          (c.in_ok-view.ensures.ok ∙ ap (λ (r : ℤ). viewed r ws parts) at)
+          (own (λ i. AreNeeds req.Close (whose i) c.in_ok-view.view c.in_ok-lacking.lacking) (c.in_ok-lacking.ensures.needs (pos 0)))
+          some
+          (own (λ i. LooksFirst i c.in_ok-look.field-0.phase c.in_ok-look.field-0.step) c.in_ok-look.ensures.asks)),
+    )

@@ -1,0 +1,224 @@
+-- How a session that has lapsed is ended (Programmer's Guide, "Ephemeral Nodes": a session's nodes go when it ends): what a
+-- reaper asks in each phase, and what it does at the answer.
+use Rattle.std.specs.Prelude.{◌≡◌, ◌≤◌, ◌<◌, ◌⊎◌, ℤ, pos, nat_abs, ◌≤ℤ◌, Bool, true, false, not, List, [], ◌++◌, map, length, Option, Some, None, All}
+use Rattle.std.specs.List.{count_by}
+use Rattle.ev_types.specs.declared.answer.ActAns.{ActAns}
+use Rattle.ev_types.specs.declared.answer.Answer.{Answer}
+use Rattle.ev_types.specs.declared.answer.Answer.TheVariants as answer
+use Rattle.ev_types.specs.declared.answer.Kv.{Kv}
+use Rattle.ev_types.specs.declared.ask.Ask.{Ask}
+use Rattle.ev_types.specs.declared.ask.Ask.TheVariants as ask
+use Rattle.zk_model.specs.declared.request.Request.TheVariants as req
+use Rattle.zk_model.specs.Limits.{max_owned}
+use Rattle.zk_transcript.specs.History.{State, IsSound}
+use Rattle.zx_base.specs.Maps.{Bytes, same}
+use Rattle.zn_layout.specs.Keys.{HeadKey, SessionKey, key_bytes}
+use Rattle.zn_view.specs.declared.plan.Who.{Who}
+use Rattle.zn_view.specs.declared.want.Want.{Want}
+use Rattle.zn_view.specs.declared.want.Want.TheVariants as want
+use Rattle.zn_view.specs.Adding.{AreRecords, IsFirstDamaged}
+use Rattle.zn_view.specs.Asks.{reading, transaction}
+use Rattle.zn_view.specs.Lookups.{sees, IsNodesIn}
+use Rattle.zn_view.specs.Needs.{AreNeeds, key_want}
+use Rattle.zn_view.specs.Seen.{View, IsCount}
+use Rattle.zn_view.specs.Views.{IsOf}
+use Rattle.zs_close.specs.declared.reap.Reaping.{Reaping}
+use Rattle.zs_close.specs.declared.reap.Reaping.TheVariants.{Planned, Kept, Gone, TooMany}
+use Rattle.zs_close.specs.Closing.{IsTaken, IsWhole}
+use Rattle.zs_close.specs.Reaping.{IfReaped, IsReap, IsReapDecision, IsReapPlan}
+use Rattle.zs_close.specs.Wanting.{own_keys}
+use Rattle.zs_session.specs.declared.fault.StepFault.{StepFault}
+use Rattle.zs_session.specs.declared.fault.StepFault.TheVariants.{Damaged, Memory}
+use Rattle.zs_session.specs.Answering.{IsTxnAnswer, viewed}
+use Rattle.zs_reap.specs.declared.reap.Phase.{Phase}
+use Rattle.zs_reap.specs.declared.reap.Phase.TheVariants.{Unasked, Looking, Counting, Removing, Over}
+use Rattle.zs_reap.specs.declared.reap.Reap.{Reap}
+use Rattle.zs_reap.specs.declared.reap.ReapStep.{ReapStep}
+use Rattle.zs_reap.specs.declared.reap.ReapStep.TheVariants as steps
+
+-- ---- what is looked up
+
+-- a session of which no attachment is known
+abbrev pub whose : ℤ → Who
+whose id = record { session = id; mine = pos 0 }
+
+-- first the head, the record of the session's life, and the list of its nodes
+abbrev pub first_wants : ℤ → List Want
+first_wants id = map key_want (own_keys id)
+
+-- ---- what a reaper knows
+
+-- a key that is wanted is guarded in the end, unless it is the head
+abbrev pub is_guarded : Want → Bool
+is_guarded (want.Key k) = not (same k (key_bytes HeadKey))
+is_guarded (want.Children p) = false
+
+abbrev pub IsShortWant : Want → Type 0
+IsShortWant (want.Key k) = length k ≤ 1033
+IsShortWant (want.Children p) = Unit {0}
+
+-- few keys, and short ones: a transaction may guard them all
+pub record AreNarrow (ws : List Want) : Type 0 where
+  pub few : count_by is_guarded ws ≤ 100
+  pub short : All IsShortWant ws
+
+abbrev pub IsInPhase : Phase → Type 0
+IsInPhase Unasked = Unit {0}
+IsInPhase Looking = Unit {0}
+IsInPhase (Counting revision wants) = IsCount revision × AreNarrow wants
+IsInPhase (Removing again) = AreNarrow again
+IsInPhase Over = Unit {0}
+
+pub record IsHeld (r : Reap) : Type 0 where
+  pub session : pos 1 ≤ℤ r.session
+  pub phase : IsInPhase r.phase
+
+-- ---- the answers that it takes
+
+-- a transaction was asked last
+abbrev pub IsAsked : Phase → Type 0
+IsAsked Unasked = ⊥
+IsAsked Looking = Unit {0}
+IsAsked (Counting revision wants) = Unit {0}
+IsAsked (Removing again) = Unit {0}
+IsAsked Over = ⊥
+
+abbrev pub IsOfTxn : Answer → Type 0
+IsOfTxn (answer.Txn revision succeeded parts) = IsTxnAnswer revision parts
+IsOfTxn _ = ⊥
+
+-- the first step has no answer; each other one has an answer to what was asked last, and none is made behind the end
+abbrev pub MayStep : Reap → Option Answer → Type 0
+MayStep r None = r.phase ≡ Unasked
+MayStep r (Some a) = IsAsked r.phase × IsOfTxn a
+
+-- ---- what a step answers
+
+abbrev pub Asks : Phase → Ask → Phase → ReapStep → Type 0
+Asks next q phase step = (phase ≡ next) × (step ≡ steps.Ask q)
+
+abbrev pub Ends : ReapStep → Phase → ReapStep → Type 0
+Ends end phase step = (phase ≡ Over) × (step ≡ end)
+
+abbrev pub LooksFirst : ℤ → Phase → ReapStep → Type 0
+LooksFirst id phase step = Asks Looking (reading (pos 0) (first_wants id)) phase step
+
+-- the list of the session's nodes that a view saw has no more than a session may own
+abbrev pub AreFew : ℤ → View → Type 0
+AreFew id v = (kv : Kv) (ps : List Bytes) → sees v (SessionKey (nat_abs id)) ≡ Some (Some kv) → IsNodesIn kv ps → length ps ≤ max_owned
+
+-- by the decision: the transaction of its plan is asked, or the end is told at the view's revision
+abbrev pub Follows : View → Reaping → Phase → ReapStep → Type 0
+Follows v (Planned p) phase step = Asks (Removing p.again) (transaction p) phase step
+Follows v Kept phase step = Ends (steps.Kept v.revision) phase step
+Follows v Gone phase step = Ends (steps.Gone v.revision) phase step
+Follows v TooMany phase step = ⊥
+
+-- The view lacks nothing and decides. The session is kept exactly where the record of its life is there, and gone exactly
+-- where neither that nor the list of its nodes is (`IsReap`); the plan ends it with all its nodes, and an etcd takes it.
+pub record Decides (id : ℤ) (v : View) (phase : Phase) (step : ReapStep) : Type 0 where
+  pub whole : IsWhole req.Close (whose id) v
+  pub reaping : Reaping
+  pub seen : IsReap id v reaping
+  pub worth : IsReapDecision id v reaping
+  pub plan : IfReaped (IsReapPlan id v) reaping
+  pub taken : IfReaped (λ p. (s : State) → IsSound s → IsOf v s → IsTaken p) reaping
+  pub follows : Follows v reaping phase step
+
+-- the view lacks these
+pub record LacksSome (id : ℤ) (v : View) (ws : List Want) : Type 0 where
+  pub needs : AreNeeds req.Close (whose id) v ws
+  pub some : ws ≡ [] → ⊥
+
+-- the view lacks some of the parents' counts, which are read with the other keys at its revision
+pub record IsCounted (id : ℤ) (v : View) (phase : Phase) (step : ReapStep) : Type 0 where
+  pub wants : List Want
+  pub lacking : LacksSome id v wants
+  pub asks : Asks (Counting v.revision (first_wants id ++ wants)) (reading v.revision (first_wants id ++ wants)) phase step
+
+-- the session had other nodes since: it is looked at anew
+pub record IsLookedAt (id : ℤ) (v : View) (phase : Phase) (step : ReapStep) : Type 0 where
+  pub wants : List Want
+  pub lacking : LacksSome id v wants
+  pub asks : LooksFirst id phase step
+
+-- ---- at each answer
+
+-- what was read of these keys are records, and the session's nodes are few
+pub record IsTested (id : ℤ) (ws : List Want) (revision : ℤ) (parts : List ActAns) : Type 0 where
+  pub records : AreRecords ws parts
+  pub few : AreFew id (viewed revision ws parts)
+
+abbrev pub Looked : ℤ → List Want → ℤ → List ActAns → Phase → ReapStep → Type 0
+Looked id ws revision parts phase step =
+    IsTested id ws revision parts × (Decides id (viewed revision ws parts) phase step ⊎ IsCounted id (viewed revision ws parts) phase step)
+
+abbrev pub LookedAgain : ℤ → List Want → ℤ → List ActAns → Phase → ReapStep → Type 0
+LookedAgain id ws revision parts phase step =
+    IsTested id ws revision parts × (Decides id (viewed revision ws parts) phase step ⊎ IsLookedAt id (viewed revision ws parts) phase step)
+
+-- the counts were read at the revision of the first look; where a guard didn't hold, what it reads again is of the present
+abbrev pub Answered : ℤ → Phase → ℤ → Bool → List ActAns → Phase → ReapStep → Type 0
+Answered id Unasked revision succeeded parts phase step = ⊥
+Answered id Looking revision succeeded parts phase step = Looked id (first_wants id) revision parts phase step
+Answered id (Counting first wants) revision succeeded parts phase step = LookedAgain id wants first parts phase step
+Answered id (Removing again) revision true parts phase step = Ends (steps.Reaped revision) phase step
+Answered id (Removing again) revision false parts phase step = LookedAgain id again revision parts phase step
+Answered id Over revision succeeded parts phase step = ⊥
+
+abbrev pub OfTxn : Answer → (ℤ → Bool → List ActAns → Type 0) → Type 0
+OfTxn (answer.Txn revision succeeded parts) P = P revision succeeded parts
+OfTxn _ P = ⊥
+
+abbrev pub Moves : Reap → Option Answer → Phase → ReapStep → Type 0
+Moves r None phase step = LooksFirst r.session phase step
+Moves r (Some a) phase step = OfTxn a (λ revision succeeded parts. Answered r.session r.phase revision succeeded parts phase step)
+
+-- from a reap by an answer, with what it answers, to the next
+pub record Steps (r : Reap) (a : Option Answer) (step : ReapStep) (new : Reap) : Type 0 where
+  pub same : new.session ≡ r.session
+  pub moves : Moves r a new.phase step
+
+-- what a reap waits for behind a step: the answer of a transaction; behind a step that asked nothing it is over
+abbrev pub IsTxn : Ask → Type 0
+IsTxn (ask.Txn t) = Unit {0}
+IsTxn _ = ⊥
+
+abbrev pub IsWaiting : ReapStep → Phase → Type 0
+IsWaiting (steps.Ask q) phase = IsAsked phase × IsTxn q
+IsWaiting _ phase = phase ≡ Over
+
+-- ---- what may be damaged
+
+-- the list of the session's nodes that a view saw has more than a session may own: its key and value are given
+pub record IsCrowded (id : ℤ) (v : View) (key value : Bytes) : Type 0 where
+  pub kv : Kv
+  pub paths : List Bytes
+  pub saw : sees v (SessionKey (nat_abs id)) ≡ Some (Some kv)
+  pub nodes : IsNodesIn kv paths
+  pub many : max_owned < length paths
+  pub key_is : key ≡ kv.key
+  pub value_is : value ≡ kv.value
+
+abbrev pub IsCrowdedFault : ℤ → View → StepFault → Type 0
+IsCrowdedFault id v (Damaged key value) = IsCrowded id v key value
+IsCrowdedFault id v Memory = Unit {0}
+
+-- the first of what was read that is no record; or, where all are, the list of too many nodes; or memory was refused
+abbrev pub IsReadFault : ℤ → List Want → ℤ → List ActAns → StepFault → Type 0
+IsReadFault id ws revision parts (Damaged key value) = IsFirstDamaged ws parts key value ⊎ (AreRecords ws parts × IsCrowded id (viewed revision ws parts) key value)
+IsReadFault id ws revision parts Memory = Unit {0}
+
+abbrev pub IsMemory : StepFault → Type 0
+IsMemory fault = fault ≡ Memory
+
+abbrev pub IsFaultIn : ℤ → Phase → ℤ → Bool → List ActAns → StepFault → Type 0
+IsFaultIn id Looking revision succeeded parts fault = IsReadFault id (first_wants id) revision parts fault
+IsFaultIn id (Counting first wants) revision succeeded parts fault = IsReadFault id wants first parts fault
+IsFaultIn id (Removing again) revision false parts fault = IsReadFault id again revision parts fault
+IsFaultIn id _ revision succeeded parts fault = IsMemory fault
+
+abbrev pub IsReapFault : Reap → Option Answer → StepFault → Type 0
+IsReapFault r None fault = IsMemory fault
+IsReapFault r (Some (answer.Txn revision succeeded parts)) fault = IsFaultIn r.session r.phase revision succeeded parts fault
+IsReapFault r (Some _) fault = IsMemory fault

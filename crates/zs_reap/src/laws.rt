@@ -1,0 +1,12 @@
+//! The laws of reaps. Each function does nothing, and its contract is the law.
+
+ghost use Rattle.std.specs.Prelude.{ℤ, pos, ◌≤ℤ◌};
+ghost use Rattle.zk_transcript.specs.History.{State, IsSound};
+ghost use Rattle.zn_view.specs.Seen.{View};
+ghost use Rattle.zn_view.specs.Views.{IsOf};
+ghost use Rattle.zs_reap.specs.Steps.{AreFew};
+
+/// In a sound state no session owns more nodes than it may: a list of its nodes is damaged in none for its length.
+pub fn a_sound_session_has_few_nodes()
+    ensures { (id : ℤ) (v : View) (s : State) → pos 1 ≤ℤ id → IsSound s → IsOf v s → AreFew id v }
+{}

@@ -1,0 +1,115 @@
+//! What an answer shows, and what it leads to.
+
+ghost use Rattle.std.specs.Prelude.{◌≡◌, pos, ◌≤ℤ◌, IfOk, IfErr, OnOk};
+ghost use Rattle.ev_types.specs.declared.answer.Kv.{Kv as KeyValue};
+ghost use Rattle.zn_view.specs.Seen.{IsCount};
+ghost use Rattle.zn_view.specs.Adding.{AreNumbers};
+ghost use Rattle.zs_close.specs.Closing.{IsNarrow};
+ghost use Rattle.zs_session.specs.Answering.{viewed};
+ghost use Rattle.zs_reap.specs.Steps.{AreFew, AreNarrow, IsCrowdedFault, IsInPhase, IsReadFault, IsTested, Looked, LookedAgain, first_wants as wants_of_first};
+
+use crate::moves::{Move, count, decided, first_wants, look};
+use ev_types::{ActAns, Kv};
+use std::alloc::Global;
+use zk_model::limit::MAX_OWNED;
+use zn_layout::session_key;
+use zn_view::{View, Want};
+use zs_close::needs_reap;
+use zs_session::{StepFault, look as look_at};
+use zx_base::{Bytes, Memory};
+
+/// The fault of a value that no sound state has under its key.
+fn damaged(alloc: Global, kv: &Kv) -> Result<StepFault, Memory>
+    ensures { IfOk result (λ fault. fault ≡ StepFault.Damaged kv.now.key kv.now.value) }
+{
+    Ok(StepFault::Damaged {
+        key: Bytes::copy_of(alloc, kv.key.as_slice())?,
+        value: Bytes::copy_of(alloc, kv.value.as_slice())?,
+    })
+}
+
+/// Refuses a list of more nodes than a session may own.
+fn test_nodes(alloc: Global, session: i64, view: &View) -> Result<(), StepFault>
+    requires { pos 1 ≤ℤ session }
+    ensures ok { OnOk result (AreFew session view.now) }
+    ensures fault { IfErr result (IsCrowdedFault session view.now) }
+{
+    let key = session_key(alloc, session)?;
+    let Some(Some(kv)) = view.found(key.as_slice()) else {
+        return Ok(());
+    };
+    let Some(nodes) = view.nodes_of(session)? else {
+        return Ok(());
+    };
+    if nodes.paths.len() > MAX_OWNED {
+        return Err(damaged(alloc, kv)?);
+    }
+    Ok(())
+}
+
+/// What these keys had at a revision, all of them records.
+fn seen(
+    alloc: Global,
+    session: i64,
+    wants: &[Want],
+    revision: i64,
+    parts: &[ActAns],
+) -> Result<View, StepFault>
+    requires real { pos 1 ≤ℤ session }
+    requires revision { IsCount revision }
+    requires numbers { AreNumbers parts.now }
+    ensures ok { IfOk result (λ view. view ≡ viewed revision wants.now parts.now) }
+    ensures tested { OnOk result (IsTested session wants.now revision parts.now) }
+    ensures fault { IfErr result (IsReadFault session wants.now revision parts.now) }
+{
+    let view = look_at(alloc, wants, revision, parts)?;
+    test_nodes(alloc, session, &view)?;
+    Ok(view)
+}
+
+/// The first look: a view that lacks the counts of parents is made anew with them.
+pub(crate) fn looked(
+    alloc: Global,
+    session: i64,
+    revision: i64,
+    parts: &[ActAns],
+) -> Result<Move, StepFault>
+    requires real { pos 1 ≤ℤ session }
+    requires revision { IsCount revision }
+    requires numbers { AreNumbers parts.now }
+    ensures ok { IfOk result (λ m. Looked session (wants_of_first session) revision parts.now m.phase m.step) }
+    ensures held { IfOk result (λ m. IsInPhase m.phase) }
+    ensures fault { IfErr result (IsReadFault session (wants_of_first session) revision parts.now) }
+{
+    let wants = first_wants(alloc, session)?;
+    let view = seen(alloc, session, wants.as_slice(), revision, parts)?;
+    let lacking = needs_reap(alloc, session, &view)?;
+    if lacking.as_slice().is_empty() {
+        return Ok(decided(alloc, session, &view)?);
+    }
+    Ok(count(alloc, session, &view, lacking)?)
+}
+
+/// A later look: where the view lacks something, the session had other nodes since.
+pub(crate) fn looked_again(
+    alloc: Global,
+    session: i64,
+    wants: &[Want],
+    revision: i64,
+    parts: &[ActAns],
+) -> Result<Move, StepFault>
+    requires real { pos 1 ≤ℤ session }
+    requires narrow { AreNarrow wants.now }
+    requires revision { IsCount revision }
+    requires numbers { AreNumbers parts.now }
+    ensures ok { IfOk result (λ m. LookedAgain session wants.now revision parts.now m.phase m.step) }
+    ensures held { IfOk result (λ m. IsInPhase m.phase) }
+    ensures fault { IfErr result (IsReadFault session wants.now revision parts.now) }
+{
+    let view = seen(alloc, session, wants, revision, parts)?;
+    let lacking = needs_reap(alloc, session, &view)?;
+    if lacking.as_slice().is_empty() {
+        return Ok(decided(alloc, session, &view)?);
+    }
+    Ok(look(alloc, session)?)
+}

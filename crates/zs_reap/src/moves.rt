@@ -1,0 +1,127 @@
+//! What is asked next.
+
+ghost use Rattle.std.specs.Prelude.{◌≡◌, ◌≤◌, ◌++◌, [], pos, ◌≤ℤ◌, length, IfOk};
+ghost use Rattle.zk_model.specs.declared.request.Request.TheVariants as req;
+ghost use Rattle.zn_view.specs.Asks.{transaction};
+ghost use Rattle.zn_view.specs.Seen.{IsCount};
+ghost use Rattle.zs_close.specs.Closing.{IsNarrow, IsWhole};
+ghost use Rattle.zs_close.specs.Wanting.{AreEndWants};
+ghost use Rattle.zs_reap.specs.Steps.{AreFew, AreNarrow, Asks, Ends, IsCounted, Decides, IsInPhase, LacksSome, LooksFirst, first_wants as wants_of_first, whose};
+ghost use Rattle.zs_reap.specs.declared.reap.Phase.TheVariants as phases;
+
+use crate::reap::{Phase, ReapStep};
+use ev_types::{Ask, TxnReq};
+use std::alloc::Global;
+use zn_view::{Plan, View, Want, ranges, reading};
+use zs_close::{Reaping, needs_reap, plan_reap};
+use zx_base::{Memory, Seq};
+
+/// What a step answers, and what is waited for then.
+#[derive(Debug, Drop)]
+pub(crate) struct Move {
+    pub phase: Phase,
+    pub step: ReapStep,
+}
+
+/// Nothing more is asked.
+pub(crate) fn end(step: ReapStep) -> Move
+    ensures { Ends step result.phase result.step }
+{
+    Move {
+        phase: Phase::Over,
+        step,
+    }
+}
+
+/// The head, the record of the session's life, and the list of its nodes.
+pub(crate) fn first_wants(alloc: Global, session: i64) -> Result<Seq<Want>, Memory>
+    requires { pos 1 ≤ℤ session }
+    ensures { IfOk result (λ ws. ws ≡ wants_of_first session) }
+{
+    let nothing = View::empty(alloc);
+    needs_reap(alloc, session, &nothing)
+}
+
+/// Reads these.
+pub(crate) fn look(alloc: Global, session: i64) -> Result<Move, Memory>
+    requires { pos 1 ≤ℤ session }
+    ensures asks { IfOk result (λ m. LooksFirst session m.phase m.step) }
+    ensures held { IfOk result (λ m. IsInPhase m.phase) }
+{
+    let wants = first_wants(alloc, session)?;
+    Ok(Move {
+        phase: Phase::Looking,
+        step: ReapStep::Ask(reading(alloc, 0, wants.as_slice())?),
+    })
+}
+
+/// These wants, and others behind them.
+fn joined(wants: Seq<Want>, more: Seq<Want>) -> Result<Seq<Want>, Memory>
+    ensures { IfOk result (λ ws. ws ≡ wants ++ more) }
+{
+    let mut all = wants.into_vec();
+    let mut others = more.into_vec();
+    all.append(&mut others)?;
+    Ok(Seq::from_vec(all))
+}
+
+/// Reads what the view lacks, and what it saw once more, at its revision.
+pub(crate) fn count(
+    alloc: Global,
+    session: i64,
+    view: &View,
+    lacking: Seq<Want>,
+) -> Result<Move, Memory>
+    requires real { pos 1 ≤ℤ session }
+    requires revision { IsCount view.now.revision }
+    requires few { AreFew session view.now }
+    requires wants { AreEndWants session view.now lacking }
+    requires lacks { LacksSome session view.now lacking }
+    ensures asks { IfOk result (λ m. IsCounted session view.now m.phase m.step) }
+    ensures held { IfOk result (λ m. IsInPhase m.phase) }
+{
+    let first = first_wants(alloc, session)?;
+    let wants = joined(first, lacking)?;
+    let revision = view.revision();
+    let ask = reading(alloc, revision, wants.as_slice())?;
+    Ok(Move {
+        phase: Phase::Counting { revision, wants },
+        step: ReapStep::Ask(ask),
+    })
+}
+
+/// Asks for the transaction of a plan.
+fn remove(alloc: Global, plan: Plan) -> Result<Move, Memory>
+    ensures { IfOk result (λ m. Asks (phases.Removing plan.again) (transaction plan) m.phase m.step) }
+{
+    let failure = ranges(alloc, 0, plan.again.as_slice())?;
+    Ok(Move {
+        phase: Phase::Removing { again: plan.again },
+        step: ReapStep::Ask(Ask::Txn(TxnReq {
+            guards: plan.guards,
+            success: plan.success,
+            failure,
+        })),
+    })
+}
+
+/// What becomes of the session, on a view that lacks nothing.
+pub(crate) fn decided(alloc: Global, session: i64, view: &View) -> Result<Move, Memory>
+    requires real { pos 1 ≤ℤ session }
+    requires whole { IsWhole req.Close (whose session) view.now }
+    requires few { AreFew session view.now }
+    requires narrow { IsNarrow view.now }
+    ensures asks { IfOk result (λ m. Decides session view.now m.phase m.step) }
+    ensures held { IfOk result (λ m. IsInPhase m.phase) }
+{
+    match plan_reap(alloc, session, view)? {
+        Reaping::Planned(plan) => remove(alloc, plan),
+        Reaping::Kept => Ok(end(ReapStep::Kept {
+            rev: view.revision(),
+        })),
+        Reaping::Gone => Ok(end(ReapStep::Gone {
+            rev: view.revision(),
+        })),
+        Reaping::TooMany => unreachable!(),
+    }
+}
