@@ -1,0 +1,167 @@
+//! What a view takes.
+
+ghost use Rattle.std.specs.Prelude.{All, IsTrue};
+ghost use Rattle.zn_view.specs.Seen.{AreCounts, IsCount};
+
+use crate::replies::word_of;
+use crate::values::value;
+use ev_types::{ActAns, Kv, RangeAns};
+use row_files::{Words, hex_of};
+use std::alloc::Global;
+use zk_model::Path;
+use zn_view::{View, ViewFault, Want};
+use zx_base::{Bytes, Memory, Seq};
+
+/// The greatest revision, version or count of an etcd.
+const MAX_COUNT: i64 = 4_611_686_018_427_387_903;
+
+fn is_count(number: i64) -> bool
+    ensures { IsTrue result → IsCount number }
+{
+    0 <= number && number <= MAX_COUNT
+}
+
+fn has_counts(kv: &Kv) -> bool
+    ensures { IsTrue result → AreCounts kv.now }
+{
+    is_count(kv.mod_revision) && is_count(kv.version)
+}
+
+fn are_counts(kvs: &[Kv]) -> bool
+    ensures { IsTrue result → All AreCounts kvs.now }
+{
+    for kv in kvs {
+        if !has_counts(kv) {
+            return false;
+        }
+    }
+    true
+}
+
+fn kept(
+    alloc: Global,
+    key: &str,
+    value: Vec<u8>,
+    mod_revision: i64,
+    version: i64,
+) -> Result<Kv, Memory> {
+    Ok(Kv {
+        key: Bytes::copy_of(alloc, key.as_bytes())?,
+        value: Bytes::from_vec(value),
+        create_revision: mod_revision,
+        mod_revision,
+        version,
+        lease: 0,
+    })
+}
+
+/// Adds what was found for one want; None where a number is not an etcd's.
+fn add(
+    alloc: Global,
+    view: &mut View,
+    want: Want,
+    revision: i64,
+    kvs: Seq<Kv>,
+) -> Result<Option<String>, Memory> {
+    if !is_count(revision) || !are_counts(kvs.as_slice()) {
+        return Ok(None);
+    }
+    let wants = [want];
+    let parts = [ActAns::Range(RangeAns {
+        kvs,
+        more: false,
+        count: 0,
+    })];
+    match view.add(&wants, revision, &parts) {
+        Ok(()) => Ok(Some(String::from_str(alloc, "added")?)),
+        Err(fault) => fault_text(alloc, fault),
+    }
+}
+
+fn fault_text(alloc: Global, fault: ViewFault) -> Result<Option<String>, Memory> {
+    match fault {
+        ViewFault::OtherRevision { view: old, found } => Ok(Some(format!(in alloc;
+            "other revision: {old} and {found}"
+        )?)),
+        ViewFault::Damaged { key, value } => {
+            let key = word_of(key.as_slice());
+            let digits = hex_of(alloc, value.as_slice())?;
+            Ok(Some(format!(in alloc; "damaged: {key} {digits}")?))
+        }
+        ViewFault::Memory => Err(Memory),
+    }
+}
+
+fn key_of(alloc: Global, word: &str) -> Result<Want, Memory> {
+    Ok(Want::Key(Bytes::copy_of(alloc, word.as_bytes())?))
+}
+
+fn one(alloc: Global, kv: Kv) -> Result<Seq<Kv>, Memory> {
+    let mut kvs = Seq::new(alloc);
+    kvs.push(kv)?;
+    Ok(kvs)
+}
+
+/// `KEY MOD_REVISION VERSION RECORD`
+pub fn saw(
+    alloc: Global,
+    view: &mut View,
+    revision: i64,
+    words: Words,
+) -> Result<Option<String>, Memory> {
+    let mut words = words;
+    let (Some(key), Some(put), Some(version)) = (words.word(), words.long(), words.long()) else {
+        return Ok(None);
+    };
+    let Some(value) = value(alloc, words)? else {
+        return Ok(None);
+    };
+    let kvs = one(alloc, kept(alloc, key, value, put, version)?)?;
+    add(alloc, view, key_of(alloc, key)?, revision, kvs)
+}
+
+/// `KEY`
+pub fn absent(
+    alloc: Global,
+    view: &mut View,
+    revision: i64,
+    words: Words,
+) -> Result<Option<String>, Memory> {
+    let mut words = words;
+    let Some(key) = words.word() else {
+        return Ok(None);
+    };
+    add(alloc, view, key_of(alloc, key)?, revision, Seq::new(alloc))
+}
+
+/// Adds a key; false where there is none.
+fn push_key(alloc: Global, kvs: &mut Seq<Kv>, key: Option<&str>) -> Result<bool, Memory> {
+    let Some(key) = key else {
+        return Ok(false);
+    };
+    kvs.push(kept(alloc, key, Vec::new(alloc), 1, 1)?)?;
+    Ok(true)
+}
+
+/// `PATH KEY..`: the keys in the range of the node's children, at most 9
+pub fn listed(
+    alloc: Global,
+    view: &mut View,
+    revision: i64,
+    words: Words,
+) -> Result<Option<String>, Memory> {
+    let mut words = words;
+    let Some(text) = words.word() else {
+        return Ok(None);
+    };
+    let Ok(path) = Path::read(alloc, text.as_bytes(), false) else {
+        return Ok(None);
+    };
+    let mut kvs = Seq::new(alloc);
+    for _ in 0..9 {
+        if !push_key(alloc, &mut kvs, words.word())? {
+            break;
+        }
+    }
+    add(alloc, view, Want::Children(path), revision, kvs)
+}

@@ -1,0 +1,80 @@
+//! Tries the rows of the file `decisions` on single requests, and says on standard error where a row differs.
+//!
+//! A row is LEFT = RIGHT ([`row_files`]); the file says in its first lines what its rows are. Expected values are by hand from
+//! the Programmer's Guide, `KeeperException.Code` and the layout's tables in `docs/FORMATS.md`. A new row needs no proof.
+#![tactic(auto)]
+
+mod asked;
+mod found;
+mod plans;
+mod replies;
+mod requests;
+mod values;
+
+use anyhow::Result;
+use row_files::{Rows, Words, try_file};
+use std::alloc::Global;
+use std::env;
+use std::process::ExitCode;
+use zn_view::View;
+use zx_base::Memory;
+
+/// The view that the rows before left, and the revision that the next keys are found at.
+#[derive(Drop)]
+struct Looking {
+    view: View,
+    revision: i64,
+}
+
+impl Rows for Looking {
+    fn found(&mut self, alloc: Global, left: &str) -> Result<Option<String>, Memory> {
+        let mut words = Words::new(left);
+        let Some(kind) = words.word() else {
+            return Ok(None);
+        };
+        match kind {
+            "view" => {
+                self.view = View::empty(alloc);
+                self.at(alloc, words)
+            }
+            "at" => self.at(alloc, words),
+            "saw" => found::saw(alloc, &mut self.view, self.revision, words),
+            "absent" => found::absent(alloc, &mut self.view, self.revision, words),
+            "listed" => found::listed(alloc, &mut self.view, self.revision, words),
+            "needs" => asked::needed(alloc, &self.view, words),
+            "decide" => asked::decided(alloc, &self.view, words),
+            "finish" => asked::finished(alloc, &self.view, words),
+            _ => Ok(None),
+        }
+    }
+}
+
+impl Looking {
+    fn at(&mut self, alloc: Global, words: Words) -> Result<Option<String>, Memory> {
+        let mut words = words;
+        let Some(revision) = words.long() else {
+            return Ok(None);
+        };
+        self.revision = revision;
+        Ok(Some(format!(in alloc; "{revision}")?))
+    }
+}
+
+/// Looks in the file that its first argument names, and without one in `decisions`.
+fn main(rt: HostRuntime) -> Result<ExitCode> {
+    let alloc = rt.alloc();
+    let given = env::args(&rt)?.nth(1);
+    let file = match &given {
+        Some(file) => file.as_str(),
+        None => "decisions",
+    };
+    let mut rows = Looking {
+        view: View::empty(alloc),
+        revision: 0,
+    };
+    Ok(if try_file(&rt, file, &mut rows)? == 0 {
+        ExitCode::SUCCESS
+    } else {
+        ExitCode::FAILURE
+    })
+}

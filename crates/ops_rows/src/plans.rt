@@ -1,0 +1,147 @@
+//! Plans in words.
+
+use crate::replies::{data_word, push_reply, push_word, word_of};
+use ev_types::{Act, Guard};
+use std::alloc::Global;
+use zk_model::{Path, Trigger};
+use zn_layout::{read_counts, read_node, read_session};
+use zn_view::{Plan, Want};
+use zx_base::Memory;
+
+/// `planned if GUARDS do OPERATIONS else KEYS shows TRIGGERS draft REPLY`
+pub fn plan_text(alloc: Global, plan: &Plan) -> Result<String, Memory> {
+    let mut text = String::from_str(alloc, "planned if")?;
+    for guard in plan.guards.as_slice() {
+        push_guard(alloc, &mut text, guard)?;
+    }
+    push_word(&mut text, "do")?;
+    for act in plan.success.as_slice() {
+        push_act(alloc, &mut text, act)?;
+    }
+    push_word(&mut text, "else")?;
+    for want in plan.again.as_slice() {
+        push_again(&mut text, want)?;
+    }
+    push_word(&mut text, "shows")?;
+    for trigger in plan.triggers.as_slice() {
+        push_trigger(&mut text, trigger)?;
+    }
+    push_word(&mut text, "draft")?;
+    push_reply(alloc, &mut text, &plan.draft)?;
+    Ok(text)
+}
+
+/// ` KEY@MOD_REVISION`
+fn push_guard(alloc: Global, text: &mut String, guard: &Guard) -> Result<(), Memory> {
+    let key = word_of(guard.key.as_slice());
+    let revision = guard.mod_revision;
+    let word = format!(in alloc; " {key}@{revision}")?;
+    text.push_str(word.as_str())?;
+    Ok(())
+}
+
+fn push_again(text: &mut String, want: &Want) -> Result<(), Memory> {
+    match want {
+        Want::Key(key) => push_word(text, word_of(key.as_slice())),
+        Want::Children(_) => push_word(text, "children"),
+    }
+}
+
+/// ` put KEY RECORD` with `lease ID` behind it where it has one, ` delete KEY`, ` get KEY`
+fn push_act(alloc: Global, text: &mut String, act: &Act) -> Result<(), Memory> {
+    match act {
+        Act::Put { key, value, lease } => {
+            push_word(text, "put")?;
+            push_word(text, word_of(key.as_slice()))?;
+            push_record(alloc, text, key.as_slice(), value.as_slice())?;
+            push_lease(alloc, text, *lease)
+        }
+        Act::Delete { key } => {
+            push_word(text, "delete")?;
+            push_word(text, word_of(key.as_slice()))
+        }
+        Act::Range(range) => {
+            push_word(text, "get")?;
+            push_word(text, word_of(range.key.as_slice()))
+        }
+    }
+}
+
+fn push_lease(alloc: Global, text: &mut String, lease: i64) -> Result<(), Memory> {
+    if lease == 0 {
+        return Ok(());
+    }
+    let word = format!(in alloc; " lease {lease}")?;
+    text.push_str(word.as_str())?;
+    Ok(())
+}
+
+/// The record by the key's kind; nothing of the head's.
+fn push_record(alloc: Global, text: &mut String, key: &[u8], value: &[u8]) -> Result<(), Memory> {
+    let name = word_of(key);
+    if name.starts_with("zk/d/") {
+        return push_node(alloc, text, key, value);
+    }
+    if name.starts_with("zk/c/") {
+        return push_counts(alloc, text, key, value);
+    }
+    if name.starts_with("zk/s/") {
+        return push_nodes(alloc, text, key, value);
+    }
+    Ok(())
+}
+
+/// ` CZXID/VERSION/CTIME/MTIME/OWNER/DATA`
+fn push_node(alloc: Global, text: &mut String, key: &[u8], value: &[u8]) -> Result<(), Memory> {
+    let Ok(node) = read_node(alloc, key, value) else {
+        return push_word(text, "damaged");
+    };
+    let (czxid, version, ctime, mtime, owner) = (
+        node.czxid,
+        node.version,
+        node.ctime,
+        node.mtime,
+        node.owner,
+    );
+    let data = data_word(alloc, node.content.as_slice())?;
+    let word = format!(in alloc; " {czxid}/{version}/{ctime}/{mtime}/{owner}/{data}")?;
+    text.push_str(word.as_str())?;
+    Ok(())
+}
+
+/// ` CREATES/CHILDREN`
+fn push_counts(alloc: Global, text: &mut String, key: &[u8], value: &[u8]) -> Result<(), Memory> {
+    let Ok(counts) = read_counts(alloc, key, value) else {
+        return push_word(text, "damaged");
+    };
+    let (creates, children) = (counts.creates, counts.children);
+    let word = format!(in alloc; " {creates}/{children}")?;
+    text.push_str(word.as_str())?;
+    Ok(())
+}
+
+/// ` [ PATH.. ]`
+fn push_nodes(alloc: Global, text: &mut String, key: &[u8], value: &[u8]) -> Result<(), Memory> {
+    let Ok(session) = read_session(alloc, key, value) else {
+        return push_word(text, "damaged");
+    };
+    push_word(text, "[")?;
+    for path in session.paths.as_slice() {
+        push_word(text, word_of(path.bytes()))?;
+    }
+    push_word(text, "]")
+}
+
+fn push_trigger(text: &mut String, trigger: &Trigger) -> Result<(), Memory> {
+    match trigger {
+        Trigger::Created(path) => push_kind(text, "created", path),
+        Trigger::Deleted(path) => push_kind(text, "deleted", path),
+        Trigger::Changed(path) => push_kind(text, "changed", path),
+        Trigger::Children(path) => push_kind(text, "children", path),
+    }
+}
+
+fn push_kind(text: &mut String, kind: &str, path: &Path) -> Result<(), Memory> {
+    push_word(text, kind)?;
+    push_word(text, word_of(path.bytes()))
+}

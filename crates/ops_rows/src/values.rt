@@ -1,0 +1,118 @@
+//! Values as the layout's tables in `docs/FORMATS.md` spell them.
+
+use row_files::Words;
+use std::alloc::Global;
+use zx_base::Memory;
+
+fn long(out: &mut Vec<u8>, number: i64) -> Result<(), Memory> {
+    out.extend_from_slice(&number.to_be_bytes())?;
+    Ok(())
+}
+
+fn int(out: &mut Vec<u8>, number: i32) -> Result<(), Memory> {
+    out.extend_from_slice(&number.to_be_bytes())?;
+    Ok(())
+}
+
+/// The bytes of a word, `-` for none.
+pub fn content_of<'a>(word: &'a str) -> &'a [u8] {
+    if word == "-" { &[] } else { word.as_bytes() }
+}
+
+/// Appends the bytes of a node's data: those of its word, or of `~NUMBER` so many `x`.
+pub fn push_data(out: &mut Vec<u8>, word: &str) -> Result<(), Memory> {
+    let number = match word.strip_prefix("~") {
+        Some(digits) => digits.parse::<u32>().unwrap_or(0),
+        None => 0,
+    };
+    for _ in 0..number {
+        out.push(b'x')?;
+    }
+    if number == 0 {
+        out.extend_from_slice(content_of(word))?;
+    }
+    Ok(())
+}
+
+/// `node CZXID VERSION CTIME MTIME OWNER DATA`, `counts CREATES CHILDREN`, `life TIMEOUT`, `nodes COUNT PATH..` (at most 40),
+/// `head`, or `hex DIGITS`
+pub fn value(alloc: Global, words: Words) -> Result<Option<Vec<u8>>, Memory> {
+    let mut words = words;
+    let Some(kind) = words.word() else {
+        return Ok(None);
+    };
+    match kind {
+        "node" => node(alloc, words),
+        "counts" => counts(alloc, words),
+        "nodes" => nodes(alloc, words),
+        "life" => life(alloc, words),
+        "head" => Ok(Some(vec![in alloc; 1, 0, 0, 0, 0]?)),
+        "hex" => match words.word() {
+            Some(digits) => row_files::bytes_of(alloc, digits),
+            None => Ok(None),
+        },
+        _ => Ok(None),
+    }
+}
+
+fn node(alloc: Global, words: Words) -> Result<Option<Vec<u8>>, Memory> {
+    let mut words = words;
+    let (Some(czxid), Some(version), Some(ctime)) = (words.long(), words.int(), words.long()) else {
+        return Ok(None);
+    };
+    let (Some(mtime), Some(owner), Some(data)) = (words.long(), words.long(), words.word()) else {
+        return Ok(None);
+    };
+    let mut out = vec![in alloc; 1]?;
+    long(&mut out, czxid)?;
+    int(&mut out, version)?;
+    long(&mut out, ctime)?;
+    long(&mut out, mtime)?;
+    long(&mut out, owner)?;
+    push_data(&mut out, data)?;
+    Ok(Some(out))
+}
+
+fn counts(alloc: Global, words: Words) -> Result<Option<Vec<u8>>, Memory> {
+    let mut words = words;
+    let (Some(creates), Some(children)) = (words.int(), words.int()) else {
+        return Ok(None);
+    };
+    let mut out = vec![in alloc; 1]?;
+    int(&mut out, creates)?;
+    int(&mut out, children)?;
+    Ok(Some(out))
+}
+
+/// A life that was attached once, with a password of zeros.
+fn life(alloc: Global, words: Words) -> Result<Option<Vec<u8>>, Memory> {
+    let mut words = words;
+    let Some(timeout) = words.int() else {
+        return Ok(None);
+    };
+    let mut out = vec![in alloc; 1]?;
+    int(&mut out, timeout)?;
+    long(&mut out, 1)?;
+    out.extend_from_slice(&[0; 16])?;
+    Ok(Some(out))
+}
+
+fn nodes(alloc: Global, words: Words) -> Result<Option<Vec<u8>>, Memory> {
+    let mut words = words;
+    let Some(count) = words.int() else {
+        return Ok(None);
+    };
+    let mut out = vec![in alloc; 1]?;
+    int(&mut out, count)?;
+    for _ in 0..40 {
+        let Some(path) = words.word() else {
+            break;
+        };
+        let Ok(length) = i32::try_from(path.len()) else {
+            return Ok(None);
+        };
+        int(&mut out, length)?;
+        out.extend_from_slice(path.as_bytes())?;
+    }
+    Ok(Some(out))
+}

@@ -1,0 +1,143 @@
+//! Closes.
+
+ghost use Rattle.std.specs.Prelude.{◌≤ℤ◌, pos};
+
+use crate::answers::{answer_of, are_numbers, is_count};
+use crate::words::{damaged_text, txn_text};
+use ev_store::Store;
+use ev_types::{ActAns, Answer, Ask, TxnReq};
+use row_files::Words;
+use std::alloc::Global;
+use zn_view::{Decision, Plan, View, ViewFault, Want, Who, ranges, reading};
+use zs_close::{needs_close, plan_close};
+use zx_base::Memory;
+
+/// What a round led to.
+#[derive(Drop)]
+enum Round {
+    /// Something was looked up.
+    Read,
+    /// Nothing is lacking.
+    Whole,
+    Said(String),
+}
+
+/// `SESSION MINE`: reads what the close needs, and carries out its plan
+pub fn close(alloc: Global, store: &mut Store, words: Words) -> Result<Option<String>, Memory> {
+    let mut words = words;
+    let (Some(session), Some(mine)) = (words.long(), words.long()) else {
+        return Ok(None);
+    };
+    if session < 1 {
+        return Ok(None);
+    }
+    let who = Who { session, mine };
+    let mut view = View::empty(alloc);
+    for rounds in 0..4u32 {
+        match read(alloc, store, who, &mut view)? {
+            Round::Read => {}
+            Round::Whole => return Ok(Some(decided(alloc, store, who, &view, rounds)?)),
+            Round::Said(text) => return Ok(Some(text)),
+        }
+    }
+    Ok(Some(String::from_str(alloc, "no end")?))
+}
+
+/// Reads what the view lacks.
+fn read(alloc: Global, store: &mut Store, who: Who, view: &mut View) -> Result<Round, Memory>
+    requires { pos 1 ≤ℤ who.session }
+{
+    let wants = needs_close(alloc, who, view)?;
+    if wants.as_slice().is_empty() {
+        return Ok(Round::Whole);
+    }
+    let ask = reading(alloc, view.revision(), wants.as_slice())?;
+    match answer_of(alloc, store, &ask)? {
+        Ok(
+            Answer::Txn {
+                revision,
+                parts,
+                ..
+            },
+        ) => added(alloc, view, wants.as_slice(), revision, parts.as_slice()),
+        Ok(_) => Ok(Round::Said(String::from_str(alloc, "no answer")?)),
+        Err(denial) => Ok(Round::Said(denial)),
+    }
+}
+
+/// Adds what was read, at the revision of the first round.
+fn added(
+    alloc: Global,
+    view: &mut View,
+    wants: &[Want],
+    revision: i64,
+    parts: &[ActAns],
+) -> Result<Round, Memory> {
+    let at = if view.revision() == 0 {
+        revision
+    } else {
+        view.revision()
+    };
+    if !is_count(at) || !are_numbers(parts) {
+        return Ok(Round::Said(String::from_str(alloc, "no answer")?));
+    }
+    match view.add(wants, at, parts) {
+        Ok(()) => Ok(Round::Read),
+        Err(ViewFault::Damaged { key, value }) => {
+            let text = damaged_text(alloc, key.as_slice(), value.as_slice())?;
+            Ok(Round::Said(text))
+        }
+        Err(ViewFault::OtherRevision { .. }) => {
+            Ok(Round::Said(String::from_str(alloc, "other revision")?))
+        }
+        Err(ViewFault::Memory) => Err(Memory),
+    }
+}
+
+/// The decision on a view that lacks nothing.
+fn decided(
+    alloc: Global,
+    store: &mut Store,
+    who: Who,
+    view: &View,
+    rounds: u32,
+) -> Result<String, Memory>
+    requires { pos 1 ≤ℤ who.session }
+{
+    let lacking = needs_close(alloc, who, view)?;
+    if !lacking.as_slice().is_empty() {
+        return Ok(String::from_str(alloc, "lacks something")?);
+    }
+    match plan_close(alloc, who, view)? {
+        Decision::Planned(plan) => planned(alloc, store, plan, rounds),
+        Decision::Answered { .. } => Ok(String::from_str(alloc, "refused")?),
+        Decision::Expired => Ok(String::from_str(alloc, "expired")?),
+        Decision::Moved { found } => Ok(format!(in alloc; "moved {found}")?),
+    }
+}
+
+/// `N rounds, TRANSACTION, at REVISION`, or that a guard failed
+fn planned(alloc: Global, store: &mut Store, plan: Plan, rounds: u32) -> Result<String, Memory> {
+    let failure = ranges(alloc, 0, plan.again.as_slice())?;
+    let txn = TxnReq {
+        guards: plan.guards,
+        success: plan.success,
+        failure,
+    };
+    let text = txn_text(alloc, &txn)?;
+    match answer_of(alloc, store, &Ask::Txn(txn))? {
+        Ok(
+            Answer::Txn {
+                revision,
+                succeeded,
+                ..
+            },
+        ) => {
+            let done = if succeeded { "done" } else { "failed" };
+            let words = text.as_str();
+            Ok(format!(in alloc; "{rounds} rounds, {words}, {done} at {revision}")?)
+        }
+        Ok(_) => Ok(String::from_str(alloc, "no answer")?),
+        Err(denial) => Ok(denial),
+    }
+}

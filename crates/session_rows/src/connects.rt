@@ -1,0 +1,129 @@
+//! Connects.
+
+ghost use Rattle.std.specs.Prelude.{◌≡◌, Some, option_copied};
+ghost use Rattle.zs_session.specs.Connecting.{asked_in, MayStep};
+
+use crate::answers::answer_of;
+use crate::words::{ask_text, damaged_text};
+use ev_store::Store;
+use ev_types::{Answer, Ask};
+use row_files::{Words, bytes_of, hex_of};
+use std::alloc::Global;
+use zk_model::ConnectRequest;
+use zs_session::{ConnectStep, Connecting, Fresh, StepFault};
+use zx_base::{Bytes, Memory};
+
+/// A connect that waits for the answer to an ask.
+#[derive(Drop)]
+pub struct Begun {
+    connecting: Connecting,
+    asked: Ask,
+    ghost waits: { asked_in connecting connecting.phase ≡ Some asked },
+}
+
+/// The 16 bytes of a password.
+fn password(alloc: Global, digits: &str) -> Result<Option<[u8; 16]>, Memory> {
+    let Some(bytes) = bytes_of(alloc, digits)? else {
+        return Ok(None);
+    };
+    let mut passwd = [0u8; 16];
+    if bytes.len() != passwd.len() {
+        return Ok(None);
+    }
+    for i in 0..16 {
+        passwd[i] = bytes[i];
+    }
+    Ok(Some(passwd))
+}
+
+/// `SESSION PASSWORD TIMEOUT ZXID FRESH FRESHPASSWORD`: the first step
+pub fn begin(alloc: Global, words: Words) -> Result<Option<(String, Option<Begun>)>, Memory> {
+    let mut words = words;
+    let (Some(session), Some(digits)) = (words.long(), words.word()) else {
+        return Ok(None);
+    };
+    let (Some(timeout), Some(last_zxid)) = (words.int(), words.long()) else {
+        return Ok(None);
+    };
+    let (Some(id), Some(fresh)) = (words.long(), words.word()) else {
+        return Ok(None);
+    };
+    let (Some(given), Some(passwd)) = (bytes_of(alloc, digits)?, password(alloc, fresh)?) else {
+        return Ok(None);
+    };
+    if id < 1 {
+        return Ok(None);
+    }
+    let request = ConnectRequest {
+        protocol: 0,
+        last_zxid,
+        timeout,
+        session,
+        passwd: Bytes::from_vec(given),
+        read_only: None,
+    };
+    let connecting = Connecting::new(alloc, request, Fresh { id, passwd });
+    Ok(Some(stepped(alloc, connecting, None)?))
+}
+
+/// One step: what it says, and the connect where it waits for an answer.
+fn stepped(
+    alloc: Global,
+    connecting: Connecting,
+    answer: Option<&Answer>,
+) -> Result<(String, Option<Begun>), Memory>
+    requires { MayStep connecting (option_copied answer) }
+{
+    let mut connecting = connecting;
+    match connecting.step(answer) {
+        Ok(ConnectStep::Ask(asked)) => {
+            let text = ask_text(alloc, &asked)?;
+            Ok((text, Some(Begun { connecting, asked })))
+        }
+        Ok(end) => Ok((end_text(alloc, &end)?, None)),
+        Err(StepFault::Damaged { key, value }) => Ok((
+            damaged_text(alloc, key.as_slice(), value.as_slice())?,
+            None,
+        )),
+        Err(StepFault::Memory) => Err(Memory),
+    }
+}
+
+/// The end of a connect.
+fn end_text(alloc: Global, end: &ConnectStep) -> Result<String, Memory> {
+    match end {
+        ConnectStep::Ask(ask) => ask_text(alloc, ask),
+        ConnectStep::Attached {
+            response,
+            who,
+            timeout,
+            number,
+            zxid,
+        } => {
+            let (answered, session) = (response.timeout, response.session);
+            let digits = hex_of(alloc, &response.passwd)?;
+            let (mine, of) = (who.mine, who.session);
+            Ok(format!(in alloc;
+                "attached {session} {digits} {answered}; {of} at {mine}, {timeout} ms, number {number}, zxid {zxid}"
+            )?)
+        }
+        ConnectStep::Ahead { client, head } => Ok(format!(in alloc; "ahead {client} {head}")?),
+        ConnectStep::Unknown => Ok(String::from_str(alloc, "unknown")?),
+        ConnectStep::Taken { rev } => Ok(format!(in alloc; "taken {rev}")?),
+    }
+}
+
+impl Begun {
+    /// Carries out what was asked, and makes the next step.
+    pub fn go_on(
+        self,
+        alloc: Global,
+        store: &mut Store,
+    ) -> Result<(String, Option<Begun>), Memory> {
+        let Begun { connecting, asked } = self;
+        match answer_of(alloc, store, &asked)? {
+            Ok(answer) => stepped(alloc, connecting, Some(&answer)),
+            Err(denial) => Ok((denial, None)),
+        }
+    }
+}
