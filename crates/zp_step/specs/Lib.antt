@@ -1,0 +1,10 @@
+pub mod Stages
+pub mod Replies
+pub mod Looking
+pub mod Taking
+pub mod Keepalives
+pub mod Plans
+pub mod Connects
+pub mod Entries
+pub mod Steps
+pub mod Laws

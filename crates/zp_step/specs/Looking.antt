@@ -1,0 +1,114 @@
+-- What is asked and decided on a view. A request asks in rounds for what it still lacks, all at one revision; when nothing is
+-- lacking it is decided.
+use Rattle.std.specs.Prelude.{◌≡◌, ◌≢◌, ℕ, ℤ, ◌⊎◌, Bool, true, false, List, [], ◌∷◌, take, Option, Some, None, MatchBool}
+use Rattle.std.specs.Ordering.{int_eq}
+use Rattle.ev_types.specs.declared.answer.ActAns.{ActAns}
+use Rattle.ev_types.specs.declared.answer.Kv.{Kv}
+use Rattle.zk_model.specs.Codes.{session_expired, session_moved}
+use Rattle.zk_model.specs.declared.reply.Reply.{Reply}
+use Rattle.zk_model.specs.declared.reply.Reply.TheVariants as reply
+use Rattle.zk_model.specs.declared.request.Request.{Request}
+use Rattle.zk_model.specs.declared.request.Request.TheVariants as req
+use Rattle.zk_model.specs.Watches.{no_watches}
+use Rattle.zk_transcript.specs.Answers.{plain_request}
+use Rattle.zk_transcript.specs.declared.transcript.Cause.{Cause}
+use Rattle.zk_transcript.specs.declared.transcript.Cause.TheVariants as cause
+use Rattle.zx_base.specs.Maps.{Bytes}
+use Rattle.zn_reads.specs.Found.{found_at}
+use Rattle.zn_reads.specs.SeenPaths.{seen_paths}
+use Rattle.zn_view.specs.Adding.{AreRecords, IsFirstDamaged}
+use Rattle.zn_view.specs.Asks.{IsAskedPlan, reading, transaction}
+use Rattle.zn_view.specs.Needs.{AreNeeds, finished}
+use Rattle.zn_view.specs.Seen.{View, head_of, head_number, head_zxid}
+use Rattle.zn_view.specs.Views.{IsDecision, IsPlan}
+use Rattle.zn_view.specs.declared.plan.Arm.{Arm}
+use Rattle.zn_view.specs.declared.plan.Decision.{Decision}
+use Rattle.zn_view.specs.declared.plan.Decision.TheVariants.{Answered, Planned, Expired, Moved}
+use Rattle.zn_view.specs.declared.plan.Who.{Who}
+use Rattle.zn_view.specs.declared.want.Want.{Want}
+use Rattle.zs_session.specs.Sessions.{life_key}
+use Rattle.zp_step.specs.declared.action.Action.{Action}
+use Rattle.zp_step.specs.declared.action.Action.TheVariants as action
+use Rattle.zp_step.specs.Stages.{Core, Pending, Reading, Committing, WatchChange, AddsWatch, SetsWatches}
+use Rattle.zp_step.specs.Replies.{Is, closed_by, waits}
+
+-- ---- what an answer shows
+
+-- the first value that was found under one of these keys and is no record ends the connection
+pub record EndsDamaged (c : Core) (ws : List Want) (parts : List ActAns) (c' : Core) (out : List Action) : Type 0 where
+  pub key : Bytes
+  pub value : Bytes
+  pub found : IsFirstDamaged ws parts key value
+  pub is : Is (closed_by c (cause.Damaged key value)) c' out
+
+-- either a value that was found is no record, which ends the connection, or all are records and it goes on so
+abbrev pub IfRecords : Core → List Want → List ActAns → Core → List Action → Type 0 → Type 0
+IfRecords c ws parts c' out Next = EndsDamaged c ws parts c' out ⊎ (AreRecords ws parts × Next)
+
+-- ---- a reply by a view
+
+-- its zxid and number are those of the head at the view's revision
+abbrev pub pending : View → ℤ → Reply → WatchChange → Option Cause → Pending
+pending v xid r change ends = record { number = head_number (head_of v); zxid = head_zxid (head_of v); xid = xid; answer = r; change = change; ends = ends }
+
+-- the session is closed or has lapsed, or it is attached to another connection since this revision
+abbrev pub expired : View → ℤ → Pending
+expired v xid = pending v xid (reply.Refused session_expired) (AddsWatch None) (Some (cause.Expired v.revision))
+
+abbrev pub moved : Who → View → ℤ → ℤ → Pending
+moved who v found xid = pending v xid (reply.Refused session_moved) (AddsWatch None) (Some (cause.Moved who.mine found))
+
+-- a setWatches sets what was seen at its paths; any other request at most the watch that it asks for
+abbrev pub change_by : Request → View → Option Arm → WatchChange
+change_by (req.SetWatches since exists datas children) v arm = SetsWatches since (seen_paths v datas exists children)
+change_by _ v arm = AddsWatch arm
+
+-- ---- the next ask, or the decision
+
+-- the most ranges of an ask that reads
+abbrev pub max_ranges : ℕ
+max_ranges = 100
+
+abbrev pub asks_for : Core → ℤ → Request → View → List Want → Core × List Action
+asks_for c xid r v ws = (record c { stage = Reading xid r v ws }, action.Ask (reading v.revision ws) ∷ [])
+
+abbrev pub decided : Core → ℤ → Request → View → ℕ → Decision → Core × List Action
+decided c xid r v now (Answered answer arm) = waits c (pending v xid answer (change_by r v arm) None)
+decided c xid r v now (Planned p) = (record c { stage = Committing xid r v p now }, action.Ask (transaction p) ∷ [])
+decided c xid r v now Expired = waits c (expired v xid)
+decided c xid r v now (Moved found) = waits c (moved c.who v found xid)
+
+-- a plan carries out the request in each state in which its guards hold, and is guarded by what the view saw
+abbrev pub IsBacked : Request → Who → ℕ → View → Decision → Type 0
+IsBacked r who now v (Planned p) = IsPlan r who now v p (λ z. finished z p.draft) × IsAskedPlan who v p
+IsBacked r who now v _ = Unit {0}
+
+-- The record of the session's life, as the view saw it, is tested first: where it is gone the session is closed or has lapsed,
+-- and where it was put by another attachment the session has moved. This holds of every view, also of one that no state has.
+abbrev pub is_by_tree : Decision → Bool
+is_by_tree Expired = false
+is_by_tree (Moved found) = false
+is_by_tree _ = true
+
+abbrev pub IsTested : Who → Decision → Option Kv → Type 0
+IsTested who d None = d ≡ Expired
+IsTested who d (Some kv) = MatchBool (int_eq kv.mod_revision who.mine) (is_by_tree d ≡ true) (d ≡ Moved kv.mod_revision)
+
+-- something is lacking still, and it is asked for
+pub record AsksOn (c : Core) (xid : ℤ) (r : Request) (v : View) (c' : Core) (out : List Action) : Type 0 where
+  pub lacking : List Want
+  pub needs : AreNeeds r c.who v lacking
+  pub some : lacking ≢ []
+  pub is : Is (asks_for c xid r v (take max_ranges lacking)) c' out
+
+-- nothing is: the decision is the service's in each state that the view is of
+pub record Decides (c : Core) (xid : ℤ) (r : Request) (v : View) (now : ℕ) (c' : Core) (out : List Action) : Type 0 where
+  pub decision : Decision
+  pub whole : AreNeeds r c.who v []
+  pub tested : plain_request no_watches r ≡ None → IsTested c.who decision (found_at v (life_key c.who.session))
+  pub right : IsDecision r c.who v decision
+  pub backed : IsBacked r c.who now v decision
+  pub is : Is (decided c xid r v now decision) c' out
+
+abbrev pub Looks : Core → ℤ → Request → View → ℕ → Core → List Action → Type 0
+Looks c xid r v now c' out = AsksOn c xid r v c' out ⊎ Decides c xid r v now c' out

@@ -1,0 +1,141 @@
+-- What a connection keeps between two steps: how far it has come, and what its client was told.
+use Rattle.std.specs.Prelude.{ℕ, ℤ, pos, min, Bool, true, false, List, [], Option, Some, None, if◌then◌else◌}
+use Rattle.ev_types.specs.declared.ask.Ask.{Ask}
+use Rattle.ev_types.specs.declared.ask.Ask.TheVariants as ask
+use Rattle.zk_model.specs.Watches.{Watches, Seen, no_watches, is_unarmed}
+use Rattle.zk_model.specs.declared.reply.Reply.{Reply}
+use Rattle.zk_model.specs.declared.request.Request.{Request}
+use Rattle.zk_transcript.specs.declared.transcript.Cause.{Cause}
+use Rattle.zn_view.specs.Asks.{reading, transaction}
+use Rattle.zn_view.specs.Seen.{View}
+use Rattle.zn_view.specs.Views.{armed_by}
+use Rattle.zn_view.specs.declared.plan.Arm.{Arm}
+use Rattle.zn_view.specs.declared.plan.Plan.{Plan}
+use Rattle.zn_view.specs.declared.plan.Who.{Who}
+use Rattle.zn_view.specs.declared.want.Want.{Want}
+use Rattle.zs_session.specs.Connecting.{asked_in}
+use Rattle.zs_session.specs.Sessions.{attach_wants}
+use Rattle.zs_session.specs.declared.connect.Connect.{Connect}
+use Rattle.zs_session.specs.declared.connect.Fresh.{Fresh}
+use Rattle.zw_watch.specs.SeenPaths.{see_paths, unseen}
+use Rattle.zw_watch.specs.declared.seen_path.SeenPath.{SeenPath}
+use Rattle.zp_step.specs.declared.wants.Wants.{Wants}
+use Rattle.zp_step.specs.declared.wants.Wants.TheVariants as wants
+
+-- ---- a reply that waits for its entries
+
+-- what a reply tells of watches, and what it leaves armed
+pub data WatchChange : Type 0 where
+  -- the watch that a read asks for, if any
+  AddsWatch : (arm : Option Arm) → WatchChange
+  -- the watches of a setWatches, by what was seen at their paths: what changed behind the zxid `since` is told at once
+  SetsWatches : (since : ℤ) (seen : List SeenPath) → WatchChange
+
+-- what a reply tells and leaves armed, where these watches are armed once the entries up to it were taken
+abbrev pub seen_by : WatchChange → Watches → Seen
+seen_by (AddsWatch arm) w = unseen (armed_by arm w)
+seen_by (SetsWatches since xs) w = see_paths since (unseen w) xs
+
+pub record Pending : Type 0 where
+  -- the number and the zxid of the last update of its state, which are those of the reply
+  pub number : ℤ
+  pub zxid : ℤ
+  pub xid : ℤ
+  pub answer : Reply
+  pub change : WatchChange
+  -- the cause for which the connection is closed behind it
+  pub ends : Option Cause
+
+-- ---- stages
+
+pub data Stage : Type 0 where
+  -- no frame came yet; what a new session would be made with
+  Unconnected : (fresh : Fresh) → Stage
+  -- the connection gets its session: an ask of its connect is out
+  Connecting : (connect : Connect) → Stage
+  -- nothing is out, and no frame waits
+  Ready : Stage
+  -- a frame was taken up, and a keepalive is out before anything else
+  KeepingAlive : (frame : List ℕ) → Stage
+  -- the lease had no seconds left: a look at the record of the session's life and the head is out
+  Checking : (frame : List ℕ) → Stage
+  -- a request was taken up, and what it asked for is out, to be added to the view
+  Reading : (xid : ℤ) (request : Request) (view : View) (asked : List Want) → Stage
+  -- the transaction of a plan is out; the plan was made on this view, at this moment in milliseconds
+  Committing : (xid : ℤ) (request : Request) (view : View) (plan : Plan) (moment : ℕ) → Stage
+  -- a reply waits for the entries up to its number
+  Waiting : (pending : Pending) → Stage
+  -- the connection is closed
+  Shut : Stage
+
+pub record Core : Type 0 where
+  pub stage : Stage
+  -- the frames that weren't taken up yet, the oldest first
+  pub waiting : List (List ℕ)
+  -- the bytes of the client's stream in all frames so far, with their lengths
+  pub taken : ℕ
+  -- the zxid up to which the client has been told, and the number of the last entry that was taken
+  pub zxid : ℤ
+  pub cursor : ℤ
+  pub watches : Watches
+  -- the session, its timeout, and the moment of the last grant or keepalive that was asked, both in milliseconds
+  pub who : Who
+  pub timeout : ℤ
+  pub kept : ℕ
+  -- the index of the next frame to answer; the connect is frame 0
+  pub next : ℕ
+
+-- before the first frame; there is no session yet
+abbrev pub new_core : Fresh → Core
+new_core fresh = record {
+  stage = Unconnected fresh;
+  waiting = [];
+  taken = 0;
+  zxid = pos 0;
+  cursor = pos 0;
+  watches = no_watches;
+  who = record { session = pos 0; mine = pos 0 };
+  timeout = pos 0;
+  kept = 0;
+  next = 1;
+}
+
+abbrev pub is_shut : Stage → Bool
+is_shut Shut = true
+is_shut _ = false
+
+-- a count of 64 bits stands still at its end
+abbrev pub max_count : ℕ
+max_count = 18446744073709551615
+
+abbrev pub counted_up : ℕ → ℕ
+counted_up n = min n max_count
+
+-- ---- what is out, and what is waited for
+
+-- the ask that is out in a stage of this session
+abbrev pub asked_of : Who → Stage → Option Ask
+asked_of who (Unconnected fresh) = None
+asked_of who (Connecting connect) = asked_in connect connect.phase
+asked_of who Ready = None
+asked_of who (KeepingAlive frame) = Some (ask.Alive who.session)
+asked_of who (Checking frame) = Some (reading (pos 0) (attach_wants who.session))
+asked_of who (Reading xid r v ws) = Some (reading v.revision ws)
+asked_of who (Committing xid r v p moment) = Some (transaction p)
+asked_of who (Waiting p) = None
+asked_of who Shut = None
+
+-- an entry is waited for where something is armed, while no ask is out
+abbrev pub wanted_in : Core → Stage → Wants
+wanted_in c (Unconnected fresh) = wants.Frame
+wanted_in c (Connecting connect) = wants.Answer
+wanted_in c Ready = if is_unarmed c.watches then wants.Frame else wants.FrameOrEntry c.cursor
+wanted_in c (KeepingAlive frame) = wants.Answer
+wanted_in c (Checking frame) = wants.Answer
+wanted_in c (Reading xid r v ws) = wants.Answer
+wanted_in c (Committing xid r v p moment) = wants.Answer
+wanted_in c (Waiting p) = wants.Entry c.cursor
+wanted_in c Shut = wants.Nothing
+
+abbrev pub wants_of : Core → Wants
+wants_of c = wanted_in c c.stage
