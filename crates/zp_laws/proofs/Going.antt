@@ -1,0 +1,211 @@
+-- Frames are taken up: some are answered without the tree, and the first other one leads to an ask.
+use Rattle.std.proofs.Common.{◌≡◌, ℕ, ◌+◌, ◌≤◌, List, [], ◌∷◌, length, take, refl, sym, ap, ◌∙◌, subst, arith, Bool, true, false, ℤ, inl, inr}
+use Rattle.std.specs.Prelude.{Option, Some, None, nat_le, if◌then◌else◌}
+use Rattle.std.proofs.lemmas.Int.{ints}
+use Rattle.std.proofs.lemmas.List.Elements.{All-nil, All-cons}
+use Rattle.ev_types.specs.Store.{Store}
+use Rattle.zk_jute.specs.Packets.{reply_packet}
+use Rattle.zk_jute.specs.Requests.{Frame, NoHeader, Unreadable, Unknown, Asks, read_request}
+use Rattle.zk_model.specs.Watches.{no_watches}
+use Rattle.zk_model.specs.declared.request.Request.{Request}
+use Rattle.zk_transcript.specs.Answers.{Told, plain_reply, xid_of}
+use Rattle.zk_transcript.specs.History.{frame_shown}
+use Rattle.zk_transcript.specs.Legal.{is_legal}
+use Rattle.zk_transcript.specs.Walks.{Plain, Walker, is_auth_refusal, is_not_overtaken, later_of, placed_frame, after_update}
+use Rattle.zk_transcript.specs.declared.transcript.Cause.{Cause}
+use Rattle.zk_transcript.specs.declared.transcript.TranscriptLine.{TranscriptLine}
+use Rattle.zk_transcript.proofs.Walks.{first_place-bound}
+use Rattle.zn_view.specs.Asks.{head_want}
+use Rattle.zn_view.specs.Seen.{View, empty_view}
+use Rattle.zn_view.specs.declared.want.Want.{Want}
+use Rattle.zs_session.specs.Alive.{is_alive_due}
+use Rattle.zp_step.specs.Keepalives.{TakesUp, keeps_alive}
+use Rattle.zp_step.specs.Looking.{Looks, asks_for, max_ranges}
+use Rattle.zp_step.specs.Replies.{Is, close_behind, stage_behind}
+use Rattle.zp_step.specs.Stages.{Core, Ready, Reading, counted_up}
+use Rattle.zp_step.specs.Steps.{Goes, rests, takes}
+use Rattle.zp_step.specs.Taking.{Takes, TakesReadable, end_of_plain, plainly}
+use Rattle.zp_step.specs.declared.action.Action.{Action}
+use Rattle.zp_step.specs.declared.action.Action.TheVariants as action
+use Rattle.zp_laws.specs.Frames.{AreFrames, IsFrameAt, is_open, waits_from}
+use Rattle.zp_laws.specs.Standing.{IsForTree, Knows, Matches, Stands, StandsOpen, is_ahead}
+use Rattle.zp_laws.specs.Walking.{IsAheadIn, Walks, sends}
+use Rattle.zp_laws.proofs.Cases.{either}
+use Rattle.zp_laws.proofs.Counting.{counted-small}
+use Rattle.zp_laws.proofs.Strides.{UpTo, placed, strides-none, strides-one, turn-next, walks-append, walks-is}
+use Rattle.zp_laws.proofs.WalkMoves.{plain-move}
+
+-- the next frame is at work, and those that wait stand behind it
+pub record Works (lines : List TranscriptLine) (conn : ℕ) (c : Core) (w : Walker) (bytes : List ℕ) : Type 0 where
+  pub legal : is_legal lines ≡ true
+  pub matches : Matches lines c w
+  pub frame : IsFrameAt lines conn c.next bytes
+  pub waiting : AreFrames lines conn (c.next + 1) c.waiting
+  pub turn : is_not_overtaken lines conn c.next ≡ true
+  pub ahead : is_ahead lines conn c.next ≡ true
+
+-- the index behind that of a frame
+pub index-behind : (lines : List TranscriptLine) (conn i : ℕ) (bytes : List ℕ) → IsFrameAt lines conn i bytes → counted_up (i + 1) ≡ i + 1
+index-behind lines conn i bytes f = counted-small (i + 1) (omega (arith, f.small))
+
+-- the walker stands where the core does, whatever else the core keeps
+pub still-matches : (lines : List TranscriptLine) (c d : Core) (w : Walker) → Matches lines c w → d.zxid ≡ c.zxid → d.cursor ≡ c.cursor → d.watches ≡ c.watches → d.next ≡ c.next → Matches lines d w
+still-matches lines c d w m z n ws i = record {
+  zxid = m.zxid ∙ sym z;
+  since = m.since ∙ ap (λ (x : ℤ). after_it x) (sym z);
+  watches = m.watches ∙ sym ws;
+  next = m.next ∙ sym i;
+  over = m.over;
+  at = record { line = (m.at).line; update = (m.at).update; shown = (m.at).shown; zxid = z ∙ (m.at).zxid; cursor = n ∙ (m.at).cursor };
+}
+  where
+    after_it : ℤ → ℕ
+    after_it x = after_update x lines
+
+-- ---- an answer without the tree
+
+pub later-bound : (a b n : ℕ) → a ≤ n → b ≤ n → later_of a b ≤ n
+later-bound a b n h e = go (nat_le a b)
+  where
+    go : (t : Bool) → (if t then b else a) ≤ n
+    go true = e
+    go false = h
+
+pub close-sends : (bytes : List ℕ) (o : Option Cause) → sends (action.Send bytes ∷ close_behind o) ≡ bytes ∷ []
+close-sends bytes None = refl
+close-sends bytes (Some why) = refl
+
+module _ (store : Store) (lines : List TranscriptLine) (conn : ℕ) where
+  -- the core behind a plain reply
+  abbrev plain_core : Core → Bool → Core
+  plain_core c b = record c { stage = stage_behind (end_of_plain b); next = counted_up (c.next + 1) }
+
+  plain-stands : (c : Core) (w : Walker) (bytes : List ℕ) (looked : ℕ) (b : Bool) → Works lines conn c w bytes
+      → StandsOpen (is_open (stage_behind (end_of_plain b))) store lines conn (plain_core c b) (record w { next = w.next + 1; over = b }) looked
+  plain-stands c w bytes looked true k = tt
+  plain-stands c w bytes looked false k =
+      let up = index-behind lines conn c.next bytes k.frame in
+      record {
+        matches = record { zxid = (k.matches).zxid; since = (k.matches).since; watches = (k.matches).watches; next = ap (λ n. n + 1) (k.matches).next ∙ sym up; over = refl; at = record { line = ((k.matches).at).line; update = ((k.matches).at).update; shown = ((k.matches).at).shown; zxid = ((k.matches).at).zxid; cursor = ((k.matches).at).cursor } };
+        work = tt;
+        waiting = subst (λ n. AreFrames lines conn n c.waiting) (sym up) k.waiting;
+        turn = ap (is_not_overtaken lines conn) up ∙ turn-next lines conn c.next k.turn;
+        knows = ap (is_ahead lines conn) up ∙ k.turn;
+      }
+
+  plain-ahead : (c : Core) (w : Walker) (bytes : List ℕ) (b : Bool) → Works lines conn c w bytes → IsAheadIn lines conn (plain_core c b) (stage_behind (end_of_plain b))
+  plain-ahead c w bytes true k = tt
+  plain-ahead c w bytes false k = ap (is_ahead lines conn) (index-behind lines conn c.next bytes k.frame) ∙ k.turn
+
+  pub plain-walks : (c : Core) (w : Walker) (bytes : List ℕ) (looked : ℕ) (t : Told) → Works lines conn c w bytes → plain_reply no_watches (read_request bytes) ≡ Some t
+      → Walks store lines conn c (plainly c (xid_of (read_request bytes)) t.reply).0 w looked (plainly c (xid_of (read_request bytes)) t.reply).1
+  plain-walks c w bytes looked t k h =
+      let f = k.frame in
+      let m = k.matches in
+      let p = placed lines c w k.legal m in
+      let x = xid_of (read_request bytes) in
+      let at_next : placed_frame conn w.next lines ≡ Some (f.place, bytes) = ap (λ n. placed_frame conn n lines) m.next ∙ f.framed in
+      let y = plain-move lines conn c.who.session w f.place bytes t m.over at_next h in
+      let bound = first_place-bound (frame_shown conn c.next) 0 lines (f.place, bytes) f.framed in
+      let packet = reply_packet x w.zxid t.reply in
+      let b = is_auth_refusal t.reply in
+      record {
+        walker = record w { next = w.next + 1; over = b };
+        strides = strides-one lines conn c.who.session w Plain (record w { next = w.next + 1; over = b }, (later_of w.since (f.place + 1), packet) ∷ []) (plainly c x t.reply).1
+            y (ap (λ z. reply_packet x z t.reply ∷ []) m.zxid ∙ sym (close-sends (reply_packet x c.zxid t.reply) (end_of_plain b)))
+            (All-cons (UpTo (length lines)) (later_of w.since (f.place + 1), packet) [] (later-bound w.since (f.place + 1) (length lines) (omega (arith, p.since, p.within)) (omega (arith, bound))) (All-nil (UpTo (length lines)))) refl refl;
+        stands = plain-stands c w bytes looked b k;
+        who = refl;
+        ahead = inr (plain-ahead c w bytes b k);
+        zxid = omega (arith, ints);
+        cursor = omega (arith, ints);
+      }
+
+  -- ---- a frame that only the tree answers
+
+  -- a core that asks while its frame is at work
+  pub asking-walks : (c d : Core) (w : Walker) (bytes : List ℕ) (looked : ℕ) (out : List Action) → Works lines conn c w bytes → sends out ≡ []
+      → d.zxid ≡ c.zxid → d.cursor ≡ c.cursor → d.watches ≡ c.watches → d.next ≡ c.next → d.who ≡ c.who → Stands store lines conn d w looked → is_open d.stage ≡ true → IsAheadIn lines conn d d.stage
+      → Walks store lines conn c d w looked out
+  asking-walks c d w bytes looked out k quiet z n ws i who s op a = record {
+    walker = w;
+    strides = strides-none lines conn c.who.session w out quiet;
+    stands = subst (λ b. StandsOpen b store lines conn d w looked) (sym op) s;
+    who = who;
+    ahead = inr a;
+    zxid = omega (arith, ints, z);
+    cursor = omega (arith, ints, n);
+  }
+
+  pub reads-walks : (c : Core) (w : Walker) (bytes : List ℕ) (looked : ℕ) (xid : ℤ) (r : Request) (v : View) (ws : List Want)
+      → Works lines conn c w bytes → read_request bytes ≡ Asks xid r → Knows store lines conn (asks_for c xid r v ws).0 w looked (Reading xid r v ws)
+      → Walks store lines conn c (asks_for c xid r v ws).0 w looked (asks_for c xid r v ws).1
+  reads-walks c w bytes looked xid r v ws k e knows =
+      asking-walks c (asks_for c xid r v ws).0 w bytes looked (asks_for c xid r v ws).1 k refl refl refl refl refl refl (record {
+        matches = still-matches lines c (asks_for c xid r v ws).0 w k.matches refl refl refl refl;
+        work = record { bytes = bytes; frame = k.frame; reads = e };
+        waiting = k.waiting;
+        turn = k.turn;
+        knows = knows;
+      }) refl k.ahead
+
+  looks-walks : (c c' : Core) (w : Walker) (bytes : List ℕ) (looked now : ℕ) (xid : ℤ) (r : Request) (out : List Action)
+      → Works lines conn c w bytes → read_request bytes ≡ Asks xid r → IsForTree r → Looks c xid r empty_view now c' out → Walks store lines conn c c' w looked out
+  looks-walks c c' w bytes looked now xid r out k e h (inl x) =
+      walks-is store lines conn c c' (asks_for c xid r empty_view (take max_ranges x.lacking)) w looked out x.is (reads-walks c w bytes looked xid r empty_view (take max_ranges x.lacking) k e (h, inl (refl, refl, refl)))
+  looks-walks c c' w bytes looked now xid r out k e h (inr x) = absurd (x.whole.enough refl h head_want (inl refl) refl)
+
+  readable-walks : (c c' : Core) (w : Walker) (bytes : List ℕ) (looked now : ℕ) (out : List Action) (x : Frame) (o : Option Told) → Works lines conn c w bytes → read_request bytes ≡ x → plain_reply no_watches x ≡ o → TakesReadable c now c' out x o → Walks store lines conn c c' w looked out
+  readable-walks c c' w bytes looked now out x (Some t) k e p h =
+      subst (λ y. Is (plainly c (xid_of y) t.reply) c' out → Walks store lines conn c c' w looked out) e
+      (λ i. walks-is store lines conn c c' (plainly c (xid_of (read_request bytes)) t.reply) w looked out i (plain-walks c w bytes looked t k (ap (plain_reply no_watches) e ∙ p))) h
+  readable-walks c c' w bytes looked now out NoHeader None k e p h = absurd h
+  readable-walks c c' w bytes looked now out (Unreadable xid place) None k e p h = absurd h
+  readable-walks c c' w bytes looked now out (Unknown xid kind) None k e p h = absurd h
+  readable-walks c c' w bytes looked now out (Asks xid r) None k e p h = looks-walks c c' w bytes looked now xid r out k e p h
+
+  pub takes-walks : (c c' : Core) (w : Walker) (bytes : List ℕ) (looked now : ℕ) (out : List Action) → Works lines conn c w bytes → Takes c bytes now c' out → Walks store lines conn c c' w looked out
+  takes-walks c c' w bytes looked now out k t = readable-walks c c' w bytes looked now out (read_request bytes) (plain_reply no_watches (read_request bytes)) k refl refl t
+
+  -- ---- frames are taken up
+
+  takes_up-walks : (c c' : Core) (w : Walker) (bytes : List ℕ) (looked now : ℕ) (out : List Action) → Works lines conn c w bytes → TakesUp c bytes now c' out → Walks store lines conn c c' w looked out
+  takes_up-walks c c' w bytes looked now out k t =
+      let d = (keeps_alive c bytes now).0 in
+      either (is_alive_due c.kept now c.timeout) (Is (keeps_alive c bytes now) c' out) (Takes c bytes now c' out) (Walks store lines conn c c' w looked out) t
+      (λ i. walks-is store lines conn c c' (keeps_alive c bytes now) w looked out i (asking-walks c d w bytes looked (keeps_alive c bytes now).1 k refl refl refl refl refl refl (record {
+        matches = still-matches lines c d w k.matches refl refl refl refl;
+        work = k.frame;
+        waiting = k.waiting;
+        turn = k.turn;
+        knows = tt;
+      }) refl k.ahead))
+      (takes-walks c c' w bytes looked now out k)
+
+  -- one that is ready takes its first frame
+  readied : (c : Core) (w : Walker) (looked : ℕ) (bytes : List ℕ) (more : List (List ℕ)) → is_legal lines ≡ true → c.stage ≡ Ready → c.waiting ≡ bytes ∷ more → Stands store lines conn c w looked → Works lines conn (record c { waiting = more }) w bytes
+  readied c w looked bytes more h r e s =
+      let fs : AreFrames lines conn c.next (bytes ∷ more) = subst (λ l. AreFrames lines conn c.next l) e (subst (λ g. AreFrames lines conn (waits_from g c.next) c.waiting) r s.waiting) in
+      let k : Knows store lines conn c w looked Ready = subst (Knows store lines conn c w looked) r s.knows in
+      record {
+        legal = h;
+        matches = still-matches lines c (record c { waiting = more }) w s.matches refl refl refl refl;
+        frame = fs.0;
+        waiting = fs.1;
+        turn = s.turn;
+        ahead = k;
+      }
+
+  as-before : (c d : Core) (more : List (List ℕ)) (w : Walker) (looked : ℕ) (out : List Action) → Walks store lines conn (record c { waiting = more }) d w looked out → Walks store lines conn c d w looked out
+  as-before c d more w looked out h = record { walker = h.walker; strides = h.strides; stands = h.stands; who = h.who; ahead = h.ahead; zxid = h.zxid; cursor = h.cursor }
+
+  pub rests-walks : (c : Core) (w : Walker) (looked : ℕ) → StandsOpen (is_open c.stage) store lines conn c w looked → Walks store lines conn c c w looked []
+  rests-walks c w looked s = record { walker = w; strides = strides-none lines conn c.who.session w [] refl; stands = s; who = refl; ahead = inl (refl, refl); zxid = omega (arith, ints); cursor = omega (arith, ints) }
+
+  pub goes-walks : (looked now : ℕ) (c c' : Core) (w : Walker) (out : List Action) → is_legal lines ≡ true → StandsOpen (is_open c.stage) store lines conn c w looked → Goes now c c' out → Walks store lines conn c c' w looked out
+  goes-walks looked now c c' w out h s (rests why same none) = walks-is store lines conn c c' (c, []) w looked out (same, none) (rests-walks c w looked s)
+  goes-walks looked now c c' w out h s (takes d bytes more first later r e t g o) =
+      let open_now : Stands store lines conn c w looked = subst (λ b. StandsOpen b store lines conn c w looked) (ap is_open r) s in
+      let one = as-before c d more w looked first (takes_up-walks (record c { waiting = more }) d w bytes looked now first (readied c w looked bytes more h r e open_now) t) in
+      subst (λ l. Walks store lines conn c c' w looked l) (sym o)
+      (walks-append store lines conn c d c' w looked first later one (goes-walks looked now d c' one.walker later h one.stands g))

@@ -1,0 +1,123 @@
+-- What is true of an attached core between two steps: it stands at a walker of its connection, and what its stage holds is
+-- true of the store and of the transcript.
+use Rattle.std.specs.Prelude.{◌≡◌, ℕ, pos, ◌+◌, ◌≤◌, ◌<◌, ◌⊎◌, Bool, true, false, List, [], length, take, Some, None, is_some, All, slice_get}
+use Rattle.std.specs.List.{list_all}
+use Rattle.ev_types.specs.Store.{Store, store_at}
+use Rattle.zk_jute.specs.Requests.{read_request}
+use Rattle.zk_model.specs.Watches.{Watches, no_watches}
+use Rattle.zk_model.specs.declared.request.Request.{Request}
+use Rattle.zk_transcript.specs.Answers.{plain_request, xid_of}
+use Rattle.zk_transcript.specs.History.{state_at}
+use Rattle.zk_transcript.specs.Legal.{attach_of, index_shown, is_below}
+use Rattle.zk_transcript.specs.Walks.{Walker, after_update, is_not_overtaken, own_update, placed_frame, told_as_of}
+use Rattle.zk_transcript.specs.declared.transcript.TranscriptLine.{TranscriptLine}
+use Rattle.zk_transcript.specs.declared.transcript.TranscriptLine.TheVariants.{Update}
+use Rattle.zk_transcript.specs.declared.transcript.UpdateRec.{UpdateRec}
+use Rattle.zn_layout.specs.StandsFor.{StandsFor}
+use Rattle.zn_view.specs.Asks.{IsAskedPlan}
+use Rattle.zn_view.specs.Needs.{finished}
+use Rattle.zn_view.specs.Seen.{View}
+use Rattle.zn_view.specs.Views.{Agrees, IsPlan, WasPut}
+use Rattle.zn_view.specs.declared.plan.Plan.{Plan}
+use Rattle.zn_view.specs.declared.plan.Who.{Who}
+use Rattle.zp_step.specs.Replies.{is_due}
+use Rattle.zp_step.specs.Stages.{Core, Pending, Stage, Unconnected, Connecting, Ready, Reading, Committing, Waiting, seen_by}
+use Rattle.zp_laws.specs.Frames.{AreFrames, IsAtWork, IsFrameAt, waits_from}
+
+-- ---- a moment at which an answer was given, for the next request of a walk
+
+-- It is neither before that of the last reply, nor before the last update told, nor before the line of the frame or that of
+-- the attachment.
+pub record IsMoment (lines : List TranscriptLine) (conn : ℕ) (who : Who) (w : Walker) (looked : ℕ) : Type 0 where
+  pub past : looked ≤ length lines
+  pub later : w.moment ≤ looked
+  pub told : w.since ≤ looked
+  pub asked : (k : ℕ) (bytes : List ℕ) → placed_frame conn w.next lines ≡ Some (k, bytes) → k < looked
+  pub place : ℕ
+  pub attached : attach_of conn lines ≡ Some (place, record { zxid = who.mine; session = who.session })
+  pub since : place < looked
+
+-- ---- what a stage holds
+
+abbrev pub IsNoView : View → Type 0
+IsNoView v = (v.revision ≡ pos 0) × (v.keys ≡ []) × (v.lists ≡ [])
+
+-- the view is of a revision whose keys stand for the state at this moment
+pub record IsViewAt (store : Store) (lines : List TranscriptLine) (conn : ℕ) (who : Who) (w : Walker) (v : View) (looked : ℕ) : Type 0 where
+  pub number : ℕ
+  pub revision : v.revision ≡ pos number
+  pub begun : 1 ≤ number
+  pub known : number ≤ length store.revisions
+  pub agrees : Agrees v (store_at store number)
+  pub stands : StandsFor (store_at store number) (state_at lines looked)
+  pub moment : IsMoment lines conn who w looked
+
+-- a request that only the tree answers
+abbrev pub IsForTree : Request → Type 0
+IsForTree r = plain_request no_watches r ≡ None
+
+-- the plan was made on a view of a revision of the store
+pub record IsBoundPlan (store : Store) (who : Who) (request : Request) (v : View) (p : Plan) (moment : ℕ) : Type 0 where
+  pub number : ℕ
+  pub revision : v.revision ≡ pos number
+  pub known : number ≤ length store.revisions
+  pub agrees : Agrees v (store_at store number)
+  pub put : All WasPut v.keys
+  pub plan : IsPlan request who moment v p (λ z. finished z p.draft)
+  pub asked : IsAskedPlan who v p
+
+-- a reply that waits is the service's as of the moment, whatever is armed
+pub record IsReply (lines : List TranscriptLine) (conn : ℕ) (who : Who) (w : Walker) (p : Pending) (looked : ℕ) : Type 0 where
+  pub moment : IsMoment lines conn who w looked
+  pub bytes : List ℕ
+  pub frame : IsFrameAt lines conn w.next bytes
+  pub xid : xid_of (read_request bytes) ≡ p.xid
+  pub zxid : (state_at lines looked).zxid ≡ p.zxid
+  pub number : pos (state_at lines looked).updates ≡ p.number
+  pub told : (ws : Watches) → told_as_of (take looked lines) conn who.session (read_request bytes) ws (own_update conn w.next lines)
+      ≡ Some (is_some p.ends, record { reply = p.answer; notices = (seen_by p.change ws).notices; watches = (seen_by p.change ws).watches })
+
+-- neither the request at an index nor one behind it was carried out
+abbrev pub is_ahead : List TranscriptLine → ℕ → ℕ → Bool
+is_ahead lines conn i = list_all (λ l. is_below i (index_shown conn l)) lines
+
+abbrev pub Knows : Store → List TranscriptLine → ℕ → Core → Walker → ℕ → Stage → Type 0
+Knows store lines conn c w looked (Reading xid r v ws) = IsForTree r × (IsNoView v ⊎ IsViewAt store lines conn c.who w v looked)
+Knows store lines conn c w looked (Committing xid r v p moment) = IsForTree r × IsBoundPlan store c.who r v p moment
+Knows store lines conn c w looked (Waiting p) = IsReply lines conn c.who w p looked × (is_due c p ≡ false)
+Knows store lines conn c w looked (Unconnected fresh) = ⊥
+Knows store lines conn c w looked (Connecting connect) = ⊥
+Knows store lines conn c w looked Ready = is_ahead lines conn c.next ≡ true
+Knows store lines conn c w looked _ = Unit {0}
+
+-- ---- the core and its walker
+
+-- the zxid and the cursor are those of one update
+pub record IsAt (lines : List TranscriptLine) (c : Core) : Type 0 where
+  pub line : ℕ
+  pub update : UpdateRec
+  pub shown : slice_get lines line ≡ Some (Update update)
+  pub zxid : c.zxid ≡ update.zxid
+  pub cursor : c.cursor ≡ pos (state_at lines (line + 1)).updates
+
+pub record Matches (lines : List TranscriptLine) (c : Core) (w : Walker) : Type 0 where
+  pub zxid : w.zxid ≡ c.zxid
+  pub since : w.since ≡ after_update c.zxid lines
+  pub watches : w.watches ≡ c.watches
+  pub next : w.next ≡ c.next
+  pub over : w.over ≡ false
+  pub at : IsAt lines c
+
+-- an open, attached core; `looked` is the moment of what its stage holds
+pub record Stands (store : Store) (lines : List TranscriptLine) (conn : ℕ) (c : Core) (w : Walker) (looked : ℕ) : Type 0 where
+  pub matches : Matches lines c w
+  pub work : IsAtWork lines conn c.next c.stage
+  pub waiting : AreFrames lines conn (waits_from c.stage c.next) c.waiting
+  -- no request behind the next one was carried out
+  pub turn : is_not_overtaken lines conn c.next ≡ true
+  pub knows : Knows store lines conn c w looked c.stage
+
+-- a closed core stands nowhere any more
+abbrev pub StandsOpen : Bool → Store → List TranscriptLine → ℕ → Core → Walker → ℕ → Type 0
+StandsOpen true store lines conn c w looked = Stands store lines conn c w looked
+StandsOpen false store lines conn c w looked = Unit {0}

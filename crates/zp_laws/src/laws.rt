@@ -1,0 +1,54 @@
+//! The laws of a connection's steps. Each function does nothing, and its contract is the law.
+
+ghost use Rattle.zp_laws.specs.Ending.{StepsCount, StepsEndWell};
+ghost use Rattle.zp_laws.specs.Growing.{StandingLasts};
+ghost use Rattle.zp_laws.specs.Honest.{PastIsRecords, PresentIsRecords, RecordsAreSound};
+ghost use Rattle.zp_laws.specs.Walking.{PlansAreBound, SendsAreWalks};
+ghost use Rattle.zp_laws.specs.Welcomes.{ConnectsAre};
+
+/// What a step of an attached connection asks is what its stage has out, and what the stage rests on is true of the store:
+/// a plan was made on a view of one of its revisions and guards what was seen there. The request that is asked for has no
+/// update yet.
+pub fn plans_are_bound()
+    ensures { PlansAreBound }
+{}
+
+/// What a step of an attached connection sends is what some choices of the walk give, each reply as of a moment that is not
+/// before the line of its frame; and a connection that stays open stands where they lead. Neither its zxid nor its cursor
+/// goes back, and both are of one update.
+pub fn sends_are_walks()
+    ensures { SendsAreWalks }
+{}
+
+/// A step sends packets, and then it asks once, or closes, or neither. It closes exactly where the connection is shut behind
+/// it. What it asks is what is out then; where it asks nothing, nothing is out, or what was out before an input that is no
+/// answer and no failure.
+pub fn steps_end_well()
+    ensures { StepsEndWell }
+{}
+
+/// Each frame that came was taken up or waits behind the others, and no other one: a step that leaves the connection open
+/// raises the index of the next frame by one where its input is a frame, and otherwise leaves it.
+pub fn steps_count()
+    ensures { StepsCount }
+{}
+
+/// While a connection has no session, a step sends nothing, or the refusal and ends it, or the welcome; and what it sends
+/// behind the welcome is a walk from the attachment on.
+pub fn connects_are_answered()
+    ensures { ConnectsAre }
+{}
+
+/// An attached connection goes on standing where it does while lines are added to the transcript and revisions to the store,
+/// none of them of its own requests.
+pub fn standing_lasts()
+    ensures { StandingLasts }
+{}
+
+/// Where an etcd's keys stand for a state of the service, whatever transaction looks at some of them, each value that it shows
+/// is a record of its key's kind, and no step has a damaged value to end for.
+pub fn honest_values_are_records()
+    ensures present { PresentIsRecords }
+    ensures past { PastIsRecords }
+    ensures sound { RecordsAreSound }
+{}

@@ -1,0 +1,32 @@
+//! What holds of each step of a connection (`zp_step`), for those who put connections beside each other over one store.
+//!
+//! A transcript of many connections is a run of the service if each connection's packets are a walk of it, and each update is
+//! one that the service could make. Both are shown step by step, from what one connection knows: where its core *stands*
+//! (`Stands`), that is, at which walker of its conversation, with which frames, and what its stage holds is true of the
+//! store. The laws say that a step leads from there to where it stands next, by moves of the walk; that what it asks is bound
+//! to the store; and that it keeps each frame. None has a hypothesis: what an etcd answers (`carry`), what legal histories are,
+//! and what plans and decisions are worth are theorems of the crates below.
+//!
+//! In `specs/`, in reading order:
+//!
+//! - `Frames`: the frames of a connection in a transcript and in a core;
+//! - `Standing`: where a core stands;
+//! - `Inputs`: which inputs are true of the store and of the transcript;
+//! - `Walking`: a step is a walk (`SendsAreWalks`), and what it asks is bound (`PlansAreBound`);
+//! - `Ending`: the order of its actions (`StepsEndWell`), and its frames (`StepsCount`);
+//! - `Welcomes`: a step without a session (`ConnectsAre`);
+//! - `Growing`: what leaves a core where it stands (`StandingLasts`);
+//! - `Honest`: an etcd that keeps its guarantees shows records.
+//!
+//! In `proofs/` by topic: `Updates`, `WalkMoves`, `Strides` (the walk); `Going`, `Replying`, `Entering` (frames, replies,
+//! entries); `Revisions`, `Arming`, `Attached`, `Telling`, `Deciding`, `Parts` (what is decided on a view); `Carried` (a plan
+//! that was carried out); `Steps`, `Asking` (whole steps); `ConnectAsks`, `Ending`, `Counting`, `Welcoming`, `Growing`,
+//! `Honest`.
+#![tactic(auto)]
+
+mod laws;
+
+pub use laws::{
+    connects_are_answered, honest_values_are_records, plans_are_bound, sends_are_walks,
+    standing_lasts, steps_count, steps_end_well,
+};
