@@ -95,11 +95,33 @@ pub enum Unread {
 /// Why a happening is not possible, or, until all requests are built, that it is not built.
 #[derive(Clone, Copy, Debug, PartialEq, Eq)]
 pub enum Why {
-    /// The number is that of another connection or reaper.
+    /// The number is that of another connection or reaper, open or closed.
     NumberInUse,
     NoSuchConnection,
+    /// It has ended.
+    ConnectionClosed,
+    /// The number is a reaper's.
+    NotAConnection,
+    /// A frame has begun to arrive and is not whole.
+    FrameOpen,
     /// A frame of more than 1,048,575 bytes.
     TooLong,
+    NoRequestOut,
+    AlreadyCarriedOut,
+    NotCarriedOut,
+    /// None was left under this number, or it was carried out.
+    NoSuchStray,
+    /// No entry is taken while an ask is out.
+    RequestOut,
+    /// The connection is not attached, has no watch armed, or has taken every entry.
+    NoEntry,
+    /// No more than 4,096 entries are to be taken.
+    NoLag,
+    NoSuchLease,
+    /// The store is at the last revision that there can be.
+    StoreFull,
+    /// The key is empty, or one of the service's own.
+    KeyKept,
     /// The clock would pass 9,000,000,000,000,000 milliseconds.
     ClockLimit,
     NotBuilt,

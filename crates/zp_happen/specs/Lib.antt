@@ -1,0 +1,13 @@
+pub mod Worlds
+pub mod Kinds
+pub mod Entries
+pub mod Faults
+pub mod StepOutcomes
+pub mod Handing
+pub mod Carrying
+pub mod Arriving
+pub mod Effects
+pub mod Happens
+pub mod Runs
+pub mod Conversing
+pub mod Unbuilt

@@ -1,0 +1,22 @@
+//! What was asked of the store and not answered yet.
+
+use ev_types::{Answer, Ask};
+use zk_transcript::UpdateKind;
+
+/// An ask, with what its transaction is as a line of the transcript where it changes the head.
+#[derive(Debug, Drop)]
+pub struct Asking {
+    pub ask: Ask,
+    /// None for an ask that is no update: a read, a grant, a keepalive.
+    pub kind: Option<UpdateKind>,
+}
+
+/// How far the ask of a connection or a reaper has come, until its answer is delivered.
+#[derive(Debug, Drop)]
+pub enum Flight {
+    /// It is not carried out.
+    Out(Asking),
+    Carried(Answer),
+    /// The store denied it, which is delivered as a failure.
+    Denied,
+}
