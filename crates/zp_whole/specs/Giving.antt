@@ -1,0 +1,15 @@
+-- What a whole world gives: its updates are one history of the service, and what each connection was sent is a walk of it.
+use Rattle.std.specs.Prelude.{◌≡◌, ℕ, ◌+◌, true, List, Some}
+use Rattle.zk_transcript.specs.Conversations.{IsShownFresh, later_packets}
+use Rattle.zk_transcript.specs.Legal.{Attachment, attach_of, is_legal, is_ordered}
+use Rattle.zk_transcript.specs.Walks.{IsWalk}
+use Rattle.zk_transcript.specs.declared.transcript.TranscriptLine.{TranscriptLine}
+
+pub record IsOneHistory (lines : List TranscriptLine) : Type 0 where
+  -- each update is one that the service could make in the state before it, in the order of the zxids
+  pub legal : is_legal lines ≡ true
+  -- each request is carried out at most once, and those of a connection in order
+  pub ordered : is_ordered lines ≡ true
+  pub shown : IsShownFresh lines
+  -- behind the welcome: some choices, fresh and in turn, give the packets, each not before its due place
+  pub walks : (c k : ℕ) (a : Attachment) → attach_of c lines ≡ Some (k, a) → IsWalk lines c a.session a.zxid (k + 1) (later_packets c lines)

@@ -1,0 +1,62 @@
+//! The laws of worlds. Each function does nothing, and its contract is the law.
+
+ghost use Rattle.std.specs.Prelude.{◌≡◌, ℕ, ℤ, List};
+ghost use Rattle.zt_text.specs.declared.script.Happening.TheVariants as line;
+ghost use Rattle.zp_happen.specs.Worlds.{World};
+ghost use Rattle.zp_whole.specs.Keeping.{FirstHasEntries, FirstIsWhole, HasRoom, IsAttachedIn, Keeps, KeepsEntries, KeepsIf, MayEnter, WholeGives};
+
+/// The world before anything happened is whole.
+pub fn the_first_world_is_whole()
+    ensures { FirstIsWhole }
+{}
+
+/// The updates of a whole world are one history of the service, in which each request is carried out at most once and those of
+/// a connection in order. What a connection was sent behind its welcome is a walk of that history from the attachment on: no
+/// reply is older than its frame, nor than one that was sent before it.
+pub fn a_whole_world_is_one_history()
+    ensures { WholeGives }
+{}
+
+/// A world stays whole while time passes, other users of the store put keys that are not the service's, and leases lapse.
+pub fn the_store_changes_by_itself()
+    ensures tick { (n : ℕ) → Keeps (line.Tick n) }
+    ensures foreign { (k v : List ℕ) → Keeps (line.Foreign k v) }
+    ensures lapse { (id : ℤ) → Keeps (line.Lapse id) }
+{}
+
+/// Whatever was asked may be carried out at any time, also when its asker has ended: it is an update that the service could
+/// make then, or it changes nothing. While its asker is there the store has a revision to come.
+pub fn asks_are_carried_out()
+    ensures exec { (c : ℕ) → KeepsIf (λ w. HasRoom w) (line.Exec c) }
+    ensures stray { (k : ℕ) → Keeps (line.Stray k) }
+{}
+
+/// Each update that is carried out has its entry, which tells its zxid, its number and what watches see of it.
+pub fn updates_have_entries()
+    ensures first { FirstHasEntries }
+    ensures exec { (c : ℕ) → KeepsEntries (line.Exec c) }
+    ensures stray { (k : ℕ) → KeepsEntries (line.Stray k) }
+{}
+
+/// A connection to which a session is attached takes the answer to its ask, and the entry behind its cursor
+/// where the entries are the updates.
+pub fn attached_connections_go_on()
+    ensures answer { (c : ℕ) → KeepsIf (λ w. IsAttachedIn w c) (line.Answer c) }
+    ensures entry { (c : ℕ) → KeepsIf (λ w. MayEnter w c) (line.Entry c) }
+{}
+
+/// Connections and reapers end, whatever they have out: by a failure of their ask, by a lag, with the client's stream, or
+/// with their proxy.
+pub fn connections_end()
+    ensures cut { (c : ℕ) → Keeps (line.Cut c) }
+    ensures refuse { (c : ℕ) → Keeps (line.Refuse c) }
+    ensures lag { (c : ℕ) → Keeps (line.Lag c) }
+    ensures end { (c : ℕ) → Keeps (line.End c) }
+    ensures restart { (p : ℕ) → Keeps (line.Restart p) }
+{}
+
+/// A connection opens, or a reaper begins and looks at its session, under a number that is not in use.
+pub fn connections_open()
+    ensures open { (c p : ℕ) (id : ℤ) (passwd : List ℕ) → Keeps (line.Open c p id passwd) }
+    ensures reap { (c p : ℕ) (id : ℤ) → Keeps (line.Reap c p id) }
+{}

@@ -1,0 +1,31 @@
+//! What holds of every world that a script leads to: its updates are one history of the service, and what each connection was
+//! sent is a walk of that history.
+//!
+//! A world is *whole* (`Whole`) where its store serves its transcript, whatever may still be carried out is bound to what was
+//! seen, and each connection with a session stands where its conversation has come. The first world is whole, and the laws say
+//! which lines of a script keep it so.
+//!
+//! In `specs/`, in reading order:
+//!
+//! - `Serving`: a store serves a transcript, and what a transaction makes of that (`Commits`);
+//! - `Bounds`: what an ask is bound to (`IsBoundAsk`): a request's plan, a reaper's, a session's transaction;
+//! - `Holding`: what may still be carried out (`air`), conversations (`Talks`), and what holds of a world (`Holds`);
+//! - `Connections`: a connection with a session (`IsServing`), and all of them (`Whole`);
+//! - `Giving`: what a whole world gives (`IsOneHistory`);
+//! - `Entering`: the entries of a world (`AreEntries`);
+//! - `Keeping`: what the laws say.
+//!
+//! In `proofs/` by topic: `Packets`, `Talking` (conversations); `Moments`, `Commits`, `Transactions`, `Plans`, `Connects`,
+//! `Growing`, `Outcomes`, `Carrying` (what is carried out); `Lines`, `Numbers`, `Effects` (what holds); `Serving`, `Looking`,
+//! `Executing`, `Kept` (attached connections); `Closing`, `Ends`, `Restarting` (ends); `Actions`, `Speaking`, `Setting`,
+//! `Asking`, `Handing`, `Delivering` (steps); `First`, `Opening`, `Giving`, `Entering`,
+//! `Happenings`.
+#![tactic(auto)]
+
+mod laws;
+
+pub use laws::{
+    a_whole_world_is_one_history, asks_are_carried_out, attached_connections_go_on,
+    connections_end, connections_open, the_first_world_is_whole, the_store_changes_by_itself,
+    updates_have_entries,
+};
