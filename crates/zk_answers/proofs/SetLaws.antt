@@ -1,14 +1,16 @@
 -- Sets of paths as lists of their members.
-use Rattle.std.proofs.Common.{◌≡◌, ◌≢◌, ℕ, ◌+◌, ◌<◌, ◌≤◌, Bool, true, false, not, ◌||◌, cond, Option, Some, None, List, [], ◌∷◌, ◌++◌, length, drop, get_or, refl, sym, ap, ◌∙◌, ⊎_elim}
+use Rattle.std.proofs.Common.{◌≡◌, ◌≢◌, ℕ, ◌+◌, ◌<◌, ◌≤◌, Bool, true, false, not, ◌||◌, cond, Option, Some, None, List, [], ◌∷◌, ◌++◌, length, drop, get_or, refl, sym, ap, ◌∙◌, ⊎_elim, inl, inr, eqb-true, arith}
+use Rattle.std.specs.Prelude.{◌==◌}
+use Rattle.std.proofs.lemmas.Bool.{cases_Bool}
 use Rattle.std.specs.Prelude.{is_some}
 use Rattle.std.specs.List.{list_any}
 use Rattle.std.specs.Cmp.Lexicographic.{slice_cmp}
 use Rattle.std.specs.Ordering.{nat_cmp}
 use Rattle.std.proofs.lemmas.List.{at_drop_more, at_drop_all}
 use Rattle.std.proofs.lemmas.Map.Views.{any-filter_same}
-use Rattle.std.specs.FinMap.{get, insert, remove, contains_key, get-empty}
+use Rattle.std.specs.FinMap.{get, insert, remove, contains_key, get-empty, len, len-empty}
 use Rattle.zx_base.specs.Maps.{Bytes, same}
-use Rattle.zx_base.proofs.MapLaws.{ext, either, same-refl, same-true, same-false, get-insert_same, get-insert_other, get-remove_same, get-remove_other}
+use Rattle.zx_base.proofs.MapLaws.{ext, either, same-refl, same-true, same-false, get-insert_same, get-insert_other, get-remove_same, get-remove_other, get-none_from_len}
 use Rattle.zk_answers.specs.Sets.{set_of, others}
 
 -- whether a list has a path
@@ -84,3 +86,18 @@ has-not_here q ps i p h is other = at_drop_more (has q) ps i p h ∙ ap (λ (x :
 
 pub has-end : (q : Bytes) (ps : List Bytes) (i : ℕ) → length ps ≤ i → has q (drop i ps) ≡ false
 has-end q ps i h = at_drop_all (has q) ps i h
+
+-- ---- whether there is a member
+
+not_empty : (ps : List Bytes) (p : Bytes) → len (set_of (p ∷ ps)) ≡ 0 → ⊥
+not_empty ps p e =
+    let none : get (set_of (p ∷ ps)) p ≡ None = get-none_from_len (set_of (p ∷ ps)) p e in
+    let there : get (set_of (p ∷ ps)) p ≡ Some tt = get-insert_same (set_of ps) p tt in
+    absurd (cc)
+
+counted : (n : ℕ) → (n ≡ 0 → ⊥) → false ≡ (n == 0)
+counted n some = elim (cases_Bool (n == 0)) [ inl zero ↦ absurd (some (eqb-true n 0 zero)) | inr more ↦ sym more ]
+
+pub is_empty-set_of : (ps : List Bytes) → (length ps == 0) ≡ (len (set_of ps) == 0)
+is_empty-set_of [] = ap (λ n. n == 0) (sym (len-empty (slice_cmp nat_cmp) (Unit {0})))
+is_empty-set_of (p ∷ ps) = sym (counted (length (p ∷ ps)) (λ e. omega arith)) ∙ counted (len (set_of (p ∷ ps))) (not_empty ps p)

@@ -1,4 +1,3 @@
 pub mod Sets
 pub mod Outcomes
 pub mod Fits
-pub mod Answering

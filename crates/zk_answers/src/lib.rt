@@ -1,24 +1,18 @@
-//! What the service answers, as a plain program over a tree and the watches of one connection: slow and obvious.
+//! What the service answers, as a program over a tree and the watches of one connection.
 //!
-//! Each function's contract is the definition of `zk_model` that it runs, so that a worked example run here is a run of
-//! the definition. Nothing of the service itself stands on this crate.
+//! Each function's contract is the definition of `zk_transcript` that it runs. The service itself stands on stored keys and
+//! not on this crate; a judge of transcripts runs the definitions by it.
 #![tactic(auto)]
 
-mod answers;
-mod commits;
 mod listings;
 mod paths;
 mod plain;
 mod reads;
 mod rearm;
-#[cfg(test)]
-mod tests;
 mod told;
 mod updates;
 mod watches;
 
-pub use answers::{Answered, answer};
-pub use commits::{Update, commit};
 pub use plain::plain_request;
 pub use rearm::set_watches;
 pub use told::Told;

@@ -1,7 +1,7 @@
 //! A set of paths, as the list of its members.
 
-ghost use Rattle.std.specs.Prelude.{◌≡◌, ◌++◌, IfOk};
-ghost use Rattle.std.specs.FinMap.{contains_key, empty, insert, remove};
+ghost use Rattle.std.specs.Prelude.{◌≡◌, ◌==◌, ◌++◌, IfOk};
+ghost use Rattle.std.specs.FinMap.{contains_key, empty, insert, len, remove};
 ghost use Rattle.zk_answers.specs.Sets.{others, set_of};
 
 use std::alloc::Global;
@@ -64,6 +64,12 @@ impl PathSet {
         Ok(PathSet {
             paths: copies(alloc, &self.paths)?,
         })
+    }
+
+    pub fn is_empty(&self) -> bool
+        ensures { result ≡ (len self.now == 0) }
+    {
+        self.paths.as_slice().is_empty()
     }
 
     pub fn contains(&self, path: &[u8]) -> bool

@@ -4,6 +4,7 @@ ghost use Rattle.std.specs.Prelude.{◌≡◌, Some, option_map, pos, IfOk, IfEr
 ghost use Rattle.zk_model.specs.declared.reply.Body.TheVariants as body;
 ghost use Rattle.zk_model.specs.declared.reply.Reply.TheVariants as reply;
 ghost use Rattle.zk_transcript.specs.Answers.{told, checked, refusal_of, refusal_of_several, rearmed, tree_reply};
+ghost use Rattle.zk_model.specs.Znodes.{Tree as Nodes};
 ghost use Rattle.zk_plain.specs.Faults.{BeyondUnless};
 ghost use Rattle.zk_plain.specs.Outcomes.{outcome_of, several_as};
 ghost use Rattle.zk_answers.specs.Fits.{FitsRequest};
@@ -23,7 +24,7 @@ use zx_base::{Memory, Text};
 
 /// An update is answered by its refusal; one that succeeds is answered by what it commits.
 fn refusal_of(alloc: Global, watches: &Watches, outcome: Outcome) -> Result<Option<Told>, Memory>
-    ensures { IfOk result (λ o. option_map told_of o ≡ refusal_of watches.now (outcome_of outcome)) }
+    ensures { IfOk result (λ o. (t : Nodes) → option_map told_of o ≡ refusal_of watches.now (outcome_of t outcome)) }
 {
     match outcome {
         Outcome::Refused(code) => Ok(Some(refused(alloc, watches, code)?)),
@@ -33,7 +34,7 @@ fn refusal_of(alloc: Global, watches: &Watches, outcome: Outcome) -> Result<Opti
 
 /// A check by itself is a read.
 fn checked(alloc: Global, watches: &Watches, outcome: Outcome) -> Result<Told, Memory>
-    ensures { IfOk result (λ t. Some (told_of t) ≡ checked watches.now (outcome_of outcome)) }
+    ensures { IfOk result (λ t. (nodes : Nodes) → Some (told_of t) ≡ checked watches.now (outcome_of nodes outcome)) }
 {
     match outcome {
         Outcome::Refused(code) => refused(alloc, watches, code),

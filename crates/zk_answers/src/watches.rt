@@ -2,7 +2,7 @@
 
 ghost use Rattle.std.specs.Prelude.{◌≡◌, ◌||◌, IfOk};
 ghost use Rattle.std.specs.FinMap.{contains_key};
-ghost use Rattle.zk_model.specs.Watches.{no_watches, arm_data, arm_children, fired_data, fired_children, fire, fire_all, note};
+ghost use Rattle.zk_model.specs.Watches.{is_unarmed, no_watches, arm_data, arm_children, fired_data, fired_children, fire, fire_all, note};
 ghost use Rattle.zk_answers.specs.Outcomes.{fired_of};
 
 use crate::paths::PathSet;
@@ -77,6 +77,13 @@ impl Watches {
             on_data: self.on_data.copy(alloc)?,
             on_children: self.on_children.copy(alloc)?,
         })
+    }
+
+    /// Whether there is no watch.
+    pub fn is_unarmed(&self) -> bool
+        ensures { result ≡ is_unarmed self.now }
+    {
+        self.on_data.is_empty() && self.on_children.is_empty()
     }
 
     /// With a data watch on this path.

@@ -1,2 +1,4 @@
 pub mod SessionLaws
 pub mod Counts
+pub mod Marks
+pub mod Looking

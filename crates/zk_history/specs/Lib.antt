@@ -1,3 +1,5 @@
 pub mod Codes
 pub mod Commits
 pub mod Fits
+pub mod Pasts
+pub mod Shown

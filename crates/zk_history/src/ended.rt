@@ -9,16 +9,16 @@ ghost use Rattle.zk_history.specs.Fits.{IsCountable};
 use crate::state::State;
 use std::alloc::Global;
 use zk_model::{Path, Trigger};
-use zk_plain::{Fault, Tree, removed};
+use zk_plain::{Fault, Tree};
 use zx_base::{Memory, Seq};
 
 /// The tree without these nodes, removed one by one at one zxid.
-fn removed_all(alloc: Global, tree: &Tree, paths: &[Path], zxid: i64) -> Result<Tree, Memory>
-    ensures { IfOk result (λ t. t ≡ removed_all tree.now paths.now zxid) }
+pub fn removed_all(alloc: Global, tree: Tree, paths: &[Path], zxid: i64) -> Result<Tree, Memory>
+    ensures { IfOk result (λ t. t ≡ removed_all tree paths.now zxid) }
 {
-    let mut rest = tree.copy(alloc)?;
+    let mut rest = tree;
     for path in paths {
-        rest = removed(alloc, &rest, path, zxid)?;
+        rest.remove(alloc, path, zxid)?;
     }
     Ok(rest)
 }
@@ -51,10 +51,9 @@ pub fn session_ended(alloc: Global, state: State, zxid: i64, id: i64) -> Result<
     ensures beyond { IfErr result (BeyondUnless (IsCountable state)) }
 {
     let paths = state.tree().owned(alloc, id)?;
-    let rest = removed_all(alloc, state.tree(), &paths, zxid)?;
     let triggers = removals(alloc, &paths)?;
     state
         .without_session(id)
-        .with_tree(rest)
+        .without_nodes(alloc, &paths, zxid)?
         .advanced(zxid, triggers)
 }

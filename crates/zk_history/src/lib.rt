@@ -1,26 +1,28 @@
-//! The state of the service after the lines of a transcript, as a plain program: slow and obvious.
+//! The state of the service after the lines of a transcript.
 //!
-//! [`after`] goes over the lines and [`change`] takes one of them; their contracts are the definitions of those names in
-//! `zk_model`, so that a worked example run here is a run of the definitions. What a line needs of the lines before it is
-//! searched for from the first on. Nothing of the service itself stands on this crate.
+//! [`after`] goes over the lines and [`change`] takes one of them, in place; their contracts are the definitions of those names
+//! in `zk_transcript`. What a line needs of the lines before it is looked up in the tables of [`Past`]. A judge of transcripts
+//! stands on this crate, and the service does not.
 #![tactic(auto)]
 
 mod ended;
+mod firsts;
 mod lines;
 mod moments;
 mod outcome;
+mod past;
 mod requests;
 mod session;
 mod sessions;
 mod shown;
 mod state;
-#[cfg(test)]
-mod tests;
 
-pub use lines::{asked_commit, attached_to, change};
-pub use moments::{after, state_at};
-pub use outcome::Commit;
+pub use lines::{Applied, apply, attached_to, change, planned_commit};
+pub use moments::{after, asked_commit, state_at};
+pub use outcome::{Change, Commit};
+pub use past::Past;
+pub use requests::commit;
 pub use session::Session;
-pub use shown::{connect, frame, frame_shown, opening, request};
+pub use shown::{connect, frame, frame_shown};
 pub use state::State;
 pub use zk_plain::Fault;

@@ -1,19 +1,21 @@
 //! What one line of a transcript does to the state.
 
-ghost use Rattle.std.specs.Prelude.{◌≡◌, ℕ, List, option_map, IfOk, IfErr};
+ghost use Rattle.std.specs.Prelude.{◌≡◌, ℕ, List, None, option_map, IfOk, IfErr};
 ghost use Rattle.zk_transcript.specs.declared.transcript.UpdateKind.TheVariants as kind;
 ghost use Rattle.zk_transcript.specs.History.{State, attached as attached_as, attached_anew, asked_commit, change, committed, lapsed_in, request, session_at, session_of, updated};
 ghost use Rattle.zk_plain.specs.Faults.{BeyondUnless};
-ghost use Rattle.zk_history.specs.Commits.{commit_of};
+ghost use Rattle.zk_history.specs.Commits.{commit_of, response_in, response_to};
+ghost use Rattle.zk_history.specs.Pasts.{lines_of};
 ghost use Rattle.zk_history.specs.Fits.{AskedFits, Fits, IsCountable, IsMoment, UpdateFits};
 
 use crate::ended::session_ended;
 use crate::outcome::Commit;
+use crate::past::Past;
 use crate::requests::commit;
 use crate::session::Session;
-use crate::shown::{connect, frame, opening, request};
 use crate::state::State;
 use std::alloc::Global;
+use zk_model::Body;
 use zk_plain::{Fault, Turn, begin};
 use zk_transcript::{TranscriptLine, UpdateKind, UpdateRec};
 use zx_base::{Memory, Seq};
@@ -44,18 +46,18 @@ fn turn(session: i64, zxid: i64, moment: u64) -> Result<Turn, Fault>
 }
 
 /// The session that a connection acts for behind these lines, and whether it has lapsed: 0 where they show no connect of it.
-pub fn attached_to(before: &[TranscriptLine], connection: u32, state: &State) -> Option<(i64, bool)>
-    ensures { result ≡ option_map (λ e. (e.0, e.1.lapsed)) (attached_as before.now connection state.now) }
+pub fn attached_to(before: &Past, connection: u32, state: &State) -> Option<(i64, bool)>
+    ensures { result ≡ option_map (λ e. (e.0, e.1.lapsed)) (attached_as (lines_of before.now) connection state.now) }
 {
-    match frame(before, connection, 0) {
+    match before.frame(connection, 0) {
         Some(_) => state.attached_to(connection),
         None => Some((0, false)),
     }
 }
 
 /// The session that the requests of a connection are made under.
-fn session_of(before: &[TranscriptLine], connection: u32, state: &State) -> Option<i64>
-    ensures { result ≡ session_of before.now connection state.now }
+fn session_of(before: &Past, connection: u32, state: &State) -> Option<i64>
+    ensures { result ≡ session_of (lines_of before.now) connection state.now }
 {
     let (session, _) = attached_to(before, connection, state)?;
     Some(session)
@@ -75,17 +77,17 @@ fn begun(alloc: Global, zxid: i64, moment: u64) -> Result<State, Fault>
 #[tactic(auto, unfolding(zk_transcript::specs::History::updated))]
 fn session_begun(
     alloc: Global,
-    before: &[TranscriptLine],
+    before: &Past,
     state: State,
     zxid: i64,
     id: i64,
     connection: u32,
 ) -> Result<State, Fault>
-    ensures ok { IfOk result (λ s. s ≡ updated before.now state zxid (kind.Session id connection)) }
+    ensures ok { IfOk result (λ s. s ≡ updated (lines_of before.now) state zxid (kind.Session id connection)) }
     ensures beyond { IfErr result (BeyondUnless (IsCountable state)) }
 {
-    let asked = connect(alloc, before, connection)?;
-    let session = Session::new(alloc, opening(before, connection), &asked, connection, zxid)?;
+    let asked = before.connect(alloc, connection)?;
+    let session = Session::new(alloc, before.opening(connection), &asked, connection, zxid)?;
     state
         .with_session(id, session)?
         .advanced(zxid, Seq::new(alloc))
@@ -126,36 +128,63 @@ fn attached(
 }
 
 /// What the request of a frame does at this zxid and moment, in milliseconds, where it is not refused; faults as in [`change`].
-pub fn asked_commit(
+pub fn planned_commit(
     alloc: Global,
-    before: &[TranscriptLine],
+    before: &Past,
     state: &State,
     zxid: i64,
     connection: u32,
     index: u64,
     moment: u64,
 ) -> Result<Option<Commit>, Fault>
-    ensures ok { IfOk result (λ o. option_map commit_of o ≡ asked_commit before.now state.now zxid connection index moment) }
-    ensures beyond { IfErr result (BeyondUnless (IsMoment moment × AskedFits state.now.tree (session_of before.now connection state.now) (request connection index before.now) zxid moment)) }
+    ensures ok { IfOk result (λ o. option_map (commit_of state.now.tree) o ≡ asked_commit (lines_of before.now) state.now zxid connection index moment) }
+    ensures beyond { IfErr result (BeyondUnless (IsMoment moment × AskedFits state.now.tree (session_of (lines_of before.now) connection state.now) (request connection index (lines_of before.now)) zxid moment)) }
 {
     let Some(session) = session_of(before, connection, state) else {
         return Ok(None);
     };
-    let Some(asked) = request(alloc, before, connection, index)? else {
+    let Some(asked) = before.request(alloc, connection, index)? else {
         return Ok(None);
     };
     let turn = turn(session, zxid, moment)?;
     Ok(commit(alloc, state.tree(), &turn, asked)?)
 }
 
+/// What an update made of the state, and the body of the reply to the request that it carried out.
+#[derive(Debug, Drop)]
+pub struct Applied {
+    pub state: State,
+    pub response: Option<Body>,
+}
+
+/// The state after an update that carried out no request.
+fn silent(state: State) -> Applied
+    ensures { (result.state ≡ state) × (result.response ≡ None) }
+{
+    Applied {
+        state,
+        response: None,
+    }
+}
+
 /// The state after what a request did: as it was, where the request was refused.
-fn committed(state: State, zxid: i64, done: Option<Commit>) -> Result<State, Fault>
-    ensures ok { IfOk result (λ s. s ≡ committed state zxid (option_map commit_of done)) }
+fn committed(alloc: Global, state: State, zxid: i64, done: Option<Commit>) -> Result<Applied, Fault>
+    ensures ok { IfOk result (λ a. a.state ≡ committed state zxid (option_map (commit_of state.tree) done)) }
+    ensures response { IfOk result (λ a. a.response ≡ option_map (λ c. c.response) (option_map (commit_of state.tree) done)) }
     ensures beyond { IfErr result (BeyondUnless (IsCountable state)) }
 {
     match done {
-        None => Ok(state),
-        Some(Commit { tree, triggers, .. }) => state.with_tree(tree).advanced(zxid, triggers),
+        None => Ok(silent(state)),
+        Some(
+            Commit {
+                response,
+                change,
+                triggers,
+            },
+        ) => Ok(Applied {
+            state: state.changed(alloc, change)?.advanced(zxid, triggers)?,
+            response: Some(response),
+        }),
     }
 }
 
@@ -163,18 +192,19 @@ fn committed(state: State, zxid: i64, done: Option<Commit>) -> Result<State, Fau
 #[tactic(auto, unfolding(zk_transcript::specs::History::updated))]
 fn asked(
     alloc: Global,
-    before: &[TranscriptLine],
+    before: &Past,
     state: State,
     zxid: i64,
     connection: u32,
     index: u64,
     moment: u64,
-) -> Result<State, Fault>
-    ensures ok { IfOk result (λ s. s ≡ updated before.now state zxid (kind.Asked connection index moment)) }
-    ensures beyond { IfErr result (BeyondUnless (IsCountable state × IsMoment moment × AskedFits state.tree (session_of before.now connection state) (request connection index before.now) zxid moment)) }
+) -> Result<Applied, Fault>
+    ensures ok { IfOk result (λ a. a.state ≡ updated (lines_of before.now) state zxid (kind.Asked connection index moment)) }
+    ensures response { IfOk result (λ a. a.response ≡ response_in (lines_of before.now) state zxid (kind.Asked connection index moment)) }
+    ensures beyond { IfErr result (BeyondUnless (IsCountable state × IsMoment moment × AskedFits state.tree (session_of (lines_of before.now) connection state) (request connection index (lines_of before.now)) zxid moment)) }
 {
-    let done = asked_commit(alloc, before, &state, zxid, connection, index, moment)?;
-    Ok(committed(state, zxid, done)?)
+    let done = planned_commit(alloc, before, &state, zxid, connection, index, moment)?;
+    Ok(committed(alloc, state, zxid, done)?)
 }
 
 /// The state after a session ended, closed or reaped.
@@ -188,31 +218,27 @@ fn ended(alloc: Global, state: State, zxid: i64, id: i64) -> Result<State, Fault
 }
 
 /// The state after an update.
-fn updated(
-    alloc: Global,
-    before: &[TranscriptLine],
-    state: State,
-    update: &UpdateRec,
-) -> Result<State, Fault>
-    ensures ok { IfOk result (λ s. s ≡ updated before.now state update.now.zxid update.now.kind) }
-    ensures beyond { IfErr result (BeyondUnless (IsCountable state × UpdateFits before.now state update.now.zxid update.now.kind)) }
+fn updated(alloc: Global, before: &Past, state: State, update: &UpdateRec) -> Result<Applied, Fault>
+    ensures ok { IfOk result (λ a. a.state ≡ updated (lines_of before.now) state update.now.zxid update.now.kind) }
+    ensures response { IfOk result (λ a. a.response ≡ response_in (lines_of before.now) state update.now.zxid update.now.kind) }
+    ensures beyond { IfErr result (BeyondUnless (IsCountable state × UpdateFits (lines_of before.now) state update.now.zxid update.now.kind)) }
 {
     let zxid = update.zxid;
     match update.kind {
-        UpdateKind::Begin { now } => Ok(begun(alloc, zxid, now)?),
-        UpdateKind::Session { id, connection } => Ok(session_begun(
+        UpdateKind::Begin { now } => Ok(silent(begun(alloc, zxid, now)?)),
+        UpdateKind::Session { id, connection } => Ok(silent(session_begun(
             alloc, before, state, zxid, id, connection,
-        )?),
+        )?)),
         UpdateKind::Attach { id, connection } => {
-            Ok(attached(alloc, state, zxid, id, connection)?)
+            Ok(silent(attached(alloc, state, zxid, id, connection)?))
         }
         UpdateKind::Asked {
             connection,
             index,
             now,
         } => Ok(asked(alloc, before, state, zxid, connection, index, now)?),
-        UpdateKind::Closed { id, .. } => Ok(ended(alloc, state, zxid, id)?),
-        UpdateKind::Reaped { id } => Ok(ended(alloc, state, zxid, id)?),
+        UpdateKind::Closed { id, .. } => Ok(silent(ended(alloc, state, zxid, id)?)),
+        UpdateKind::Reaped { id } => Ok(silent(ended(alloc, state, zxid, id)?)),
     }
 }
 
@@ -229,20 +255,34 @@ fn lapsed(alloc: Global, state: State, id: i64) -> Result<State, Memory>
     }
 }
 
-/// The state after a line that stands behind these. `Beyond` where a moment, a count of the tree or the number of updates is
-/// beyond its field, as in no transcript of a run.
+/// What a line that stands behind these makes of the state, which is changed in place. `Beyond` where a moment, a count of the
+/// tree or the number of updates is beyond its field, as in no transcript of a run.
+pub fn apply(
+    alloc: Global,
+    before: &Past,
+    state: State,
+    line: &TranscriptLine,
+) -> Result<Applied, Fault>
+    ensures ok { IfOk result (λ a. a.state ≡ change (lines_of before.now) state line.now) }
+    ensures response { IfOk result (λ a. a.response ≡ response_to (lines_of before.now) state line.now) }
+    ensures beyond { IfErr result (BeyondUnless (IsCountable state × Fits (lines_of before.now) state line.now)) }
+{
+    match line {
+        TranscriptLine::Update(update) => Ok(updated(alloc, before, state, update)?),
+        TranscriptLine::Lapse { id, .. } => Ok(silent(lapsed(alloc, state, *id)?)),
+        _ => Ok(silent(state)),
+    }
+}
+
+/// The state after a line, as [`apply`] leaves it.
 pub fn change(
     alloc: Global,
-    before: &[TranscriptLine],
+    before: &Past,
     state: State,
     line: &TranscriptLine,
 ) -> Result<State, Fault>
-    ensures ok { IfOk result (λ s. s ≡ change before.now state line.now) }
-    ensures beyond { IfErr result (BeyondUnless (IsCountable state × Fits before.now state line.now)) }
+    ensures ok { IfOk result (λ s. s ≡ change (lines_of before.now) state line.now) }
+    ensures beyond { IfErr result (BeyondUnless (IsCountable state × Fits (lines_of before.now) state line.now)) }
 {
-    match line {
-        TranscriptLine::Update(update) => { Ok(updated(alloc, before, state, update)?) }
-        TranscriptLine::Lapse { id, .. } => Ok(lapsed(alloc, state, *id)?),
-        _ => Ok(state),
-    }
+    Ok(apply(alloc, before, state, line)?.state)
 }

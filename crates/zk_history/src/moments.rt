@@ -1,28 +1,48 @@
 //! The state after a transcript, and at each of its moments.
 
-ghost use Rattle.std.specs.Prelude.{◌≡◌, take, IfOk, IfErr};
-ghost use Rattle.zk_transcript.specs.History.{after, state_at};
+ghost use Rattle.std.specs.Prelude.{◌≡◌, take, option_map, IfOk, IfErr};
+ghost use Rattle.zk_transcript.specs.History.{after, asked_commit, state_at};
 ghost use Rattle.zk_plain.specs.Faults.{BeyondUnless};
+ghost use Rattle.zk_history.specs.Commits.{commit_of};
 ghost use Rattle.zk_history.specs.Fits.{AllFit};
 
-use crate::lines::change;
+use crate::lines::{change, planned_commit};
+use crate::outcome::Commit;
+use crate::past::Past;
 use crate::state::State;
 use std::alloc::Global;
 use zk_plain::Fault;
 use zk_transcript::TranscriptLine;
 
-/// The state after the updates and lapses among these lines; faults as in [`change`]. Goes through the lines before each
-/// line again.
+/// The state after the updates and lapses among these lines; faults as in [`change`].
 #[tactic(auto, unfolding(zk_transcript::specs::History::after))]
 pub fn after(alloc: Global, lines: &[TranscriptLine]) -> Result<State, Fault>
     ensures ok { IfOk result (λ s. s ≡ after lines.now) }
     ensures beyond { IfErr result (BeyondUnless (AllFit lines.now)) }
 {
+    let mut past = Past::new(alloc, lines);
     let mut state = State::new(alloc);
-    for (place, line) in lines.iter().enumerate() {
-        state = change(alloc, &lines[..place], state, line)?;
+    for line in lines {
+        state = change(alloc, &past, state, line)?;
+        past = past.advanced()?;
     }
     Ok(state)
+}
+
+/// What the request of a frame does behind these lines, as [`planned_commit`]. It goes over the lines once more.
+pub fn asked_commit(
+    alloc: Global,
+    before: &[TranscriptLine],
+    state: &State,
+    zxid: i64,
+    connection: u32,
+    index: u64,
+    moment: u64,
+) -> Result<Option<Commit>, Fault>
+    ensures { IfOk result (λ o. option_map (commit_of state.now.tree) o ≡ asked_commit before.now state.now zxid connection index moment) }
+{
+    let past = Past::behind(alloc, before)?;
+    Ok(planned_commit(alloc, &past, state, zxid, connection, index, moment)?)
 }
 
 /// The state at a moment: after so many of the lines.

@@ -1,15 +1,42 @@
 //! What a request does to the state.
 
+ghost use Rattle.std.specs.Prelude.{◌≡◌, IfOk};
+ghost use Rattle.zk_history.specs.Commits.{changed};
+
+use std::alloc::Global;
 use zk_model::{Body, Trigger};
-use zk_plain::Tree;
-use zx_base::Seq;
+use zk_plain::{Edit, Tree};
+use zx_base::{Memory, Seq};
+
+/// What becomes of a tree.
+#[derive(Debug, Drop)]
+pub enum Change {
+    Edited(Option<Edit>),
+    Replaced(Tree),
+}
+
+impl Change {
+    /// The tree with this change carried out in place.
+    pub fn carried_out(self, alloc: Global, tree: Tree) -> Result<Tree, Memory>
+        ensures { IfOk result (λ t. t ≡ changed tree self) }
+    {
+        match self {
+            Change::Edited(edit) => {
+                let mut next = tree;
+                next.carry_out_if(alloc, edit)?;
+                Ok(next)
+            }
+            Change::Replaced(next) => Ok(next),
+        }
+    }
+}
 
 /// What an update that is not refused does.
 #[derive(Debug, Drop)]
 pub struct Commit {
     /// The body of its reply.
     pub response: Body,
-    pub tree: Tree,
+    pub change: Change,
     /// What watches see of it, in order.
     pub triggers: Seq<Trigger>,
 }

@@ -4,12 +4,13 @@ ghost use Rattle.std.specs.Prelude.{◌≡◌, option_map, IfOk, IfErr};
 ghost use Rattle.zk_transcript.specs.History.{response_of, commit_single, commit_several, commit};
 ghost use Rattle.zk_model.specs.Single.{single};
 ghost use Rattle.zk_model.specs.Multi.{several};
+ghost use Rattle.zk_model.specs.Znodes.{Tree as Nodes};
 ghost use Rattle.zk_plain.specs.Faults.{BeyondUnless, StaysWithin};
 ghost use Rattle.zk_plain.specs.Outcomes.{outcome_of, several_as};
 ghost use Rattle.zk_history.specs.Commits.{commit_of};
 ghost use Rattle.zk_history.specs.Fits.{PartFits, RequestFits};
 
-use crate::outcome::Commit;
+use crate::outcome::{Change, Commit};
 use std::alloc::Global;
 use zk_model::{Body, Part, PartResult, Request};
 use zk_plain::{Fault, Outcome, Transaction, Tree, Turn, several, single};
@@ -28,17 +29,17 @@ fn response_of(outcome: PartResult) -> Body
 
 /// What an outcome does, where it is none of a refusal.
 fn done(outcome: Outcome) -> Option<Commit>
-    ensures { option_map commit_of result ≡ commit_single (outcome_of outcome) }
+    ensures { (t : Nodes) → option_map (commit_of t) result ≡ commit_single (outcome_of t outcome) }
 {
     match outcome {
         Outcome::Refused(_) => None,
         Outcome::Done {
             result: given,
-            tree,
+            edit,
             triggers,
         } => Some(Commit {
             response: response_of(given),
-            tree,
+            change: Change::Edited(edit),
             triggers,
         }),
     }
@@ -50,7 +51,7 @@ fn commit_single(
     turn: &Turn,
     part: &Part,
 ) -> Result<Option<Commit>, Fault>
-    ensures ok { IfOk result (λ o. option_map commit_of o ≡ commit_single (single tree.now turn.now.limit turn.now.session part.now turn.now.zxid turn.now.moment)) }
+    ensures ok { IfOk result (λ o. option_map (commit_of tree.now) o ≡ commit_single (single tree.now turn.now.limit turn.now.session part.now turn.now.zxid turn.now.moment)) }
     ensures beyond { IfErr result (BeyondUnless (PartFits tree.now part.now)) }
 {
     Ok(done(single(alloc, tree, turn, part)?))
@@ -58,7 +59,7 @@ fn commit_single(
 
 /// What a transaction does, where all its parts succeed.
 fn all_done(transaction: Transaction) -> Option<Commit>
-    ensures { option_map commit_of result ≡ commit_several (several_as transaction) }
+    ensures { (t : Nodes) → option_map (commit_of t) result ≡ commit_several (several_as transaction) }
 {
     match transaction {
         Transaction::Denied(_) => None,
@@ -69,7 +70,7 @@ fn all_done(transaction: Transaction) -> Option<Commit>
             triggers,
         } => Some(Commit {
             response: Body::Parts(results),
-            tree,
+            change: Change::Replaced(tree),
             triggers,
         }),
     }
@@ -81,7 +82,7 @@ fn commit_several(
     turn: &Turn,
     parts: &[Part],
 ) -> Result<Option<Commit>, Fault>
-    ensures ok { IfOk result (λ o. option_map commit_of o ≡ commit_several (several tree.now turn.now.limit turn.now.session parts.now turn.now.zxid turn.now.moment)) }
+    ensures ok { IfOk result (λ o. option_map (commit_of tree.now) o ≡ commit_several (several tree.now turn.now.limit turn.now.session parts.now turn.now.zxid turn.now.moment)) }
     ensures beyond { IfErr result (BeyondUnless (StaysWithin tree.now turn.now.limit turn.now.session parts.now turn.now.zxid turn.now.moment)) }
 {
     Ok(all_done(several(alloc, tree, turn, parts)?))
@@ -95,7 +96,7 @@ pub fn commit(
     turn: &Turn,
     request: Request,
 ) -> Result<Option<Commit>, Fault>
-    ensures ok { IfOk result (λ o. option_map commit_of o ≡ commit tree.now turn.now.limit turn.now.session request turn.now.zxid turn.now.moment) }
+    ensures ok { IfOk result (λ o. option_map (commit_of tree.now) o ≡ commit tree.now turn.now.limit turn.now.session request turn.now.zxid turn.now.moment) }
     ensures beyond { IfErr result (BeyondUnless (RequestFits tree.now turn.now.limit turn.now.session request turn.now.zxid turn.now.moment)) }
 {
     match request {

@@ -1,17 +1,19 @@
 //! What the lines of a transcript show of a connection: the first line that shows it.
 
 ghost use Rattle.std.specs.Prelude.{◌≡◌, option_map, IfOk};
-ghost use Rattle.zk_transcript.specs.History.{open_shown, opening, frame_shown, frame, connect, request, asked_in};
+ghost use Rattle.zk_transcript.specs.History.{open_shown, frame_shown, frame, connect, request, asked_in};
 ghost use Rattle.zk_jute.specs.Connects.{read_connect};
 ghost use Rattle.zk_jute.specs.Requests.{read_request};
 
+use crate::past::Past;
 use std::alloc::Global;
 use zk_model::{ConnectRequest, Request};
 use zk_transcript::TranscriptLine;
 use zk_wire::{WireFault, read_connect, read_request};
 use zx_base::Memory;
 
-fn open_shown(line: &TranscriptLine, connection: u32) -> Option<(i64, [u8; 16])>
+/// The number and the password that a connection offers for a new session, where this is its line.
+pub fn open_shown(line: &TranscriptLine, connection: u32) -> Option<(i64, [u8; 16])>
     ensures { result ≡ open_shown connection line.now }
 {
     match line {
@@ -23,18 +25,6 @@ fn open_shown(line: &TranscriptLine, connection: u32) -> Option<(i64, [u8; 16])>
         } if connection == *opened => Some((*id, *passwd)),
         _ => None,
     }
-}
-
-/// The number and the password that a connection offers for a new session.
-pub fn opening(lines: &[TranscriptLine], connection: u32) -> Option<(i64, [u8; 16])>
-    ensures { result ≡ opening connection lines.now }
-{
-    for line in lines {
-        if let Some(shown) = open_shown(line, connection) {
-            return Some(shown);
-        }
-    }
-    None
 }
 
 /// The bytes of a frame, where this is its line.
@@ -100,17 +90,31 @@ fn request_of(alloc: Global, bytes: &[u8]) -> Result<Option<Request>, Memory>
     }
 }
 
-/// The request of a frame, where it is readable.
-pub fn request(
-    alloc: Global,
-    lines: &[TranscriptLine],
-    connection: u32,
-    index: u64,
-) -> Result<Option<Request>, Memory>
-    ensures { IfOk result (λ r. r ≡ request connection index lines.now) }
-{
-    match frame(lines, connection, index) {
-        Some(bytes) => request_of(alloc, bytes),
-        None => Ok(None),
+impl<'a> Past<'a> {
+    ghost use Rattle.zk_history.specs.Pasts.{lines_of};
+
+    /// The connect request of a connection, where it is readable.
+    pub fn connect(&self, alloc: Global, connection: u32) -> Result<Option<ConnectRequest>, Memory>
+        ensures { IfOk result (λ r. r ≡ connect connection (lines_of self.now)) }
+    {
+        match self.frame(connection, 0) {
+            Some(bytes) => connect_of(alloc, bytes),
+            None => Ok(None),
+        }
+    }
+
+    /// The request of a frame, where it is readable.
+    pub fn request(
+        &self,
+        alloc: Global,
+        connection: u32,
+        index: u64,
+    ) -> Result<Option<Request>, Memory>
+        ensures { IfOk result (λ r. r ≡ request connection index (lines_of self.now)) }
+    {
+        match self.frame(connection, index) {
+            Some(bytes) => request_of(alloc, bytes),
+            None => Ok(None),
+        }
     }
 }

@@ -2,14 +2,17 @@
 
 ghost use Rattle.std.specs.Prelude.{◌≡◌, [], ◌+◌, ◌<◌, option_map, IfOk, IfErr};
 ghost use Rattle.std.specs.FinMap.{empty, insert, remove};
-ghost use Rattle.zk_transcript.specs.History.{advanced, attached_session, nothing_yet, session_at};
+ghost use Rattle.zk_transcript.specs.History.{advanced, attached_session, nothing_yet, removed_all, session_at};
+ghost use Rattle.zk_history.specs.Commits.{changed};
 ghost use Rattle.zk_plain.specs.Faults.{BeyondUnless};
 
+use crate::ended::removed_all;
+use crate::outcome::Change;
 use crate::session::Session;
 use crate::sessions::Sessions;
 use std::alloc::Global;
 use std::marker::Model;
-use zk_model::Trigger;
+use zk_model::{Path, Trigger};
 use zk_plain::{Fault, Tree};
 use zx_base::{Memory, Seq};
 
@@ -87,17 +90,30 @@ impl State {
         })
     }
 
-    /// The state with another tree.
-    pub fn with_tree(self, tree: Tree) -> State
-        ensures { result ≡ record self { tree = tree } }
+    /// The state with a change of its tree, which is carried out in place.
+    pub fn changed(self, alloc: Global, change: Change) -> Result<State, Memory>
+        ensures { IfOk result (λ s. s ≡ record self { tree = changed self.tree change }) }
     {
-        State {
-            tree,
+        Ok(State {
+            tree: change.carried_out(alloc, self.tree)?,
             zxid: self.zxid,
             updates: self.updates,
             triggers: self.triggers,
             sessions: self.sessions,
-        }
+        })
+    }
+
+    /// The state without these nodes, removed one by one at one zxid.
+    pub fn without_nodes(self, alloc: Global, paths: &[Path], zxid: i64) -> Result<State, Memory>
+        ensures { IfOk result (λ s. s ≡ record self { tree = removed_all self.tree paths.now zxid }) }
+    {
+        Ok(State {
+            tree: removed_all(alloc, self.tree, paths, zxid)?,
+            zxid: self.zxid,
+            updates: self.updates,
+            triggers: self.triggers,
+            sessions: self.sessions,
+        })
     }
 
     /// The state with this session open under its number.

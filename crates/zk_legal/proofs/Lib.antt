@@ -1,1 +1,4 @@
 pub mod NoFault
+pub mod Counting
+pub mod Steps
+pub mod WithoutFault

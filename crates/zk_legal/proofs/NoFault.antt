@@ -1,13 +1,13 @@
 -- Lines without a fault are a legal history, in order.
-use Rattle.std.proofs.Common.{◌≡◌, ℕ, ◌+◌, Bool, true, false, ◌&&◌, ◌||◌, inl, inr, List, [], ◌∷◌, ◌++◌, length, Option, Some, None, refl, ap, sym, ◌∙◌, arith}
-use Rattle.std.proofs.lemmas.Bool.{and_from, and_parts, cases_Bool}
+use Rattle.std.proofs.Common.{◌≡◌, ◌+◌, Bool, true, false, ◌||◌, inl, inr, List, [], ◌∷◌, ◌++◌, length, Some, None, refl, sym, ◌∙◌, arith}
+use Rattle.std.proofs.lemmas.Bool.{and_from, cases_Bool}
 use Rattle.std.proofs.lemmas.Grind.{common_steps}
 use Rattle.zk_transcript.specs.declared.transcript.TranscriptLine.{TranscriptLine}
 use Rattle.zk_transcript.specs.declared.transcript.TranscriptLine.TheVariants as line
 use Rattle.zk_transcript.specs.History.{State, change, nothing_yet}
 use Rattle.zk_transcript.specs.Legal.{begins, is_begin, is_in_order, is_legal, is_legal_from, is_legal_line, is_ordered, is_ordered_from}
-use Rattle.zk_legal.specs.Formed.{has_begun, is_formed_line}
-use Rattle.zk_legal.specs.Faults.{comes_after_begin, has_event, history_fault, history_fault_from, is_history_line, is_in_range, or_empty, order_fault, order_fault_from}
+use Rattle.zk_legal.specs.Formed.{has_begun}
+use Rattle.zk_legal.specs.Faults.{comes_after_begin, has_event, history_fault, history_fault_from, is_history_line, or_empty, order_fault, order_fault_from}
 
 legal-line : (before : List TranscriptLine) (s : State) (l : TranscriptLine) → is_history_line before s l ≡ true → is_legal_line before s l ≡ true
 unfolding is_history_line
@@ -18,7 +18,7 @@ unfolding is_history_line
 after_begin-line before s l holds = grind (arith, common_steps)
 
 -- a first line without a fault, and those behind it
-first : (before : List TranscriptLine) (s : State) (l : TranscriptLine) (ls : List TranscriptLine) → history_fault_from before s (l ∷ ls) ≡ None →
+pub first : (before : List TranscriptLine) (s : State) (l : TranscriptLine) (ls : List TranscriptLine) → history_fault_from before s (l ∷ ls) ≡ None →
     (is_history_line before s l ≡ true) × (history_fault_from (before ++ l ∷ []) (change before s l) ls ≡ None)
 first before s l ls none = elim (cases_Bool (is_history_line before s l)) [
   | inl holds ↦ (holds, rw holds at none)
@@ -51,7 +51,7 @@ begins-from before s (line.Send c bytes ∷ ls) new event none = begins-from (be
 begins-from before s (line.Close c end ∷ ls) new event none = begins-from (before ++ line.Close c end ∷ []) s ls new event (first before s (line.Close c end) ls none).1
 
 -- no fault, and an update or a lapse
-no_fault : (lines : List TranscriptLine) → history_fault lines ≡ None → (has_event lines ≡ true) × (history_fault_from [] nothing_yet lines ≡ None)
+pub no_fault : (lines : List TranscriptLine) → history_fault lines ≡ None → (has_event lines ≡ true) × (history_fault_from [] nothing_yet lines ≡ None)
 unfolding history_fault
 no_fault lines none =
     elim (history_fault_from [] nothing_yet lines) as (λ o. or_empty lines o ≡ None → (has_event lines ≡ true) × (o ≡ None)) [

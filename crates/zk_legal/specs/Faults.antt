@@ -1,6 +1,6 @@
 -- The first line at which a transcript is no run of the service: by its form and its updates, and by the order of each
 -- connection's requests.
-use Rattle.std.specs.Prelude.{ℕ, ◌+◌, Bool, true, false, not, ◌&&◌, ◌||◌, List, [], ◌∷◌, ◌++◌, length, nat_le, int_le, pos, Option, Some, None, if◌then◌else◌}
+use Rattle.std.specs.Prelude.{ℕ, ◌+◌, Bool, true, false, ◌&&◌, ◌||◌, List, [], ◌∷◌, ◌++◌, length, nat_le, int_le, pos, Option, Some, None, if◌then◌else◌}
 use Rattle.zk_transcript.specs.declared.transcript.UpdateKind.{UpdateKind}
 use Rattle.zk_transcript.specs.declared.transcript.UpdateKind.TheVariants.{Begin, Asked}
 use Rattle.zk_transcript.specs.declared.transcript.TranscriptLine.{TranscriptLine}

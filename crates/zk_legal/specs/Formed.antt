@@ -1,8 +1,8 @@
 -- Formed transcripts: each line stands where a run of the service can have written it, whatever the tree.
-use Rattle.std.specs.Prelude.{ℕ, ℤ, ◌+◌, Bool, true, false, not, ◌&&◌, List, [], ◌∷◌, length, nat_le, ◌==◌, Option, Some, None, is_some, if◌then◌else◌}
+use Rattle.std.specs.Prelude.{ℕ, ℤ, ◌+◌, Bool, true, false, not, ◌&&◌, List, [], ◌∷◌, length, nat_le, ◌==◌, is_some, if◌then◌else◌}
 use Rattle.std.specs.Ordering.{int_eq}
 use Rattle.zk_transcript.specs.declared.transcript.UpdateKind.{UpdateKind}
-use Rattle.zk_transcript.specs.declared.transcript.UpdateKind.TheVariants.{Begin, Session as NewSession, Attach, Asked, Closed, Reaped}
+use Rattle.zk_transcript.specs.declared.transcript.UpdateKind.TheVariants.{Session as NewSession, Attach, Asked, Closed}
 use Rattle.zk_transcript.specs.declared.transcript.TranscriptLine.{TranscriptLine}
 use Rattle.zk_transcript.specs.declared.transcript.TranscriptLine.TheVariants as line
 use Rattle.zk_transcript.specs.History.{State, opening, first_shown}

@@ -3,12 +3,15 @@
 ghost use Rattle.std.specs.Prelude.{◌≡◌, [], IfOk};
 ghost use Rattle.zk_transcript.specs.History.{change as change_of, nothing_yet};
 ghost use Rattle.zk_transcript.specs.Legal.{is_begin as is_begin_of};
+ghost use Rattle.zk_history.specs.Pasts.{lines_of};
+ghost use Rattle.zk_legal.specs.Counted.{AreCounts};
 ghost use Rattle.zk_legal.specs.Faults.{comes_after_begin as comes_after_begin_of, has_event as has_event_of, history_fault as history_fault_of, history_fault_from, is_event as is_event_of, is_history_line as is_history_line_of, is_in_range as is_in_range_of, is_moment as is_moment_of};
 
+use crate::counts::Counts;
 use crate::formed::{has_begun, is_formed_line};
 use crate::legal::is_legal_line;
 use std::alloc::Global;
-use zk_history::{State, change};
+use zk_history::{Past, State, change};
 use zk_model::limit::MAX_MOMENT;
 use zk_transcript::{TranscriptLine, UpdateKind};
 use zx_base::Memory;
@@ -56,13 +59,18 @@ fn comes_after_begin(state: &State, line: &TranscriptLine) -> bool
 #[tactic(auto, unfolding(crate::specs::Faults::is_history_line))]
 fn is_history_line(
     alloc: Global,
-    before: &[TranscriptLine],
+    before: &Past,
+    counts: &Counts,
     state: &State,
     line: &TranscriptLine,
 ) -> Result<bool, Memory>
-    ensures { IfOk result (λ b. b ≡ is_history_line_of before.now state.now line.now) }
+    requires { AreCounts (lines_of before.now) counts.now }
+    ensures { IfOk result (λ b. b ≡ is_history_line_of (lines_of before.now) state.now line.now) }
 {
-    if is_formed_line(before, state, line) && comes_after_begin(state, line) && is_in_range(line) {
+    if is_formed_line(before, counts, state, line)
+        && comes_after_begin(state, line)
+        && is_in_range(line)
+    {
         is_legal_line(alloc, before, state, line)
     } else {
         Ok(false)
@@ -94,11 +102,11 @@ fn has_event(lines: &[TranscriptLine]) -> bool
 /// The state after a line. Without memory, and where a number is beyond its field, there is no answer.
 fn changed(
     alloc: Global,
-    before: &[TranscriptLine],
+    before: &Past,
     state: State,
     line: &TranscriptLine,
 ) -> Result<State, Memory>
-    ensures { IfOk result (λ s. s ≡ change_of before.now state line.now) }
+    ensures { IfOk result (λ s. s ≡ change_of (lines_of before.now) state line.now) }
 {
     match change(alloc, before, state, line) {
         Ok(state) => Ok(state),
@@ -110,12 +118,16 @@ fn changed(
 fn first_fault(alloc: Global, lines: &[TranscriptLine]) -> Result<Option<u64>, Memory>
     ensures { IfOk result (λ n. n ≡ history_fault_from [] nothing_yet lines.now) }
 {
+    let mut past = Past::new(alloc, lines);
+    let mut counts = Counts::new(alloc);
     let mut state = State::new(alloc);
     for (place, line) in lines.iter().enumerate() {
-        if !is_history_line(alloc, &lines[..place], &state, line)? {
+        if !is_history_line(alloc, &past, &counts, &state, line)? {
             return Ok(Some(place as u64 + 1));
         }
-        state = changed(alloc, &lines[..place], state, line)?;
+        state = changed(alloc, &past, state, line)?;
+        counts = counts.noted(line)?;
+        past = past.advanced()?;
     }
     Ok(None)
 }

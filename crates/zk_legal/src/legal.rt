@@ -4,38 +4,33 @@ ghost use Rattle.std.specs.Prelude.{◌≡◌, ◌&&◌, is_none, is_some, IfOk}
 ghost use Rattle.zk_transcript.specs.History.{asked_commit as asked_commit_of, attached, frame as frame_of, opening as opening_of, session_at};
 ghost use Rattle.zk_transcript.specs.Legal.{asks_anew as asks_anew_of, is_close as is_close_of, is_id as is_id_of, is_lapsed as is_lapsed_of, is_legal_line as is_legal_line_of, is_live as is_live_of, is_live_as as is_live_as_of, is_next_zxid as is_next_zxid_of, is_resumed_by as is_resumed_by_of, is_small_frame as is_small_frame_of, is_within_parts as is_within_parts_of, may_attach as may_attach_of, may_update as may_update_of, offers as offers_of};
 ghost use Rattle.zk_transcript.specs.declared.transcript.UpdateKind.TheVariants as kind;
+ghost use Rattle.zk_history.specs.Pasts.{lines_of};
 
-use crate::attaching::attach_of;
 use std::alloc::Global;
-use zk_history::{State, asked_commit, attached_to, connect, frame, opening, request};
+use zk_history::{Past, State, attached_to, planned_commit};
 use zk_model::limit::{MAX_FRAME, MAX_PARTS};
 use zk_model::{ConnectRequest, Request};
 use zk_transcript::{TranscriptLine, UpdateKind};
 use zx_base::Memory;
 
 /// Whether a frame is there, within the limit.
-fn is_small_frame(before: &[TranscriptLine], connection: u32, index: u64) -> bool
-    ensures { result ≡ is_small_frame_of (frame_of connection index before.now) }
+fn is_small_frame(before: &Past, connection: u32, index: u64) -> bool
+    ensures { result ≡ is_small_frame_of (frame_of connection index (lines_of before.now)) }
 {
-    match frame(before, connection, index) {
+    match before.frame(connection, index) {
         None => false,
         Some(bytes) => bytes.len() <= MAX_FRAME,
     }
 }
 
 /// Whether a connection has no own line yet, and its connect has seen less than this zxid.
-fn may_attach(
-    before: &[TranscriptLine],
-    connection: u32,
-    zxid: i64,
-    asked: &Option<ConnectRequest>,
-) -> bool
-    ensures { result ≡ may_attach_of before.now connection zxid asked.now }
+fn may_attach(before: &Past, connection: u32, zxid: i64, asked: &Option<ConnectRequest>) -> bool
+    ensures { result ≡ may_attach_of (lines_of before.now) connection zxid asked.now }
 {
     match asked {
         None => false,
         Some(request) => {
-            attach_of(before, connection).is_none()
+            before.is_unattached(connection)
                 && is_small_frame(before, connection, 0)
                 && request.last_zxid < zxid
         }
@@ -83,8 +78,8 @@ fn is_resumed_by(id: i64, asked: &Option<ConnectRequest>, state: &State) -> bool
 }
 
 /// Whether a live session is attached to the connection.
-fn is_live(before: &[TranscriptLine], connection: u32, state: &State) -> bool
-    ensures { result ≡ is_live_of (attached before.now connection state.now) }
+fn is_live(before: &Past, connection: u32, state: &State) -> bool
+    ensures { result ≡ is_live_of (attached (lines_of before.now) connection state.now) }
 {
     match attached_to(before, connection, state) {
         None => false,
@@ -93,8 +88,8 @@ fn is_live(before: &[TranscriptLine], connection: u32, state: &State) -> bool
 }
 
 /// Whether this session is attached to the connection and live.
-fn is_live_as(id: i64, before: &[TranscriptLine], connection: u32, state: &State) -> bool
-    ensures { result ≡ is_live_as_of id (attached before.now connection state.now) }
+fn is_live_as(id: i64, before: &Past, connection: u32, state: &State) -> bool
+    ensures { result ≡ is_live_as_of id (attached (lines_of before.now) connection state.now) }
 {
     match attached_to(before, connection, state) {
         None => false,
@@ -131,36 +126,36 @@ fn is_lapsed(id: i64, state: &State) -> bool
 
 /// Whether a connect asks for a new session, and one may be attached to its connection.
 fn may_attach_anew(
-    before: &[TranscriptLine],
+    before: &Past,
     connection: u32,
     zxid: i64,
     asked: &Option<ConnectRequest>,
 ) -> bool
-    ensures { result ≡ (asks_anew_of asked.now && may_attach_of before.now connection zxid asked.now) }
+    ensures { result ≡ (asks_anew_of asked.now && may_attach_of (lines_of before.now) connection zxid asked.now) }
 {
     asks_anew(asked) && may_attach(before, connection, zxid, asked)
 }
 
 /// Whether a number is free, and the one that a connection offers.
-fn is_offered(before: &[TranscriptLine], state: &State, id: i64, connection: u32) -> bool
-    ensures { result ≡ (is_none (session_at id state.now) && is_id_of id && offers_of id (opening_of connection before.now)) }
+fn is_offered(before: &Past, state: &State, id: i64, connection: u32) -> bool
+    ensures { result ≡ (is_none (session_at id state.now) && is_id_of id && offers_of id (opening_of connection (lines_of before.now))) }
 {
-    state.session(id).is_none() && is_id(id) && offers(id, opening(before, connection))
+    state.session(id).is_none() && is_id(id) && offers(id, before.opening(connection))
 }
 
 /// Whether a new session may begin on a connection.
 #[tactic(auto, unfolding(zk_transcript::specs::Legal::may_update))]
 fn may_begin_session(
     alloc: Global,
-    before: &[TranscriptLine],
+    before: &Past,
     state: &State,
     zxid: i64,
     id: i64,
     connection: u32,
 ) -> Result<bool, Memory>
-    ensures { IfOk result (λ b. b ≡ may_update_of before.now state.now zxid (kind.Session id connection)) }
+    ensures { IfOk result (λ b. b ≡ may_update_of (lines_of before.now) state.now zxid (kind.Session id connection)) }
 {
-    let asked = connect(alloc, before, connection)?;
+    let asked = before.connect(alloc, connection)?;
     Ok(
         is_offered(before, state, id, connection)
             && may_attach_anew(before, connection, zxid, &asked),
@@ -171,31 +166,31 @@ fn may_begin_session(
 #[tactic(auto, unfolding(zk_transcript::specs::Legal::may_update))]
 fn may_attach_session(
     alloc: Global,
-    before: &[TranscriptLine],
+    before: &Past,
     state: &State,
     zxid: i64,
     id: i64,
     connection: u32,
 ) -> Result<bool, Memory>
-    ensures { IfOk result (λ b. b ≡ may_update_of before.now state.now zxid (kind.Attach id connection)) }
+    ensures { IfOk result (λ b. b ≡ may_update_of (lines_of before.now) state.now zxid (kind.Attach id connection)) }
 {
-    let asked = connect(alloc, before, connection)?;
+    let asked = before.connect(alloc, connection)?;
     Ok(is_resumed_by(id, &asked, state) && may_attach(before, connection, zxid, &asked))
 }
 
 /// Whether a request does something. Without memory, and where a number is beyond its field, there is no answer.
 fn is_committed(
     alloc: Global,
-    before: &[TranscriptLine],
+    before: &Past,
     state: &State,
     zxid: i64,
     connection: u32,
     index: u64,
     now: u64,
 ) -> Result<bool, Memory>
-    ensures { IfOk result (λ b. b ≡ is_some (asked_commit_of before.now state.now zxid connection index now)) }
+    ensures { IfOk result (λ b. b ≡ is_some (asked_commit_of (lines_of before.now) state.now zxid connection index now)) }
 {
-    match asked_commit(alloc, before, state, zxid, connection, index, now) {
+    match planned_commit(alloc, before, state, zxid, connection, index, now) {
         Ok(None) => Ok(false),
         Ok(Some(_)) => Ok(true),
         Err(_) => Err(Memory),
@@ -206,16 +201,16 @@ fn is_committed(
 #[tactic(auto, unfolding(zk_transcript::specs::Legal::may_update))]
 fn may_ask(
     alloc: Global,
-    before: &[TranscriptLine],
+    before: &Past,
     state: &State,
     zxid: i64,
     connection: u32,
     index: u64,
     now: u64,
 ) -> Result<bool, Memory>
-    ensures { IfOk result (λ b. b ≡ may_update_of before.now state.now zxid (kind.Asked connection index now)) }
+    ensures { IfOk result (λ b. b ≡ may_update_of (lines_of before.now) state.now zxid (kind.Asked connection index now)) }
 {
-    let asked = request(alloc, before, connection, index)?;
+    let asked = before.request(alloc, connection, index)?;
     if is_live(before, connection, state)
         && 0 < index
         && is_small_frame(before, connection, index)
@@ -231,16 +226,16 @@ fn may_ask(
 #[tactic(auto, unfolding(zk_transcript::specs::Legal::may_update))]
 fn may_close(
     alloc: Global,
-    before: &[TranscriptLine],
+    before: &Past,
     state: &State,
     zxid: i64,
     id: i64,
     connection: u32,
     index: u64,
 ) -> Result<bool, Memory>
-    ensures { IfOk result (λ b. b ≡ may_update_of before.now state.now zxid (kind.Closed id connection index)) }
+    ensures { IfOk result (λ b. b ≡ may_update_of (lines_of before.now) state.now zxid (kind.Closed id connection index)) }
 {
-    let asked = request(alloc, before, connection, index)?;
+    let asked = before.request(alloc, connection, index)?;
     Ok(
         is_id(id)
             && is_live_as(id, before, connection, state)
@@ -254,12 +249,12 @@ fn may_close(
 #[tactic(auto, unfolding(zk_transcript::specs::Legal::may_update))]
 fn may_update(
     alloc: Global,
-    before: &[TranscriptLine],
+    before: &Past,
     state: &State,
     zxid: i64,
     kind: UpdateKind,
 ) -> Result<bool, Memory>
-    ensures { IfOk result (λ b. b ≡ may_update_of before.now state.now zxid kind) }
+    ensures { IfOk result (λ b. b ≡ may_update_of (lines_of before.now) state.now zxid kind) }
 {
     match kind {
         UpdateKind::Begin { .. } => Ok(state.updates() == 0),
@@ -293,11 +288,11 @@ fn is_next_zxid(state: &State, zxid: i64) -> bool
 /// Whether the service could make the update of this line behind these, which led to this state.
 pub fn is_legal_line(
     alloc: Global,
-    before: &[TranscriptLine],
+    before: &Past,
     state: &State,
     line: &TranscriptLine,
 ) -> Result<bool, Memory>
-    ensures { IfOk result (λ b. b ≡ is_legal_line_of before.now state.now line.now) }
+    ensures { IfOk result (λ b. b ≡ is_legal_line_of (lines_of before.now) state.now line.now) }
 {
     match line {
         TranscriptLine::Update(update) => {

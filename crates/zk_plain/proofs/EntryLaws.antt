@@ -15,7 +15,11 @@ use Rattle.zx_base.proofs.MapLaws.{ext, either, same-refl, same-false, get-retai
 use Rattle.zk_model.specs.declared.node.Node.{Node}
 use Rattle.zk_model.specs.Paths.{last_name}
 use Rattle.zk_model.specs.Znodes.{Tree}
-use Rattle.zk_plain.specs.Entries.{order, Entries, tree_of, others}
+use Rattle.zk_plain.specs.Entries.{order, Entries, tree_of}
+
+-- the entries of the other paths
+abbrev pub others : Bytes → Entries → Entries
+others path = where_key order (λ p. not (same p path))
 
 -- the entry at a place, in front of those behind it
 pub at_entry : {Y : Type 0} (F : Entries → Y) (es : Entries) (i : ℕ) (e : Bytes × Node) → i < length es → e ≡ get_or es i e → F (drop i es) ≡ F (e ∷ drop (i + 1) es)

@@ -1,3 +1,5 @@
+pub mod EditLaws
 pub mod EntryLaws
 pub mod FaultLaws
 pub mod MultiLaws
+pub mod StoredEntries

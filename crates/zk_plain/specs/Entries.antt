@@ -1,12 +1,11 @@
 -- A tree as the list of its entries, in the order of the paths' bytes.
-use Rattle.std.specs.Prelude.{ℕ, ℤ, not, List}
+use Rattle.std.specs.Prelude.{ℕ, ℤ, List}
 use Rattle.std.specs.Ordering.{nat_cmp}
 use Rattle.std.specs.declared.cmp.Ordering.{Ordering}
 use Rattle.std.specs.Cmp.Lexicographic.{slice_cmp}
 use Rattle.std.specs.Coded.{Coded, code_by, coded×, coded_list, coded_ℕ, coded_ℤ}
 use Rattle.std.specs.FinMap as finmap
-use Rattle.std.specs.FinMap.Entries.{where_key}
-use Rattle.zx_base.specs.Maps.{Bytes, same}
+use Rattle.zx_base.specs.Maps.{Bytes}
 use Rattle.zk_model.specs.declared.node.Node.{Node}
 use Rattle.zk_model.specs.Znodes.{Tree}
 
@@ -29,7 +28,3 @@ coded_node = code_by (List ℕ × (ℤ × (ℤ × (ℤ × (ℤ × (ℤ × (ℤ �
 
 abbrev pub coded_tree : Coded Tree
 coded_tree = finmap.code (coded_list coded_ℕ) coded_node
-
--- the entries of the other paths
-abbrev pub others : Bytes → Entries → Entries
-others path = where_key order (λ p. not (same p path))

@@ -11,10 +11,13 @@ use Rattle.zk_plain.specs.declared.multi.Parts.TheVariants as chain
 use Rattle.zk_plain.specs.declared.multi.Transaction.{Transaction}
 use Rattle.zk_plain.specs.declared.multi.Transaction.TheVariants as answers
 use Rattle.zk_model.specs.Limits.{max_load}
+use Rattle.zk_model.specs.Znodes.{Tree}
+use Rattle.zk_plain.specs.Edits.{edited_if}
 
-abbrev pub outcome_of : Answer → Outcome
-outcome_of (answer.Refused code) = Refused code
-outcome_of (answer.Done result tree triggers) = Done result tree triggers
+-- of a request that was planned on this tree
+abbrev pub outcome_of : Tree → Answer → Outcome
+outcome_of t (answer.Refused code) = Refused code
+outcome_of t (answer.Done result edit triggers) = Done result (edited_if t edit) triggers
 
 -- a path was read from a text exactly where the text is valid
 abbrev pub IsRead : Option Bytes → Bool → Bytes → Type 0

@@ -1,20 +1,21 @@
 //! Creates (Programmer's Guide, "ZNodes", "Ephemeral Nodes", "Sequence Nodes -- Unique Naming").
 
-ghost use Rattle.std.specs.Prelude.{◌≡◌, ◌∷◌, [], ◌||◌, ◌&&◌, pos, ◌≤ℤ◌, nat_le, length, None, if◌then◌else◌, IfOk, IfErr, IsTrue};
+ghost use Rattle.std.specs.Prelude.{◌≡◌, ◌∷◌, [], ◌||◌, ◌&&◌, pos, ◌+ℤ◌, ◌≤ℤ◌, nat_le, length, None, Some, if◌then◌else◌, IfOk, IfErr, IsTrue};
 ghost use Rattle.std.specs.Ordering.{int_eq};
 ghost use Rattle.std.specs.FinMap.{get, insert};
 ghost use Rattle.zk_model.specs.declared.reply.PartResult.TheVariants as results;
 ghost use Rattle.zk_model.specs.declared.node.Trigger.TheVariants as trigger;
 ghost use Rattle.zk_model.specs.PathFaults.{is_valid, tested};
 ghost use Rattle.zk_model.specs.Single.{Done, is_create_mode, is_ephemeral, is_sequential, is_full, with_child, made_path, create_node, create_under, create};
-ghost use Rattle.zk_model.specs.Znodes.{new_node, owned, root_alone};
+ghost use Rattle.zk_model.specs.Znodes.{Tree as Nodes, new_node, owned, root_alone};
 ghost use Rattle.zk_plain.specs.Faults.{BeyondUnless, IsWithin};
+ghost use Rattle.zk_plain.specs.Edits.{counted_create};
 ghost use Rattle.zk_plain.specs.Outcomes.{outcome_of};
 ghost use Rattle.zk_model.specs.Limits.{max_creates};
 ghost use Rattle.zk_model.specs.Access.{is_open_acl};
 
+use crate::edit::Edit;
 use crate::fault::Fault;
-use crate::node::copy_node;
 use crate::outcome::Outcome;
 use crate::tree::Tree;
 use crate::turn::Turn;
@@ -73,23 +74,21 @@ fn new_node(alloc: Global, content: &[u8], owner: i64, turn: &Turn) -> Result<No
 pub fn begin(alloc: Global, turn: &Turn) -> Result<Tree, Memory>
     ensures { IfOk result (λ t. t ≡ root_alone turn.now.zxid turn.now.moment) }
 {
-    let empty = Tree::new(alloc);
+    let mut tree = Tree::new(alloc);
     let node = new_node(alloc, b"".as_slice(), 0, turn)?;
-    empty.with(alloc, Path::root(alloc)?, node)
+    tree.put(alloc, Path::root(alloc)?, node)?;
+    Ok(tree)
 }
 
-/// The parent after the create of a child.
-fn with_child(alloc: Global, parent: &Node, zxid: i64) -> Result<Node, Fault>
-    ensures ok { IfOk result (λ n. n ≡ with_child parent.now zxid) }
-    ensures beyond { IfErr result (BeyondUnless (parent.now.creates ≤ℤ max_creates)) }
+/// One create more.
+fn counted(creates: i32) -> Result<i32, Fault>
+    ensures ok { IfOk result (λ more. more ≡ creates +ℤ pos 1) }
+    ensures beyond { IfErr result (BeyondUnless (creates ≤ℤ max_creates)) }
 {
-    let Some(creates) = parent.creates.checked_add(1) else {
-        return Err(Fault::Beyond);
-    };
-    let mut node = copy_node(alloc, parent)?;
-    node.creates = creates;
-    node.pzxid = zxid;
-    Ok(node)
+    match creates.checked_add(1) {
+        Some(more) => Ok(more),
+        None => Err(Fault::Beyond),
+    }
 }
 
 fn has_most(alloc: Global, tree: &Tree, limit: usize, session: i64) -> Result<bool, Memory>
@@ -114,8 +113,12 @@ fn is_full(
 ) -> Result<bool, Memory>
     ensures { IfOk result (λ full. full ≡ is_full tree.now turn.now.limit turn.now.session flags parent.now) }
 {
+    let ephemeral = is_ephemeral(flags);
+    if !ephemeral {
+        return Ok(is_full_by(parent.creates, false, false));
+    }
     let most = has_most(alloc, tree, turn.limit, turn.session)?;
-    Ok(is_full_by(parent.creates, is_ephemeral(flags), most))
+    Ok(is_full_by(parent.creates, true, most))
 }
 
 fn is_owned_by(flags: i32, session: i64) -> i64
@@ -127,22 +130,27 @@ fn is_owned_by(flags: i32, session: i64) -> i64
 /// The outcome of a create that nothing refuses.
 fn made(
     alloc: Global,
-    tree: &Tree,
     parent: Path,
-    up: Node,
+    creates: i32,
+    zxid: i64,
     path: Path,
     node: Node,
 ) -> Result<Outcome, Memory>
-    ensures { IfOk result (λ o. outcome_of o ≡ Done (results.Created path) (insert (insert tree.now parent up) path node) (trigger.Created path ∷ trigger.Children parent ∷ [])) }
+    ensures { IfOk result (λ o. (t : Nodes) → outcome_of t o ≡ Done (results.Created path) (insert (counted_create t parent creates zxid (get t parent)) path node) (trigger.Created path ∷ trigger.Children parent ∷ [])) }
 {
     let name = Text::copy_of(alloc, path.bytes())?;
     let mut triggers = Seq::new(alloc);
     triggers.push(Trigger::Created(path.copy(alloc)?))?;
     triggers.push(Trigger::Children(parent.copy(alloc)?))?;
-    let counted = tree.with(alloc, parent, up)?;
     Ok(Outcome::Done {
         result: PartResult::Created(name),
-        tree: counted.with(alloc, path, node)?,
+        edit: Some(Edit::Made {
+            parent,
+            creates,
+            zxid,
+            path,
+            node,
+        }),
         triggers,
     })
 }
@@ -158,14 +166,15 @@ fn create_allowed(
     up: &Node,
     path: Path,
 ) -> Result<Outcome, Fault>
-    ensures ok { IfOk result (λ o. outcome_of o ≡ Done (results.Created path)
+    requires { get tree.now parent ≡ Some up.now }
+    ensures ok { IfOk result (λ o. outcome_of tree.now o ≡ Done (results.Created path)
         (insert (insert tree.now parent (with_child up.now turn.now.zxid)) path (new_node content.now (if is_ephemeral flags then turn.now.session else pos 0) turn.now.zxid turn.now.moment))
         (trigger.Created path ∷ trigger.Children parent ∷ [])) }
     ensures beyond { IfErr result (BeyondUnless (up.now.creates ≤ℤ max_creates)) }
 {
     let node = new_node(alloc, content, is_owned_by(flags, turn.session), turn)?;
-    let counted = with_child(alloc, up, turn.zxid)?;
-    Ok(made(alloc, tree, parent, counted, path, node)?)
+    let creates = counted(up.creates)?;
+    Ok(made(alloc, parent, creates, turn.zxid, path, node)?)
 }
 
 /// A create of a node that is not there.
@@ -179,7 +188,8 @@ fn create_absent(
     up: &Node,
     path: Path,
 ) -> Result<Outcome, Fault>
-    ensures ok { IfOk result (λ o. outcome_of o ≡ create_node tree.now turn.now.limit turn.now.session flags content.now turn.now.zxid turn.now.moment parent up.now path None) }
+    requires { get tree.now parent ≡ Some up.now }
+    ensures ok { IfOk result (λ o. outcome_of tree.now o ≡ create_node tree.now turn.now.limit turn.now.session flags content.now turn.now.zxid turn.now.moment parent up.now path None) }
     ensures beyond { IfErr result (BeyondUnless (up.now.creates ≤ℤ max_creates)) }
 {
     if up.owner != 0 {
@@ -202,7 +212,8 @@ fn create_node(
     up: &Node,
     path: Path,
 ) -> Result<Outcome, Fault>
-    ensures ok { IfOk result (λ o. outcome_of o ≡ create_node tree.now turn.now.limit turn.now.session flags content.now turn.now.zxid turn.now.moment parent up.now path (get tree.now path)) }
+    requires { get tree.now parent ≡ Some up.now }
+    ensures ok { IfOk result (λ o. outcome_of tree.now o ≡ create_node tree.now turn.now.limit turn.now.session flags content.now turn.now.zxid turn.now.moment parent up.now path (get tree.now path)) }
     ensures beyond { IfErr result (BeyondUnless (up.now.creates ≤ℤ max_creates)) }
 {
     match tree.get(path.bytes()) {
@@ -236,7 +247,7 @@ fn create_under(
 ) -> Result<Outcome, Fault>
     requires valid { IsTrue (is_valid (is_sequential flags) text.now) }
     requires named { named ≡ tested (is_sequential flags) text.now }
-    ensures ok { IfOk result (λ o. outcome_of o ≡ create_under tree.now turn.now.limit turn.now.session flags content.now turn.now.zxid turn.now.moment text.now parent (get tree.now parent)) }
+    ensures ok { IfOk result (λ o. outcome_of tree.now o ≡ create_under tree.now turn.now.limit turn.now.session flags content.now turn.now.zxid turn.now.moment text.now parent (get tree.now parent)) }
     ensures beyond { IfErr result (BeyondUnless (IsWithin tree.now)) }
 {
     match tree.get(parent.bytes()) {
@@ -260,7 +271,7 @@ pub fn create(
 ) -> Result<Outcome, Fault>
     requires valid { IsTrue (is_valid (is_sequential flags) text.now) }
     requires named { named ≡ tested (is_sequential flags) text.now }
-    ensures ok { IfOk result (λ o. outcome_of o ≡ create tree.now turn.now.limit turn.now.session flags content.now turn.now.zxid turn.now.moment text.now) }
+    ensures ok { IfOk result (λ o. outcome_of tree.now o ≡ create tree.now turn.now.limit turn.now.session flags content.now turn.now.zxid turn.now.moment text.now) }
     ensures beyond { IfErr result (BeyondUnless (IsWithin tree.now)) }
 {
     match named.parent(alloc)? {

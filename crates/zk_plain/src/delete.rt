@@ -2,15 +2,15 @@
 
 ghost use Rattle.std.specs.Prelude.{◌≡◌, IfOk};
 ghost use Rattle.std.specs.FinMap.{get};
-ghost use Rattle.zk_model.specs.Single.{delete, matches, removed, removal};
+ghost use Rattle.zk_model.specs.Single.{delete, matches, removal};
 ghost use Rattle.zk_plain.specs.Outcomes.{outcome_of};
 
-use crate::node::copy_node;
+use crate::edit::Edit;
 use crate::outcome::Outcome;
 use crate::tree::Tree;
 use std::alloc::Global;
 use zk_model::code::{BAD_VERSION, NO_NODE, NOT_EMPTY};
-use zk_model::{Node, PartResult, Path, Trigger};
+use zk_model::{PartResult, Path, Trigger};
 use zx_base::{Memory, Seq};
 
 /// Whether a node of this version is the one that was asked for; -1 asks for any.
@@ -20,31 +20,13 @@ pub fn matches(asked: i32, version: i32) -> bool
     asked == -1 || asked == version
 }
 
-/// The tree without a node that has no children.
-pub fn removed(alloc: Global, tree: &Tree, path: &Path, zxid: i64) -> Result<Tree, Memory>
-    ensures { IfOk result (λ t. t ≡ removed tree.now path.now zxid) }
-{
-    let rest = tree.without(alloc, path.bytes())?;
-    let Some(parent) = path.parent(alloc)? else {
-        return Ok(rest);
-    };
-    match tree.get(parent.bytes()) {
-        None => Ok(rest),
-        Some(node) => {
-            let mut node = copy_node(alloc, node)?;
-            node.pzxid = zxid;
-            rest.with(alloc, parent, node)
-        }
-    }
-}
-
 /// What watches see of it.
-pub fn removal(alloc: Global, path: Path) -> Result<Seq<Trigger>, Memory>
-    ensures { IfOk result (λ triggers. triggers ≡ removal path) }
+fn removal(alloc: Global, path: &Path) -> Result<Seq<Trigger>, Memory>
+    ensures { IfOk result (λ triggers. triggers ≡ removal path.now) }
 {
     let parent = path.parent(alloc)?;
     let mut triggers = Seq::new(alloc);
-    triggers.push(Trigger::Deleted(path))?;
+    triggers.push(Trigger::Deleted(path.copy(alloc)?))?;
     if let Some(parent) = parent {
         triggers.push(Trigger::Children(parent))?;
     }
@@ -58,7 +40,7 @@ pub fn delete(
     version: i32,
     zxid: i64,
 ) -> Result<Outcome, Memory>
-    ensures { IfOk result (λ o. outcome_of o ≡ delete tree.now path version zxid (get tree.now path)) }
+    ensures { IfOk result (λ o. outcome_of tree.now o ≡ delete tree.now path version zxid (get tree.now path)) }
 {
     let Some(node) = tree.get(path.bytes()) else {
         return Ok(Outcome::Refused(NO_NODE));
@@ -71,7 +53,7 @@ pub fn delete(
     }
     Ok(Outcome::Done {
         result: PartResult::Deleted,
-        tree: removed(alloc, tree, &path, zxid)?,
-        triggers: removal(alloc, path)?,
+        triggers: removal(alloc, &path)?,
+        edit: Some(Edit::Removed { path, zxid }),
     })
 }

@@ -1,11 +1,12 @@
-//! The service's machine as a plain program over a sorted list of nodes: slow and obvious.
+//! The service's machine as a program: what a request makes of the tree is planned on it, and then carried out in place.
 //!
-//! Each function's contract is the definition of `zk_model` that it runs, so that a worked example run here is a run of
-//! the definition. Nothing of the service itself stands on this crate.
+//! Each function's contract is the definition of `zk_model` that it runs. The service itself stands on stored keys and not on
+//! this crate; a judge of transcripts runs the definitions by it.
 #![tactic(auto)]
 
 mod create;
 mod delete;
+mod edit;
 mod fault;
 mod laws;
 mod multi;
@@ -13,14 +14,12 @@ mod node;
 mod outcome;
 mod requests;
 mod stats;
-#[cfg(test)]
-mod tests;
 mod tree;
 mod turn;
 mod update;
 
 pub use create::{begin, is_create_mode, is_open_acl, is_sequential};
-pub use delete::removed;
+pub use edit::Edit;
 pub use fault::Fault;
 pub use laws::sound_trees_fit;
 pub use multi::{Transaction, several};

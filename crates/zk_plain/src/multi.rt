@@ -118,27 +118,29 @@ fn passed_on(
 
 /// What the parts make of the tree in turn. It recurs once a part.
 #[tactic(auto, unfolding(zk_model::specs::Multi::parts_of))]
-fn parts_of(alloc: Global, tree: &Tree, turn: &Turn, parts: &[Part]) -> Result<Parts, Fault>
-    ensures ok { IfOk result (λ p. parts_as p ≡ parts_of tree.now turn.now.limit turn.now.session parts.now turn.now.zxid turn.now.moment) }
+fn parts_of(alloc: Global, tree: Tree, turn: &Turn, parts: &[Part]) -> Result<Parts, Fault>
+    ensures ok { IfOk result (λ p. parts_as p ≡ parts_of tree turn.now.limit turn.now.session parts.now turn.now.zxid turn.now.moment) }
     ensures within { IfOk result (λ p. IsPlacedBelow p (length parts.now)) }
-    ensures beyond { IfErr result (BeyondUnless (StaysWithin tree.now turn.now.limit turn.now.session parts.now turn.now.zxid turn.now.moment)) }
+    ensures beyond { IfErr result (BeyondUnless (StaysWithin tree turn.now.limit turn.now.session parts.now turn.now.zxid turn.now.moment)) }
 {
     match parts {
         [] => Ok(Parts::Passed {
             results: Vec::new(alloc),
-            tree: tree.copy(alloc)?,
+            tree,
             triggers: Vec::new(alloc),
             touched: Vec::new(alloc),
         }),
-        [first, rest @ ..] => match single(alloc, tree, turn, first)? {
+        [first, rest @ ..] => match single(alloc, &tree, turn, first)? {
             Outcome::Refused(code) => Ok(Parts::Stopped { place: 0, code }),
             Outcome::Done {
                 result: outcome,
-                tree: next,
+                edit,
                 triggers,
             } => {
-                let touched = touched_by(tree, turn.session, first);
-                let later = parts_of(alloc, &next, turn, rest)?;
+                let touched = touched_by(&tree, turn.session, first);
+                let mut next = tree;
+                next.carry_out_if(alloc, edit)?;
+                let later = parts_of(alloc, next, turn, rest)?;
                 Ok(passed_on(alloc, outcome, triggers, touched, later)?)
             }
         },
@@ -272,7 +274,7 @@ pub fn several(
     ensures ok { IfOk result (λ s. several_as s ≡ several tree.now turn.now.limit turn.now.session parts.now turn.now.zxid turn.now.moment) }
     ensures beyond { IfErr result (BeyondUnless (StaysWithin tree.now turn.now.limit turn.now.session parts.now turn.now.zxid turn.now.moment)) }
 {
-    match parts_of(alloc, tree, turn, parts)? {
+    match parts_of(alloc, tree.copy(alloc)?, turn, parts)? {
         Parts::Stopped { place, code } => {
             let row = row_of(alloc, parts.len(), place, code)?;
             Ok(Transaction::Codes(Seq::from_vec(row)))

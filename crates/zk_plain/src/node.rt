@@ -21,17 +21,3 @@ pub fn copy_node(alloc: Global, node: &Node) -> Result<Node, Memory>
         owner: node.owner,
     })
 }
-
-/// Adds copies of the entries.
-pub fn copy_into(
-    alloc: Global,
-    entries: &mut Vec<(Path, Node)>,
-    from: &[(Path, Node)],
-) -> Result<(), Memory>
-    ensures { OnOk result (entries.new.items ≡ entries.old.items ++ from.now) }
-{
-    for (path, node) in from {
-        entries.push((path.copy(alloc)?, copy_node(alloc, node)?))?;
-    }
-    Ok(())
-}

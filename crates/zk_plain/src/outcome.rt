@@ -1,6 +1,6 @@
 //! What a request makes of a tree.
 
-use crate::tree::Tree;
+use crate::edit::Edit;
 use zk_model::{PartResult, Trigger};
 use zx_base::Seq;
 
@@ -8,10 +8,10 @@ use zx_base::Seq;
 pub enum Outcome {
     /// A code other than 0; the tree stays as it is.
     Refused(i32),
-    /// The result, the new tree, and what watches see, in order.
+    /// The result, the change of the tree, and what watches see, in order.
     Done {
         result: PartResult,
-        tree: Tree,
+        edit: Option<Edit>,
         triggers: Seq<Trigger>,
     },
 }

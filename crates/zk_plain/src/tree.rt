@@ -1,28 +1,29 @@
-//! The tree of znodes, as its nodes in the order of their paths' bytes.
+//! The tree of znodes, changed in place.
 
-ghost use Rattle.std.specs.Prelude.{◌≡◌, ◌++◌, ◌∷◌, ◌≤◌, option_map, IfOk, length, take, drop};
+ghost use Rattle.std.specs.Prelude.{◌≡◌, option_map, IfOk, OnOk};
 ghost use Rattle.std.specs.FinMap.{empty, get, insert, remove};
-ghost use Rattle.std.specs.FinMap.Entries.{put};
 ghost use Rattle.zk_model.specs.Znodes.{num_children, child_names, owned, is_owner};
-ghost use Rattle.zk_plain.specs.Entries.{order, others};
-ghost use Rattle.zk_model.specs.declared.node.Node.{Node};
 
-use crate::node::{copy_into, copy_node};
+use crate::node::copy_node;
 use std::alloc::Global;
-use std::cmp::Ordering;
+use std::collections::BTreeMap;
 use std::marker::Model;
 use zk_model::{Node, Path};
 use zx_base::{Memory, Seq, Text};
 
-/// A finite map from paths to nodes. Each look-up goes through all of it.
+/// A finite map from paths to nodes. A look-up of a node takes the logarithm of their number; the children and the nodes of a
+/// session are found by going through all of it.
 #[derive(Debug, Drop)]
 pub struct Tree {
-    entries: Vec<(Path, Node)>,
+    /// By the bytes of their paths.
+    nodes: BTreeMap<Vec<u8>, (Path, Node)>,
 }
 
 impl Model for Tree {
     ghost use Rattle.std.specs.Prelude.{◌≡◌, true};
+    ghost use Rattle.std.specs.List.{AllByRecursion};
     ghost use Rattle.std.specs.FinMap.Entries.{is_sorted};
+    ghost use Rattle.std.specs.Map.{values_of};
     ghost use Rattle.zk_model.specs.Znodes.{Tree as Nodes};
     ghost use Rattle.zk_plain.specs.Entries.{order, tree_of, coded_tree};
 
@@ -30,72 +31,9 @@ impl Model for Tree {
 
     ghost coded = { coded_tree };
 
-    ghost view = { λ t. tree_of t.entries.items };
+    ghost view = { λ t. tree_of (values_of t.nodes.entries) };
 
-    ghost invariant = { λ t. is_sorted order t.entries.items ≡ true };
-}
-
-/// The places that an entry takes: none where it comes between two.
-#[derive(Clone, Copy)]
-struct Span {
-    from: usize,
-    to: usize,
-}
-
-/// Where the entry of this path stands, or would.
-fn span_of(entries: &[(Path, Node)], path: &[u8]) -> Span
-    ensures within { (result.from ≤ length entries.now) × (result.to ≤ length entries.now) }
-    ensures put { (node : Node) → put order path.now node entries.now ≡ take result.from entries.now ++ (path.now, node) ∷ drop result.to entries.now }
-{
-    for (place, (at, _)) in entries.iter().enumerate() {
-        match path.cmp(at.bytes()) {
-            Ordering::Less => return Span {
-                from: place,
-                to: place,
-            },
-            Ordering::Equal => return Span {
-                from: place,
-                to: place + 1,
-            },
-            Ordering::Greater => {}
-        }
-    }
-    Span {
-        from: entries.len(),
-        to: entries.len(),
-    }
-}
-
-fn put_entry(
-    alloc: Global,
-    entries: &[(Path, Node)],
-    path: Path,
-    node: Node,
-) -> Result<Vec<(Path, Node)>, Memory>
-    ensures { IfOk result (λ v. v.items ≡ put order path node entries.now) }
-{
-    let span = span_of(entries, path.bytes());
-    let mut all = Vec::new(alloc);
-    copy_into(alloc, &mut all, &entries[..span.from])?;
-    all.push((path, node))?;
-    copy_into(alloc, &mut all, &entries[span.to..])?;
-    Ok(all)
-}
-
-fn other_entries(
-    alloc: Global,
-    entries: &[(Path, Node)],
-    path: &[u8],
-) -> Result<Vec<(Path, Node)>, Memory>
-    ensures { IfOk result (λ v. v.items ≡ others path.now entries.now) }
-{
-    let mut kept = Vec::new(alloc);
-    for (at, node) in entries {
-        if at.bytes() != path {
-            kept.push((at.copy(alloc)?, copy_node(alloc, node)?))?;
-        }
-    }
-    Ok(kept)
+    ghost invariant = { λ t. (is_sorted order (values_of t.nodes.entries) ≡ true) × AllByRecursion (λ e. e.0.items ≡ e.1.0) t.nodes.entries };
 }
 
 impl Tree {
@@ -104,52 +42,56 @@ impl Tree {
         ensures { result ≡ empty }
     {
         Tree {
-            entries: Vec::new(alloc),
+            nodes: BTreeMap::new(alloc),
         }
-    }
-
-    pub fn copy(&self, alloc: Global) -> Result<Tree, Memory>
-        ensures { IfOk result (λ t. t ≡ self.now) }
-    {
-        let mut entries = Vec::new(alloc);
-        copy_into(alloc, &mut entries, &self.entries)?;
-        Ok(Tree { entries })
     }
 
     /// The node at a path.
     pub fn get(&self, path: &[u8]) -> Option<&Node>
         ensures { option_map (λ n. n.now) result ≡ get self.now path.now }
     {
-        for (at, node) in &self.entries {
-            match path.cmp(at.bytes()) {
-                Ordering::Equal => return Some(node),
-                _ => {}
-            }
+        match self.nodes.get(path) {
+            Some((_, node)) => Some(node),
+            None => None,
         }
-        None
     }
 
-    /// The tree with this node at the path.
-    pub fn with(&self, alloc: Global, path: Path, node: Node) -> Result<Tree, Memory>
-        ensures { IfOk result (λ t. t ≡ insert self.now path node) }
+    /// Puts a node at the path, in the place of the one that was there. Without memory the tree stays as it was.
+    pub fn put(&mut self, alloc: Global, path: Path, node: Node) -> Result<(), Memory>
+        ensures { OnOk result (self.new ≡ insert self.old path node) }
     {
-        let entries = put_entry(alloc, &self.entries, path, node)?;
-        Ok(Tree { entries })
+        let key = Vec::from_slice(alloc, path.bytes())?;
+        self.nodes.insert(key, (path, node))?;
+        Ok(())
     }
 
-    /// The tree without the node at the path.
-    pub fn without(&self, alloc: Global, path: &[u8]) -> Result<Tree, Memory>
-        ensures { IfOk result (λ t. t ≡ remove self.now path.now) }
+    /// Takes the node at the path out.
+    pub fn take(&mut self, path: &[u8]) -> Option<Node>
+        ensures tree { self.new ≡ remove self.old path.now }
+        ensures node { result ≡ get self.old path.now }
     {
-        let entries = other_entries(alloc, &self.entries, path)?;
-        Ok(Tree { entries })
+        match self.nodes.remove(path) {
+            Some((_, node)) => Some(node),
+            None => None,
+        }
+    }
+
+    /// Copies of all nodes.
+    pub fn copy(&self, alloc: Global) -> Result<Tree, Memory>
+        ensures { IfOk result (λ t. t ≡ self.now) }
+    {
+        let mut copied = Tree::new(alloc);
+        for (path, node) in self.nodes.values() {
+            copied.put(alloc, path.copy(alloc)?, copy_node(alloc, node)?)?;
+        }
+        Ok(copied)
     }
 
     pub fn num_children(&self, path: &[u8]) -> usize
         ensures { result ≡ num_children self.now path.now }
     {
         let mut count = 0;
-        for (at, _) in &self.entries {
+        for (at, _) in self.nodes.values() {
             if at.is_child_of(path) {
                 count += 1;
             }
@@ -162,7 +104,7 @@ impl Tree {
         ensures { IfOk result (λ names. names ≡ child_names self.now path.now) }
     {
         let mut names = Vec::new(alloc);
-        for (at, _) in &self.entries {
+        for (at, _) in self.nodes.values() {
             if at.is_child_of(path) {
                 names.push(Text::copy_of(alloc, at.last_name())?)?;
             }
@@ -175,7 +117,7 @@ impl Tree {
         ensures { IfOk result (λ paths. paths.items ≡ owned self.now session) }
     {
         let mut paths = Vec::new(alloc);
-        for (at, _) in &self.entries {
+        for (at, _) in self.nodes.values() {
             if self.is_owner(at.bytes(), session) {
                 paths.push(at.copy(alloc)?)?;
             }

@@ -11,8 +11,8 @@ ghost use Rattle.zk_plain.specs.Outcomes.{outcome_of};
 ghost use Rattle.zk_model.specs.Limits.{max_frame};
 
 use crate::delete::matches;
+use crate::edit::Edit;
 use crate::fault::Fault;
-use crate::node::copy_node;
 use crate::outcome::Outcome;
 use crate::stats::stat;
 use crate::tree::Tree;
@@ -34,17 +34,22 @@ fn with_content(alloc: Global, node: &Node, content: &[u8], turn: &Turn) -> Resu
     requires { node.now.version ≢ pos 2147483647 }
     ensures { IfOk result (λ n. n ≡ with_content node.now content.now turn.now.zxid turn.now.moment) }
 {
-    let mut changed = copy_node(alloc, node)?;
-    changed.content = Bytes::copy_of(alloc, content)?;
-    changed.mzxid = turn.zxid;
-    changed.mtime = turn.moment as i64;
-    changed.version = next_version(node.version);
-    Ok(changed)
+    Ok(Node {
+        content: Bytes::copy_of(alloc, content)?,
+        czxid: node.czxid,
+        mzxid: turn.zxid,
+        pzxid: node.pzxid,
+        ctime: node.ctime,
+        mtime: turn.moment as i64,
+        version: next_version(node.version),
+        creates: node.creates,
+        owner: node.owner,
+    })
 }
 
 /// The outcome of a write that nothing refuses.
 fn written(alloc: Global, tree: &Tree, path: Path, node: Node) -> Result<Outcome, Fault>
-    ensures ok { IfOk result (λ o. outcome_of o ≡ Done (results.Set (stat_of tree.now path node)) (insert tree.now path node) (trigger.Changed path ∷ [])) }
+    ensures ok { IfOk result (λ o. outcome_of tree.now o ≡ Done (results.Set (stat_of tree.now path node)) (insert tree.now path node) (trigger.Changed path ∷ [])) }
     ensures beyond { IfErr result (BeyondUnless (IsCounted node (num_children tree.now path))) }
 {
     let shown = stat(&node, tree.num_children(path.bytes()))?;
@@ -52,7 +57,7 @@ fn written(alloc: Global, tree: &Tree, path: Path, node: Node) -> Result<Outcome
     triggers.push(Trigger::Changed(path.copy(alloc)?))?;
     Ok(Outcome::Done {
         result: PartResult::Set(shown),
-        tree: tree.with(alloc, path, node)?,
+        edit: Some(Edit::Written { path, node }),
         triggers,
     })
 }
@@ -65,7 +70,7 @@ pub fn set_data(
     content: &[u8],
     version: i32,
 ) -> Result<Outcome, Fault>
-    ensures ok { IfOk result (λ o. outcome_of o ≡ set_data tree.now path content.now version turn.now.zxid turn.now.moment (get tree.now path)) }
+    ensures ok { IfOk result (λ o. outcome_of tree.now o ≡ set_data tree.now path content.now version turn.now.zxid turn.now.moment (get tree.now path)) }
     ensures beyond { IfErr result (BeyondUnless (IsWithin tree.now × (length content.now ≤ max_frame))) }
 {
     let Some(node) = tree.get(path.bytes()) else {
@@ -82,7 +87,7 @@ pub fn set_data(
 }
 
 pub fn check(alloc: Global, tree: &Tree, path: Path, version: i32) -> Result<Outcome, Memory>
-    ensures { IfOk result (λ o. outcome_of o ≡ check tree.now version (get tree.now path)) }
+    ensures { IfOk result (λ o. outcome_of tree.now o ≡ check tree.now version (get tree.now path)) }
 {
     let Some(node) = tree.get(path.bytes()) else {
         return Ok(Outcome::Refused(NO_NODE));
@@ -92,7 +97,7 @@ pub fn check(alloc: Global, tree: &Tree, path: Path, version: i32) -> Result<Out
     }
     Ok(Outcome::Done {
         result: PartResult::Checked,
-        tree: tree.copy(alloc)?,
+        edit: None,
         triggers: Seq::new(alloc),
     })
 }

@@ -9,6 +9,7 @@ use Rattle.zk_plain.specs.declared.fault.Fault.{Fault}
 use Rattle.zk_plain.specs.Faults.{BeyondUnless}
 use Rattle.zk_plain.proofs.FaultLaws.{beyond-weaker}
 use Rattle.zk_history.specs.Fits.{AskedFits, IsCountable, IsMoment, UpdateFits}
+use Rattle.zk_history.specs.Pasts.{lines_of}
 use Rattle.zk_history.proofs.lines.updated.Goals as goal
 
 -- the request of an update fits where the update does
@@ -22,4 +23,4 @@ pub returns-in_err-asked-in-Asked-clause-beyond : goal.returns-in_err-asked-in-A
 returns-in_err-asked-in-Asked-clause-beyond c =
     let p = err_from_is_err_and c.from_residual-in_err-asked-in-Asked.result c.from_residual-in_err-asked-in-Asked.ensures.1 in
     let back : to_z w64 (of_z w64 c.args.update.now.zxid) ≡ c.args.update.now.zxid = to_z-of_z w64 c.args.update.now.zxid (search rules) in
-    rw (p.1, p.2) (asked_beyond c.args.before.now c.args.state c.args.update.now.zxid c.args.update.now.kind c.in-Asked.connection c.in-Asked.index c.in-Asked.now c.in_err-asked-in-Asked.field-0.0 c.in-Asked.is (rw back at c.in_err-asked-in-Asked.ensures.beyond))
+    rw (p.1, p.2) (asked_beyond (lines_of c.args.before.now) c.args.state c.args.update.now.zxid c.args.update.now.kind c.in-Asked.connection c.in-Asked.index c.in-Asked.now c.in_err-asked-in-Asked.field-0.0 c.in-Asked.is (rw back at c.in_err-asked-in-Asked.ensures.beyond))

@@ -1,6 +1,6 @@
-use Rattle.std.proofs.Common.{List, ℤ, ap, sym, ◌∙◌}
+use Rattle.std.proofs.Common.{ap, sym, ◌∙◌}
 use Rattle.std.specs.FinMap.{entries}
-use Rattle.zk_transcript.specs.History.{Session, Sessions, attached_in}
+use Rattle.zk_transcript.specs.History.{Sessions, attached_in}
 use Rattle.zk_history.proofs.SessionLaws.{entries-numbered}
 use Rattle.zk_history.proofs.sessions.Sessions.attached_to.Goals as goal
 

@@ -1,0 +1,176 @@
+//! The lines of a transcript before a place, with tables of what they show.
+
+ghost use Rattle.std.specs.Prelude.{◌≡◌, ◌≤◌, ◌<◌, ◌+◌, length, take, get_or, is_none, is_some, option_map, IfOk};
+ghost use Rattle.zk_transcript.specs.History.{first_shown, frame, opening};
+ghost use Rattle.zk_transcript.specs.Conversations.{close_shown};
+ghost use Rattle.zk_transcript.specs.Legal.{attach_of};
+ghost use Rattle.zk_history.specs.Shown.{AreFirsts, attach_mark, close_mark, frame_mark, open_mark};
+
+use crate::firsts::{Firsts, Mark};
+use crate::shown::{frame_shown, open_shown};
+use std::alloc::Global;
+use zk_transcript::{TranscriptLine, UpdateKind};
+use zx_base::Memory;
+
+fn open_mark(line: &TranscriptLine) -> Option<Mark>
+    ensures { result ≡ open_mark line.now }
+{
+    match line {
+        TranscriptLine::Open { connection, .. } => Some((*connection, 0)),
+        _ => None,
+    }
+}
+
+fn frame_mark(line: &TranscriptLine) -> Option<Mark>
+    ensures { result ≡ frame_mark line.now }
+{
+    match line {
+        TranscriptLine::Frame {
+            connection,
+            index,
+            ..
+        } => Some((*connection, *index)),
+        _ => None,
+    }
+}
+
+fn close_mark(line: &TranscriptLine) -> Option<Mark>
+    ensures { result ≡ close_mark line.now }
+{
+    match line {
+        TranscriptLine::Close { connection, .. } => Some((*connection, 0)),
+        _ => None,
+    }
+}
+
+fn attach_mark(line: &TranscriptLine) -> Option<Mark>
+    ensures { result ≡ attach_mark line.now }
+{
+    let TranscriptLine::Update(update) = line else {
+        return None;
+    };
+    match update.kind {
+        UpdateKind::Session { connection, .. } => Some((connection, 0)),
+        UpdateKind::Attach { connection, .. } => Some((connection, 0)),
+        _ => None,
+    }
+}
+
+fn line_at(lines: &[TranscriptLine], place: usize) -> &TranscriptLine
+    requires { place < length lines.now }
+    ensures { result.now ≡ get_or lines.now place result.now }
+{
+    &lines[place]
+}
+
+/// The first lines of a transcript, with the places of what they show first of each connection. A look-up takes the logarithm
+/// of their number.
+#[derive(Drop)]
+pub struct Past<'a> {
+    pub all: &'a [TranscriptLine],
+    /// How many of them stand before the place.
+    pub len: usize,
+    opens: Firsts,
+    frames: Firsts,
+    closes: Firsts,
+    attachments: Firsts,
+    ghost within: { len ≤ length all.now },
+    ghost opens_stand: { AreFirsts open_mark (take len all.now) opens },
+    ghost frames_stand: { AreFirsts frame_mark (take len all.now) frames },
+    ghost closes_stand: { AreFirsts close_mark (take len all.now) closes },
+    ghost attachments_stand: { AreFirsts attach_mark (take len all.now) attachments },
+}
+
+impl<'a> Past<'a> {
+    ghost use Rattle.zk_history.specs.Pasts.{lines_of};
+
+    /// The place before the first line.
+    pub fn new(alloc: Global, all: &'a [TranscriptLine]) -> Past<'a>
+        ensures len { result.len ≡ 0 }
+        ensures all { result.all.now ≡ all.now }
+    {
+        Past {
+            all,
+            len: 0,
+            opens: Firsts::new(alloc),
+            frames: Firsts::new(alloc),
+            closes: Firsts::new(alloc),
+            attachments: Firsts::new(alloc),
+        }
+    }
+
+    /// The place behind the next line.
+    pub fn advanced(self) -> Result<Past<'a>, Memory>
+        requires { self.len < length self.all.now }
+        ensures len { IfOk result (λ p. p.len ≡ self.entry.len + 1) }
+        ensures all { IfOk result (λ p. p.all.now ≡ self.entry.all.now) }
+    {
+        let line = &self.all[self.len];
+        Ok(Past {
+            all: self.all,
+            len: self.len + 1,
+            opens: self.opens.noted(open_mark(line), self.len)?,
+            frames: self.frames.noted(frame_mark(line), self.len)?,
+            closes: self.closes.noted(close_mark(line), self.len)?,
+            attachments: self.attachments.noted(attach_mark(line), self.len)?,
+        })
+    }
+
+    /// The place behind the last line.
+    pub fn behind(alloc: Global, all: &'a [TranscriptLine]) -> Result<Past<'a>, Memory>
+        ensures len { IfOk result (λ p. p.len ≡ length all.now) }
+        ensures all { IfOk result (λ p. p.all.now ≡ all.now) }
+    {
+        let mut past = Past::new(alloc, all);
+        for _place in 0..all.len() {
+            past = past.advanced()?;
+        }
+        Ok(past)
+    }
+
+    /// The lines before the place.
+    pub fn lines(&self) -> &'a [TranscriptLine]
+        ensures { result.now ≡ lines_of self.now }
+    {
+        &self.all[..self.len]
+    }
+
+    /// The bytes of a frame; frame 0 is the connect.
+    pub fn frame(&self, connection: u32, index: u64) -> Option<&'a [u8]>
+        ensures { option_map (λ b. b.now) result ≡ frame connection index (lines_of self.now) }
+    {
+        match self.frames.place(connection, index) {
+            Some(place) => frame_shown(line_at(self.all, place), connection, index),
+            None => None,
+        }
+    }
+
+    /// The number and the password that a connection offers for a new session.
+    pub fn opening(&self, connection: u32) -> Option<(i64, [u8; 16])>
+        ensures { result ≡ opening connection (lines_of self.now) }
+    {
+        match self.opens.place(connection, 0) {
+            Some(place) => open_shown(line_at(self.all, place), connection),
+            None => None,
+        }
+    }
+
+    pub fn is_opened(&self, connection: u32) -> bool
+        ensures { result ≡ is_some (opening connection (lines_of self.now)) }
+    {
+        self.opens.place(connection, 0).is_some()
+    }
+
+    pub fn is_closed(&self, connection: u32) -> bool
+        ensures { result ≡ is_some (first_shown (close_shown connection) (lines_of self.now)) }
+    {
+        self.closes.place(connection, 0).is_some()
+    }
+
+    /// Whether no session was attached to a connection.
+    pub fn is_unattached(&self, connection: u32) -> bool
+        ensures { result ≡ is_none (attach_of connection (lines_of self.now)) }
+    {
+        !self.attachments.place(connection, 0).is_some()
+    }
+}

@@ -1,0 +1,49 @@
+-- What the tables of the program have.
+use Rattle.std.specs.Prelude.{◌≡◌, ℕ, Bool, true, false, max, List, Option, Some, None}
+use Rattle.std.specs.List.{list_all}
+use Rattle.zk_transcript.specs.declared.transcript.UpdateKind.{UpdateKind}
+use Rattle.zk_transcript.specs.declared.transcript.UpdateKind.TheVariants.{Asked, Closed}
+use Rattle.std.specs.BTreeMap as tree
+use Rattle.std.specs.Ordering.{nat_cmp}
+use Rattle.zk_transcript.specs.declared.transcript.TranscriptLine.{TranscriptLine}
+use Rattle.zk_transcript.specs.declared.transcript.TranscriptLine.TheVariants.{Frame, Update}
+use Rattle.zk_transcript.specs.History.{or_nothing}
+use Rattle.zk_transcript.specs.Legal.{index_shown, is_below}
+use Rattle.zk_legal.specs.Formed.{frames_of}
+use Rattle.zk_legal.specs.declared.counts.Counts.{Counts}
+use Rattle.zk_legal.specs.declared.lasts.Lasts.{Lasts}
+
+abbrev pub sender : TranscriptLine → Option ℕ
+sender (Frame c i zxid bytes) = Some c
+sender _ = None
+
+abbrev pub count_in : Counts → ℕ → ℕ
+count_in m c = or_nothing 0 (tree.get nat_cmp m.frames c)
+
+-- the numbers of frames among these lines
+abbrev pub AreCounts : List TranscriptLine → Counts → Type 0
+AreCounts lines m = (c : ℕ) → count_in m c ≡ frames_of c lines
+
+-- ---- requests that were carried out
+
+abbrev pub carried_in : UpdateKind → Option (ℕ × ℕ)
+carried_in (Asked c i now) = Some (c, i)
+carried_in (Closed id c i) = Some (c, i)
+carried_in _ = None
+
+abbrev pub carried : TranscriptLine → Option (ℕ × ℕ)
+carried (Update u) = carried_in u.kind
+carried _ = None
+
+abbrev pub last_in : Lasts → ℕ → Option ℕ
+last_in m c = tree.get nat_cmp m.indices c
+
+-- the greater of an index and the last one, where it is of the connection
+abbrev pub later : Bool → ℕ → Option ℕ → Option ℕ
+later false i o = o
+later true i None = Some i
+later true i (Some j) = Some (max i j)
+
+-- what comes behind all that these lines carry out for a connection is what comes behind the last
+abbrev pub AreLasts : List TranscriptLine → Lasts → Type 0
+AreLasts lines m = (c i : ℕ) → list_all (λ l. is_below i (index_shown c l)) lines ≡ is_below i (last_in m c)

@@ -1,0 +1,80 @@
+//! The last request that was carried out for each connection.
+
+ghost use Rattle.std.specs.Prelude.{◌≡◌, ◌==◌, ◌++◌, ◌∷◌, [], ℕ, List, IfOk};
+ghost use Rattle.zk_transcript.specs.declared.transcript.TranscriptLine.{TranscriptLine as AnyLine};
+ghost use Rattle.zk_legal.specs.Counted.{AreLasts, last_in, later, carried as carried_of};
+
+use std::alloc::Global;
+use std::collections::BTreeMap;
+use zk_transcript::{TranscriptLine, UpdateKind};
+use zx_base::Memory;
+
+/// The greatest indices that were carried out, by their connections.
+#[derive(Debug, Drop)]
+pub struct Lasts {
+    indices: BTreeMap<u32, u64>,
+}
+
+/// The connection and the index of the request that a line carries out.
+pub fn carried(line: &TranscriptLine) -> Option<(u32, u64)>
+    ensures { result ≡ carried_of line.now }
+{
+    let TranscriptLine::Update(update) = line else {
+        return None;
+    };
+    match update.kind {
+        UpdateKind::Asked {
+            connection,
+            index,
+            ..
+        } => Some((connection, index)),
+        UpdateKind::Closed {
+            connection,
+            index,
+            ..
+        } => Some((connection, index)),
+        _ => None,
+    }
+}
+
+impl Lasts {
+    /// Nothing was carried out.
+    pub fn new(alloc: Global) -> Lasts
+        ensures { AreLasts [] result }
+    {
+        Lasts {
+            indices: BTreeMap::new(alloc),
+        }
+    }
+
+    pub fn last(&self, connection: u32) -> Option<u64>
+        ensures { result ≡ last_in self.now connection }
+    {
+        match self.indices.get(&connection) {
+            Some(index) => Some(*index),
+            None => None,
+        }
+    }
+
+    fn with(self, connection: u32, index: u64) -> Result<Lasts, Memory>
+        ensures { IfOk result (λ m. (c : ℕ) → last_in m c ≡ later (connection == c) index (last_in self c)) }
+    {
+        let last = match self.last(connection) {
+            Some(last) => index.max(last),
+            None => index,
+        };
+        let mut indices = self.indices;
+        indices.insert(connection, last)?;
+        Ok(Lasts { indices })
+    }
+
+    /// One line more, behind these.
+    pub fn noted(self, line: &TranscriptLine) -> Result<Lasts, Memory>
+        ensures { IfOk result (λ m. (before : List AnyLine) → AreLasts before self → AreLasts (before ++ line.now ∷ []) m) }
+    {
+        match carried(line) {
+            None => Ok(self),
+            Some((connection, index)) => self.with(connection, index),
+        }
+    }
+}
