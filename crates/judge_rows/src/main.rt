@@ -120,7 +120,7 @@ fn verdict_of(alloc: Global, lines: &[TranscriptLine]) -> Result<String, Memory>
     if let Some(line) = history_fault(alloc, lines)? {
         return Ok(format!(in alloc; "unlawful history {line}")?);
     }
-    if let Some(line) = order_fault(lines) {
+    if let Some(line) = order_fault(alloc, lines)? {
         return Ok(format!(in alloc; "unlawful order {line}")?);
     }
     Ok(String::from_str(alloc, "a history in order")?)

@@ -1,1 +1,9 @@
+pub mod AnswersAsOf
+pub mod Behind
+pub mod EachVerdict
+pub mod HeaderBytes
+pub mod Lawful
+pub mod LeastFaults
 pub mod OneVerdict
+pub mod Sent
+pub mod Tries

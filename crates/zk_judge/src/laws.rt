@@ -17,3 +17,8 @@ pub fn one_verdict()
 pub fn lawful_transcripts_are_runs()
     ensures { (lines : List TranscriptLine) → IsVerdict lines Lawful → (is_legal lines ≡ true) × (is_ordered lines ≡ true) × ((c : ℕ) → IsLawfulAndFresh lines c) }
 {}
+
+/// Each transcript has a verdict.
+pub fn a_verdict_exists()
+    ensures { (lines : List TranscriptLine) → (v : SomeVerdict) × IsVerdict lines v }
+{}

@@ -1,0 +1,6 @@
+use Rattle.std.proofs.Common.{◌≡◌, drop}
+use Rattle.zk_least.specs.LeastQueues.{is_front}
+use Rattle.zk_judge.proofs.packets.is_front.Given as goal
+
+abbrev pub invariant-loop-at : goal.invariant-loop-at
+invariant-loop-at l = is_front l.packets l.queue ≡ is_front (drop l.at l.packets) (drop l.at l.queue)

@@ -1,0 +1,48 @@
+-- What the program sees, as the definitions' data.
+use Rattle.std.specs.Prelude.{ℕ, ℤ, Bool, List, Option, length, drop}
+use Rattle.zk_jute.specs.Requests.{Frame, NoHeader, Unreadable, Unknown, Asks}
+use Rattle.zk_model.specs.Watches.{Watches}
+use Rattle.zk_transcript.specs.declared.transcript.UpdateRec.{UpdateRec}
+use Rattle.zk_transcript.specs.declared.transcript.TranscriptLine.{TranscriptLine}
+use Rattle.zk_transcript.specs.Answers.{Told, xid_of}
+use Rattle.zk_transcript.specs.Walks.{Due, Walker, fired_above, reply_step_if, told_as_of}
+use Rattle.zk_answers.specs.Outcomes.{told_of}
+use Rattle.zk_judge.specs.declared.frames.FrameRead.{FrameRead}
+use Rattle.zk_judge.specs.declared.frames.FrameRead.TheVariants as read
+use Rattle.zk_judge.specs.declared.walker.Walker.{Walker as Walking}
+use Rattle.zk_judge.specs.declared.walker.Step.{Step}
+use Rattle.zk_judge.specs.declared.walker.Fired.{Fired}
+use Rattle.zk_judge.specs.declared.answers.Ending.{Ending}
+use denote.Ref.{Bor}
+
+-- a frame's place and its bytes
+abbrev pub placed_bytes : ℕ × Bor (List ℕ) → ℕ × List ℕ
+placed_bytes x = (x.0, x.1.now)
+
+abbrev pub frame_as : FrameRead → Frame
+frame_as read.NoHeader = NoHeader
+frame_as (read.Unreadable xid place) = Unreadable xid place
+frame_as (read.Unknown xid kind) = Unknown xid kind
+frame_as (read.Asks xid r) = Asks xid r
+
+abbrev pub walker_of : Walking → Walker
+walker_of w = record { zxid = w.zxid; since = w.since; watches = w.watches; next = w.next; moment = w.moment; over = w.is_over }
+
+-- how far a step brings the connection, and what is due with it
+abbrev pub step_of : Step → Walker × List Due
+step_of s = (walker_of s.walker, s.due.items)
+
+abbrev pub fired_of : Fired → Watches × List Due
+fired_of f = (f.watches, f.due.items)
+
+-- whether no request is answered behind what is told, and that
+abbrev pub ending_of : Ending → Bool × Told
+ending_of e = (e.is_over, told_of e.told)
+
+-- a step with the packets that it leaves
+abbrev pub left_by : List Due → Step → Walker × List Due
+left_by ps s = (walker_of s.walker, drop (length s.due.items) ps)
+
+-- the answer to a frame at a place that may be answered as of the moment behind these lines
+abbrev pub answer_behind : List TranscriptLine → ℕ → ℤ → Walker → Option (ℕ × UpdateRec) → ℕ → Frame → Option (Walker × List Due)
+answer_behind past c id w own k x = let g = fired_above past w.zxid w.watches in reply_step_if past w k (xid_of x) g.1 (told_as_of past c id x g.0 own)

@@ -1,0 +1,194 @@
+//! What is told in answer to a frame as of a moment.
+
+ghost use Rattle.std.specs.Prelude.{◌≡◌, ◌<◌, Some, length, option_map, IfOk};
+ghost use Rattle.zk_model.specs.declared.reply.Reply.TheVariants as reply;
+ghost use Rattle.zk_transcript.specs.History.{after};
+ghost use Rattle.zk_transcript.specs.Answers.{limit_in, plain_reply as plain_reply_of, session_refusal as session_refusal_of, session_seen};
+ghost use Rattle.zk_transcript.specs.Walks.{closes_session as closes_session_of, looked as looked_of, response_at as response_at_of, told_as_of as told_as_of_of, told_by_state as told_by_state_of};
+ghost use Rattle.zk_answers.specs.Outcomes.{told_of};
+ghost use Rattle.zk_judge.specs.Seen.{ending_of, frame_as};
+
+use crate::firing::state_of;
+use crate::frames::{FrameRead, plain_reply, refused};
+use crate::walker::Party;
+use std::alloc::Global;
+use zk_answers::{Told, Watches, tree_reply};
+use zk_history::{State, asked_commit};
+use zk_model::code::{SESSION_EXPIRED, SESSION_MOVED};
+use zk_model::{Body, Reply};
+use zk_transcript::{TranscriptLine, UpdateKind, UpdateRec};
+use zx_base::{Memory, Seq};
+
+/// The most ephemeral nodes that a session may own.
+const MAX_OWNED: usize = 40;
+
+/// What is told, and whether no request is answered behind it.
+#[derive(Drop)]
+pub struct Ending {
+    pub told: Told,
+    pub is_over: bool,
+}
+
+/// The refusal of the session test.
+fn session_refusal(party: Party, state: &State) -> Option<i32>
+    ensures { option_map reply.Refused result ≡ session_refusal_of party.connection (session_seen state.now party.connection party.session) }
+{
+    if party.session == 0 {
+        return None;
+    }
+    match state.session(party.session) {
+        None => Some(SESSION_EXPIRED),
+        Some(session) => {
+            if session.is_lapsed() {
+                Some(SESSION_EXPIRED)
+            } else if party.connection != session.connection() {
+                Some(SESSION_MOVED)
+            } else {
+                None
+            }
+        }
+    }
+}
+
+/// The tree's answer, where none without it stands.
+fn looked(
+    alloc: Global,
+    state: &State,
+    party: Party,
+    frame: &FrameRead,
+    watches: &Watches,
+) -> Result<Option<Told>, Memory>
+    ensures { IfOk result (λ o. option_map told_of o ≡ looked_of state.now 40 party.session watches.now (frame_as frame.now) (plain_reply_of watches.now (frame_as frame.now))) }
+{
+    if plain_reply(alloc, watches, frame)?.is_some() {
+        return Ok(None);
+    }
+    match frame {
+        FrameRead::Asks { request, .. } => match tree_reply(
+            alloc,
+            state.tree(),
+            MAX_OWNED,
+            party.session,
+            watches,
+            request,
+        ) {
+            Ok(told) => Ok(told),
+            Err(_) => Err(Memory),
+        },
+        FrameRead::NoHeader => Ok(None),
+        FrameRead::Unreadable { .. } => Ok(None),
+        FrameRead::Unknown { .. } => Ok(None),
+    }
+}
+
+/// The refusal of the session test, which ends the conversation; or else the tree's answer.
+fn told_by_state(
+    alloc: Global,
+    state: &State,
+    party: Party,
+    frame: &FrameRead,
+    watches: &Watches,
+) -> Result<Option<Ending>, Memory>
+    ensures { IfOk result (λ o. option_map ending_of o ≡ told_by_state_of state.now party.connection party.session (frame_as frame.now) watches.now) }
+{
+    match session_refusal(party, state) {
+        Some(code) => Ok(Some(Ending {
+            told: refused(alloc, watches, code)?,
+            is_over: true,
+        })),
+        None => match looked(alloc, state, party, frame, watches)? {
+            Some(told) => Ok(Some(Ending {
+                told,
+                is_over: false,
+            })),
+            None => Ok(None),
+        },
+    }
+}
+
+/// The response to a request that an update carried out, by what that did.
+fn response_at(
+    alloc: Global,
+    past: &[TranscriptLine],
+    place: usize,
+    update: UpdateRec,
+) -> Result<Option<Body>, Memory>
+    requires { place < length past.now }
+    ensures { IfOk result (λ o. o ≡ response_at_of past.now place update.zxid update.kind) }
+{
+    match update.kind {
+        UpdateKind::Asked {
+            connection,
+            index,
+            now,
+        } => {
+            let before = &past[..place];
+            let state = state_of(alloc, past, place)?;
+            match asked_commit(alloc, before, &state, update.zxid, connection, index, now) {
+                Ok(Some(commit)) => Ok(Some(commit.response)),
+                Ok(None) => Ok(None),
+                Err(_) => Err(Memory),
+            }
+        }
+        UpdateKind::Closed { .. } => Ok(Some(Body::Empty)),
+        _ => Ok(None),
+    }
+}
+
+fn closes_session(kind: UpdateKind) -> bool
+    ensures { result ≡ closes_session_of kind }
+{
+    match kind {
+        UpdateKind::Closed { .. } => true,
+        _ => false,
+    }
+}
+
+/// What is told of an update that is the last line.
+#[tactic(auto, unfolding(zk_transcript::specs::Walks::told_as_of))]
+fn told_of_own(
+    alloc: Global,
+    past: &[TranscriptLine],
+    party: Party,
+    frame: &FrameRead,
+    watches: &Watches,
+    place: usize,
+    update: UpdateRec,
+) -> Result<Option<Ending>, Memory>
+    ensures { IfOk result (λ o. option_map ending_of o ≡ told_as_of_of past.now party.connection party.session (frame_as frame.now) watches.now (Some (place, update))) }
+{
+    if past.len() == 0 || past.len() - 1 != place {
+        return Ok(None);
+    }
+    match response_at(alloc, past, place, update)? {
+        Some(response) => Ok(Some(Ending {
+            told: Told {
+                reply: Reply::Good(response),
+                notices: Seq::new(alloc),
+                watches: watches.copy(alloc)?,
+            },
+            is_over: closes_session(update.kind),
+        })),
+        None => Ok(None),
+    }
+}
+
+/// What is told as of the moment behind these lines, which lead to this state.
+#[tactic(auto, unfolding(zk_transcript::specs::Walks::told_as_of))]
+pub fn told_as_of(
+    alloc: Global,
+    past: &[TranscriptLine],
+    state: &State,
+    party: Party,
+    frame: &FrameRead,
+    watches: &Watches,
+    own: Option<(usize, UpdateRec)>,
+) -> Result<Option<Ending>, Memory>
+    requires { state.now ≡ after past.now }
+    ensures { IfOk result (λ o. option_map ending_of o ≡ told_as_of_of past.now party.connection party.session (frame_as frame.now) watches.now own) }
+{
+    match own {
+        Some((place, update)) => told_of_own(alloc, past, party, frame, watches, place, update),
+        None => told_by_state(alloc, state, party, frame, watches),
+    }
+}

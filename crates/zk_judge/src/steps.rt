@@ -1,0 +1,296 @@
+//! The steps of a connection's walk that answer a frame.
+
+ghost use Rattle.std.specs.Prelude.{◌≡◌, ◌&&◌, ◌+◌, ◌<◌, ◌++◌, ◌∷◌, ◌^◌, [], Some, length, option_map, IfOk};
+ghost use Rattle.zk_transcript.specs.Answers.{xid_of as xid_of_of};
+ghost use Rattle.zk_transcript.specs.History.{after};
+ghost use Rattle.zk_transcript.specs.Walks.{Answer, Plain, answer_as_of as answer_as_of_of, answer_plainly as answer_plainly_of, due_notices, is_auth_refusal as is_auth_refusal_of, has_header as has_header_of, later_of as later_of_of, may_answer_at, move, plain_answer as plain_answer_of, reply_step as reply_step_of, reply_step_if as reply_step_if_of, told_as_of as told_as_of_of};
+ghost use Rattle.zk_judge.specs.Seen.{answer_behind as answer_behind_of, ending_of, frame_as, step_of, walker_of};
+ghost use Rattle.zk_answers.specs.Outcomes.{told_of};
+
+use crate::answers::{Ending, told_as_of};
+use crate::firing::{fire_above, state_of};
+use crate::frames::{FrameRead, frame_of, has_header, plain_reply, xid_of};
+use crate::packets::{Due, add_notices, reply_packet};
+use crate::places::{after_update, own_update, placed_frame};
+use crate::walker::{Fired, Party, Step, Walker};
+use std::alloc::Global;
+use zk_answers::Told;
+use zk_history::State;
+use zk_model::code::AUTH_FAILED;
+use zk_model::{Notice, Reply};
+use zk_transcript::{TranscriptLine, UpdateRec};
+use zx_base::{Bytes, Memory};
+
+fn is_auth_refusal(answer: &Reply) -> bool
+    ensures { result ≡ is_auth_refusal_of answer.now }
+{
+    match answer {
+        Reply::Refused(code) => *code == AUTH_FAILED,
+        Reply::Good(_) => false,
+    }
+}
+
+pub fn later_of(first: usize, second: usize) -> usize
+    ensures { result ≡ later_of_of first second }
+{
+    if first <= second { second } else { first }
+}
+
+/// The index behind one. One that is no longer counted is as if memory were refused.
+fn behind_index(index: u64) -> Result<u64, Memory>
+    ensures { IfOk result (λ i. i ≡ index + 1) }
+{
+    if index == u64::MAX {
+        return Err(Memory);
+    }
+    Ok(index + 1)
+}
+
+/// An answer without the tree, due from a place on.
+fn plain_answer(
+    alloc: Global,
+    walker: &Walker,
+    place: usize,
+    xid: i32,
+    told: Told,
+) -> Result<Step, Memory>
+    ensures { IfOk result (λ s. Some (step_of s) ≡ plain_answer_of (walker_of walker.now) place xid (Some (told_of told))) }
+{
+    let Told {
+        reply: answer,
+        notices,
+        watches,
+    } = told;
+    let mut due = Vec::new(alloc);
+    add_notices(alloc, &mut due, place, notices.as_slice())?;
+    due.push((place, reply_packet(alloc, xid, walker.zxid, &answer)?))?;
+    Ok(Step {
+        walker: Walker {
+            zxid: walker.zxid,
+            since: walker.since,
+            is_over: is_auth_refusal(&answer),
+            watches,
+            next: behind_index(walker.next)?,
+            moment: walker.moment,
+        },
+        due,
+    })
+}
+
+/// A frame is answered without the tree.
+fn answer_frame_plainly(
+    alloc: Global,
+    walker: &Walker,
+    place: usize,
+    bytes: &[u8],
+) -> Result<Option<Step>, Memory>
+    requires { place + 1 < 2 ^ 64 }
+    ensures { IfOk result (λ o. option_map step_of o ≡ answer_plainly_of (walker_of walker.now) (Some (place, bytes.now))) }
+{
+    let frame = frame_of(alloc, bytes)?;
+    match plain_reply(alloc, &walker.watches, &frame)? {
+        Some(told) => {
+            let first = later_of(walker.since, place + 1);
+            Ok(Some(plain_answer(alloc, walker, first, xid_of(&frame), told)?))
+        }
+        None => Ok(None),
+    }
+}
+
+/// The next frame is answered without the tree, which repeats the place.
+pub fn answer_plainly(
+    alloc: Global,
+    lines: &[TranscriptLine],
+    party: Party,
+    walker: &Walker,
+) -> Result<Option<Step>, Memory>
+    ensures { IfOk result (λ o. option_map step_of o ≡ move lines.now party.connection party.session (walker_of walker.now) Plain) }
+{
+    if walker.is_over {
+        return Ok(None);
+    }
+    match placed_frame(lines, party.connection, walker.next) {
+        Some((place, bytes)) => answer_frame_plainly(alloc, walker, place, bytes),
+        None => Ok(None),
+    }
+}
+
+/// What is due with an answer as of the moment behind these lines: the notices, from right behind the last update on, and the
+/// reply, which stands neither before its moment nor before its frame.
+fn reply_due(
+    alloc: Global,
+    fired: Vec<Due>,
+    since: usize,
+    first: usize,
+    notices: &[Notice],
+    packet: Bytes,
+) -> Result<Vec<Due>, Memory>
+    ensures { IfOk result (λ v. v.items ≡ fired.items ++ due_notices since notices.now ++ ((first, packet) ∷ [])) }
+{
+    let mut due = fired;
+    add_notices(alloc, &mut due, since, notices)?;
+    due.push((first, packet))?;
+    Ok(due)
+}
+
+/// An answer as of the moment behind these lines, which lead to a state with this zxid.
+fn reply_step(
+    alloc: Global,
+    past: &[TranscriptLine],
+    zxid: i64,
+    walker: &Walker,
+    place: usize,
+    xid: i32,
+    fired: Vec<Due>,
+    ending: Ending,
+) -> Result<Step, Memory>
+    requires zxid { zxid ≡ (after past.now).zxid }
+    requires place { place + 1 < 2 ^ 64 }
+    ensures { IfOk result (λ s. step_of s ≡ reply_step_of past.now (walker_of walker.now) place xid fired.items (ending_of ending)) }
+{
+    let Ending { told, is_over } = ending;
+    let Told {
+        reply: answer,
+        notices,
+        watches,
+    } = told;
+    let since = after_update(past, zxid);
+    let first = later_of(past.len(), place + 1);
+    let packet = reply_packet(alloc, xid, zxid, &answer)?;
+    let due = reply_due(alloc, fired, since, first, notices.as_slice(), packet)?;
+    Ok(Step {
+        walker: Walker {
+            zxid,
+            since,
+            watches,
+            next: behind_index(walker.next)?,
+            moment: past.len(),
+            is_over,
+        },
+        due,
+    })
+}
+
+/// Whether a frame may be answered as of the moment behind these lines, which lead to this state.
+fn may_answer(past: &[TranscriptLine], state: &State, walker: &Walker, frame: &FrameRead) -> bool
+    requires { state.now ≡ after past.now }
+    ensures { result ≡ (may_answer_at past.now (walker_of walker.now) && has_header_of (frame_as frame.now)) }
+{
+    walker.moment <= past.len() && walker.zxid <= state.zxid() && has_header(frame)
+}
+
+/// The answer, where something is told.
+fn reply_step_if(
+    alloc: Global,
+    past: &[TranscriptLine],
+    zxid: i64,
+    walker: &Walker,
+    place: usize,
+    xid: i32,
+    fired: Vec<Due>,
+    ending: Option<Ending>,
+) -> Result<Option<Step>, Memory>
+    requires zxid { zxid ≡ (after past.now).zxid }
+    requires place { place + 1 < 2 ^ 64 }
+    ensures { IfOk result (λ o. option_map step_of o ≡ reply_step_if_of past.now (walker_of walker.now) place xid fired.items (option_map ending_of ending)) }
+{
+    match ending {
+        Some(ending) => Ok(Some(reply_step(alloc, past, zxid, walker, place, xid, fired, ending)?)),
+        None => Ok(None),
+    }
+}
+
+/// A frame that may be answered as of the moment behind these lines, which lead to this state, is answered after what fired.
+fn answer_fired(
+    alloc: Global,
+    past: &[TranscriptLine],
+    state: &State,
+    party: Party,
+    walker: &Walker,
+    own: Option<(usize, UpdateRec)>,
+    place: usize,
+    frame: &FrameRead,
+    fired: Fired,
+) -> Result<Option<Step>, Memory>
+    requires state { state.now ≡ after past.now }
+    requires place { place + 1 < 2 ^ 64 }
+    ensures { IfOk result (λ o. option_map step_of o ≡ reply_step_if_of past.now (walker_of walker.now) place (xid_of_of (frame_as frame.now)) fired.due.items (told_as_of_of past.now party.connection party.session (frame_as frame.now) fired.watches own)) }
+{
+    let Fired { watches, due } = fired;
+    let ending = told_as_of(alloc, past, state, party, frame, &watches, own)?;
+    reply_step_if(
+        alloc,
+        past,
+        state.zxid(),
+        walker,
+        place,
+        xid_of(frame),
+        due,
+        ending,
+    )
+}
+
+/// The same, behind what the updates above the place fire.
+fn answer_behind(
+    alloc: Global,
+    past: &[TranscriptLine],
+    state: &State,
+    party: Party,
+    walker: &Walker,
+    own: Option<(usize, UpdateRec)>,
+    place: usize,
+    frame: &FrameRead,
+) -> Result<Option<Step>, Memory>
+    requires state { state.now ≡ after past.now }
+    requires place { place + 1 < 2 ^ 64 }
+    ensures { IfOk result (λ o. option_map step_of o ≡ answer_behind_of past.now party.connection party.session (walker_of walker.now) own place (frame_as frame.now)) }
+{
+    let fired = fire_above(alloc, past, walker)?;
+    answer_fired(alloc, past, state, party, walker, own, place, frame, fired)
+}
+
+/// A frame is answered as of the moment behind these lines.
+fn answer_frame_as_of(
+    alloc: Global,
+    past: &[TranscriptLine],
+    party: Party,
+    walker: &Walker,
+    own: Option<(usize, UpdateRec)>,
+    place: usize,
+    bytes: &[u8],
+) -> Result<Option<Step>, Memory>
+    requires { place + 1 < 2 ^ 64 }
+    ensures { IfOk result (λ o. option_map step_of o ≡ answer_as_of_of past.now party.connection party.session (walker_of walker.now) own (Some (place, bytes.now))) }
+{
+    let state = state_of(alloc, past, past.len())?;
+    let frame = frame_of(alloc, bytes)?;
+    if !may_answer(past, &state, walker, &frame) {
+        return Ok(None);
+    }
+    answer_behind(alloc, past, &state, party, walker, own, place, &frame)
+}
+
+/// The next frame is answered as of a moment.
+pub fn answer_as_of(
+    alloc: Global,
+    lines: &[TranscriptLine],
+    party: Party,
+    walker: &Walker,
+    moment: usize,
+) -> Result<Option<Step>, Memory>
+    ensures { IfOk result (λ o. option_map step_of o ≡ move lines.now party.connection party.session (walker_of walker.now) (Answer moment)) }
+{
+    if walker.is_over {
+        return Ok(None);
+    }
+    if lines.len() < moment {
+        return Ok(None);
+    }
+    match placed_frame(lines, party.connection, walker.next) {
+        Some((place, bytes)) => {
+            let own = own_update(lines, party.connection, walker.next);
+            answer_frame_as_of(alloc, &lines[..moment], party, walker, own, place, bytes)
+        }
+        None => Ok(None),
+    }
+}

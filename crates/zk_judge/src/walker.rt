@@ -1,0 +1,40 @@
+//! How far a connection has come.
+
+use crate::packets::Due;
+use zk_answers::Watches;
+
+/// The connection whose conversation is judged: its number and its session.
+#[derive(Clone, Copy)]
+pub struct Party {
+    pub connection: u32,
+    pub session: i64,
+}
+
+/// How far a connection has come.
+#[derive(Drop)]
+pub struct Walker {
+    /// The zxid up to which the client has been told, and the moment right behind that update.
+    pub zxid: i64,
+    pub since: usize,
+    pub watches: Watches,
+    /// The index of the next frame to answer.
+    pub next: u64,
+    /// The moment of the last reply that had one.
+    pub moment: usize,
+    /// No request is answered any more.
+    pub is_over: bool,
+}
+
+/// A step: how far the connection has come with it, and the packets that are due with it.
+#[derive(Drop)]
+pub struct Step {
+    pub walker: Walker,
+    pub due: Vec<Due>,
+}
+
+/// What is armed, and the packets that are due so far.
+#[derive(Drop)]
+pub struct Fired {
+    pub watches: Watches,
+    pub due: Vec<Due>,
+}
