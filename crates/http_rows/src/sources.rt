@@ -1,0 +1,64 @@
+//! Sources in memory that give their bytes in pieces, with idle turns between them.
+
+use crate::marks::unescaped;
+use std::alloc::{AllocError, Global};
+use zx_outside::MemSource;
+
+/// How many pieces have an idle turn in front.
+const IDLE_TURNS: usize = 500;
+
+/// How many idle turns a call waits at most.
+const PAUSE: usize = 6000;
+
+/// A source of these bytes in pieces of this size, the first of them with an idle turn in front.
+pub fn source_of(alloc: Global, text: &str, cut: u32) -> Result<MemSource, AllocError> {
+    let bytes = unescaped(alloc, text.as_bytes())?;
+    let mut pieces = Vec::new(alloc);
+    if cut > 0 {
+        for number in 0..bytes.len() {
+            if number < IDLE_TURNS {
+                pieces.push(0)?;
+            }
+            pieces.push(cut)?;
+        }
+    }
+    Ok(MemSource::new(bytes, pieces, Vec::new(alloc)))
+}
+
+/// A number in front of a text, and the text behind it; 0 where there is none.
+fn number_before(text: &str) -> (usize, &str) {
+    match text.split_once(' ') {
+        Some((number, rest)) => match number.parse::<usize>() {
+            Ok(number) => (number, rest),
+            Err(_) => (0, text),
+        },
+        None => (0, text),
+    }
+}
+
+/// A source that is idle for some turns first.
+pub fn idle_source(alloc: Global, text: &str) -> Result<MemSource, AllocError> {
+    let (turns, rest) = number_before(text);
+    let mut pieces = Vec::new(alloc);
+    for _ in 0..turns {
+        pieces.push(0)?;
+    }
+    let bytes = unescaped(alloc, rest.as_bytes())?;
+    Ok(MemSource::new(bytes, pieces, Vec::new(alloc)))
+}
+
+/// A source that gives bytes one by one and then a piece, and then is idle.
+pub fn paused_source(alloc: Global, text: &str) -> Result<MemSource, AllocError> {
+    let (ones, rest) = number_before(text);
+    let (next, rest) = number_before(rest);
+    let mut pieces = Vec::new(alloc);
+    for _ in 0..ones {
+        pieces.push(1)?;
+    }
+    pieces.push(u32::try_from(next).unwrap_or(1))?;
+    for _ in 0..PAUSE {
+        pieces.push(0)?;
+    }
+    let bytes = unescaped(alloc, rest.as_bytes())?;
+    Ok(MemSource::new(bytes, pieces, Vec::new(alloc)))
+}
