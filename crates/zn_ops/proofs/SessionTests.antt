@@ -7,15 +7,16 @@ use Rattle.zk_model.specs.Watches.{no_watches}
 use Rattle.zk_transcript.specs.Answers.{plain_request}
 use Rattle.zk_transcript.specs.History.{Session, limit_of, session_at}
 use Rattle.zn_layout.specs.Keys.{LeaseKey}
-use Rattle.zn_ops.specs.Deciding.{IsAttachedAt, IsGood}
+use Rattle.zn_ops.specs.Deciding.{IsAttachedAt}
 use Rattle.zn_reads.specs.Deciding.{IsAnswered, IsReadDecision}
-use Rattle.zn_updates.specs.Deciding.{IfPlanned, IsAttached, IsBySound, IsGuarded, IsWhole}
+use Rattle.zn_view.specs.Deciding.{IfPlanned, IsGood}
+use Rattle.zn_updates.specs.Deciding.{IsAttached, IsBySound, IsGuarded}
 use Rattle.zn_updates.proofs.Meanings.{int_eq-same}
 use Rattle.zn_view.specs.declared.plan.Decision.{Decision}
 use Rattle.zn_view.specs.declared.plan.Decision.TheVariants.{Answered, Planned, Expired, Moved}
 use Rattle.zn_view.specs.declared.plan.Who.{Who}
 use Rattle.zn_view.specs.Lookups.{HasSeen, sees}
-use Rattle.zn_view.specs.Needs.{life_want}
+use Rattle.zn_view.specs.Needs.{life_want, IsWhole}
 use Rattle.zn_view.specs.Seen.{View}
 use Rattle.zn_view.specs.Views.{IsDecision, live}
 use Rattle.zn_view.proofs.Tested.{expired-decides, moved-decides, tree-decides}

@@ -6,8 +6,10 @@ ghost use Rattle.zk_model.specs.Watches.{no_watches};
 ghost use Rattle.zk_transcript.specs.Answers.{plain_request};
 ghost use Rattle.zn_ops.specs.Forms.{is_single};
 ghost use Rattle.zn_layout.specs.Keys.{LeaseKey};
-ghost use Rattle.zn_ops.specs.Deciding.{IsAttachedAt, IsGood};
-ghost use Rattle.zn_updates.specs.Deciding.{content_in, IfPlanned, IsAttached, IsWhole};
+ghost use Rattle.zn_ops.specs.Deciding.{IsAttachedAt};
+ghost use Rattle.zn_view.specs.Deciding.{IfPlanned, IsGood};
+ghost use Rattle.zn_view.specs.Needs.{IsWhole};
+ghost use Rattle.zn_updates.specs.Deciding.{content_in, IsAttached};
 ghost use Rattle.zn_view.specs.Lookups.{HasSeen, sees};
 ghost use Rattle.zn_view.specs.Views.{IsDecision};
 

@@ -14,9 +14,9 @@ use Rattle.zn_layout.specs.Listing.{HasValidPaths}
 use Rattle.zn_layout.specs.StandsFor.{Means, at, stored_of}
 use Rattle.zn_view.proofs.Listing.{listed-children}
 use Rattle.zn_view.specs.declared.snapshot.SeenKey.{SeenKey}
-use Rattle.zn_view.specs.Seen.{View, seen_in, seen, listed}
+use Rattle.zn_view.specs.Seen.{View, seen_in, seen, listed, found_of}
 use Rattle.zn_view.specs.Views.{Agrees, IsOf}
-use Rattle.zn_reads.specs.Found.{found_of, found_at}
+use Rattle.zn_view.specs.Lookups.{found_at}
 
 all-rest : {A : Type 0} (P : A → Type 0) (x : A) (xs : List A) → All P (x ∷ xs) → All P xs
 all-rest P x xs h = λ k d lt. h (suc k) d (omega arith)

@@ -10,10 +10,9 @@ use Rattle.zk_transcript.specs.History.{State}
 use Rattle.zn_layout.specs.Keys.{Key, DataKey, key_bytes}
 use Rattle.zn_view.specs.declared.plan.Who.{Who}
 use Rattle.zn_view.specs.declared.want.Want.TheVariants as want
-use Rattle.zn_view.specs.Needs.{key_want}
+use Rattle.zn_view.specs.Needs.{key_want, LacksNothing}
 use Rattle.zn_view.specs.Seen.{View, seen, listed}
 use Rattle.zn_view.specs.Views.{IsOf, reads, about_path}
-use Rattle.zn_reads.specs.Deciding.{LacksNothing}
 use Rattle.zn_reads.specs.Found.{HasLooked}
 use Rattle.zn_view.proofs.Elements.{contains-first, contains-rest}
 

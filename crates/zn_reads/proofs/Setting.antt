@@ -20,8 +20,9 @@ use Rattle.zw_watch.specs.declared.seen_path.SeenPath.{SeenPath}
 use Rattle.zw_watch.specs.declared.seen_path.WatchList.TheVariants.{Datas, Exists, Children}
 use Rattle.zw_watch.specs.SeenPaths.{see_paths, unseen, path_on, paths_on}
 use Rattle.zw_watch.proofs.SetWatches.{set_watches-paths}
-use Rattle.zn_reads.specs.Deciding.{LacksNothing}
-use Rattle.zn_reads.specs.Found.{found_at, HasLooked}
+use Rattle.zn_view.specs.Needs.{LacksNothing}
+use Rattle.zn_view.specs.Lookups.{found_at}
+use Rattle.zn_reads.specs.Found.{HasLooked}
 use Rattle.zn_reads.specs.SeenPaths.{put_at, seen_path, seen_paths, IsSetBy}
 use Rattle.zn_reads.proofs.Agreeing.{found-means}
 use Rattle.zn_reads.proofs.Looking.{looked-reads}

@@ -3,14 +3,14 @@ use Rattle.std.specs.Prelude.{◌≡◌, ℕ, ℤ, Bool, true, false, Some, None
 use Rattle.zk_model.specs.declared.request.Request.{Request}
 use Rattle.zk_model.specs.declared.request.Request.TheVariants as req
 use Rattle.zk_model.specs.Watches.{no_watches}
-use Rattle.zk_transcript.specs.Answers.{Told, plain_request, tree_reply}
+use Rattle.zk_transcript.specs.Answers.{plain_request, tree_reply}
 use Rattle.zk_transcript.specs.History.{State, IsSound}
 use Rattle.zn_layout.specs.Listing.{HasValidPaths}
 use Rattle.zn_view.specs.declared.plan.Decision.{Decision}
 use Rattle.zn_view.specs.declared.plan.Decision.TheVariants.{Answered, Planned, Expired, Moved}
 use Rattle.zn_view.specs.declared.plan.Who.{Who}
-use Rattle.zn_view.specs.declared.want.Want.{Want}
-use Rattle.zn_view.specs.Needs.{IsRead, IsLacking}
+use Rattle.zn_view.specs.Deciding.{IsToldByForm}
+use Rattle.zn_view.specs.Needs.{LacksNothing}
 use Rattle.zn_view.specs.Seen.{View}
 use Rattle.zn_view.specs.Views.{IsOf, IsByTree}
 
@@ -31,14 +31,6 @@ abbrev pub lists : Request → Bool
 lists (req.GetChildren p watch) = true
 lists (req.GetChildren2 p watch) = true
 lists _ = false
-
--- the view has all that the request looks up
-abbrev pub LacksNothing : Request → Who → View → Type 0
-LacksNothing r who v = (w : Want) → IsRead r who v w → IsLacking v w → ⊥
-
--- where the request's form already tells the answer, it is that
-abbrev pub IsToldByForm : Request → Decision → Type 0
-IsToldByForm r d = (t : Told) → plain_request no_watches r ≡ Some t → d ≡ Answered t.reply None
 
 -- Elsewhere it is the tree's, in each sound state that the view is of, whoever asks. Children are listed by a range of keys,
 -- which is theirs alone where each path of the tree is valid.

@@ -16,14 +16,6 @@ use Rattle.zn_view.specs.Lookups.{HasSeen}
 use Rattle.zn_view.specs.Seen.{View, seen, listed}
 use Rattle.zn_view.specs.Views.{IsOf, about_path}
 
--- None where nothing was found, or nothing looked up
-abbrev pub found_of : Option (Option Kv) → Option Kv
-found_of None = None
-found_of (Some o) = o
-
-abbrev pub found_at : View → Key → Option Kv
-found_at v k = found_of (seen v (key_bytes k))
-
 -- each of these keys was looked up
 abbrev pub HasLooked : View → List Key → Type 0
 HasLooked v [] = Unit {0}

@@ -14,8 +14,8 @@ use Rattle.zw_watch.specs.declared.seen_path.SeenPath.{SeenPath}
 use Rattle.zw_watch.specs.declared.seen_path.WatchList.{WatchList}
 use Rattle.zw_watch.specs.declared.seen_path.WatchList.TheVariants.{Datas, Exists, Children}
 use Rattle.zw_watch.specs.SeenPaths.{see_paths, unseen}
-use Rattle.zn_reads.specs.Deciding.{LacksNothing}
-use Rattle.zn_reads.specs.Found.{found_at}
+use Rattle.zn_view.specs.Needs.{LacksNothing}
+use Rattle.zn_view.specs.Lookups.{found_at}
 
 -- ---- what was found
 

@@ -1,8 +1,7 @@
 //! What a view found under a key.
 
 ghost use Rattle.std.specs.Prelude.{◌≡◌, option_copied};
-ghost use Rattle.zn_view.specs.Seen.{seen};
-ghost use Rattle.zn_reads.specs.Found.{found_of};
+ghost use Rattle.zn_view.specs.Seen.{seen, found_of};
 
 use ev_types::Kv;
 use zn_view::View;

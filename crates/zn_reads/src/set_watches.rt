@@ -8,7 +8,7 @@ ghost use Rattle.zk_model.specs.declared.reply.Reply.TheVariants as replies;
 ghost use Rattle.zk_model.specs.declared.request.Request.TheVariants as req;
 ghost use Rattle.zk_transcript.specs.History.{State};
 ghost use Rattle.zn_layout.specs.Keys.{key_bytes};
-ghost use Rattle.zn_reads.specs.Deciding.{LacksNothing};
+ghost use Rattle.zn_view.specs.Needs.{LacksNothing};
 ghost use Rattle.zn_reads.specs.SeenPaths.{changing_key, put_at, seen_path, seen_paths, IsSetBy};
 ghost use Rattle.zn_view.specs.declared.plan.Decision.TheVariants as decisions;
 ghost use Rattle.zn_view.specs.declared.plan.Who.{Who as AnyWho};

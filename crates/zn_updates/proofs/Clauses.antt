@@ -32,7 +32,8 @@ use Rattle.zn_view.proofs.PlanSizes.{plan-small}
 use Rattle.zn_view.proofs.Sizes.{again-present}
 use Rattle.zn_updates.specs.declared.chosen.Chosen.{Chosen}
 use Rattle.zn_updates.specs.Choices.{Choice, Refuse, Make}
-use Rattle.zn_updates.specs.Deciding.{IfMakes, IfMade, IfPlanned, IsAttached, IsToldByForm, IsBySound, IsGuarded, decision_of, on_keys, plan_of}
+use Rattle.zn_view.specs.Deciding.{IfPlanned, IsToldByForm}
+use Rattle.zn_updates.specs.Deciding.{IfMakes, IfMade, IsAttached, IsBySound, IsGuarded, decision_of, on_keys, plan_of}
 use Rattle.zn_updates.specs.Making.{chosen_of}
 use Rattle.zn_updates.proofs.Deciding.{IsPart, IsChosen, by_tree, plan_is}
 use Rattle.zn_updates.proofs.WellMade.{AreWellMade, IfChanges}

@@ -37,7 +37,7 @@ use Rattle.zn_view.specs.declared.plan.Decision.{Decision}
 use Rattle.zn_view.specs.declared.plan.Who.{Who}
 use Rattle.zn_view.specs.declared.want.Want.{Want}
 use Rattle.zn_view.specs.Lookups.{HasSeen, sees}
-use Rattle.zn_view.specs.Needs.{AreNeeds, Follows, IsRead, key_want}
+use Rattle.zn_view.specs.Needs.{AreNeeds, Follows, IsRead, key_want, IsWhole}
 use Rattle.zn_view.specs.Lacking.{lacking}
 use Rattle.zn_view.specs.Seen.{View, seen}
 use Rattle.zn_view.specs.Views.{reads, about_parent}
@@ -49,7 +49,8 @@ use Rattle.zn_updates.specs.declared.seen.SeenCounts.{SeenCounts}
 use Rattle.zn_updates.specs.Choices.{Choice, Refuse, create_choice, create_owned}
 use Rattle.zn_updates.specs.declared.form.Form.{Form}
 use Rattle.zn_updates.specs.Forms.{IsFormOf}
-use Rattle.zn_updates.specs.Deciding.{IfMakes, IfPlanned, IsToldByForm, IsBySound, IsCreate, IsGuarded, IsOwnPaths, IsUpLookedUp, IsWhole, creates_in, creates_seen, decision_of, on_keys, path_for}
+use Rattle.zn_view.specs.Deciding.{IfPlanned, IsToldByForm}
+use Rattle.zn_updates.specs.Deciding.{IfMakes, IsBySound, IsCreate, IsGuarded, IsOwnPaths, IsUpLookedUp, creates_in, creates_seen, decision_of, on_keys, path_for}
 use Rattle.zn_updates.specs.KeysRead.{create_keys, numbered, numbered_at, plain_data, session_nodes, IsCreatesSeen, IsParentCreates}
 use Rattle.zn_updates.specs.Making.{IsDataSeen, IsCountsSeen, IsPathsSeen, has_found}
 use Rattle.zn_updates.specs.Right.{IsRight}

@@ -34,7 +34,7 @@ use Rattle.zn_view.specs.declared.plan.Decision.{Decision}
 use Rattle.zn_view.specs.declared.plan.Who.{Who}
 use Rattle.zn_view.specs.declared.want.Want.{Want}
 use Rattle.zn_view.specs.Lookups.{HasSeen, sees}
-use Rattle.zn_view.specs.Needs.{AreNeeds, Follows, IsRead, key_want}
+use Rattle.zn_view.specs.Needs.{AreNeeds, Follows, IsRead, key_want, IsWhole}
 use Rattle.zn_view.specs.Lacking.{lacking}
 use Rattle.zn_view.specs.Seen.{View, seen}
 use Rattle.zn_view.specs.Views.{IsOf, reads, about_path, counts_of_parent}
@@ -45,7 +45,8 @@ use Rattle.zn_view.proofs.Wanted.{are-needs}
 use Rattle.zn_updates.specs.declared.seen.SeenData.{SeenData}
 use Rattle.zn_updates.specs.declared.seen.SeenCounts.{SeenCounts}
 use Rattle.zn_updates.specs.Choices.{Choice, Refuse, delete_choice, delete_here, delete_owned}
-use Rattle.zn_updates.specs.Deciding.{decision_of, IfMakes, IfPlanned, IsToldByForm, IsBySound, IsDelete, IsGuarded, IsOwnerLookedUp, IsOwnerPaths, IsWhole, on_keys, owner_seen}
+use Rattle.zn_view.specs.Deciding.{IfPlanned, IsToldByForm}
+use Rattle.zn_updates.specs.Deciding.{decision_of, IfMakes, IsBySound, IsDelete, IsGuarded, IsOwnerLookedUp, IsOwnerPaths, on_keys, owner_seen}
 use Rattle.zn_updates.specs.KeysRead.{owner_nodes, delete_keys, IsOwnerSeen}
 use Rattle.zn_updates.specs.Making.{IsDataSeen, IsCountsSeen, IsPathsSeen}
 use Rattle.zn_updates.specs.Right.{IsRight}

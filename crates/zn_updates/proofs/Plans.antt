@@ -21,7 +21,8 @@ use Rattle.zn_view.proofs.Wanted.{no-needs}
 use Rattle.zn_updates.specs.declared.chosen.Chosen.TheVariants.{Refused, Made}
 use Rattle.zn_updates.specs.declared.chosen.Update.{Update}
 use Rattle.zn_updates.specs.Choices.{Choice, Refuse, Make}
-use Rattle.zn_updates.specs.Deciding.{IsToldByForm, IsBySound, decision_of}
+use Rattle.zn_view.specs.Deciding.{IsToldByForm}
+use Rattle.zn_updates.specs.Deciding.{IsBySound, decision_of}
 use Rattle.zn_updates.specs.Making.{chosen_of}
 
 acts_push : (cs : List Change) (c : Change) → acts_of (cs ++ c ∷ []) ≡ acts_of cs ++ act_of c ∷ []

@@ -23,7 +23,7 @@ use Rattle.zn_view.specs.declared.plan.Decision.{Decision}
 use Rattle.zn_view.specs.declared.plan.Who.{Who}
 use Rattle.zn_view.specs.declared.want.Want.{Want}
 use Rattle.zn_view.specs.Lookups.{HasSeen, sees}
-use Rattle.zn_view.specs.Needs.{AreNeeds, IsRead, key_want}
+use Rattle.zn_view.specs.Needs.{AreNeeds, IsRead, key_want, IsWhole}
 use Rattle.zn_view.specs.Seen.{View}
 use Rattle.zn_view.specs.Views.{reads}
 use Rattle.zn_view.specs.Lacking.{lacking}
@@ -33,7 +33,8 @@ use Rattle.zn_view.proofs.Wanted.{are-needs}
 use Rattle.zn_updates.specs.declared.seen.SeenData.{SeenData}
 use Rattle.zn_updates.specs.declared.seen.SeenCounts.{SeenCounts}
 use Rattle.zn_updates.specs.Choices.{Choice, set_data_choice}
-use Rattle.zn_updates.specs.Deciding.{IfMakes, IfPlanned, IsToldByForm, IsBySound, IsGuarded, IsSetData, IsWhole, on_keys}
+use Rattle.zn_view.specs.Deciding.{IfPlanned, IsToldByForm}
+use Rattle.zn_updates.specs.Deciding.{IfMakes, IsBySound, IsGuarded, IsSetData, on_keys}
 use Rattle.zn_updates.specs.KeysRead.{set_data_keys}
 use Rattle.zn_updates.specs.Making.{IsDataSeen, IsCountsSeen}
 use Rattle.zn_updates.specs.Right.{IsRight}

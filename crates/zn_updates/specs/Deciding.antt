@@ -8,19 +8,19 @@ use Rattle.zk_model.specs.declared.request.Request.TheVariants as req
 use Rattle.zk_model.specs.declared.node.Trigger.{Trigger}
 use Rattle.zk_model.specs.Watches.{no_watches}
 use Rattle.std.specs.Prelude.{List, [], Bool, true, false, pos, if◌then◌else◌}
-use Rattle.zk_transcript.specs.Answers.{Told, plain_request, tree_reply}
+use Rattle.zk_transcript.specs.Answers.{plain_request, tree_reply}
 use Rattle.zk_transcript.specs.History.{State, Session, IsSound, limit_of, response_of, session_at}
 use Rattle.zn_layout.specs.Changes.{Change, update_acts}
 use Rattle.zn_layout.specs.Keys.{Key, DataKey, CountsKey, SessionKey, LeaseKey, key_bytes}
 use Rattle.zn_view.specs.declared.plan.Decision.{Decision}
-use Rattle.zn_view.specs.declared.plan.Decision.TheVariants.{Answered, Planned, Expired, Moved}
+use Rattle.zn_view.specs.declared.plan.Decision.TheVariants.{Answered, Planned}
 use Rattle.zn_view.specs.declared.plan.Plan.{Plan}
 use Rattle.zn_view.specs.declared.plan.Who.{Who}
-use Rattle.zn_view.specs.declared.want.Want.{Want}
 use Rattle.zn_view.specs.Asks.{again_of, guards_of, narrowed, IsAskedPlan, WritesOnce}
-use Rattle.zn_view.specs.Needs.{IsRead, IsLacking, GuardsReads, finished}
+use Rattle.zn_view.specs.Deciding.{IsTaken}
+use Rattle.zn_view.specs.Needs.{GuardsReads, finished}
 use Rattle.zn_view.specs.Seen.{View, seen}
-use Rattle.zn_view.specs.Views.{IsByTree, IsOf, IsPlan, IsSmallPlan}
+use Rattle.zn_view.specs.Views.{IsByTree, IsOf, IsPlan}
 use Rattle.zn_view.specs.Lookups.{HasSeen, sees}
 use Rattle.zk_model.specs.Codes.{no_node, node_exists}
 use Rattle.zk_model.specs.Paths.{sequence_path}
@@ -39,10 +39,6 @@ is_update (req.Create p d a f) = true
 is_update (req.Delete p v) = true
 is_update (req.SetData p d v) = true
 is_update _ = false
-
--- nothing that the request reads is lacking
-abbrev pub IsWhole : Request → Who → View → Type 0
-IsWhole r who v = plain_request no_watches r ≡ None → (w : Want) → IsRead r who v w → IsLacking v w → ⊥
 
 -- the view saw the record of the session's life, put where this connection was attached
 abbrev pub IsAttached : Who → View → Type 0
@@ -68,28 +64,18 @@ decision_of v (Make cs ts draft) = Planned (plan_of v cs ts draft)
 
 -- ---- what it is worth
 
--- the refusal of the request's form
-abbrev pub IsToldByForm : Request → Decision → Type 0
-IsToldByForm r d = (t : Told) → plain_request no_watches r ≡ Some t → d ≡ Answered t.reply None
-
 -- in each sound state that the view is of and in which the session is open
 abbrev pub IsBySound : Request → Who → View → Decision → Type 0
 IsBySound r who v d = plain_request no_watches r ≡ None → (s : State) → IsSound s → IsOf v s → (x : Session) → session_at who.session s ≡ Some x
     → IsByTree r d (tree_reply s.tree (limit_of x) who.session no_watches r)
 
-abbrev pub IfPlanned : (Plan → Type 0) → Decision → Type 0
-IfPlanned P (Planned p) = P p
-IfPlanned P (Answered x arm) = Unit {0}
-IfPlanned P Expired = Unit {0}
-IfPlanned P (Moved found) = Unit {0}
-
--- The plan of a connection that is attached carries the update out, and may be asked. It guards what the request reads and writes
--- each key once; and on a view of a sound state it is small enough for an etcd.
+-- The plan of a connection that is attached carries the update out, and may be asked. Of every connection it guards what the request
+-- reads, and writes each key once; and on a view of a sound state an etcd takes it.
 pub record IsGuarded (r : Request) (who : Who) (now : ℕ) (v : View) (p : Plan) : Type 0 where
   pub commits : IsAttached who v → IsPlan r who now v p (λ z. finished z p.draft) × IsAskedPlan who v p
   pub reads : GuardsReads r who v p
   pub writes : WritesOnce p
-  pub small : (s : State) → IsSound s → IsOf v s → IsSmallPlan p
+  pub taken : (s : State) → IsSound s → IsOf v s → IsTaken p
 
 -- ---- what the code chose on
 

@@ -15,8 +15,9 @@ ghost use Rattle.zk_model.specs.Paths.{parent as parent_of};
 ghost use Rattle.zk_model.specs.declared.request.Request.TheVariants as req;
 ghost use Rattle.zn_layout.specs.Keys.{CountsKey, DataKey};
 ghost use Rattle.zn_view.specs.Lookups.{HasSeen, sees};
-ghost use Rattle.zn_view.specs.Needs.{AreNeeds};
-ghost use Rattle.zn_updates.specs.Deciding.{IfPlanned, IsToldByForm, IsBySound, IsDelete, IsGuarded, IsOwnerLookedUp, IsOwnerPaths, IsWhole, owner_seen};
+ghost use Rattle.zn_view.specs.Needs.{AreNeeds, IsWhole};
+ghost use Rattle.zn_view.specs.Deciding.{IfPlanned, IsToldByForm};
+ghost use Rattle.zn_updates.specs.Deciding.{IsBySound, IsDelete, IsGuarded, IsOwnerLookedUp, IsOwnerPaths, owner_seen};
 ghost use Rattle.zn_updates.specs.Making.{IsDataSeen};
 ghost use Rattle.zn_updates.specs.declared.seen.SeenData.{SeenData as AnySeenData};
 

@@ -2,8 +2,9 @@
 
 ghost use Rattle.std.specs.Prelude.{◌≡◌, ◌≤◌, ◌≤ℤ◌, pos, length, IfOk, IsTrue};
 ghost use Rattle.zk_model.specs.Limits.{max_frame, max_moment};
-ghost use Rattle.zn_view.specs.Needs.{AreNeeds};
-ghost use Rattle.zn_updates.specs.Deciding.{content_in, is_update, IfPlanned, IsToldByForm, IsBySound, IsGuarded, IsWhole};
+ghost use Rattle.zn_view.specs.Needs.{AreNeeds, IsWhole};
+ghost use Rattle.zn_view.specs.Deciding.{IfPlanned, IsToldByForm};
+ghost use Rattle.zn_updates.specs.Deciding.{content_in, is_update, IsBySound, IsGuarded};
 
 use crate::create::{create_needs, decide_create};
 use crate::delete::{decide_delete, delete_needs};

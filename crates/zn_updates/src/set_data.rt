@@ -17,8 +17,9 @@ ghost use Rattle.std.specs.Prelude.{ℤ};
 ghost use Rattle.zk_model.specs.declared.request.Request.TheVariants as req;
 ghost use Rattle.zn_layout.specs.Keys.{CountsKey, DataKey};
 ghost use Rattle.zn_view.specs.Lookups.{HasSeen};
-ghost use Rattle.zn_view.specs.Needs.{AreNeeds};
-ghost use Rattle.zn_updates.specs.Deciding.{IfPlanned, IsToldByForm, IsBySound, IsGuarded, IsSetData, IsWhole};
+ghost use Rattle.zn_view.specs.Needs.{AreNeeds, IsWhole};
+ghost use Rattle.zn_view.specs.Deciding.{IfPlanned, IsToldByForm};
+ghost use Rattle.zn_updates.specs.Deciding.{IsBySound, IsGuarded, IsSetData};
 ghost use Rattle.zx_base.specs.Maps.{Bytes as ByteList};
 
 use crate::changes::put_data;

@@ -6,7 +6,7 @@ use Rattle.ev_types.specs.Ranges.{Keys}
 use Rattle.zk_transcript.specs.History.{State}
 use Rattle.zn_layout.specs.Keys.{HeadKey, key_bytes}
 use Rattle.zn_layout.specs.StandsFor.{StandsFor, HeadMeans}
-use Rattle.zn_view.specs.Seen.{View, seen, head_in, head_of, head_zxid, head_number}
+use Rattle.zn_view.specs.Seen.{View, seen, found_of, head_of, head_zxid, head_number}
 use Rattle.zn_view.specs.Views.{Agrees}
 use Rattle.zn_view.proofs.AsSeen.{agrees-seen}
 
@@ -17,7 +17,7 @@ means-told : (o : Option Kv) (s : State) → HeadMeans o s → IsTold o s
 means-told None s none = absurd none
 means-told (Some kv) s is = (is.zxid, is.number)
 
-told_in : (v : View) (m : Keys) (s : State) (o : Option (Option Kv)) → seen v (key_bytes HeadKey) ≡ o → (o ≡ None → ⊥) → StandsFor m s → Agrees v m → IsTold (head_in o) s
+told_in : (v : View) (m : Keys) (s : State) (o : Option (Option Kv)) → seen v (key_bytes HeadKey) ≡ o → (o ≡ None → ⊥) → StandsFor m s → Agrees v m → IsTold (found_of o) s
 told_in v m s None e saw stands a = absurd (saw refl)
 told_in v m s (Some o) e saw stands a = means-told o s (subst (λ (y : Option Kv). HeadMeans y s) (agrees-seen v m (key_bytes HeadKey) o a e) stands.head)
 

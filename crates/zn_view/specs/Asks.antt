@@ -152,12 +152,16 @@ pub record IsAskedPlan (who : Who) (v : View) (p : Plan) : Type 0 where
 abbrev pub IsLeaseless : Change → Type 0
 IsLeaseless c = IfSome c.put (λ (w : Put). w.lease ≡ pos 0)
 
--- Each key is written once, and no put has a lease. The head is put last, with what watches see, and then read. Where a guard
--- does not hold nothing is written.
-pub record WritesOnce (p : Plan) : Type 0 where
+-- It writes keys of the service alone, and no put has a lease. The head is put last, with what watches see, and then read. Where a
+-- guard does not hold nothing is written.
+pub record WritesOwnKeys (p : Plan) : Type 0 where
   pub changes : List Change
   pub acts : p.success ≡ update_acts changes p.triggers
-  pub once : are_distinct (changes ++ head_put p.triggers ∷ []) ≡ true
   pub leases : All IsLeaseless changes
   pub triggers : IsHeadRec p.triggers
   pub reads : are_present_reads (ranges_of (pos 0) p.again) ≡ true
+
+-- and each of them once
+pub record WritesOnce (p : Plan) : Type 0 where
+  pub own : WritesOwnKeys p
+  pub once : are_distinct (own.changes ++ head_put p.triggers ∷ []) ≡ true

@@ -5,4 +5,5 @@ pub mod Views
 pub mod Lookups
 pub mod Needs
 pub mod Lacking
+pub mod Deciding
 pub mod Laws

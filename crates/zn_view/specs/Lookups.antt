@@ -8,7 +8,7 @@ use Rattle.zn_layout.specs.declared.test.NodeNumbers.{NodeNumbers}
 use Rattle.zn_layout.specs.Keys.{Key, key_bytes}
 use Rattle.zn_layout.specs.Reading.{IsValueOf, node_record}
 use Rattle.zn_layout.specs.Records.{node_value, counts_value, session_value, lease_value, IsNodeRec, IsCountRec, IsSessionRec, IsLeaseRec}
-use Rattle.zn_view.specs.Seen.{View, seen}
+use Rattle.zn_view.specs.Seen.{View, seen, found_of}
 
 -- the key was looked up
 abbrev pub HasSeen : View → Key → Type 0
@@ -16,6 +16,9 @@ HasSeen v k = seen v (key_bytes k) ≡ None → ⊥
 
 abbrev pub sees : View → Key → Option (Option Kv)
 sees v k = seen v (key_bytes k)
+
+abbrev pub found_at : View → Key → Option Kv
+found_at v k = found_of (sees v k)
 
 -- a node's numbers, whose data stand behind them in the value
 abbrev pub IsNodeIn : Kv → NodeNumbers → Type 0

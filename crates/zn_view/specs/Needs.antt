@@ -74,6 +74,14 @@ abbrev pub IsLacking : View → Want → Type 0
 IsLacking v (want.Key k) = seen v k ≡ None
 IsLacking v (want.Children p) = listed v p ≡ None
 
+-- nothing that the request reads is lacking
+abbrev pub LacksNothing : Request → Who → View → Type 0
+LacksNothing r who v = (w : Want) → IsRead r who v w → IsLacking v w → ⊥
+
+-- nothing is lacking by which it is decided: what its form decides reads nothing
+abbrev pub IsWhole : Request → Who → View → Type 0
+IsWhole r who v = plain_request no_watches r ≡ None → LacksNothing r who v
+
 abbrev pub is_multi : Request → Bool
 is_multi (req.Multi parts) = true
 is_multi _ = false

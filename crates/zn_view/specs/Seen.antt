@@ -26,6 +26,11 @@ seen_in k (x ∷ xs) = if same x.key k then Some x.found else seen_in k xs
 abbrev pub seen : View → Bytes → Option (Option Kv)
 seen v k = seen_in k v.keys
 
+-- None where nothing was found, or nothing looked up
+abbrev pub found_of : Option (Option Kv) → Option Kv
+found_of None = None
+found_of (Some found) = found
+
 -- the paths of a node's children: None where they weren't listed
 abbrev pub listed_in : Bytes → List SeenChildren → Option (List Bytes)
 listed_in p [] = None
@@ -36,12 +41,8 @@ listed v p = listed_in p v.lists
 
 -- ---- the head, whose mod_revision is the zxid and whose version is the number of the last update
 
-abbrev pub head_in : Option (Option Kv) → Option Kv
-head_in None = None
-head_in (Some found) = found
-
 abbrev pub head_of : View → Option Kv
-head_of v = head_in (seen v (key_bytes HeadKey))
+head_of v = found_of (seen v (key_bytes HeadKey))
 
 -- 0 without a head
 abbrev pub head_zxid : Option Kv → ℤ

@@ -7,7 +7,7 @@ ghost use Rattle.zn_layout.specs.Keys.{HeadKey, DataKey, CountsKey, SessionKey, 
 ghost use Rattle.zn_layout.specs.Reading.{IsSomeValue};
 ghost use Rattle.zn_layout.specs.Records.{node_value, counts_value, lease_value, session_value, IsNodeRec, IsCountRec, IsLeaseRec, IsSessionRec};
 ghost use Rattle.zn_view.specs.Lookups.{HasSeen, sees, IsNodeIn, IsCountsIn, IsNodesIn, IsLifeIn};
-ghost use Rattle.zn_view.specs.Seen.{seen, seen_in, listed, listed_in, head_in, head_of, head_zxid, head_number, IsFound};
+ghost use Rattle.zn_view.specs.Seen.{seen, seen_in, listed, listed_in, found_of, head_of, head_zxid, head_number, IsFound};
 
 use crate::snapshot::{SeenChildren, SeenKey};
 use crate::view::View;
@@ -46,7 +46,7 @@ fn listed_among<'a>(lists: &'a [SeenChildren], path: &[u8]) -> Option<&'a [Bytes
 /// The head.
 #[tactic(auto, unfolding(zn_layout::specs::Keys::key_bytes))]
 fn head_among(keys: &[SeenKey]) -> Option<&Kv>
-    ensures { option_copied result ≡ head_in (seen_in (key_bytes HeadKey) keys.now) }
+    ensures { option_copied result ≡ found_of (seen_in (key_bytes HeadKey) keys.now) }
 {
     match found_among(keys, b"zk/head") {
         Some(found) => found,

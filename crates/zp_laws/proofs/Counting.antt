@@ -17,7 +17,7 @@ use Rattle.zk_transcript.specs.Walks.{has_header, is_auth_refusal}
 use Rattle.zk_transcript.specs.declared.transcript.Cause.{Cause}
 use Rattle.zk_transcript.specs.declared.transcript.Cause.TheVariants as cause
 use Rattle.zn_layout.specs.declared.entry.Entry.{Entry}
-use Rattle.zn_reads.specs.Found.{found_at}
+use Rattle.zn_view.specs.Lookups.{found_at}
 use Rattle.zn_view.specs.Adding.{at_revision}
 use Rattle.zn_view.specs.Asks.{with_parts}
 use Rattle.zn_view.specs.Seen.{View, empty_view}

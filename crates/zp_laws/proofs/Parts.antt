@@ -10,10 +10,10 @@ use Rattle.ev_types.specs.Ranges.{Keys}
 use Rattle.ev_types.specs.Store.{Store, acts_from, chosen, present, revision, worked}
 use Rattle.zn_layout.specs.Keys.{Key, key_bytes}
 use Rattle.zn_layout.proofs.Commits.{answer-is}
-use Rattle.zn_reads.specs.Found.{found_at, found_of}
+use Rattle.zn_view.specs.Lookups.{found_at}
 use Rattle.zn_view.specs.Asks.{ranges_of, reading, with_part, with_parts}
 use Rattle.zn_view.specs.Needs.{key_want}
-use Rattle.zn_view.specs.Seen.{View, seen}
+use Rattle.zn_view.specs.Seen.{View, seen, found_of}
 use Rattle.zn_view.specs.Views.{Agrees}
 use Rattle.zn_view.specs.declared.want.Want.{Want}
 use Rattle.zn_view.specs.declared.want.Want.TheVariants as want

@@ -24,7 +24,7 @@ use Rattle.zk_transcript.specs.declared.transcript.TranscriptLine.{TranscriptLin
 use Rattle.zx_base.proofs.Options.{some_is}
 use Rattle.zn_layout.specs.Keys.{HeadKey}
 use Rattle.zn_layout.specs.StandsFor.{StandsFor}
-use Rattle.zn_reads.specs.Found.{found_at}
+use Rattle.zn_view.specs.Lookups.{found_at}
 use Rattle.zn_view.specs.Adding.{at_revision}
 use Rattle.zn_view.specs.Asks.{reading, transaction, with_parts}
 use Rattle.zn_view.specs.Laws.{LivesAs}

@@ -18,7 +18,7 @@ use Rattle.zk_transcript.specs.declared.transcript.TranscriptLine.{TranscriptLin
 use Rattle.zk_least.proofs.PlainReplies.{plain-only}
 use Rattle.zx_base.proofs.Options.{some_is}
 use Rattle.zn_reads.specs.SeenPaths.{seen_paths}
-use Rattle.zn_reads.specs.Deciding.{LacksNothing}
+use Rattle.zn_view.specs.Needs.{LacksNothing}
 use Rattle.zn_reads.proofs.Setting.{set_by}
 use Rattle.zn_view.specs.Seen.{View}
 use Rattle.zn_view.specs.Views.{IsByForm, IsBySession, IsByTree, IsOf, armed_by, live, rearms}

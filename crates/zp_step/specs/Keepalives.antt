@@ -8,7 +8,7 @@ use Rattle.ev_types.specs.declared.answer.Kv.{Kv}
 use Rattle.ev_types.specs.declared.ask.Ask.TheVariants as ask
 use Rattle.zk_jute.specs.Requests.{read_request}
 use Rattle.zk_transcript.specs.Answers.{xid_of}
-use Rattle.zn_reads.specs.Found.{found_at}
+use Rattle.zn_view.specs.Lookups.{found_at}
 use Rattle.zn_view.specs.Asks.{reading}
 use Rattle.zn_view.specs.Seen.{View}
 use Rattle.zs_session.specs.Alive.{is_alive_due}

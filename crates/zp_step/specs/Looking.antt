@@ -14,7 +14,7 @@ use Rattle.zk_transcript.specs.Answers.{plain_request}
 use Rattle.zk_transcript.specs.declared.transcript.Cause.{Cause}
 use Rattle.zk_transcript.specs.declared.transcript.Cause.TheVariants as cause
 use Rattle.zx_base.specs.Maps.{Bytes}
-use Rattle.zn_reads.specs.Found.{found_at}
+use Rattle.zn_view.specs.Lookups.{found_at}
 use Rattle.zn_reads.specs.SeenPaths.{seen_paths}
 use Rattle.zn_view.specs.Adding.{AreRecords, IsFirstDamaged}
 use Rattle.zn_view.specs.Asks.{IsAskedPlan, reading, transaction}
@@ -78,21 +78,9 @@ decided c xid r v now (Planned p) = (record c { stage = Committing xid r v p now
 decided c xid r v now Expired = waits c (expired v xid)
 decided c xid r v now (Moved found) = waits c (moved c.who v found xid)
 
--- a plan carries out the request in each state in which its guards hold, and is guarded by what the view saw
+-- a plan is a good one, and there is nothing to ask of any other decision
 abbrev pub IsBacked : Request → Who → ℕ → View → Decision → Type 0
-IsBacked r who now v (Planned p) = IsPlan r who now v p (λ z. finished z p.draft) × IsAskedPlan who v p
-IsBacked r who now v _ = Unit {0}
-
--- The record of the session's life, as the view saw it, is tested first: where it is gone the session is closed or has lapsed,
--- and where it was put by another attachment the session has moved. This holds of every view, also of one that no state has.
-abbrev pub is_by_tree : Decision → Bool
-is_by_tree Expired = false
-is_by_tree (Moved found) = false
-is_by_tree _ = true
-
-abbrev pub IsTested : Who → Decision → Option Kv → Type 0
-IsTested who d None = d ≡ Expired
-IsTested who d (Some kv) = MatchBool (int_eq kv.mod_revision who.mine) (is_by_tree d ≡ true) (d ≡ Moved kv.mod_revision)
+IsBacked r who now v d = IfPlanned (IsGood r who now v) d
 
 -- something is lacking still, and it is asked for
 pub record AsksOn (c : Core) (xid : ℤ) (r : Request) (v : View) (c' : Core) (out : List Action) : Type 0 where
@@ -105,7 +93,7 @@ pub record AsksOn (c : Core) (xid : ℤ) (r : Request) (v : View) (c' : Core) (o
 pub record Decides (c : Core) (xid : ℤ) (r : Request) (v : View) (now : ℕ) (c' : Core) (out : List Action) : Type 0 where
   pub decision : Decision
   pub whole : AreNeeds r c.who v []
-  pub tested : plain_request no_watches r ≡ None → IsTested c.who decision (found_at v (life_key c.who.session))
+  pub tested : IsTested r c.who v decision
   pub right : IsDecision r c.who v decision
   pub backed : IsBacked r c.who now v decision
   pub is : Is (decided c xid r v now decision) c' out

@@ -19,7 +19,7 @@ use Rattle.zn_view.specs.declared.want.Want.{Want}
 use Rattle.zn_view.specs.Adding.{AreRecords}
 use Rattle.zn_view.specs.Asks.{kept_under, last_part, reading}
 use Rattle.zn_view.specs.Lookups.{sees, IsLifeIn}
-use Rattle.zn_view.specs.Seen.{View, head_in, head_of, head_number, head_zxid}
+use Rattle.zn_view.specs.Seen.{View, found_of, head_of, head_number, head_zxid}
 use Rattle.zs_session.specs.declared.connect.Connect.{Connect}
 use Rattle.zs_session.specs.declared.connect.ConnectStep.{ConnectStep}
 use Rattle.zs_session.specs.declared.connect.ConnectStep.TheVariants as steps
@@ -100,7 +100,7 @@ attached r id timeout passwd zxid parts = steps.Attached
 -- ---- what a view shows of a session
 
 abbrev pub is_there : View → Key → Bool
-is_there v k = is_some (head_in (sees v k))
+is_there v k = is_some (found_of (sees v k))
 
 -- the view shows this record of a session's life, last put at this revision
 pub record SawLifeAt (v : View) (id : ℤ) (seen : ℤ) (life : LeaseRec) : Type 0 where

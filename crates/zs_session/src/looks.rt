@@ -2,7 +2,7 @@
 
 ghost use Rattle.std.specs.Prelude.{◌≡◌, ◌↔◌, pos, ◌≤ℤ◌, false, is_some, IfOk, IfErr, OnOk, MatchOption, IsTrue};
 ghost use Rattle.zn_view.specs.Adding.{AreNumbers, AreRecords};
-ghost use Rattle.zn_view.specs.Seen.{IsCount, head_in, seen};
+ghost use Rattle.zn_view.specs.Seen.{IsCount, found_of, seen};
 ghost use Rattle.zs_session.specs.Answering.{viewed, IsLookFault};
 ghost use Rattle.zs_session.specs.Connecting.{SawLifeAt, SawMine, SawNoneOfMine, is_there, is_taken as is_number_taken};
 ghost use Rattle.zs_session.specs.Sessions.{life_key};
@@ -45,7 +45,7 @@ fn has_password(request: &ConnectRequest, life: &LeaseRec) -> bool
 }
 
 fn is_found(view: &View, key: &[u8]) -> bool
-    ensures { result ≡ is_some (head_in (seen view.now key.now)) }
+    ensures { result ≡ is_some (found_of (seen view.now key.now)) }
 {
     matches!(view.found(key), Some(Some(_)))
 }
