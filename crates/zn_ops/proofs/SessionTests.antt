@@ -1,6 +1,6 @@
 -- The session is tested on a view that lacks nothing, and where it is attached here the tree decides.
-use Rattle.std.proofs.Common.{◌≡◌, ℕ, ℤ, pos, Bool, true, false, Option, Some, None, refl, ap, ◌∙◌, subst, inl, inr}
-use Rattle.std.specs.Prelude.{nat_abs, ◌≤ℤ◌, if◌then◌else◌}
+use Rattle.std.proofs.Common.{◌≡◌, ℕ, ℤ, pos, Bool, true, false, Option, Some, None, refl, sym, ap, ◌∙◌, subst, inl, inr}
+use Rattle.std.specs.Prelude.{nat_abs, ◌≤ℤ◌, if◌then◌else◌, MatchBool}
 use Rattle.std.specs.Ordering.{int_eq}
 use Rattle.zk_model.specs.declared.request.Request.{Request}
 use Rattle.zk_model.specs.Watches.{no_watches}
@@ -9,7 +9,9 @@ use Rattle.zk_transcript.specs.History.{Session, limit_of, session_at}
 use Rattle.zn_layout.specs.Keys.{LeaseKey}
 use Rattle.zn_ops.specs.Deciding.{IsAttachedAt}
 use Rattle.zn_reads.specs.Deciding.{IsAnswered, IsReadDecision}
-use Rattle.zn_view.specs.Deciding.{IfPlanned, IsGood}
+use Rattle.zn_view.specs.declared.plan.Plan.{Plan}
+use Rattle.zn_view.specs.Asks.{WritesOnce}
+use Rattle.zn_view.specs.Deciding.{IfPlanned, IsGood, IsTested, IsTestedBy, is_by_tree}
 use Rattle.zn_updates.specs.Deciding.{IsAttached, IsBySound, IsGuarded}
 use Rattle.zn_updates.proofs.Meanings.{int_eq-same}
 use Rattle.zn_view.specs.declared.plan.Decision.{Decision}
@@ -50,17 +52,44 @@ read-decided r who v d real plain attached whole read =
     tree-decides r who v d attached.0 real plain attached.1 (int_eq-same (attached.0).mod_revision who.mine attached.2)
     (λ m s x sound valid stands agrees lives. read.decided who (whole plain) s sound (λ _. valid) (m, stands, agrees) plain (limit_of x) who.session)
 
+-- ---- the session's test
+
+pub expired-tested : (r : Request) (who : Who) (v : View) → IsAttachedAt (sees v (LeaseKey (nat_abs who.session))) None → IsTested r who v Expired
+expired-tested r who v saw plain = subst (IsTestedBy who Expired) (sym saw) refl
+
+pub moved-tested : (r : Request) (who : Who) (v : View) (n : ℤ) → IsAttachedAt (sees v (LeaseKey (nat_abs who.session))) (Some n) → int_eq n who.mine ≡ false → IsTested r who v (Moved n)
+moved-tested r who v n saw apart plain =
+    subst (IsTestedBy who (Moved n)) (sym saw.1)
+    (subst (λ (b : Bool). MatchBool b (is_by_tree (Moved n) ≡ true) (Moved n ≡ Moved (saw.0).mod_revision)) (sym (ap (λ (k : ℤ). int_eq k who.mine) saw.2 ∙ apart)) (ap Moved (sym saw.2)))
+
+pub tree-tested : (r : Request) (who : Who) (v : View) (d : Decision) → IsAttached who v → is_by_tree d ≡ true → IsTested r who v d
+tree-tested r who v d attached tree plain =
+    subst (IsTestedBy who d) (sym attached.1)
+    (subst (λ (b : Bool). MatchBool b (is_by_tree d ≡ true) (d ≡ Moved (attached.0).mod_revision)) (sym (int_eq-same (attached.0).mod_revision who.mine attached.2)) tree)
+
+pub read-by_tree : (d : Decision) → IsAnswered d → is_by_tree d ≡ true
+read-by_tree (Planned p) h = absurd h
+read-by_tree (Answered x arm) h = refl
+read-by_tree Expired h = absurd h
+read-by_tree (Moved found) h = absurd h
+
 -- ---- plans
 
 pub update-planned : (r : Request) (who : Who) (now : ℕ) (v : View) (d : Decision) → IsAttached who v → IfPlanned (IsGuarded r who now v) d → IfPlanned (IsGood r who now v) d
-update-planned r who now v (Planned p) attached h = record { commits = (h.commits attached).0; asked = (h.commits attached).1; reads = h.reads; writes = h.writes; small = h.small }
+update-planned r who now v (Planned p) attached h = record { commits = (h.commits attached).0; asked = (h.commits attached).1; reads = h.reads; writes = h.writes.own; taken = h.taken }
 update-planned r who now v (Answered x arm) attached h = tt
 update-planned r who now v Expired attached h = tt
 update-planned r who now v (Moved found) attached h = tt
 
+pub update-once : (r : Request) (who : Who) (now : ℕ) (v : View) (d : Decision) → IfPlanned (IsGuarded r who now v) d → IfPlanned WritesOnce d
+update-once r who now v (Planned p) h = h.writes
+update-once r who now v (Answered x arm) h = tt
+update-once r who now v Expired h = tt
+update-once r who now v (Moved found) h = tt
+
 -- a read plans nothing
-pub read-planned : (r : Request) (who : Who) (now : ℕ) (v : View) (d : Decision) → IsAnswered d → IfPlanned (IsGood r who now v) d
-read-planned r who now v (Planned p) h = absurd h
-read-planned r who now v (Answered x arm) h = tt
-read-planned r who now v Expired h = tt
-read-planned r who now v (Moved found) h = tt
+pub read-planned : (P : Plan → Type 0) (d : Decision) → IsAnswered d → IfPlanned P d
+read-planned P (Planned p) h = absurd h
+read-planned P (Answered x arm) h = tt
+read-planned P Expired h = tt
+read-planned P (Moved found) h = tt

@@ -7,7 +7,8 @@ ghost use Rattle.zk_transcript.specs.Answers.{plain_request};
 ghost use Rattle.zn_ops.specs.Forms.{is_single};
 ghost use Rattle.zn_layout.specs.Keys.{LeaseKey};
 ghost use Rattle.zn_ops.specs.Deciding.{IsAttachedAt};
-ghost use Rattle.zn_view.specs.Deciding.{IfPlanned, IsGood};
+ghost use Rattle.zn_view.specs.Asks.{WritesOnce};
+ghost use Rattle.zn_view.specs.Deciding.{IfPlanned, IsGood, IsTested, is_by_tree};
 ghost use Rattle.zn_view.specs.Needs.{IsWhole};
 ghost use Rattle.zn_updates.specs.Deciding.{content_in, IsAttached};
 ghost use Rattle.zn_view.specs.Lookups.{HasSeen, sees};
@@ -51,7 +52,9 @@ fn decide_by_tree(
     requires formed { plain_request no_watches request.now ≡ None }
     requires attached { IsAttached who view.now }
     ensures decision { IfOk result (IsDecision request.now who view.now) }
+    ensures tree { IfOk result (λ d. is_by_tree d ≡ true) }
     ensures plan { IfOk result (IfPlanned (IsGood request.now who now view.now)) }
+    ensures once { IfOk result (IfPlanned WritesOnce) }
 {
     if is_update(request) {
         return Ok(decide_update(alloc, request, who, now, view)?);
@@ -74,7 +77,9 @@ fn decide_by_session(
     requires whole { IsWhole request.now who view.now }
     requires formed { plain_request no_watches request.now ≡ None }
     ensures decision { IfOk result (IsDecision request.now who view.now) }
+    ensures tested { IfOk result (IsTested request.now who view.now) }
     ensures plan { IfOk result (IfPlanned (IsGood request.now who now view.now)) }
+    ensures once { IfOk result (IfPlanned WritesOnce) }
 {
     let Some(found) = attached_at(view, who.session)? else {
         return Ok(Decision::Expired);
@@ -90,7 +95,8 @@ fn decide_by_session(
 /// since 1970; the session's number is at least 1.
 ///
 /// A request that its form decides is answered so. Otherwise it has expired where the record of the session's life is not
-/// there, and has moved where that was put at another revision than `who.mine`; and otherwise the tree decides.
+/// there, and has moved where that was put at another revision than `who.mine`; and otherwise the tree decides. What is planned
+/// is a good plan, which writes each key once.
 pub fn decide(
     alloc: Global,
     request: &Request,
@@ -104,7 +110,9 @@ pub fn decide(
     requires short { length (content_in request.now) ≤ max_frame }
     requires whole { IsWhole request.now who view.now }
     ensures decision { IfOk result (IsDecision request.now who view.now) }
+    ensures tested { IfOk result (IsTested request.now who view.now) }
     ensures plan { IfOk result (IfPlanned (IsGood request.now who now view.now)) }
+    ensures once { IfOk result (IfPlanned WritesOnce) }
 {
     match plain_reply(alloc, request)? {
         Some(reply) => Ok(Decision::Answered { reply, arm: None }),

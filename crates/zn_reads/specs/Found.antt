@@ -1,7 +1,6 @@
 -- What was found under a key, and what two records show of a node.
 use Rattle.std.specs.Prelude.{◌≡◌, ℕ, ℤ, pos, ◌*ℤ◌, ◌-ℤ◌, List, [], ◌∷◌, Option, Some, None, option_map}
 use Rattle.std.specs.FinMap.{get}
-use Rattle.ev_types.specs.declared.answer.Kv.{Kv}
 use Rattle.zk_model.specs.declared.node.Node.{Node}
 use Rattle.zk_model.specs.declared.node.Stat.{Stat}
 use Rattle.zk_model.specs.Znodes.{stat_of, child_names}
@@ -9,11 +8,11 @@ use Rattle.zk_transcript.specs.History.{State, IsSound}
 use Rattle.zx_base.specs.Maps.{Bytes}
 use Rattle.zn_layout.specs.declared.test.NodeNumbers.{NodeNumbers}
 use Rattle.zn_layout.specs.declared.record.CountRec.{CountRec}
-use Rattle.zn_layout.specs.Keys.{Key, DataKey, key_bytes}
+use Rattle.zn_layout.specs.Keys.{Key, DataKey}
 use Rattle.zn_layout.specs.Listing.{HasValidPaths}
 use Rattle.zn_layout.specs.StandsFor.{czxid_of}
 use Rattle.zn_view.specs.Lookups.{HasSeen}
-use Rattle.zn_view.specs.Seen.{View, seen, listed}
+use Rattle.zn_view.specs.Seen.{View, listed}
 use Rattle.zn_view.specs.Views.{IsOf, about_path}
 
 -- each of these keys was looked up

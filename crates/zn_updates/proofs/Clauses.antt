@@ -29,6 +29,7 @@ use Rattle.zn_view.proofs.Elements.{contains-map, mapped-contained}
 use Rattle.zn_view.proofs.Members.{In, contains_in, in_contains, in_mapped}
 use Rattle.zn_view.proofs.Narrowing.{narrowed-asked, narrowed-plan, narrowed-seen}
 use Rattle.zn_view.proofs.PlanSizes.{plan-small}
+use Rattle.zn_view.proofs.TakenPlans.{small-taken}
 use Rattle.zn_view.proofs.Sizes.{again-present}
 use Rattle.zn_updates.specs.declared.chosen.Chosen.{Chosen}
 use Rattle.zn_updates.specs.Choices.{Choice, Refuse, Make}
@@ -102,7 +103,7 @@ module _ (r : Request) (p : Part) (who : Who) (v : View) (ks : List Key) (choice
       guards_reads = record { keys = map key_bytes ks; guards = refl; again = refl; all = read_key; only = key_read }
 
       writes : WritesOnce plan
-      writes = record { changes = cs; acts = refl; once = well.once; leases = well.leases; triggers = well.triggers; reads = again-present (again_of (on_keys v ks).keys) }
+      writes = record { own = record { changes = cs; acts = refl; leases = well.leases; triggers = well.triggers; reads = again-present (again_of (on_keys v ks).keys) }; once = well.once }
 
       small : (s : State) → IsSound s → IsOf v s → IsSmallPlan plan
       small s sound of = plan-small v (map key_bytes ks) plan cs (omega (arith, length-map ks key_bytes, keys.few)) (All-map (λ (k : Bytes). length k ≤ 1033) key_bytes ks keys.short) well.few (well.small s sound of) well.told well.triggers refl refl refl
@@ -121,7 +122,7 @@ module _ (r : Request) (p : Part) (who : Who) (v : View) (ks : List Key) (choice
         );
         reads = guards_reads;
         writes = writes;
-        small = small;
+        taken = λ s sound of. small-taken plan writes (small s sound of);
       }
 
     planned_by : (c : Choice) → choice now ≡ c → IfChanges (AreWellMade v) c → IfPlanned (IsGuarded r who now v) (decision_of (on_keys v ks) c)

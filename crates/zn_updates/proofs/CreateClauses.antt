@@ -49,7 +49,8 @@ use Rattle.zn_updates.specs.declared.seen.SeenCounts.{SeenCounts}
 use Rattle.zn_updates.specs.Choices.{Choice, Refuse, create_choice, create_owned}
 use Rattle.zn_updates.specs.declared.form.Form.{Form}
 use Rattle.zn_updates.specs.Forms.{IsFormOf}
-use Rattle.zn_view.specs.Deciding.{IfPlanned, IsToldByForm}
+use Rattle.zn_updates.proofs.Plans.{choice-by_tree}
+use Rattle.zn_view.specs.Deciding.{IfPlanned, IsToldByForm, is_by_tree}
 use Rattle.zn_updates.specs.Deciding.{IfMakes, IsBySound, IsCreate, IsGuarded, IsOwnPaths, IsUpLookedUp, creates_in, creates_seen, decision_of, on_keys, path_for}
 use Rattle.zn_updates.specs.KeysRead.{create_keys, numbered, numbered_at, plain_data, session_nodes, IsCreatesSeen, IsParentCreates}
 use Rattle.zn_updates.specs.Making.{IsDataSeen, IsCountsSeen, IsPathsSeen, has_found}
@@ -436,3 +437,9 @@ module _ (path content : Bytes) (acl : List Acl) (flags : ℤ) (formed : form_re
         → IsToldByForm (req.Create path content acl flags) d × IsBySound (req.Create path content acl flags) who v d × IfPlanned (IsGuarded (req.Create path content acl flags) who now v) d
     all_promised None none looked_up is = root_promised none is
     all_promised (Some q) up looked_up is = below_promised q up (λ w h. looked_up w q refl h) is
+
+pub create-by_tree : (v : View) (path content : Bytes) (now : ℕ) (sequential ephemeral : Bool) (session : ℤ) (q : Option Bytes) (d : Decision) → IsCreate v path content now sequential ephemeral session q d → is_by_tree d ≡ true
+create-by_tree v path content now sequential ephemeral session None d is = choice-by_tree v (Refuse node_exists) d is
+create-by_tree v path content now sequential ephemeral session (Some q) d is =
+    choice-by_tree (on_keys v (create_keys sequential ephemeral path (Some q) session (creates_seen is.1)))
+    (create_choice (path_for sequential path is.1) q content now ephemeral session is.0 is.1 (has_found (sees v (DataKey (path_for sequential path is.1)))) is.2) d is.6

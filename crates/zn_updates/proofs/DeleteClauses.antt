@@ -45,7 +45,8 @@ use Rattle.zn_view.proofs.Wanted.{are-needs}
 use Rattle.zn_updates.specs.declared.seen.SeenData.{SeenData}
 use Rattle.zn_updates.specs.declared.seen.SeenCounts.{SeenCounts}
 use Rattle.zn_updates.specs.Choices.{Choice, Refuse, delete_choice, delete_here, delete_owned}
-use Rattle.zn_view.specs.Deciding.{IfPlanned, IsToldByForm}
+use Rattle.zn_updates.proofs.Plans.{choice-by_tree}
+use Rattle.zn_view.specs.Deciding.{IfPlanned, IsToldByForm, is_by_tree}
 use Rattle.zn_updates.specs.Deciding.{decision_of, IfMakes, IsBySound, IsDelete, IsGuarded, IsOwnerLookedUp, IsOwnerPaths, on_keys, owner_seen}
 use Rattle.zn_updates.specs.KeysRead.{owner_nodes, delete_keys, IsOwnerSeen}
 use Rattle.zn_updates.specs.Making.{IsDataSeen, IsCountsSeen, IsPathsSeen}
@@ -333,3 +334,7 @@ module _ (p : Bytes) (version : ℤ) where
     pub all_promised : (q : Option Bytes) → parent p ≡ q → IsDelete v p version who.session q d → IsToldByForm (req.Delete p version) d × IsBySound (req.Delete p version) who v d × IfPlanned (IsGuarded (req.Delete p version) who now v) d
     all_promised None none is = orphan_promised none is
     all_promised (Some q) below is = below_promised q below is
+
+pub delete-by_tree : (v : View) (p : Bytes) (version session : ℤ) (q : Option Bytes) (d : Decision) → IsDelete v p version session q d → is_by_tree d ≡ true
+delete-by_tree v p version session None d is = choice-by_tree v (Refuse no_node) d is
+delete-by_tree v p version session (Some q) d is = choice-by_tree (on_keys v (delete_keys p (Some q) session (owner_seen is.0))) (delete_choice p q version is.0 is.1 is.2 is.3) d is.8

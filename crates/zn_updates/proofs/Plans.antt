@@ -1,5 +1,5 @@
 -- The parts of a plan are those of its choice, and what a refusal by the form is worth.
-use Rattle.std.proofs.Common.{◌≡◌, ℤ, List, [], ◌∷◌, ◌++◌, Option, Some, None, refl, sym, ap, ◌∙◌}
+use Rattle.std.proofs.Common.{◌≡◌, ℤ, true, List, [], ◌∷◌, ◌++◌, Option, Some, None, refl, sym, ap, ◌∙◌}
 use Rattle.ev_types.specs.declared.ask.Act.{Act}
 use Rattle.ev_types.specs.Reads.{read_key}
 use Rattle.zk_model.specs.declared.reply.Reply.TheVariants as reply
@@ -21,7 +21,7 @@ use Rattle.zn_view.proofs.Wanted.{no-needs}
 use Rattle.zn_updates.specs.declared.chosen.Chosen.TheVariants.{Refused, Made}
 use Rattle.zn_updates.specs.declared.chosen.Update.{Update}
 use Rattle.zn_updates.specs.Choices.{Choice, Refuse, Make}
-use Rattle.zn_view.specs.Deciding.{IsToldByForm}
+use Rattle.zn_view.specs.Deciding.{IsToldByForm, is_by_tree}
 use Rattle.zn_updates.specs.Deciding.{IsBySound, decision_of}
 use Rattle.zn_updates.specs.Making.{chosen_of}
 
@@ -50,6 +50,12 @@ planned_of v u p (Make cs ts result) is guards success again draft triggers =
       draft = (draft ∙ ap (λ (w : Update). reply.Good (response_of w.draft)) same) i;
       triggers = (triggers ∙ ap (λ (w : Update). w.triggers) same) i;
     })
+
+-- ---- a choice does not look at the session
+
+pub choice-by_tree : (v : View) (choice : Choice) (d : Decision) → d ≡ decision_of v choice → is_by_tree d ≡ true
+choice-by_tree v (Refuse code) d is = ap is_by_tree is
+choice-by_tree v (Make cs ts draft) d is = ap is_by_tree is
 
 -- ---- where the form refuses
 

@@ -33,7 +33,8 @@ use Rattle.zn_view.proofs.Wanted.{are-needs}
 use Rattle.zn_updates.specs.declared.seen.SeenData.{SeenData}
 use Rattle.zn_updates.specs.declared.seen.SeenCounts.{SeenCounts}
 use Rattle.zn_updates.specs.Choices.{Choice, set_data_choice}
-use Rattle.zn_view.specs.Deciding.{IfPlanned, IsToldByForm}
+use Rattle.zn_updates.proofs.Plans.{choice-by_tree}
+use Rattle.zn_view.specs.Deciding.{IfPlanned, IsToldByForm, is_by_tree}
 use Rattle.zn_updates.specs.Deciding.{IfMakes, IsBySound, IsGuarded, IsSetData, on_keys}
 use Rattle.zn_updates.specs.KeysRead.{set_data_keys}
 use Rattle.zn_updates.specs.Making.{IsDataSeen, IsCountsSeen}
@@ -147,3 +148,6 @@ module _ (p content : Bytes) (version : ℤ) where
     pub set_planned : IfPlanned (IsGuarded (req.SetData p content version) who now v) d
     set_planned = planned (req.SetData p content version) (SetData p content version) who v keys choice now set_part (set_chosen who v is.0 is.1 valid short is.2 is.3) moment real (set_valid valid) d is.4
         near (set_keys who v valid) (set_data-made v p content version is.0 is.1 now valid short)
+
+pub set_data-by_tree : (v : View) (p content : Bytes) (version : ℤ) (now : ℕ) (session : ℤ) (d : Decision) → IsSetData v p content version now session d → is_by_tree d ≡ true
+set_data-by_tree v p content version now session d is = choice-by_tree (on_keys v (set_data_keys p session)) (set_data_choice p content version now is.0 is.1) d is.4

@@ -1,7 +1,7 @@
 //! create (ZooKeeper API, `create`; Programmer's Guide, "Ephemeral Nodes", "Sequence Nodes"), decided on the records of the
 //! parent and of the session, and on whether the node is there.
 
-ghost use Rattle.std.specs.Prelude.{◌≡◌, ◌≤◌, ◌≤ℤ◌, ◌<◌, ◌∷◌, [], ◌++◌, ◌^◌, ◌-◌, pos, false, length, option_copied, IfOk, IfSome, IsTrue};
+ghost use Rattle.std.specs.Prelude.{◌≡◌, ◌≤◌, ◌≤ℤ◌, ◌<◌, ◌∷◌, [], ◌++◌, ◌^◌, ◌-◌, pos, true, false, length, option_copied, IfOk, IfSome, IsTrue};
 ghost use Rattle.std.specs.Ordering.{int_eq};
 ghost use Rattle.zk_model.specs.Limits.{max_creates, max_frame, max_moment, max_owned, max_path};
 ghost use Rattle.zk_model.specs.Paths.{is_path};
@@ -15,7 +15,7 @@ ghost use Rattle.std.specs.Prelude.{nat_abs, IsFalse};
 ghost use Rattle.zk_model.specs.Paths.{is_sequence_prefix};
 ghost use Rattle.zn_layout.specs.Keys.{CountsKey, DataKey, SessionKey};
 ghost use Rattle.zn_view.specs.Lookups.{HasSeen};
-ghost use Rattle.zn_view.specs.Deciding.{IfPlanned, IsToldByForm};
+ghost use Rattle.zn_view.specs.Deciding.{IfPlanned, IsToldByForm, is_by_tree};
 ghost use Rattle.zn_updates.specs.Deciding.{IsBySound, IsCreate, IsCreateBelow, IsGuarded, IsOwnPaths, IsUpLookedUp, creates_seen, path_for};
 ghost use Rattle.zk_model.specs.Paths.{parent as parent_of};
 ghost use Rattle.zk_model.specs.declared.request.Request.TheVariants as req;
@@ -399,6 +399,7 @@ pub(crate) fn decide_create(
     requires whole { IsWhole (req.Create path.now content.now acl.now flags) who view.now }
     ensures form { IfOk result (IsToldByForm (req.Create path.now content.now acl.now flags)) }
     ensures sound { IfOk result (IsBySound (req.Create path.now content.now acl.now flags) who view.now) }
+    ensures tree { IfOk result (λ d. is_by_tree d ≡ true) }
     ensures plan { IfOk result (IfPlanned (IsGuarded (req.Create path.now content.now acl.now flags) who now view.now)) }
 {
     let sequential = is_sequential(flags);

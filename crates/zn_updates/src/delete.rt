@@ -1,6 +1,6 @@
 //! delete (ZooKeeper API, `delete`), decided on the records of its node, of the parent and of the owner.
 
-ghost use Rattle.std.specs.Prelude.{◌≡◌, ◌≤◌, ◌≤ℤ◌, ◌∷◌, [], ◌++◌, pos, nat_abs, length, option_copied, IfOk, IfSome, IsTrue};
+ghost use Rattle.std.specs.Prelude.{◌≡◌, ◌≤◌, ◌≤ℤ◌, ◌∷◌, [], ◌++◌, pos, true, nat_abs, length, option_copied, IfOk, IfSome, IsTrue};
 ghost use Rattle.std.specs.Ordering.{int_eq};
 ghost use Rattle.zk_model.specs.Paths.{is_path};
 ghost use Rattle.zk_model.specs.declared.reply.PartResult.TheVariants as results;
@@ -16,7 +16,7 @@ ghost use Rattle.zk_model.specs.declared.request.Request.TheVariants as req;
 ghost use Rattle.zn_layout.specs.Keys.{CountsKey, DataKey};
 ghost use Rattle.zn_view.specs.Lookups.{HasSeen, sees};
 ghost use Rattle.zn_view.specs.Needs.{AreNeeds, IsWhole};
-ghost use Rattle.zn_view.specs.Deciding.{IfPlanned, IsToldByForm};
+ghost use Rattle.zn_view.specs.Deciding.{IfPlanned, IsToldByForm, is_by_tree};
 ghost use Rattle.zn_updates.specs.Deciding.{IsBySound, IsDelete, IsGuarded, IsOwnerLookedUp, IsOwnerPaths, owner_seen};
 ghost use Rattle.zn_updates.specs.Making.{IsDataSeen};
 ghost use Rattle.zn_updates.specs.declared.seen.SeenData.{SeenData as AnySeenData};
@@ -279,6 +279,7 @@ pub(crate) fn decide_delete(
     requires whole { IsWhole (req.Delete path.now version) who view.now }
     ensures form { IfOk result (IsToldByForm (req.Delete path.now version)) }
     ensures sound { IfOk result (IsBySound (req.Delete path.now version) who view.now) }
+    ensures tree { IfOk result (λ d. is_by_tree d ≡ true) }
     ensures plan { IfOk result (IfPlanned (IsGuarded (req.Delete path.now version) who now view.now)) }
 {
     match inner_path(alloc, path)? {

@@ -1,9 +1,9 @@
 //! The three requests that are updates.
 
-ghost use Rattle.std.specs.Prelude.{◌≡◌, ◌≤◌, ◌≤ℤ◌, pos, length, IfOk, IsTrue};
+ghost use Rattle.std.specs.Prelude.{◌≡◌, ◌≤◌, ◌≤ℤ◌, pos, length, true, IfOk, IsTrue};
 ghost use Rattle.zk_model.specs.Limits.{max_frame, max_moment};
 ghost use Rattle.zn_view.specs.Needs.{AreNeeds, IsWhole};
-ghost use Rattle.zn_view.specs.Deciding.{IfPlanned, IsToldByForm};
+ghost use Rattle.zn_view.specs.Deciding.{IfPlanned, IsToldByForm, is_by_tree};
 ghost use Rattle.zn_updates.specs.Deciding.{content_in, is_update, IsBySound, IsGuarded};
 
 use crate::create::{create_needs, decide_create};
@@ -40,7 +40,7 @@ pub fn update_needs(
 }
 
 /// Decides a create, a delete or a setData of a session that is open, on a view that lacks nothing which the request reads.
-/// `now` is in milliseconds since 1970; the session's number is at least 1.
+/// The session is not tested: that is the caller's. `now` is in milliseconds since 1970; the session's number is at least 1.
 pub fn decide_update(
     alloc: Global,
     request: &Request,
@@ -55,6 +55,7 @@ pub fn decide_update(
     requires whole { IsWhole request.now who view.now }
     ensures form { IfOk result (IsToldByForm request.now) }
     ensures sound { IfOk result (IsBySound request.now who view.now) }
+    ensures tree { IfOk result (λ d. is_by_tree d ≡ true) }
     ensures plan { IfOk result (IfPlanned (IsGuarded request.now who now view.now)) }
 {
     match request {

@@ -1,6 +1,6 @@
 //! setData (ZooKeeper API, `setData`), decided on the records of its node.
 
-ghost use Rattle.std.specs.Prelude.{◌≡◌, ◌≤◌, ◌<◌, ◌+ℤ◌, ◌≤ℤ◌, pos, false, length, IfOk, IfSome, IsTrue};
+ghost use Rattle.std.specs.Prelude.{◌≡◌, ◌≤◌, ◌<◌, ◌+ℤ◌, ◌≤ℤ◌, pos, true, false, length, IfOk, IfSome, IsTrue};
 ghost use Rattle.std.specs.Ordering.{int_eq};
 ghost use Rattle.zk_model.specs.Limits.{max_creates, max_frame, max_moment, max_version};
 ghost use Rattle.zk_model.specs.Paths.{is_path};
@@ -18,7 +18,7 @@ ghost use Rattle.zk_model.specs.declared.request.Request.TheVariants as req;
 ghost use Rattle.zn_layout.specs.Keys.{CountsKey, DataKey};
 ghost use Rattle.zn_view.specs.Lookups.{HasSeen};
 ghost use Rattle.zn_view.specs.Needs.{AreNeeds, IsWhole};
-ghost use Rattle.zn_view.specs.Deciding.{IfPlanned, IsToldByForm};
+ghost use Rattle.zn_view.specs.Deciding.{IfPlanned, IsToldByForm, is_by_tree};
 ghost use Rattle.zn_updates.specs.Deciding.{IsBySound, IsGuarded, IsSetData};
 ghost use Rattle.zx_base.specs.Maps.{Bytes as ByteList};
 
@@ -220,6 +220,7 @@ pub(crate) fn decide_set_data(
     requires whole { IsWhole (req.SetData path.now content.now version) who view.now }
     ensures form { IfOk result (IsToldByForm (req.SetData path.now content.now version)) }
     ensures sound { IfOk result (IsBySound (req.SetData path.now content.now version) who view.now) }
+    ensures tree { IfOk result (λ d. is_by_tree d ≡ true) }
     ensures plan { IfOk result (IfPlanned (IsGuarded (req.SetData path.now content.now version) who now view.now)) }
 {
     match read_path(alloc, path, false)? {

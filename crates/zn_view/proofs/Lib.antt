@@ -17,3 +17,4 @@ pub mod Narrowing
 pub mod Wanted
 pub mod Sizes
 pub mod PlanSizes
+pub mod TakenPlans

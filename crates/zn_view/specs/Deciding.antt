@@ -1,6 +1,6 @@
 -- What is asked of each decision on a view: the form is tested first, then the session by the record of its life, and a plan is a
 -- good one.
-use Rattle.std.specs.Prelude.{◌≡◌, ℕ, ℤ, ◌<ℤ◌, nat_abs, Bool, true, false, Option, Some, None, MatchBool}
+use Rattle.std.specs.Prelude.{◌≡◌, ℕ, ◌<ℤ◌, nat_abs, Bool, true, false, Option, Some, None, MatchBool}
 use Rattle.std.specs.Ordering.{int_eq}
 use Rattle.ev_types.specs.declared.answer.Kv.{Kv}
 use Rattle.ev_types.specs.Denials.{is_denied}

@@ -138,8 +138,7 @@ module _ (store : Store) (lines : List TranscriptLine) (conn : ℕ) (c : Core) (
                 known = (k.view).known;
                 agrees = (k.view).agrees;
                 put = stands-put v (store_at store (k.view).number) (state_at lines looked) (k.view).stands (k.view).agrees;
-                plan = back.0;
-                asked = back.1;
+                good = back;
               },
             );
           }) refl (k.works).ahead)

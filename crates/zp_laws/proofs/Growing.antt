@@ -108,7 +108,7 @@ module _ (store store' : Store) (lines more : List TranscriptLine) (conn : ℕ) 
   knows-push (Reading xid r v ws) e m k (tree, inr view) =
       (tree, inr (view-push lines more conn c.who w looked (k.frame).place k.bytes (ap (λ n. placed_frame conn n lines) m.next ∙ (k.frame).framed) store store' v g.before view))
   knows-push (Committing xid r v p n) e m k (tree, b) =
-      (tree, record { number = b.number; revision = b.revision; known = omega (arith, b.known, (g.before).longer); agrees = subst (Agrees v) (sym ((g.before).same b.number b.known)) b.agrees; put = b.put; plan = b.plan; asked = b.asked })
+      (tree, record { number = b.number; revision = b.revision; known = omega (arith, b.known, (g.before).longer); agrees = subst (Agrees v) (sym ((g.before).same b.number b.known)) b.agrees; put = b.put; good = b.good })
   knows-push (Waiting p) e m k h =
       (reply-push lines more conn c.who w p looked (ap (λ n. own_update conn n (lines ++ more)) m.next ∙ g.own p e ∙ sym (ap (λ n. own_update conn n lines) m.next)) h.0, h.1)
 

@@ -14,10 +14,9 @@ use Rattle.zk_transcript.specs.declared.transcript.TranscriptLine.{TranscriptLin
 use Rattle.zk_transcript.specs.declared.transcript.TranscriptLine.TheVariants.{Update}
 use Rattle.zk_transcript.specs.declared.transcript.UpdateRec.{UpdateRec}
 use Rattle.zn_layout.specs.StandsFor.{StandsFor}
-use Rattle.zn_view.specs.Asks.{IsAskedPlan}
-use Rattle.zn_view.specs.Needs.{finished}
+use Rattle.zn_view.specs.Deciding.{IsGood}
 use Rattle.zn_view.specs.Seen.{View}
-use Rattle.zn_view.specs.Views.{Agrees, IsPlan, WasPut}
+use Rattle.zn_view.specs.Views.{Agrees, WasPut}
 use Rattle.zn_view.specs.declared.plan.Plan.{Plan}
 use Rattle.zn_view.specs.declared.plan.Who.{Who}
 use Rattle.zp_step.specs.Replies.{is_due}
@@ -63,8 +62,7 @@ pub record IsBoundPlan (store : Store) (who : Who) (request : Request) (v : View
   pub known : number ≤ length store.revisions
   pub agrees : Agrees v (store_at store number)
   pub put : All WasPut v.keys
-  pub plan : IsPlan request who moment v p (λ z. finished z p.draft)
-  pub asked : IsAskedPlan who v p
+  pub good : IsGood request who moment v p
 
 -- a reply that waits is the service's as of the moment, whatever is armed
 pub record IsReply (lines : List TranscriptLine) (conn : ℕ) (who : Who) (w : Walker) (p : Pending) (looked : ℕ) : Type 0 where

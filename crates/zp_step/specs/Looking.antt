@@ -1,32 +1,27 @@
 -- What is asked and decided on a view. A request asks in rounds for what it still lacks, all at one revision; when nothing is
 -- lacking it is decided.
 use Rattle.std.specs.Prelude.{◌≡◌, ◌≢◌, ℕ, ℤ, ◌⊎◌, Bool, true, false, List, [], ◌∷◌, take, Option, Some, None, MatchBool}
-use Rattle.std.specs.Ordering.{int_eq}
 use Rattle.ev_types.specs.declared.answer.ActAns.{ActAns}
-use Rattle.ev_types.specs.declared.answer.Kv.{Kv}
 use Rattle.zk_model.specs.Codes.{session_expired, session_moved}
 use Rattle.zk_model.specs.declared.reply.Reply.{Reply}
 use Rattle.zk_model.specs.declared.reply.Reply.TheVariants as reply
 use Rattle.zk_model.specs.declared.request.Request.{Request}
 use Rattle.zk_model.specs.declared.request.Request.TheVariants as req
-use Rattle.zk_model.specs.Watches.{no_watches}
-use Rattle.zk_transcript.specs.Answers.{plain_request}
 use Rattle.zk_transcript.specs.declared.transcript.Cause.{Cause}
 use Rattle.zk_transcript.specs.declared.transcript.Cause.TheVariants as cause
 use Rattle.zx_base.specs.Maps.{Bytes}
-use Rattle.zn_view.specs.Lookups.{found_at}
 use Rattle.zn_reads.specs.SeenPaths.{seen_paths}
 use Rattle.zn_view.specs.Adding.{AreRecords, IsFirstDamaged}
-use Rattle.zn_view.specs.Asks.{IsAskedPlan, reading, transaction}
-use Rattle.zn_view.specs.Needs.{AreNeeds, finished}
+use Rattle.zn_view.specs.Asks.{reading, transaction}
+use Rattle.zn_view.specs.Deciding.{IfPlanned, IsGood, IsTested}
+use Rattle.zn_view.specs.Needs.{AreNeeds}
 use Rattle.zn_view.specs.Seen.{View, head_of, head_number, head_zxid}
-use Rattle.zn_view.specs.Views.{IsDecision, IsPlan}
+use Rattle.zn_view.specs.Views.{IsDecision}
 use Rattle.zn_view.specs.declared.plan.Arm.{Arm}
 use Rattle.zn_view.specs.declared.plan.Decision.{Decision}
 use Rattle.zn_view.specs.declared.plan.Decision.TheVariants.{Answered, Planned, Expired, Moved}
 use Rattle.zn_view.specs.declared.plan.Who.{Who}
 use Rattle.zn_view.specs.declared.want.Want.{Want}
-use Rattle.zs_session.specs.Sessions.{life_key}
 use Rattle.zp_step.specs.declared.action.Action.{Action}
 use Rattle.zp_step.specs.declared.action.Action.TheVariants as action
 use Rattle.zp_step.specs.Stages.{Core, Pending, Reading, Committing, WatchChange, AddsWatch, SetsWatches}

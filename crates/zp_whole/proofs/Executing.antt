@@ -25,7 +25,10 @@ use Rattle.zk_transcript.specs.declared.transcript.TranscriptLine.TheVariants.{U
 use Rattle.zk_transcript.specs.declared.transcript.UpdateKind.{UpdateKind}
 use Rattle.zk_transcript.specs.declared.transcript.UpdateKind.TheVariants.{Asked, Closed}
 use Rattle.zn_layout.specs.StandsFor.{StandsFor}
-use Rattle.zn_view.specs.Asks.{plan_txn, transaction}
+use Rattle.zn_layout.specs.Updates.{update_txn}
+use Rattle.zn_layout.proofs.Commits.{committed}
+use Rattle.zn_view.specs.Asks.{WritesOwnKeys, plan_txn, ranges_of, transaction}
+use Rattle.zn_view.specs.Deciding.{IsGood}
 use Rattle.zn_view.specs.Seen.{View}
 use Rattle.zn_view.specs.declared.plan.Plan.{Plan}
 use Rattle.zp_step.specs.Stages.{Core, Stage, Unconnected, Connecting, Ready, KeepingAlive, Checking, Reading, Committing, Waiting, Shut, asked_of}
@@ -295,12 +298,20 @@ read-serving s u lines c core x b w bound none k h own =
       | inr q ↦ absurd (none_some (sym none ∙ q.is))
     ]
 
+-- where a plan was carried out the store had a revision to come, since the head was put
+plan-room : (s u : Store) (p : Plan) (parts : List ActAns) → WritesOwnKeys p → carry s (ask.Txn (plan_txn p)) ≡ Some (u, answer.Txn (revision u) true parts) → revision s <ℤ last_revision
+plan-room s u p parts w h =
+    let again = ranges_of (pos 0) p.again in
+    let is : plan_txn p ≡ update_txn p.guards w.changes p.triggers again = λ i. record { guards = p.guards; success = w.acts i; failure = again } in
+    let c = committed s u p.guards w.changes p.triggers again (revision u) parts (subst (λ t. carry s (ask.Txn t) ≡ Some (u, answer.Txn (revision u) true parts)) is h) in
+    omega (arith, ints, c.zxid_is, c.most)
+
 bound-plan : (s : Store) (lines : List TranscriptLine) (x : Asking) (kind : UpdateKind) (p : Plan) → x.kind ≡ Some kind → x.ask ≡ transaction p → IsBoundAsk s lines x → IsBound s lines kind (plan_txn p) × (only_reads (plan_txn p).failure ≡ true)
 bound-plan s lines x kind p a b bound = subst (λ q. IsBoundAs s lines (Some kind) q) b (subst (λ o. IsBoundAs s lines o x.ask) a bound)
 
-plan-serving : (s u : Store) (lines : List TranscriptLine) (c : ℕ) (core : Core) (x : Asking) (b : Answer) (xid : ℤ) (q : Request) (v : View) (p : Plan) (m : ℕ) → core.stage ≡ Committing xid q v p m → Serves s lines → revision s <ℤ last_revision → IsBoundAsk s lines x
+plan-serving : (s u : Store) (lines : List TranscriptLine) (c : ℕ) (core : Core) (x : Asking) (b : Answer) (xid : ℤ) (q : Request) (v : View) (p : Plan) (m : ℕ) → core.stage ≡ Committing xid q v p m → Serves s lines → IsBoundAsk s lines x
     → x.kind ≡ Some (kind_of_request c core.next core.who.session m q) → x.ask ≡ transaction p → (k : IsServing s lines c core (Some (Out x))) → carry s x.ask ≡ Some (u, b) → IsServing u (lines ++ update_lines s u x.kind) c core (Some (Carried b))
-plan-serving s u lines c core x b xid q v p m e w room bound of_kind of_ask k h = go (succeeds s (plan_txn p)) refl
+plan-serving s u lines c core x b xid q v p m e w bound of_kind of_ask k h = go (succeeds s (plan_txn p)) refl
   where
     kind : UpdateKind
     kind = kind_of_request c core.next core.who.session m q
@@ -315,11 +326,16 @@ plan-serving s u lines c core x b xid q v p m e w room bound of_kind of_ask k h 
     next d i r = let y = same-index c core.next d i (sym ((of-request q core.who.session c core.next m).asked) ∙ r) in subst (λ n. is_ahead lines n i ≡ true) y.0 (subst (λ n. is_ahead lines c n ≡ true) y.1 (k.flies).ahead)
 
     go : (ok : Bool) → succeeds s (plan_txn p) ≡ ok → IsServing u (lines ++ update_lines s u x.kind) c core (Some (Carried b))
+    good : IsGood q core.who m v p
+    good = (subst (Knows s lines c core k.walker k.looked) e (k.stands).knows).1.good
+
     go true g =
-        let done = plan-commits s u lines kind (plan_txn p) b w room next bp.0 g ht in
         let a = txn-answered s u (plan_txn p) b ht in
+        let right : b ≡ answer.Txn (revision u) true a.0 = a.1 ∙ ap (λ ok. answer.Txn (revision u) ok a.0) g in
+        let room = plan-room s u p a.0 good.writes (ht ∙ ap (λ y. Some (u, y)) right) in
+        let done = plan-commits s u lines kind (plan_txn p) b w room next bp.0 g ht in
         subst (λ ls. IsServing u (lines ++ ls) c core (Some (Carried b))) (sym (ap (update_lines s u) of_kind ∙ (done.0).line))
-        (commit-serving s u lines c core x b xid q v p m e w k h done.1 done.0 a.0 (a.1 ∙ ap (λ ok. answer.Txn (revision u) ok a.0) g))
+        (commit-serving s u lines c core x b xid q v p m e w k h done.1 done.0 a.0 right)
     go false g =
         let a = txn-answered s u (plan_txn p) b ht in
         let right : b ≡ answer.Txn (revision u) false a.0 = a.1 ∙ ap (λ ok. answer.Txn (revision u) ok a.0) g in
@@ -331,19 +347,18 @@ plan-serving s u lines c core x b xid q v p m e w room bound of_kind of_ask k h 
 own-read : (lines : List TranscriptLine) (c : ℕ) (core : Core) (w : Walker) (s : Store) (j : ℕ) (b : Answer) (st : Stage) → core.stage ≡ st → IsOwn lines c core w s j st b → IsOwn lines c core w s j core.stage b
 own-read lines c core w s j b st e o = subst (λ y. IsOwn lines c core w s j y b) (sym e) o
 
-carried-at : (s u : Store) (lines : List TranscriptLine) (c : ℕ) (core : Core) (x : Asking) (b : Answer) (st : Stage) → core.stage ≡ st → is_served st ≡ true → Serves s lines → revision s <ℤ last_revision → IsBoundAsk s lines x
+carried-at : (s u : Store) (lines : List TranscriptLine) (c : ℕ) (core : Core) (x : Asking) (b : Answer) (st : Stage) → core.stage ≡ st → is_served st ≡ true → Serves s lines → IsBoundAsk s lines x
     → IsServing s lines c core (Some (Out x)) → carry s x.ask ≡ Some (u, b) → asked_of core.who st ≡ Some x.ask → x.kind ≡ kind_in_stage c core st → IsServing u (lines ++ update_lines s u x.kind) c core (Some (Carried b))
-carried-at s u lines c core x b (Unconnected f) e served w room bound k h o kind = absurd (cc)
-carried-at s u lines c core x b (Connecting ph) e served w room bound k h o kind = absurd (cc)
-carried-at s u lines c core x b Ready e served w room bound k h o kind = absurd (none_some o)
-carried-at s u lines c core x b (Waiting p) e served w room bound k h o kind = absurd (none_some o)
-carried-at s u lines c core x b Shut e served w room bound k h o kind = absurd (cc)
-carried-at s u lines c core x b (KeepingAlive f) e served w room bound k h o kind = read-serving s u lines c core x b w bound kind k h (λ wk j none. own-read lines c core wk s j b (KeepingAlive f) e none)
-carried-at s u lines c core x b (Checking f) e served w room bound k h o kind = read-serving s u lines c core x b w bound kind k h (λ wk j none. own-read lines c core wk s j b (Checking f) e none)
-carried-at s u lines c core x b (Reading xid q v ws) e served w room bound k h o kind = read-serving s u lines c core x b w bound kind k h (λ wk j none. own-read lines c core wk s j b (Reading xid q v ws) e none)
-carried-at s u lines c core x b (Committing xid q v p m) e served w room bound k h o kind = plan-serving s u lines c core x b xid q v p m e w room bound kind (sym (some_is o)) k h
+carried-at s u lines c core x b (Unconnected f) e served w bound k h o kind = absurd (cc)
+carried-at s u lines c core x b (Connecting ph) e served w bound k h o kind = absurd (cc)
+carried-at s u lines c core x b Ready e served w bound k h o kind = absurd (none_some o)
+carried-at s u lines c core x b (Waiting p) e served w bound k h o kind = absurd (none_some o)
+carried-at s u lines c core x b Shut e served w bound k h o kind = absurd (cc)
+carried-at s u lines c core x b (KeepingAlive f) e served w bound k h o kind = read-serving s u lines c core x b w bound kind k h (λ wk j none. own-read lines c core wk s j b (KeepingAlive f) e none)
+carried-at s u lines c core x b (Checking f) e served w bound k h o kind = read-serving s u lines c core x b w bound kind k h (λ wk j none. own-read lines c core wk s j b (Checking f) e none)
+carried-at s u lines c core x b (Reading xid q v ws) e served w bound k h o kind = read-serving s u lines c core x b w bound kind k h (λ wk j none. own-read lines c core wk s j b (Reading xid q v ws) e none)
+carried-at s u lines c core x b (Committing xid q v p m) e served w bound k h o kind = plan-serving s u lines c core x b xid q v p m e w bound kind (sym (some_is o)) k h
 
--- in a store that has a revision to come
-pub carried-serving : (s u : Store) (lines : List TranscriptLine) (c : ℕ) (core : Core) (x : Asking) (b : Answer) → is_served core.stage ≡ true → Serves s lines → revision s <ℤ last_revision → IsBoundAsk s lines x
+pub carried-serving : (s u : Store) (lines : List TranscriptLine) (c : ℕ) (core : Core) (x : Asking) (b : Answer) → is_served core.stage ≡ true → Serves s lines → IsBoundAsk s lines x
     → IsServing s lines c core (Some (Out x)) → carry s x.ask ≡ Some (u, b) → IsServing u (lines ++ update_lines s u x.kind) c core (Some (Carried b))
-carried-serving s u lines c core x b served w room bound k h = carried-at s u lines c core x b core.stage refl served w room bound k h (k.flies).asked (k.flies).kind
+carried-serving s u lines c core x b served w bound k h = carried-at s u lines c core x b core.stage refl served w bound k h (k.flies).asked (k.flies).kind

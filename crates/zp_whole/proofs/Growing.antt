@@ -93,8 +93,7 @@ request-kept s u lines more c i kind t x b =
         known = omega (arith, p.known, x.longer);
         agrees = subst (Agrees b.view) (sym (x.same p.number p.known)) p.agrees;
         put = p.put;
-        plan = p.plan;
-        asked = p.asked;
+        good = p.good;
       };
       txn = b.txn;
     }

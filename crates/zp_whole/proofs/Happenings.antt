@@ -21,7 +21,7 @@ use Rattle.zp_whole.proofs.Opening.{open-whole}
 use Rattle.zp_whole.proofs.Reaping.{reap-whole}
 use Rattle.zp_whole.proofs.Restarting.{restart-whole}
 use Rattle.zp_whole.specs.Connections.{Whole}
-use Rattle.zp_whole.specs.Keeping.{HasRoom, IsAttachedIn, Keeps, KeepsEntries, KeepsIf, MayEnter}
+use Rattle.zp_whole.specs.Keeping.{IsAttachedIn, Keeps, KeepsEntries, KeepsIf, MayEnter}
 
 -- ---- tests that pass
 
@@ -49,8 +49,8 @@ foreign-keeps k v w w' possible does h = foreign-whole w w' k v ((passes (is_kep
 pub lapse-keeps : (id : ℤ) → Keeps (line.Lapse id)
 lapse-keeps id w w' possible does h = lapse-whole w w' id does h
 
-pub exec-keeps : (c : ℕ) → KeepsIf HasRoom (line.Exec c)
-exec-keeps c w w' room possible does h = executes-whole w w' c room does h
+pub exec-keeps : (c : ℕ) → Keeps (line.Exec c)
+exec-keeps c w w' possible does h = executes-whole w w' c does h
 
 pub stray-keeps : (k : ℕ) → Keeps (line.Stray k)
 stray-keeps k w w' possible does h = stray-whole w w' k does h

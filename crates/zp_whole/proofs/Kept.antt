@@ -216,8 +216,8 @@ module _ (w w' : World) (c : ℕ) (x v : Conn) (f : Flight) (h : Whole w) (h' : 
     small = small-more w.lines w'.lines more lines frameless h.small;
   }
 
-pub executes-whole : (w w' : World) (c : ℕ) → revision w.store <ℤ last_revision → Executes c w w' → Whole w → Whole w'
-executes-whole w w' c room ex h = go (carry w.store (ex.asking).ask) refl ex.carries
+pub executes-whole : (w w' : World) (c : ℕ) → Executes c w w' → Whole w → Whole w'
+executes-whole w w' c ex h = go (carry w.store (ex.asking).ask) refl ex.carries
   where
     holds : Holds w'
     holds = executes-holds w w' c ex h.holds
@@ -249,7 +249,7 @@ executes-whole w w' c room ex h = go (carry w.store (ex.asking).ask) refl ex.car
         (update_lines w.store r.0 (ex.asking).kind) (subst (λ u. Precedes w.store u) (sym store) (carry-precedes w.store r.0 (ex.asking).ask r.1 e)) lines (frameless-carried w.store r.0 (ex.asking).kind)
         (λ d apart. elsewhere-carried w.lines d w.store r.0 (ex.asking).kind (λ kind is of. apart (h.own c d ex.conn ex.asking ex.found ex.out (asker-of ex.asking kind d is of))))
         (λ core a s. subst (λ u. IsServing u w'.lines c core (Some (Carried r.1))) (sym store) (subst (λ l. IsServing r.0 l c core (Some (Carried r.1))) (sym lines)
-        (carried-serving w.store r.0 w.lines c core ex.asking r.1 s (h.holds).serves room ((h.holds).bound (Of c) ex.asking (ap out_of ex.found ∙ ap out_in ex.out)) (served core a s) e)))
+        (carried-serving w.store r.0 w.lines c core ex.asking r.1 s (h.holds).serves ((h.holds).bound (Of c) ex.asking (ap out_of ex.found ∙ ap out_in ex.out)) (served core a s) e)))
 
 pub stray-whole : (w w' : World) (k : ℕ) → ExecutesStray k w w' → Whole w → Whole w'
 stray-whole w w' k ex h = go (carry w.store (ex.asking).ask) refl ex.carries

@@ -176,10 +176,10 @@ request-commits s lines c i t kind w room last b h =
     let rises = zxid-next s lines w in
     let guards : list_all (holds (present s)) (b.plan).guards ≡ true = subst (λ (p : TxnReq). list_all (holds (present s)) p.guards ≡ true) b.txn h in
     let p = b.bound in
-    let may = may-commit s b.view b.plan p.number (length s.revisions) (p.asked).keys p.known p.agrees p.put (p.asked).among (p.asked).guards guards in
-    let is_held = held (present s) (after lines) b.who st b.least b.rises (guard-holds (present s) (b.plan).guards (lease_guard b.who) guards (p.asked).lease) in
+    let may = may-commit s b.view b.plan p.number (length s.revisions) ((p.good).asked).keys p.known p.agrees p.put ((p.good).asked).among ((p.good).asked).guards guards in
+    let is_held = held (present s) (after lines) b.who st b.least b.rises (guard-holds (present s) (b.plan).guards (lease_guard b.who) guards ((p.good).asked).lease) in
     let a : IsAttached lines c b.who (length lines) = record { legal = ap is_legal (take-length lines) ∙ w.legal; place = b.place; own = ap (attach_of c) (take-length lines) ∙ b.attached; least = b.least } in
-    let answer = (p.plan).answers (present s) (after lines) z sound st may rises room in
+    let answer = ((p.good).commits).answers (present s) (after lines) z sound st may rises room in
     let f = (b.framed).frame in
     let framed : frame c i lines ≡ Some (b.framed).bytes = first_shown-place (frame_shown c i) 0 lines (f.place, (b.framed).bytes) f.framed in
     let acts : Acts lines (after lines) c i (b.who).session b.request = record {
@@ -194,7 +194,7 @@ request-commits s lines c i t kind w room last b h =
       tree = b.tree;
     } in
     let d = does lines (after lines) z (b.who).session c i b.moment b.request answer.made acts answer.commits in
-    let carried = (p.plan).carries (present s) (after lines) z sound st may rises room in
+    let carried = ((p.good).commits).carries (present s) (after lines) z sound st may rises room in
     record {
       may = subst (λ k. may_update lines (after lines) z k ≡ true) (sym b.of_kind) d.may;
       ordered = subst (λ k. is_in_order lines (Update (record { zxid = z; kind = k })) ≡ true) (sym b.of_kind) (in-order lines z (b.who).session c i b.moment b.request last);

@@ -1,6 +1,5 @@
 -- What the laws say: which lines of a script keep a world whole.
-use Rattle.std.specs.Prelude.{◌≡◌, ℕ, ◌<ℤ◌, true, Some, None}
-use Rattle.ev_types.specs.Store.{last_revision, revision}
+use Rattle.std.specs.Prelude.{◌≡◌, ℕ, true, Some, None}
 use Rattle.zt_text.specs.declared.script.Happening.{Happening}
 use Rattle.zp_step.specs.Stages.{Core}
 use Rattle.zp_laws.specs.Frames.{is_served}
@@ -34,10 +33,6 @@ abbrev pub KeepsEntries : Happening → Type 0
 KeepsEntries h = (w w' : World) → Does w h w' → Whole w → AreEntries w.lines w.entries → AreEntries w'.lines w'.entries
 
 -- ---- premises
-
--- the store has a revision to come
-abbrev pub HasRoom : World → Type 0
-HasRoom w = revision w.store <ℤ last_revision
 
 -- a session is attached to connection c, which is open
 pub record IsAttachedIn (w : World) (c : ℕ) : Type 0 where

@@ -3,7 +3,7 @@
 ghost use Rattle.std.specs.Prelude.{◌≡◌, ℕ, ℤ, List};
 ghost use Rattle.zt_text.specs.declared.script.Happening.TheVariants as line;
 ghost use Rattle.zp_happen.specs.Worlds.{World};
-ghost use Rattle.zp_whole.specs.Keeping.{FirstHasEntries, FirstIsWhole, HasRoom, IsAttachedIn, Keeps, KeepsEntries, KeepsIf, MayEnter, WholeGives};
+ghost use Rattle.zp_whole.specs.Keeping.{FirstHasEntries, FirstIsWhole, IsAttachedIn, Keeps, KeepsEntries, KeepsIf, MayEnter, WholeGives};
 
 /// The world before anything happened is whole.
 pub fn the_first_world_is_whole()
@@ -25,9 +25,9 @@ pub fn the_store_changes_by_itself()
 {}
 
 /// Whatever was asked may be carried out at any time, also when its asker has ended: it is an update that the service could
-/// make then, or it changes nothing. While its asker is there the store has a revision to come.
+/// make then, or it changes nothing.
 pub fn asks_are_carried_out()
-    ensures exec { (c : ℕ) → KeepsIf (λ w. HasRoom w) (line.Exec c) }
+    ensures exec { (c : ℕ) → Keeps (line.Exec c) }
     ensures stray { (k : ℕ) → Keeps (line.Stray k) }
 {}
 

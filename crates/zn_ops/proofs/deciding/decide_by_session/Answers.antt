@@ -7,7 +7,8 @@ use Rattle.std.proofs.lemmas.Int.{to_z-of_z}
 use mir.Val.{SFits}
 use Rattle.zn_layout.specs.Keys.{LeaseKey}
 use Rattle.zn_ops.specs.Deciding.{IsAttachedAt}
-use Rattle.zn_ops.proofs.SessionTests.{life-looked_up, expired, moved}
+use Rattle.zn_ops.proofs.SessionTests.{expired, expired-tested, life-looked_up, moved, moved-tested}
+use Rattle.zn_view.specs.Deciding.{IsTested}
 use Rattle.zn_view.specs.declared.plan.Decision.TheVariants.{Moved}
 use Rattle.zn_view.specs.Lookups.{HasSeen, sees}
 use Rattle.zn_view.specs.Views.{IsDecision}
@@ -32,3 +33,18 @@ returns-then-found-who-clause-decision c =
     let saw = subst (λ (z : ℤ). IsAttachedAt (sees c.args.view.now (LeaseKey (nat_abs z))) c.in_ok-found.field-0) (to_z-of_z w64 _ fits) c.in_ok-found.ensures in
     subst (λ (n : ℤ). IsDecision c.args.request.now c.args.who c.args.view.now (Moved n)) (sym (to_z-of_z w64 _ found_fits))
     (moved c.args.request.now c.args.who c.args.view.now c.in-Some.found c.requires.real c.requires.formed (subst (λ (o : Option ℤ). IsAttachedAt (sees c.args.view.now (LeaseKey (nat_abs c.args.who.session))) o) c.in-Some.is saw) apart)
+
+pub returns-in_default-clause-tested : goal.returns-in_default-clause-tested
+returns-in_default-clause-tested c =
+    let fits : SFits w64 c.args.who.session = search rules in
+    let saw = subst (λ (z : ℤ). IsAttachedAt (sees c.args.view.now (LeaseKey (nat_abs z))) c.in_ok-found.field-0) (to_z-of_z w64 _ fits) c.in_ok-found.ensures in
+    expired-tested c.args.request.now c.args.who c.args.view.now (subst (λ (o : Option ℤ). IsAttachedAt (sees c.args.view.now (LeaseKey (nat_abs c.args.who.session))) o) c.in_default.is saw)
+
+pub returns-then-found-who-clause-tested : goal.returns-then-found-who-clause-tested
+returns-then-found-who-clause-tested c =
+    let fits : SFits w64 c.args.who.session = search rules in
+    let found_fits : SFits w64 c.in-Some.found = search rules in
+    let apart : int_eq c.in-Some.found c.args.who.mine ≡ false = first_of (search rules, grind (arith, common_steps)) in
+    let saw = subst (λ (z : ℤ). IsAttachedAt (sees c.args.view.now (LeaseKey (nat_abs z))) c.in_ok-found.field-0) (to_z-of_z w64 _ fits) c.in_ok-found.ensures in
+    subst (λ (n : ℤ). IsTested c.args.request.now c.args.who c.args.view.now (Moved n)) (sym (to_z-of_z w64 _ found_fits))
+    (moved-tested c.args.request.now c.args.who c.args.view.now c.in-Some.found (subst (λ (o : Option ℤ). IsAttachedAt (sees c.args.view.now (LeaseKey (nat_abs c.args.who.session))) o) c.in-Some.is saw) apart)

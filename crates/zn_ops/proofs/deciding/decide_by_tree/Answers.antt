@@ -1,7 +1,9 @@
 -- What is no update is a read.
 use Rattle.std.proofs.Common.{◌∙◌, sym}
 use Rattle.zn_ops.proofs.SingleRequests.{read-otherwise}
-use Rattle.zn_ops.proofs.SessionTests.{read-decided, read-planned, update-decided, update-planned}
+use Rattle.zn_ops.proofs.SessionTests.{read-by_tree, read-decided, read-planned, update-decided, update-once, update-planned}
+use Rattle.zn_view.specs.Asks.{WritesOnce}
+use Rattle.zn_view.specs.Deciding.{IsGood}
 use Rattle.zn_ops.proofs.deciding.decide_by_tree.Goals as goal
 
 pub returns-then-is_update-clause-decision : goal.returns-then-is_update-clause-decision
@@ -17,4 +19,13 @@ pub returns-then-is_update-clause-plan : goal.returns-then-is_update-clause-plan
 returns-then-is_update-clause-plan c = update-planned c.args.request.now c.args.who c.args.now c.args.view.now _ c.requires.attached c.in_ok-decide_update.ensures.plan
 
 pub returns-clause-plan : goal.returns-clause-plan
-returns-clause-plan c = read-planned c.args.request.now c.args.who c.args.now c.args.view.now _ c.in_ok-decide_read.ensures.answered
+returns-clause-plan c = read-planned (IsGood c.args.request.now c.args.who c.args.now c.args.view.now) _ c.in_ok-decide_read.ensures.answered
+
+pub returns-then-is_update-clause-once : goal.returns-then-is_update-clause-once
+returns-then-is_update-clause-once c = update-once c.args.request.now c.args.who c.args.now c.args.view.now _ c.in_ok-decide_update.ensures.plan
+
+pub returns-clause-once : goal.returns-clause-once
+returns-clause-once c = read-planned WritesOnce _ c.in_ok-decide_read.ensures.answered
+
+pub returns-clause-tree : goal.returns-clause-tree
+returns-clause-tree c = read-by_tree _ c.in_ok-decide_read.ensures.answered

@@ -12,7 +12,7 @@ use Rattle.zx_base.specs.Maps.{Bytes}
 use Rattle.zn_updates.specs.Deciding.{IsSetData}
 use Rattle.zn_updates.specs.Forms.{IsPathOf}
 use Rattle.zn_updates.proofs.Plans.{refused_form, refused_sound}
-use Rattle.zn_updates.proofs.SetDataClauses.{set_seen, set_by_form, set_by_sound, set_planned, set_invalid}
+use Rattle.zn_updates.proofs.SetDataClauses.{set_seen, set_by_form, set_by_sound, set_planned, set_invalid, set_data-by_tree}
 use Rattle.zn_updates.proofs.set_data.decide_set_data.Goals as goal
 
 pub set_data_at-requires-clause-node : goal.set_data_at-requires-clause-node
@@ -61,3 +61,12 @@ pub returns-in-None-clause-sound : goal.returns-in-None-clause-sound
 returns-in-None-clause-sound c =
     refused_sound (req.SetData c.args.path.now c.args.content.now c.args.version) bad_arguments
     (set_invalid c.args.path.now c.args.content.now c.args.version (subst (λ (o : Option Bytes). IsPathOf false c.args.path.now o) c.in-None.is c.in_ok-path.ensures)) c.args.who c.args.view.now c.refused.result
+
+pub returns-in-Some-clause-tree : goal.returns-in-Some-clause-tree
+returns-in-Some-clause-tree c =
+    let path = subst (λ (o : Option Bytes). IsPathOf false c.args.path.now o) c.in-Some.is c.in_ok-path.ensures in
+    let fits : SFits w32 c.args.version = search rules in
+    let session : SFits w64 c.args.who.session = search rules in
+    IfOk-weaker c.set_data_at.result _ _ (λ d is.
+    set_data-by_tree c.args.view.now c.args.path.now c.args.content.now c.args.version c.args.now c.args.who.session d
+    (subst (λ (t : Bytes × ℤ × ℤ). IsSetData c.args.view.now t.0 c.args.content.now t.1 c.args.now t.2 d) (λ i. (path.0 i, to_z-of_z w32 _ fits i, to_z-of_z w64 _ session i)) is)) c.set_data_at.ensures
