@@ -1,6 +1,6 @@
 -- What is asked and decided on a view. A request asks in rounds for what it still lacks, all at one revision; when nothing is
 -- lacking it is decided.
-use Rattle.std.specs.Prelude.{◌≡◌, ◌≢◌, ℕ, ℤ, ◌⊎◌, Bool, true, false, List, [], ◌∷◌, take, Option, Some, None, MatchBool}
+use Rattle.std.specs.Prelude.{◌≢◌, ℕ, ℤ, ◌⊎◌, List, [], ◌∷◌, take, Option, Some, None}
 use Rattle.ev_types.specs.declared.answer.ActAns.{ActAns}
 use Rattle.zk_model.specs.Codes.{session_expired, session_moved}
 use Rattle.zk_model.specs.declared.reply.Reply.{Reply}

@@ -1,9 +1,7 @@
 -- The number of a session's update, as its transaction's answer shows it.
-use Rattle.std.proofs.Common.{◌≡◌, ℤ, pos, true, List, [], ◌∷◌, ◌++◌, Option, Some, refl, sym, ap, ◌∙◌}
-use Rattle.std.specs.FinMap.{get}
+use Rattle.std.proofs.Common.{◌≡◌, ℤ, pos, true, List, [], ◌∷◌, ◌++◌, Some, refl, ap, ◌∙◌}
 use Rattle.ev_types.specs.declared.answer.ActAns.{ActAns}
 use Rattle.ev_types.specs.declared.answer.Answer.TheVariants as answer
-use Rattle.ev_types.specs.declared.answer.Kv.{Kv}
 use Rattle.ev_types.specs.declared.ask.Ask.TheVariants as ask
 use Rattle.ev_types.specs.declared.ask.Guard.{Guard}
 use Rattle.ev_types.specs.Denials.{carry}
@@ -12,13 +10,12 @@ use Rattle.zk_model.specs.declared.reply.Body.TheVariants as body
 use Rattle.zk_model.specs.declared.reply.Reply.TheVariants as reply
 use Rattle.zk_transcript.specs.History.{State}
 use Rattle.zn_layout.specs.Changes.{Change, acts_of, head_put, update_acts}
-use Rattle.zn_layout.specs.Keys.{HeadKey, key_bytes}
 use Rattle.zn_layout.specs.StandsFor.{StandsFor}
 use Rattle.zn_layout.specs.Updates.{update_txn}
 use Rattle.zn_layout.proofs.Lookups.{head_found}
 use Rattle.zn_view.specs.declared.plan.Plan.{Plan}
 use Rattle.zn_view.specs.declared.want.Want.{Want}
-use Rattle.zn_view.specs.Asks.{kept_under, last_part, ranges_of}
+use Rattle.zn_view.specs.Asks.{ranges_of}
 use Rattle.zn_view.specs.Seen.{head_number}
 use Rattle.zn_view.proofs.Showing.{carried-out}
 use Rattle.zs_session.specs.Connecting.{number_shown}
