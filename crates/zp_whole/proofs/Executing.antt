@@ -325,10 +325,10 @@ plan-serving s u lines c core x b xid q v p m e w bound of_kind of_ask k h = go 
     next : IsNext lines kind
     next d i r = let y = same-index c core.next d i (sym ((of-request q core.who.session c core.next m).asked) ∙ r) in subst (λ n. is_ahead lines n i ≡ true) y.0 (subst (λ n. is_ahead lines c n ≡ true) y.1 (k.flies).ahead)
 
-    go : (ok : Bool) → succeeds s (plan_txn p) ≡ ok → IsServing u (lines ++ update_lines s u x.kind) c core (Some (Carried b))
     good : IsGood q core.who m v p
     good = (subst (Knows s lines c core k.walker k.looked) e (k.stands).knows).1.good
 
+    go : (ok : Bool) → succeeds s (plan_txn p) ≡ ok → IsServing u (lines ++ update_lines s u x.kind) c core (Some (Carried b))
     go true g =
         let a = txn-answered s u (plan_txn p) b ht in
         let right : b ≡ answer.Txn (revision u) true a.0 = a.1 ∙ ap (λ ok. answer.Txn (revision u) ok a.0) g in

@@ -1,11 +1,11 @@
 -- What the store does by itself, and what it carries out, keeps a world whole.
 use Rattle.std.proofs.Common.{◌≡◌, ◌≢◌, ℕ, ◌-◌, List, [], ◌∷◌, ◌++◌, refl, sym, ap, ◌∙◌, subst, Bool, true, false, ℤ, inl, inr, append-nil}
-use Rattle.std.specs.Prelude.{Option, Some, None, ◌⊎◌, ◌<ℤ◌, slice_get, if◌then◌else◌}
+use Rattle.std.specs.Prelude.{Option, Some, None, ◌⊎◌, slice_get, if◌then◌else◌}
 use Rattle.std.specs.FinMap.{get}
 use Rattle.std.specs.Ordering.{int_eq}
 use Rattle.ev_types.specs.Denials.{carry}
 use Rattle.ev_types.specs.Lapses.{foreign, lapse}
-use Rattle.ev_types.specs.Store.{Store, chosen, last_revision, revision, succeeds, worked}
+use Rattle.ev_types.specs.Store.{Store, chosen, revision, succeeds, worked}
 use Rattle.ev_types.specs.declared.answer.Answer.{Answer}
 use Rattle.ev_types.specs.declared.ask.Ask.{Ask}
 use Rattle.ev_types.specs.declared.ask.Ask.TheVariants as ask
