@@ -2,6 +2,7 @@
 use Rattle.std.proofs.Common.{◌≡◌, ℤ, pos, Bool, true, false, Option, Some, None, List, refl, sym, ap, ◌∙◌, subst, inl, inr}
 use Rattle.std.specs.Prelude.{MatchBool, int_lt}
 use Rattle.std.specs.Ordering.{int_eq}
+use Rattle.std.proofs.lemmas.Bool.Decides.{Decides-int_eq}
 use Rattle.ev_types.specs.declared.answer.ActAns.{ActAns}
 use Rattle.ev_types.specs.declared.answer.Answer.{Answer}
 use Rattle.ev_types.specs.declared.answer.Answer.TheVariants as answer
@@ -17,8 +18,8 @@ use Rattle.zs_session.specs.Answering.{OfTxn, OfAlive, viewed}
 use Rattle.zs_session.specs.Connecting.{Answers, Attached, Created, Ends, IsHeld, IsInPhase, IsResumable, IsWaiting, Kept, LookedAgain, LooksFirst, Moves, Resumes, Waits, asked_by, asked_in, is_taken}
 use Rattle.zs_session.specs.Sessions.{attach_wants, first_wants, session_wants}
 
-either : (b : Bool) (P Q R : Type 0) → MatchBool b P Q → (P → R) → (Q → R) → R
-either true P Q R h f g = f h
+either : (b : Bool) (P Q R : Type 0) → MatchBool b P Q → (b ≡ true → P → R) → (Q → R) → R
+either true P Q R h f g = f refl h
 either false P Q R h f g = g h
 
 of_txn : (a : Answer) (P : ℤ → Bool → List ActAns → Type 0) (R : Type 0) → OfTxn a P → ((z : ℤ) (b : Bool) (parts : List ActAns) → P z b parts → R) → R
@@ -53,17 +54,19 @@ module _ (c : Connect) (phase : Phase) (step : ConnectStep) where
     looks-first v h =
         let head = head_zxid (head_of v) in
         either (int_lt head c.request.last_zxid) (Ends (steps.Ahead c.request.last_zxid head) phase step) (MatchBool (int_eq c.request.session (pos 0)) (Waits c Granting phase step) (Resumes c v Keeping phase step)) R h
-        (end (steps.Ahead c.request.last_zxid head) refl)
-        (λ k. either (int_eq c.request.session (pos 0)) (Waits c Granting phase step) (Resumes c v Keeping phase step) R k (wait Granting tt some_none) (resumes v Keeping (λ seen life r. r) (λ seen life. some_none)))
+        (λ _. end (steps.Ahead c.request.last_zxid head) refl)
+        (λ k. either (int_eq c.request.session (pos 0)) (Waits c Granting phase step) (Resumes c v Keeping phase step) R k
+        (λ e. wait Granting ((Decides-int_eq c.request.session (pos 0)).0 e) some_none)
+        (resumes v Keeping (λ seen life r. r) (λ seen life. some_none)))
 
-    created : (z : ℤ) (b : Bool) (parts : List ActAns) → Created c z b parts phase step → R
-    created z true parts h = end _ refl h
-    created z false parts h =
-        either (is_taken c.fresh.id (viewed z (session_wants c.fresh.id) parts)) (Ends (steps.Taken z) phase step) (Waits c Creating phase step) R h.1 (end (steps.Taken z) refl) (wait Creating tt some_none)
+    created : c.request.session ≡ pos 0 → (z : ℤ) (b : Bool) (parts : List ActAns) → Created c z b parts phase step → R
+    created anew z true parts h = end _ refl h
+    created anew z false parts h =
+        either (is_taken c.fresh.id (viewed z (session_wants c.fresh.id) parts)) (Ends (steps.Taken z) phase step) (Waits c Creating phase step) R h.1 (λ _. end (steps.Taken z) refl) (wait Creating anew some_none)
 
     kept : (seen : ℤ) (life : LeaseRec) (ttl : ℤ) → IsResumable c.request life → Kept c seen life ttl phase step → R
     kept seen life ttl r h =
-        either (int_eq ttl (pos 0)) (Waits c LookingAgain phase step) (Waits c (Attaching seen life) phase step) R h (wait LookingAgain r.session some_none) (wait (Attaching seen life) r some_none)
+        either (int_eq ttl (pos 0)) (Waits c LookingAgain phase step) (Waits c (Attaching seen life) phase step) R h (λ _. wait LookingAgain r.session some_none) (wait (Attaching seen life) r some_none)
 
     looked-again : (z : ℤ) (parts : List ActAns) → LookedAgain c z parts phase step → R
     looked-again z parts h = resumes (viewed z (attach_wants c.request.session) parts) Attaching (λ seen life r. r) (λ seen life. some_none) h.1
@@ -75,8 +78,8 @@ module _ (c : Connect) (phase : Phase) (step : ConnectStep) where
     answered : (p : Phase) (a : Answer) → IsInPhase c.request p → Answers c p a phase step → R
     answered Unasked a k h = absurd h
     answered Looking a k h = of_txn a _ R h (λ z b parts f. looks-first (viewed z (first_wants c.request) parts) f.1)
-    answered Granting a k h = wait Creating tt some_none h
-    answered Creating a k h = of_txn a _ R h (λ z b parts f. created z b parts f)
+    answered Granting a k h = wait Creating k some_none h
+    answered Creating a k h = of_txn a _ R h (λ z b parts f. created k z b parts f)
     answered (Keeping seen life) a k h = of_alive a _ R h (λ ttl f. kept seen life ttl k f)
     answered LookingAgain a k h = of_txn a _ R h (λ z b parts f. looked-again z parts f)
     answered (Attaching seen life) a k h = of_txn a _ R h (λ z b parts f. attached life z b parts f)

@@ -49,7 +49,7 @@ pub record MayStep (c : Connect) (a : Option Answer) : Type 0 where
   pub going : c.phase ≡ Over → ⊥
   pub awaited : IsAwaited (asked_in c c.phase) a
 
--- ---- what a connecting connection knows
+-- ---- what a connecting connection knows: whether it is to be a new session, and else which one is resumed
 
 -- a session's number, and a record of its life with the client's password
 pub record IsResumable (r : ConnectRequest) (life : LeaseRec) : Type 0 where
@@ -60,8 +60,8 @@ pub record IsResumable (r : ConnectRequest) (life : LeaseRec) : Type 0 where
 abbrev pub IsInPhase : ConnectRequest → Phase → Type 0
 IsInPhase r Unasked = Unit {0}
 IsInPhase r Looking = Unit {0}
-IsInPhase r Granting = Unit {0}
-IsInPhase r Creating = Unit {0}
+IsInPhase r Granting = r.session ≡ pos 0
+IsInPhase r Creating = r.session ≡ pos 0
 IsInPhase r (Keeping seen life) = IsResumable r life
 IsInPhase r LookingAgain = pos 1 ≤ℤ r.session
 IsInPhase r (Attaching seen life) = IsResumable r life

@@ -45,7 +45,8 @@ fn number_among(kvs: &[Kv]) -> i64
     0
 }
 
-fn number_in(parts: &[ActAns]) -> i64
+/// The number of an update, by the head that the answer of its transaction shows in its last part: 0 where that shows none.
+pub fn number_in(parts: &[ActAns]) -> i64
     ensures { result ≡ number_shown parts.now }
 {
     number_among(last_found(parts))

@@ -81,6 +81,13 @@ impl Connecting {
         }
     }
 
+    /// The connect, and how far it has come.
+    pub fn connect(&self) -> &Connect
+        ensures { result.now ≡ self.now }
+    {
+        &self.connect
+    }
+
     /// The next step. The first one has no answer; each other one has the answer to what was asked last. None is made behind a
     /// step that asked nothing. Where it has a fault the connect is as it was: `Damaged` comes exactly where the answer shows,
     /// under a key that was looked up, a value that is no record.
