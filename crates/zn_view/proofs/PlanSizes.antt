@@ -19,7 +19,8 @@ use Rattle.zn_view.proofs.Members.{in_contains}
 use Rattle.zn_view.proofs.Narrowing.{picked-each}
 use Rattle.zn_view.proofs.Sizes.{again-length, again-short, guards-length, guards-short, head-size, head_put-size, sum_by-most}
 
-picked-length : (v : View) (ks : List Bytes) → length (picked v ks) ≤ length ks
+-- no more are seen than were picked
+pub picked-length : (v : View) (ks : List Bytes) → length (picked v ks) ≤ length ks
 picked-length v [] = omega arith
 picked-length v (k ∷ ks) = elim (seen v k) as (λ s. length (with_found k s (picked v ks)) ≤ length (k ∷ ks)) [
   | None ↦ let h = picked-length v ks in omega (arith, h)

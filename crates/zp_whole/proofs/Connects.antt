@@ -6,7 +6,6 @@ use Rattle.std.specs.Ordering.{int_eq}
 use Rattle.std.specs.List.{list_all}
 use Rattle.std.proofs.lemmas.Bool.Decides.{nat_tests, Decides-int_eq}
 use Rattle.std.proofs.lemmas.Int.{ints}
-use Rattle.std.proofs.lemmas.List.Elements.{All-contains_itself}
 use Rattle.std.proofs.lemmas.Slice.Eq.{bytes_eq-Decides}
 use Rattle.ev_types.specs.Store.{Store, acts_applied, holds, last_revision, mod_of, present, revision, store_at}
 use Rattle.ev_types.specs.declared.answer.Kv.{Kv}
@@ -22,6 +21,8 @@ use Rattle.zn_layout.specs.Keys.{key_bytes}
 use Rattle.zn_layout.specs.Records.{lease_value}
 use Rattle.zn_layout.specs.StandsFor.{StandsFor, at}
 use Rattle.zn_layout.specs.declared.record.LeaseRec.{LeaseRec}
+use Rattle.zn_view.specs.Asks.{picked}
+use Rattle.zn_view.proofs.Narrowing.{picked-among}
 use Rattle.zp_laws.proofs.Revisions.{as-it-was, may-commit}
 use Rattle.zs_session.proofs.Attachments.{session-attached}
 use Rattle.zs_session.proofs.NewSessions.{new_session-commits}
@@ -109,7 +110,7 @@ unfolding may_update updated
 reap-commits s lines id t w room b h =
     let z = next_revision s in
     let guards : list_all (holds (present s)) (b.plan).guards ≡ true = subst (λ (p : TxnReq). list_all (holds (present s)) p.guards ≡ true) b.txn h in
-    let may = may-commit s b.view b.plan b.number (length s.revisions) (b.view).keys b.known b.agrees b.put (All-contains_itself (b.view).keys) (b.reaps).guards guards in
+    let may = may-commit s b.view b.plan b.number (length s.revisions) (picked b.view ((b.reaps).reads).keys) b.known b.agrees b.put (picked-among b.view ((b.reaps).reads).keys) ((b.reaps).reads).guards guards in
     let r = (b.reaps).ends (present s) (after lines) z (legal-sound lines w.legal) (stands-now s lines w) may (zxid-next s lines w) room in
     record {
       may = ap is_lapsed r.is_open ∙ r.lapsed;

@@ -1,11 +1,10 @@
 -- What a close is decided by makes its decision and its plan what they are to be.
-use Rattle.std.proofs.Common.{◌≡◌, ℕ, ℤ, pos, ◌≤◌, Bool, true, false, length, List, Option, Some, None, refl, sym, ap, subst, arith}
+use Rattle.std.proofs.Common.{◌≡◌, ℕ, ℤ, pos, ◌≤◌, Bool, true, false, length, List, [], Option, Some, None, refl, sym, ap, subst, inl, inr, arith}
 use Rattle.std.specs.Prelude.{◌≤ℤ◌, nat_abs, nat_le, Contains, MatchBool}
 use Rattle.std.specs.Ordering.{int_eq}
 use Rattle.std.proofs.lemmas.Bool.{le-leb}
 use Rattle.std.proofs.lemmas.Bool.Decides.{Decides-int_eq}
 use Rattle.std.proofs.lemmas.Int.{ints}
-use Rattle.std.proofs.lemmas.List.Elements.{All-contains_itself}
 use Rattle.ev_types.specs.declared.answer.Kv.{Kv}
 use Rattle.ev_types.specs.declared.ask.Guard.{Guard}
 use Rattle.ev_types.specs.Ranges.{Keys}
@@ -23,18 +22,23 @@ use Rattle.zn_view.specs.declared.plan.Decision.{Decision}
 use Rattle.zn_view.specs.declared.plan.Decision.TheVariants.{Answered, Planned, Expired, Moved}
 use Rattle.zn_view.specs.declared.plan.Plan.{Plan}
 use Rattle.zn_view.specs.declared.plan.Who.{Who}
-use Rattle.zn_view.specs.Asks.{guards_of, lease_guard, IsAskedPlan}
+use Rattle.zn_view.specs.declared.snapshot.SeenKey.{SeenKey}
+use Rattle.zn_view.specs.Asks.{guards_of, lease_guard, picked, IsAskedPlan}
+use Rattle.zn_view.specs.Deciding.{IfPlanned, IsGood, IsTested, IsTestedBy, is_by_tree}
 use Rattle.zn_view.specs.Lookups.{sees, IsNodesIn}
-use Rattle.zn_view.specs.Needs.{finished}
+use Rattle.zn_view.specs.Needs.{finished, GuardsReads}
 use Rattle.zn_view.specs.Seen.{View}
-use Rattle.zn_view.specs.Views.{Agrees, IsByTree, IsDecision, IsOf, IsPlan}
-use Rattle.zn_view.proofs.AsSeen.{agrees-as_seen, commits-as_seen}
-use Rattle.zn_view.proofs.Asked.{seen-guarded}
+use Rattle.zn_view.specs.Views.{Agrees, IsByTree, IsDecision, IsPlan}
+use Rattle.zn_view.proofs.Asked.{life-apart, seen-guarded}
 use Rattle.zn_view.proofs.Committing.{zxid-least}
+use Rattle.zn_view.proofs.Members.{in_mapped}
+use Rattle.zn_view.proofs.Narrowing.{picked-among, picked-told}
 use Rattle.zn_view.proofs.Tested.{expired-decides, moved-decides, tree-decides}
-use Rattle.zs_close.specs.Closing.{IfPlanned, IsEndPlan, IsClose, IsCloseBy, IsClosedBy, IsClosedWith, IsTaken, IsTrimmed, unsound}
+use Rattle.zs_close.specs.Closing.{IsEndPlan, IsClose, IsCloseBy, IsClosedBy, IsClosedWith, unsound}
+use Rattle.zs_close.specs.Wanting.{end_keys, read_keys, IsNodesSeen}
+use Rattle.zs_close.proofs.KeysRead.{end-reads}
 use Rattle.zs_close.proofs.Taken.{end-taken}
-use Rattle.zs_close.proofs.EndPlans.{life-not_head, nodes-few, nodes-mean, life-means, ended-carries, ended-triggers}
+use Rattle.zs_close.proofs.EndPlans.{agrees-for, commits-for, nodes-few, nodes-mean, life-means, ended-carries, ended-triggers}
 
 true_false : {b : Bool} → b ≡ true → b ≡ false → ⊥
 true_false t f = cc
@@ -94,13 +98,13 @@ module _ (who : Who) (v : View) (real : pos 1 ≤ℤ who.session) where
     with_decides kv ps saw nodes h =
         elim (nat_le (length ps) max_owned) as (λ b. nat_le (length ps) max_owned ≡ b → MatchBool b ((p : Plan) × (d ≡ Planned p) × IsEndPlan true who.session v ps p) (d ≡ unsound) → IsDecision req.Close who v d) [
           | true ↦ λ e is. planned_decides d is.0 life_kv saw_life here is.1
-          | false ↦ λ e is. no_state d life_kv saw_life here (λ m s sound stands agrees. too_many (length ps) e (nodes-few v who.session real m s stands (agrees-as_seen v m agrees) kv ps saw nodes sound))
+          | false ↦ λ e is. no_state d life_kv saw_life here (λ m s sound stands agrees. too_many (length ps) e (nodes-few v who.session real m s stands ps (agrees-for v who.session ps m agrees) kv saw nodes sound))
         ] refl h
 
     by_decides : (o : Option (Option Kv)) → session_seen ≡ o → IsClosedBy who.session v o d → IsDecision req.Close who v d
     by_decides None saw h = absurd h
-    by_decides (Some None) saw h = no_state d life_kv saw_life here (λ m s sound stands agrees. let seen = agrees-as_seen v m agrees in
-        listless (session_at who.session s) (owned s.tree who.session) life_kv (life-means v who.session real m s stands seen (Some life_kv) saw_life) (nodes-mean v who.session real m s stands seen None saw))
+    by_decides (Some None) saw h = no_state d life_kv saw_life here (λ m s sound stands agrees. let seen = agrees-for v who.session [] m agrees in
+        listless (session_at who.session s) (owned s.tree who.session) life_kv (life-means v who.session real m s stands [] seen (Some life_kv) saw_life) (nodes-mean v who.session real m s stands [] seen None saw))
     by_decides (Some (Some kv)) saw h = with_decides kv h.0 saw h.1 h.2
 
     with_planned : (kv : Kv) (ps : List Bytes) → session_seen ≡ Some (Some kv) → IsNodesIn kv ps → IsClosedWith who.session v ps d → IfPlanned (IsPlannedClose who v) d
@@ -139,37 +143,77 @@ module _ (who : Who) (v : View) (real : pos 1 ≤ℤ who.session) where
   pub close-planned : (d : Decision) → IsClose who v d → IfPlanned (IsPlannedClose who v) d
   close-planned d h = life_planned d life refl h
 
+  -- ---- the session is tested first
+
+  closed_by_tree : (d : Decision) (o : Option (Option Kv)) → IsClosedBy who.session v o d → is_by_tree d ≡ true
+  closed_by_tree d None h = absurd h
+  closed_by_tree d (Some None) h = ap is_by_tree h
+  closed_by_tree d (Some (Some kv)) h =
+      elim (nat_le (length h.0) max_owned) as (λ b. MatchBool b ((p : Plan) × (d ≡ Planned p) × IsEndPlan true who.session v h.0 p) (d ≡ unsound) → is_by_tree d ≡ true) [
+        | true ↦ λ is. ap is_by_tree is.1
+        | false ↦ λ is. ap is_by_tree is
+      ] h.2
+
+  life_tested : (d : Decision) (o : Option (Option Kv)) → IsCloseBy who v o d → IsTestedBy who d o
+  life_tested d None h = h
+  life_tested d (Some None) h = h
+  life_tested d (Some (Some kv)) h =
+      elim (int_eq kv.mod_revision who.mine) as (λ b. MatchBool b (IsClosedBy who.session v session_seen d) (d ≡ Moved kv.mod_revision) → MatchBool b (is_by_tree d ≡ true) (d ≡ Moved kv.mod_revision)) [
+        | true ↦ λ is. closed_by_tree d session_seen is
+        | false ↦ λ is. is
+      ] h
+
+  pub close-tested : (d : Decision) → IsClose who v d → IsTested req.Close who v d
+  close-tested d h _ = life_tested d life h
+
   -- ---- the plan
 
   module _ (p : Plan) (is : IsPlannedClose who v p) where
     not_lapsed : (s : State) → true ≡ false → (x : Session) → session_at who.session s ≡ Some x → x.lapsed ≡ true
     not_lapsed s e x h = absurd (true_false refl e)
 
-    pub close-plan : (now : ℕ) → IsPlan req.Close who now v p (λ z. finished z p.draft)
+    close-plan : (now : ℕ) → IsPlan req.Close who now v p (λ z. finished z p.draft)
     close-plan now = record {
       carries = λ m s z sound stands may later high.
           let low : pos 1 ≤ℤ z = omega (arith, ints, zxid-least m s stands, later) in
-          ended-carries v who.session real m s stands (commits-as_seen p v m (is.plan).guards may) is.kv is.ps is.saw is.nodes sound true (not_lapsed s) p is.plan z low high;
+          ended-carries v who.session real m s stands is.ps (commits-for p v who.session is.ps m (is.plan).guards may) is.kv is.saw is.nodes sound true (not_lapsed s) p is.plan z low high;
       answers = λ m s z sound stands may later high. record {
         made = record { response = body.Empty; tree = (session_ended s z who.session).tree; triggers = (session_ended s z who.session).triggers };
         commits = refl;
-        triggers = ended-triggers v who.session real m s stands (commits-as_seen p v m (is.plan).guards may) is.kv is.ps is.saw is.nodes sound true (not_lapsed s) p is.plan z;
+        triggers = ended-triggers v who.session real m s stands is.ps (commits-for p v who.session is.ps m (is.plan).guards may) is.kv is.saw is.nodes sound true (not_lapsed s) p is.plan z;
         answers = ap (finished z) (is.plan).draft;
       };
     }
 
-    pub close-asked : IsAskedPlan who v p
+    abbrev keys : List SeenKey
+    keys = picked v (read_keys who.session is.ps)
+
+    close-asked : IsAskedPlan who v p
     close-asked =
-        let guarded = seen-guarded (key_bytes (LeaseKey (nat_abs who.session))) is.life v.keys (life-not_head (nat_abs who.session)) is.saw_life in
+        let k : Bytes = key_bytes (LeaseKey (nat_abs who.session)) in
+        let inside = in_mapped key_bytes (LeaseKey (nat_abs who.session)) (end_keys who.session is.ps) (inr (inl refl)) in
+        let guarded = seen-guarded k is.life keys (life-apart (nat_abs who.session)) (picked-told v (read_keys who.session is.ps) k (Some is.life) inside is.saw_life) in
         record {
-          keys = v.keys;
-          among = All-contains_itself v.keys;
+          keys = keys;
+          among = picked-among v (read_keys who.session is.ps);
           guards = (is.plan).guards;
           again = (is.plan).again;
           lease = subst (λ (gs : List Guard). Contains gs (lease_guard who)) (sym (is.plan).guards)
-              (subst (λ (n : ℤ). Contains (guards_of v.keys) (record { key = key_bytes (LeaseKey (nat_abs who.session)); mod_revision = n })) is.mine guarded);
+              (subst (λ (n : ℤ). Contains (guards_of keys) (record { key = k; mod_revision = n })) is.mine guarded);
           shows = (is.plan).shows;
         }
 
-    pub close-taken : (s : State) → IsSound s → IsOf v s → IsTrimmed req.Close who v → IsTaken p
-    close-taken = end-taken true who v real is.kv is.ps is.saw is.nodes p is.plan
+    nodes_seen : IsNodesSeen session_seen is.ps
+    nodes_seen = subst (λ (o : Option (Option Kv)). IsNodesSeen o is.ps) (sym is.saw) is.nodes
+
+    close-reads : GuardsReads req.Close who v p
+    close-reads = end-reads v who is.ps p nodes_seen (is.plan).guards (is.plan).again
+
+    pub close-good : (now : ℕ) → IsGood req.Close who now v p
+    close-good now = record {
+      commits = close-plan now;
+      asked = close-asked;
+      reads = close-reads;
+      writes = (is.plan).writes;
+      taken = end-taken true who.session v real is.kv is.ps is.saw is.nodes p is.plan;
+    }

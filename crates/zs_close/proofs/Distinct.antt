@@ -1,18 +1,20 @@
 -- The changes at the end of a session write each key once, and need no lease.
 use Rattle.std.proofs.Common.{◌≡◌, ℤ, Bool, true, false, cond, ◌||◌, not, List, [], ◌∷◌, ◌++◌, Option, Some, None, refl, ap, ◌∙◌}
-use Rattle.std.specs.Prelude.{nat_abs}
-use Rattle.std.specs.List.{list_any, AllByRecursion}
+use Rattle.std.specs.Prelude.{nat_abs, All}
+use Rattle.std.specs.List.{list_any, count_by, AllByRecursion}
 use Rattle.std.proofs.lemmas.Bool.{and_from, and_parts}
-use Rattle.std.proofs.lemmas.List.Folds.{list_any-append, list_all-append}
-use Rattle.ev_types.specs.Store.{Store}
+use Rattle.std.proofs.lemmas.List.Folds.{list_any-append}
+use Rattle.std.proofs.lemmas.List.Elements.{All-nil, All-cons, All-append}
 use Rattle.zk_model.specs.declared.node.Trigger.{Trigger}
 use Rattle.zk_model.specs.Paths.{is_child}
 use Rattle.zx_base.specs.Maps.{Bytes, same}
 use Rattle.zx_base.proofs.MapLaws.{same-refl}
 use Rattle.zn_layout.specs.declared.record.CountRec.{CountRec}
-use Rattle.zn_layout.specs.Changes.{Put, Change, head_put, last, or_else, writes_key, are_distinct, has_its_lease, have_leases}
+use Rattle.zn_layout.specs.Changes.{Put, Change, delete_key, put_key, head_put, last, or_else, writes_key, are_distinct}
 use Rattle.zn_layout.specs.Keys.{Key, HeadKey, DataKey, CountsKey, SessionKey, LeaseKey, same_key}
-use Rattle.zs_close.specs.Ending.{put_parent, put_parents, parents, delete_nodes, delete_session, end_changes}
+use Rattle.zn_layout.specs.Records.{counts_value}
+use Rattle.zn_view.specs.Asks.{IsLeaseless}
+use Rattle.zs_close.specs.Ending.{fewer, put_parent, put_parents, parents, delete_nodes, delete_session, end_changes}
 use Rattle.zs_close.proofs.ParentPaths.{parents-any, parents-apart}
 use Rattle.zs_close.proofs.Removed.{AreApart}
 use Rattle.zs_close.proofs.Written.{gone_if, put_if, put_of, parents_put, parents_leave, nodes_leave-session, nodes_leave-life, data-gone, counts-gone}
@@ -137,29 +139,29 @@ head_apart ts (c ∷ cs) h =
 pub with_head-distinct : (ts : List Trigger) (cs : List Change) → last cs HeadKey ≡ None → are_distinct cs ≡ true → are_distinct (cs ++ head_put ts ∷ []) ≡ true
 with_head-distinct ts cs none h = distinct-append cs (head_put ts ∷ []) h refl (head_apart ts cs none)
 
--- ---- no lease is named
+-- ---- no put has a lease
 
-session-leases : (s : Store) (alive : Bool) (id : ℤ) → have_leases s (delete_session alive id) ≡ true
-session-leases s true id = refl
-session-leases s false id = refl
+list-leaseless : (id : ℤ) → All IsLeaseless (delete_key (SessionKey (nat_abs id)) ∷ [])
+list-leaseless id = All-cons IsLeaseless (delete_key (SessionKey (nat_abs id))) [] tt (All-nil IsLeaseless)
 
-nodes-leases : (s : Store) (ps : List Bytes) → have_leases s (delete_nodes ps) ≡ true
-nodes-leases s [] = refl
-nodes-leases s (p ∷ ps) = nodes-leases s ps
+pub session-leaseless : (alive : Bool) (id : ℤ) → All IsLeaseless (delete_session alive id)
+session-leaseless true id = All-cons IsLeaseless (delete_key (LeaseKey (nat_abs id))) (delete_key (SessionKey (nat_abs id)) ∷ []) tt (list-leaseless id)
+session-leaseless false id = list-leaseless id
 
-abbrev holds_its : Store → Change → Bool
-holds_its s c = has_its_lease s c.put
+pub nodes-leaseless : (ps : List Bytes) → All IsLeaseless (delete_nodes ps)
+nodes-leaseless [] = All-nil IsLeaseless
+nodes-leaseless (p ∷ ps) = All-cons IsLeaseless (delete_key (DataKey p)) (delete_key (CountsKey p) ∷ delete_nodes ps) tt (All-cons IsLeaseless (delete_key (CountsKey p)) (delete_nodes ps) tt (nodes-leaseless ps))
 
-parent-leases : (s : Store) (ps : List Bytes) (q : Bytes) (o : Option CountRec) → have_leases s (put_parent ps q o) ≡ true
-parent-leases s ps q None = refl
-parent-leases s ps q (Some c) = refl
+parent-leaseless : (ps : List Bytes) (q : Bytes) (o : Option CountRec) → All IsLeaseless (put_parent ps q o)
+parent-leaseless ps q None = All-nil IsLeaseless
+parent-leaseless ps q (Some c) = All-cons IsLeaseless (put_key (CountsKey q) (counts_value (fewer c (count_by (is_child q) ps)))) [] refl (All-nil IsLeaseless)
 
-parents-leases : (s : Store) (counts : Bytes → Option CountRec) (ps qs : List Bytes) → have_leases s (put_parents counts ps qs) ≡ true
-parents-leases s counts ps [] = refl
-parents-leases s counts ps (q ∷ qs) = list_all-append (holds_its s) (put_parent ps q (counts q)) (put_parents counts ps qs) ∙ and_from _ _ (parent-leases s ps q (counts q)) (parents-leases s counts ps qs)
+parents-leaseless : (counts : Bytes → Option CountRec) (ps qs : List Bytes) → All IsLeaseless (put_parents counts ps qs)
+parents-leaseless counts ps [] = All-nil IsLeaseless
+parents-leaseless counts ps (q ∷ qs) = All-append IsLeaseless (put_parent ps q (counts q)) (put_parents counts ps qs) (parent-leaseless ps q (counts q)) (parents-leaseless counts ps qs)
 
-pub end-leases : (s : Store) (alive : Bool) (id : ℤ) (counts : Bytes → Option CountRec) (ps : List Bytes) → have_leases s (end_changes alive id counts ps) ≡ true
+pub end-leaseless : (alive : Bool) (id : ℤ) (counts : Bytes → Option CountRec) (ps : List Bytes) → All IsLeaseless (end_changes alive id counts ps)
 unfolding end_changes
-end-leases s alive id counts ps =
-    list_all-append (holds_its s) (delete_session alive id ++ delete_nodes ps) (put_parents counts ps (parents ps))
-    ∙ and_from _ _ (list_all-append (holds_its s) (delete_session alive id) (delete_nodes ps) ∙ and_from _ _ (session-leases s alive id) (nodes-leases s ps)) (parents-leases s counts ps (parents ps))
+end-leaseless alive id counts ps = All-append IsLeaseless (delete_session alive id ++ delete_nodes ps) (put_parents counts ps (parents ps))
+    (All-append IsLeaseless (delete_session alive id) (delete_nodes ps) (session-leaseless alive id) (nodes-leaseless ps))
+    (parents-leaseless counts ps (parents ps))

@@ -1,12 +1,13 @@
 -- A plan with the operations of a session's end carries the end out, in each sound state whose keys have what the view saw.
-use Rattle.std.proofs.Common.{◌≡◌, ℕ, ℤ, pos, ◌≤◌, Bool, true, false, length, List, [], ◌∷◌, ◌++◌, Option, Some, None, refl, sym, ap, ◌∙◌, subst, arith}
-use Rattle.std.specs.Prelude.{◌≤ℤ◌, nat_abs, option_map}
+use Rattle.std.proofs.Common.{◌≡◌, ℕ, ℤ, pos, ◌≤◌, Bool, true, false, length, List, [], ◌∷◌, ◌++◌, Option, Some, None, refl, sym, ap, ◌∙◌, subst, inl, inr, arith}
+use Rattle.std.specs.Prelude.{◌≤ℤ◌, nat_abs, option_map, All, Contains, IsTrue}
 use Rattle.std.specs.List.Sorted.{IsStrictlySortedBy}
 use Rattle.std.specs.Ordering.{nat_cmp}
 use Rattle.std.specs.Cmp.Lexicographic.{slice_cmp}
 use Rattle.std.specs.FinMap.{get}
 use Rattle.std.proofs.lemmas.Int.{ints}
 use Rattle.std.proofs.lemmas.List.{map-append}
+use Rattle.std.proofs.lemmas.List.Elements.{All-weaker, All-contains_itself}
 use Rattle.ev_types.specs.declared.answer.Kv.{Kv}
 use Rattle.ev_types.specs.declared.ask.Act.{Act}
 use Rattle.ev_types.specs.Ranges.{Keys}
@@ -16,11 +17,12 @@ use Rattle.zk_model.specs.declared.node.Node.{Node}
 use Rattle.zk_model.specs.declared.reply.Body.TheVariants as body
 use Rattle.zk_model.specs.declared.reply.Reply.TheVariants as reply
 use Rattle.zk_model.specs.Limits.{max_owned}
+use Rattle.zk_model.specs.Paths.{is_path}
 use Rattle.zk_model.specs.Znodes.{num_children, owned}
 use Rattle.zk_transcript.specs.History.{State, Session, IsSound, session_at, session_ended}
 use Rattle.zx_base.specs.Maps.{Bytes}
 use Rattle.zn_layout.specs.declared.record.CountRec.{CountRec}
-use Rattle.zn_layout.specs.Changes.{act_of, acts_of, head_put}
+use Rattle.zn_layout.specs.Changes.{Change, act_of, acts_of, head_put, update_acts}
 use Rattle.zn_layout.specs.Fits.{Fits}
 use Rattle.zn_layout.specs.Keys.{Key, HeadKey, CountsKey, SessionKey, LeaseKey, key_bytes}
 use Rattle.zn_layout.specs.Records.{IsHeadRec}
@@ -29,46 +31,69 @@ use Rattle.zn_layout.proofs.Keys.{key_bytes-injective}
 use Rattle.zn_layout.proofs.ListRecords.{session_value-injective}
 use Rattle.zn_layout.proofs.Stands.{stands_after}
 use Rattle.zn_view.specs.declared.plan.Plan.{Plan}
-use Rattle.zn_view.specs.Asks.{guards_of, again_of}
+use Rattle.zn_view.specs.Asks.{guards_of, again_of, narrowed, picked}
 use Rattle.zn_view.specs.Lookups.{sees, IsNodesIn}
 use Rattle.zn_view.specs.Seen.{View}
-use Rattle.zn_view.specs.Views.{AreAsSeen}
-use Rattle.zs_close.specs.Closing.{IsTold, TellsCounts, IsEndPlan}
-use Rattle.zs_close.specs.Ending.{end_changes, end_triggers}
+use Rattle.zn_view.specs.Views.{Agrees, MayCommit}
+use Rattle.zn_view.proofs.AsSeen.{agrees-seen, commits-as_seen}
+use Rattle.zn_view.proofs.Members.{In, contains_in, in_mapped}
+use Rattle.zn_view.proofs.Narrowing.{narrowed-commits, picked-told}
+use Rattle.zn_view.proofs.Sizes.{again-present}
+use Rattle.zs_close.specs.Closing.{AreWritesBehind, IsTold, TellsCounts, TellsCountsOf, IsEndPlan}
+use Rattle.zs_close.specs.Ending.{end_changes, end_triggers, parents}
+use Rattle.zs_close.specs.Wanting.{end_keys, read_keys}
 use Rattle.zs_close.proofs.EndFits.{end-fits}
+use Rattle.zs_close.proofs.KeysRead.{in_counts}
 use Rattle.zs_close.proofs.TriggerBounds.{end_triggers-within}
 use Rattle.zs_close.proofs.Written.{written-head}
 
 -- ---- the plan that the code makes
 
-pub plan-made : (alive : Bool) (id : ℤ) (v : View) (ps : List Bytes) (p : Plan) (acts : List Act) → p.guards ≡ guards_of v.keys → p.again ≡ again_of v.keys
+pub plan-made : (alive : Bool) (id : ℤ) (v : View) (ps : List Bytes) (p : Plan) (acts : List Act) → All (λ q. IsTrue (is_path q)) ps → length ps ≤ max_owned
+    → p.guards ≡ guards_of (picked v (read_keys id ps)) → p.again ≡ again_of (picked v (read_keys id ps))
     → p.success ≡ (acts ++ act_of (head_put p.triggers) ∷ []) ++ read_key (key_bytes HeadKey) ∷ [] → p.draft ≡ reply.Good body.Empty → p.triggers ≡ end_triggers ps
-    → ((counts : Bytes → Option CountRec) → TellsCounts v counts → acts ≡ acts_of (end_changes alive id counts ps)) → IsEndPlan alive id v ps p
-plan-made alive id v ps p acts guards again success draft triggers made = record {
+    → AreWritesBehind [] acts → ((counts : Bytes → Option CountRec) → TellsCounts v counts (parents ps) → acts ≡ acts_of (end_changes alive id counts ps)) → IsEndPlan alive id v ps p
+plan-made alive id v ps p acts valid few guards again success draft triggers written made = record {
   guards = guards;
   again = again;
-  success = λ counts tells.
-      success
-      ∙ ap (λ (l : List Act). (l ++ act_of (head_put p.triggers) ∷ []) ++ read_key (key_bytes HeadKey) ∷ []) (made counts tells)
-      ∙ ap (λ (l : List Act). l ++ read_key (key_bytes HeadKey) ∷ []) (sym (map-append act_of (end_changes alive id counts ps) (head_put p.triggers ∷ [])));
+  success = λ counts tells. updates (end_changes alive id counts ps) (made counts tells);
   shows = (acts ++ act_of (head_put p.triggers) ∷ [], success);
+  writes = record {
+    changes = written.0;
+    acts = updates written.0 written.2;
+    leases = written.1;
+    triggers = subst IsHeadRec (sym triggers) (end_triggers-within ps few valid);
+    reads = again-present p.again;
+  };
   draft = draft;
   triggers = triggers;
 }
+  where
+    updates : (cs : List Change) → acts ≡ acts_of cs → p.success ≡ update_acts cs p.triggers
+    updates cs is =
+        success
+        ∙ ap (λ (l : List Act). (l ++ act_of (head_put p.triggers) ∷ []) ++ read_key (key_bytes HeadKey) ∷ []) is
+        ∙ ap (λ (l : List Act). l ++ read_key (key_bytes HeadKey) ∷ []) (sym (map-append act_of cs (head_put p.triggers ∷ [])))
 
 -- ---- what the view's keys mean
 
 not_head : (k : Key) → (k ≡ HeadKey → ⊥) → key_bytes k ≡ key_bytes HeadKey → ⊥
 not_head k apart e = apart (key_bytes-injective k HeadKey e)
 
-session-not_head : (n : ℕ) → key_bytes (SessionKey n) ≡ key_bytes HeadKey → ⊥
-session-not_head n = not_head (SessionKey n) (λ e. cc)
-
-counts-not_head : (q : Bytes) → key_bytes (CountsKey q) ≡ key_bytes HeadKey → ⊥
-counts-not_head q = not_head (CountsKey q) (λ e. cc)
-
 pub life-not_head : (n : ℕ) → key_bytes (LeaseKey n) ≡ key_bytes HeadKey → ⊥
 life-not_head n = not_head (LeaseKey n) (λ e. cc)
+
+-- what the end of a session reads has, but for the head, what was seen
+abbrev pub AreSeenFor : View → ℤ → List Bytes → Keys → Type 0
+AreSeenFor v id ps m = (k : Key) (o : Option Kv) → In k (end_keys id ps) → (k ≡ HeadKey → ⊥) → sees v k ≡ Some o → get m (key_bytes k) ≡ o
+
+pub agrees-for : (v : View) (id : ℤ) (ps : List Bytes) (m : Keys) → Agrees v m → AreSeenFor v id ps m
+agrees-for v id ps m agrees k o inside apart saw = agrees-seen v m (key_bytes k) o agrees saw
+
+pub commits-for : (p : Plan) (v : View) (id : ℤ) (ps : List Bytes) (m : Keys) → p.guards ≡ guards_of (picked v (read_keys id ps)) → MayCommit p v m → AreSeenFor v id ps m
+commits-for p v id ps m guards may k o inside apart saw =
+    commits-as_seen p (narrowed v (read_keys id ps)) m guards (narrowed-commits p v (read_keys id ps) m guards may) (key_bytes k) o (not_head k apart)
+    (picked-told v (read_keys id ps) (key_bytes k) o (in_mapped key_bytes k (end_keys id ps) inside) saw)
 
 pub numbered : (id : ℤ) → pos 1 ≤ℤ id → pos (nat_abs id) ≡ id
 numbered id real = omega (arith, ints)
@@ -93,21 +118,25 @@ told_as None k (Some kv) h = absurd h
 told_as (Some n) k None h = absurd h
 told_as (Some n) k (Some kv) h = (h.fits, h.value)
 
-module _ (v : View) (id : ℤ) (real : pos 1 ≤ℤ id) (m : Keys) (s : State) (stands : StandsFor m s) (as_seen : AreAsSeen v m) where
+module _ (v : View) (id : ℤ) (real : pos 1 ≤ℤ id) (m : Keys) (s : State) (stands : StandsFor m s) (ps : List Bytes) (as_seen : AreSeenFor v id ps m) where
   pub nodes-mean : (o : Option Kv) → sees v (SessionKey (nat_abs id)) ≡ Some o → NodesMean (session_at id s) (owned s.tree id) (stored_of o)
   nodes-mean o saw =
       subst (λ (i : ℤ). NodesMean (session_at i s) (owned s.tree i) (stored_of o)) (numbered id real)
-      (subst (λ (x : Option Kv). NodesMean (session_at (pos (nat_abs id)) s) (owned s.tree (pos (nat_abs id))) (stored_of x)) (as_seen (key_bytes (SessionKey (nat_abs id))) o (session-not_head (nat_abs id)) saw) (stands.each (SessionKey (nat_abs id))))
+      (subst (λ (x : Option Kv). NodesMean (session_at (pos (nat_abs id)) s) (owned s.tree (pos (nat_abs id))) (stored_of x)) (as_seen (SessionKey (nat_abs id)) o (inr (inr (inl refl))) (λ e. cc) saw) (stands.each (SessionKey (nat_abs id))))
 
   pub life-means : (o : Option Kv) → sees v (LeaseKey (nat_abs id)) ≡ Some o → LifeMeans (nat_abs id) (session_at id s) (stored_of o)
   life-means o saw =
       subst (λ (i : ℤ). LifeMeans (nat_abs id) (session_at i s) (stored_of o)) (numbered id real)
-      (subst (λ (x : Option Kv). LifeMeans (nat_abs id) (session_at (pos (nat_abs id)) s) (stored_of x)) (as_seen (key_bytes (LeaseKey (nat_abs id))) o (life-not_head (nat_abs id)) saw) (stands.each (LeaseKey (nat_abs id))))
+      (subst (λ (x : Option Kv). LifeMeans (nat_abs id) (session_at (pos (nat_abs id)) s) (stored_of x)) (as_seen (LeaseKey (nat_abs id)) o (inr (inl refl)) (λ e. cc) saw) (stands.each (LeaseKey (nat_abs id))))
 
-  pub counts-told : TellsCounts v (counts_in s)
-  counts-told q o saw = told_as (get s.tree q) (num_children s.tree q) o (subst (λ (x : Option Kv). CountsMean (get s.tree q) (num_children s.tree q) (stored_of x)) (as_seen (key_bytes (CountsKey q)) o (counts-not_head q) saw) (stands.each (CountsKey q)))
+  counts-told-of : (q : Bytes) → Contains (parents ps) q → TellsCountsOf v (counts_in s) q
+  counts-told-of q has o saw = told_as (get s.tree q) (num_children s.tree q) o
+      (subst (λ (x : Option Kv). CountsMean (get s.tree q) (num_children s.tree q) (stored_of x)) (as_seen (CountsKey q) o (inr (inr (inr (in_counts q (parents ps) (contains_in q (parents ps) has))))) (λ e. cc) saw) (stands.each (CountsKey q)))
 
-  module _ (kv : Kv) (ps : List Bytes) (saw : sees v (SessionKey (nat_abs id)) ≡ Some (Some kv)) (nodes : IsNodesIn kv ps) where
+  pub counts-told : TellsCounts v (counts_in s) (parents ps)
+  counts-told = All-weaker (Contains (parents ps)) (TellsCountsOf v (counts_in s)) counts-told-of (parents ps) (All-contains_itself (parents ps))
+
+  module _ (kv : Kv) (saw : sees v (SessionKey (nat_abs id)) ≡ Some (Some kv)) (nodes : IsNodesIn kv ps) where
     pub session-open : IsOpenWith (session_at id s) (owned s.tree id) ps
     session-open = open_with (session_at id s) (owned s.tree id) ps kv nodes (nodes-mean (Some kv) saw)
 

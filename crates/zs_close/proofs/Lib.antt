@@ -8,9 +8,9 @@ pub mod TriggerBounds
 pub mod EndPlans
 pub mod Closes
 pub mod Membership
-pub mod Lacking
+pub mod KeysRead
 pub mod Reaps
 pub mod Distinct
+pub mod WritesBehind
 pub mod Sizes
-pub mod Trimmed
 pub mod Taken

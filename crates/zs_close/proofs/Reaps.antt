@@ -1,5 +1,5 @@
 -- What a reaping is decided by makes its decision and its plan what they are to be.
-use Rattle.std.proofs.Common.{◌≡◌, ℕ, zero, suc, ℤ, pos, ◌≤◌, Bool, true, false, length, List, [], ◌∷◌, Option, Some, None, refl, sym, ap, ◌∙◌, subst, arith}
+use Rattle.std.proofs.Common.{◌≡◌, ℕ, zero, suc, ℤ, pos, ◌≤◌, Bool, true, false, length, List, [], ◌∷◌, Option, Some, None, refl, sym, ap, ◌∙◌, subst, inl, inr, arith}
 use Rattle.std.specs.Prelude.{◌≤ℤ◌, nat_abs, nat_le, if◌then◌else◌, Contains, MatchBool}
 use Rattle.std.proofs.lemmas.Bool.{le-leb}
 use Rattle.std.proofs.lemmas.Int.{ints}
@@ -7,7 +7,6 @@ use Rattle.ev_types.specs.declared.answer.Kv.{Kv}
 use Rattle.ev_types.specs.declared.ask.Guard.{Guard}
 use Rattle.ev_types.specs.Ranges.{Keys}
 use Rattle.ev_types.specs.Store.{mod_of}
-use Rattle.zk_model.specs.declared.request.Request.TheVariants as req
 use Rattle.zk_model.specs.Limits.{max_owned}
 use Rattle.zk_transcript.specs.History.{State, Session, IsSound, session_at}
 use Rattle.zx_base.specs.Maps.{Bytes, same}
@@ -16,18 +15,22 @@ use Rattle.zn_layout.specs.Keys.{HeadKey, SessionKey, LeaseKey, key_bytes}
 use Rattle.zn_layout.specs.StandsFor.{NodesMean, LifeMeans, StandsFor, stored_of}
 use Rattle.zn_view.specs.declared.plan.Plan.{Plan}
 use Rattle.zn_view.specs.declared.snapshot.SeenKey.{SeenKey}
-use Rattle.zn_view.specs.Asks.{guards_of}
+use Rattle.zn_view.specs.Asks.{guards_of, picked}
+use Rattle.zn_view.specs.Deciding.{IsTaken}
 use Rattle.zn_view.specs.Lookups.{sees, IsNodesIn}
 use Rattle.zn_view.specs.Seen.{View, seen_in}
-use Rattle.zn_view.specs.Views.{IsOf, AreAsSeen}
-use Rattle.zn_view.proofs.AsSeen.{agrees-as_seen, commits-as_seen}
+use Rattle.zn_view.specs.Views.{Agrees, IsOf}
 use Rattle.zn_view.proofs.Committing.{zxid-least}
+use Rattle.zn_view.proofs.Members.{in_mapped}
+use Rattle.zn_view.proofs.Narrowing.{picked-told}
 use Rattle.zs_close.specs.declared.reap.Reaping.{Reaping}
 use Rattle.zs_close.specs.declared.reap.Reaping.TheVariants.{Planned, Kept, Gone, TooMany}
-use Rattle.zs_close.specs.Closing.{IsEndPlan, IsNarrow, IsTaken, IsTrimmed}
-use Rattle.zs_close.specs.Reaping.{IfReaped, IsReap, IsReapBy, IsReapDecision, IsReapPlan, IsReapedBy, IsReapedWith, IsReapingOf}
-use Rattle.zs_close.proofs.Taken.{end-taken, narrow-taken}
-use Rattle.zs_close.proofs.EndPlans.{life-not_head, nodes-few, nodes-mean, life-means, session-open, ended-carries, ended-triggers}
+use Rattle.zs_close.specs.Closing.{IsEndPlan}
+use Rattle.zs_close.specs.Reaping.{IfReaped, IsReap, IsReapBy, IsReapDecision, IsReapPlan, IsReapedBy, IsReapedWith, IsReapingOf, whose}
+use Rattle.zs_close.specs.Wanting.{end_keys, read_keys, IsNodesSeen}
+use Rattle.zs_close.proofs.Taken.{end-taken}
+use Rattle.zs_close.proofs.KeysRead.{end-reads}
+use Rattle.zs_close.proofs.EndPlans.{agrees-for, commits-for, life-not_head, nodes-few, nodes-mean, life-means, session-open, ended-carries, ended-triggers}
 
 true_false : {b : Bool} → b ≡ true → b ≡ false → ⊥
 true_false t f = cc
@@ -96,27 +99,28 @@ module _ (id : ℤ) (v : View) (real : pos 1 ≤ℤ id) where
 
   -- ---- the decision
 
-  module _ (s : State) (sound : IsSound s) (m : Keys) (stands : StandsFor m s) (seen : AreAsSeen v m) (r : Reaping) where
+  module _ (s : State) (sound : IsSound s) (m : Keys) (stands : StandsFor m s) (agrees : Agrees v m) (r : Reaping) where
     with_decides : (kv : Kv) (ps : List Bytes) → life ≡ Some None → session_seen ≡ Some (Some kv) → IsNodesIn kv ps → IsReapedWith id v ps r → IsReapingOf (session_at id s) r
     with_decides kv ps saw_life saw nodes h =
-        let o = session-open v id real m s stands seen kv ps saw nodes in
+        let seen = agrees-for v id ps m agrees in
+        let o = session-open v id real m s stands ps seen kv saw nodes in
         elim (nat_le (length ps) max_owned) as (λ b. nat_le (length ps) max_owned ≡ b → MatchBool b ((p : Plan) × (r ≡ Planned p) × IsEndPlan false id v ps p) (r ≡ TooMany) → IsReapingOf (session_at id s) r) [
-          | true ↦ λ e is. ending_is (session_at id s) o.session r is.0 o.is_open (lapsed_is (nat_abs id) (session_at id s) o.session o.is_open (life-means v id real m s stands seen None saw_life)) is.1
-          | false ↦ λ e is. absurd (too_many (length ps) e (nodes-few v id real m s stands seen kv ps saw nodes sound))
+          | true ↦ λ e is. ending_is (session_at id s) o.session r is.0 o.is_open (lapsed_is (nat_abs id) (session_at id s) o.session o.is_open (life-means v id real m s stands ps seen None saw_life)) is.1
+          | false ↦ λ e is. absurd (too_many (length ps) e (nodes-few v id real m s stands ps seen kv saw nodes sound))
         ] refl h
 
     by_decides : (o : Option (Option Kv)) → life ≡ Some None → session_seen ≡ o → IsReapedBy id v o r → IsReapingOf (session_at id s) r
     by_decides None saw_life saw h = absurd h
-    by_decides (Some None) saw_life saw h = gone_is (session_at id s) _ r (nodes-mean v id real m s stands seen None saw) h
+    by_decides (Some None) saw_life saw h = gone_is (session_at id s) _ r (nodes-mean v id real m s stands [] (agrees-for v id [] m agrees) None saw) h
     by_decides (Some (Some kv)) saw_life saw h = with_decides kv h.0 saw_life saw h.1 h.2
 
     life_decides : (o : Option (Option Kv)) → life ≡ o → IsReapBy id v o r → IsReapingOf (session_at id s) r
     life_decides None saw h = absurd h
     life_decides (Some None) saw h = by_decides session_seen saw refl h
-    life_decides (Some (Some kv)) saw h = kept_is (nat_abs id) (session_at id s) kv r (life-means v id real m s stands seen (Some kv) saw) h
+    life_decides (Some (Some kv)) saw h = kept_is (nat_abs id) (session_at id s) kv r (life-means v id real m s stands [] (agrees-for v id [] m agrees) (Some kv) saw) h
 
   pub reap-decides : (r : Reaping) → IsReap id v r → IsReapDecision id v r
-  reap-decides r h s sound of = life_decides s sound of.0 of.1 (agrees-as_seen v of.0 of.2) r life refl h
+  reap-decides r h s sound of = life_decides s sound of.0 of.1 of.2 r life refl h
 
   -- ---- the plan
 
@@ -138,25 +142,31 @@ module _ (id : ℤ) (v : View) (real : pos 1 ≤ℤ id) where
   life_planned r (Some None) saw h = by_planned r saw session_seen refl h
   life_planned r (Some (Some kv)) saw h = subst (IfReaped (IsPlannedReap id v)) (sym h) tt
 
+  abbrev nodes_seen : (p : Plan) (is : IsPlannedReap id v p) → IsNodesSeen session_seen is.ps
+  nodes_seen p is = subst (λ (o : Option (Option Kv)). IsNodesSeen o is.ps) (sym is.saw) is.nodes
+
   reap_plan : (p : Plan) → IsPlannedReap id v p → IsReapPlan id v p
   reap_plan p is = record {
     ends = λ m s z sound stands may later high.
-        let seen = commits-as_seen p v m (is.plan).guards may in
+        let seen = commits-for p v id is.ps m (is.plan).guards may in
         let low : pos 1 ≤ℤ z = omega (arith, ints, zxid-least m s stands, later) in
-        let o = session-open v id real m s stands seen is.kv is.ps is.saw is.nodes in
-        let lapses : (x : Session) → session_at id s ≡ Some x → x.lapsed ≡ true = λ x e. lapsed_is (nat_abs id) (session_at id s) x e (life-means v id real m s stands seen None is.saw_life) in
+        let o = session-open v id real m s stands is.ps seen is.kv is.saw is.nodes in
+        let lapses : (x : Session) → session_at id s ≡ Some x → x.lapsed ≡ true = λ x e. lapsed_is (nat_abs id) (session_at id s) x e (life-means v id real m s stands is.ps seen None is.saw_life) in
         record {
           session = o.session;
           is_open = o.is_open;
           lapsed = lapses o.session o.is_open;
-          keys = ended-carries v id real m s stands seen is.kv is.ps is.saw is.nodes sound false (λ e. lapses) p is.plan z low high;
-          triggers = ended-triggers v id real m s stands seen is.kv is.ps is.saw is.nodes sound false (λ e. lapses) p is.plan z;
+          keys = ended-carries v id real m s stands is.ps seen is.kv is.saw is.nodes sound false (λ e. lapses) p is.plan z low high;
+          triggers = ended-triggers v id real m s stands is.ps seen is.kv is.saw is.nodes sound false (λ e. lapses) p is.plan z;
         };
-    guards = (is.plan).guards;
-    again = (is.plan).again;
-    absent = subst (λ (gs : List Guard). Contains gs (record { key = key_bytes (LeaseKey (nat_abs id)); mod_revision = pos 0 })) (sym (is.plan).guards)
-        (guarded (key_bytes (LeaseKey (nat_abs id))) None (life-not_head (nat_abs id)) v.keys is.saw_life);
+    reads = end-reads v (whose id) is.ps p (nodes_seen p is) (is.plan).guards (is.plan).again;
+    absent =
+        let k : Bytes = key_bytes (LeaseKey (nat_abs id)) in
+        let inside = in_mapped key_bytes (LeaseKey (nat_abs id)) (end_keys id is.ps) (inr (inl refl)) in
+        subst (λ (gs : List Guard). Contains gs (record { key = k; mod_revision = pos 0 })) (sym (is.plan).guards)
+        (guarded k None (life-not_head (nat_abs id)) (picked v (read_keys id is.ps)) (picked-told v (read_keys id is.ps) k None inside is.saw_life));
     shows = (is.plan).shows;
+    writes = (is.plan).writes;
   }
 
   along : (P Q : Plan → Type 0) (r : Reaping) → ((p : Plan) → P p → Q p) → IfReaped P r → IfReaped Q r
@@ -168,12 +178,7 @@ module _ (id : ℤ) (v : View) (real : pos 1 ≤ℤ id) where
   pub reap-plan : (r : Reaping) → IsReap id v r → IfReaped (IsReapPlan id v) r
   reap-plan r h = along (IsPlannedReap id v) (IsReapPlan id v) r reap_plan (life_planned r life refl h)
 
-  pub reap-narrow : (r : Reaping) → IsReap id v r → IfReaped (λ p. (s : State) → IsSound s → IsOf v s → IsNarrow v → IsTaken p) r
-  reap-narrow r h = along (IsPlannedReap id v) (λ p. (s : State) → IsSound s → IsOf v s → IsNarrow v → IsTaken p) r
-      (λ p is. narrow-taken false (record { session = id; mine = pos 0 }) v real is.kv is.ps is.saw is.nodes p is.plan)
-      (life_planned r life refl h)
-
-  pub reap-taken : (r : Reaping) → IsReap id v r → IfReaped (λ p. (s : State) → IsSound s → IsOf v s → IsTrimmed req.Close (record { session = id; mine = pos 0 }) v → IsTaken p) r
-  reap-taken r h = along (IsPlannedReap id v) (λ p. (s : State) → IsSound s → IsOf v s → IsTrimmed req.Close (record { session = id; mine = pos 0 }) v → IsTaken p) r
-      (λ p is. end-taken false (record { session = id; mine = pos 0 }) v real is.kv is.ps is.saw is.nodes p is.plan)
+  pub reap-taken : (r : Reaping) → IsReap id v r → IfReaped (λ p. (s : State) → IsSound s → IsOf v s → IsTaken p) r
+  reap-taken r h = along (IsPlannedReap id v) (λ p. (s : State) → IsSound s → IsOf v s → IsTaken p) r
+      (λ p is. end-taken false id v real is.kv is.ps is.saw is.nodes p is.plan)
       (life_planned r life refl h)

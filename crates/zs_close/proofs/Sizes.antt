@@ -10,8 +10,7 @@ use Rattle.zn_layout.specs.Changes.{Change, put_key, delete_key, change_size}
 use Rattle.zn_layout.specs.Keys.{DataKey, CountsKey, SessionKey, LeaseKey}
 use Rattle.zn_layout.specs.Records.{counts_value}
 use Rattle.zn_layout.proofs.Paths.{path_short}
-pub use Rattle.zn_view.proofs.Sizes.{sum_by-most, head-size, counts-size, session-size, life-size, head_put-size}
-use Rattle.zn_view.proofs.Sizes.{data-size, counts_value-size}
+use Rattle.zn_view.proofs.Sizes.{counts-size, counts_value-size, data-size, life-size, session-size, sum_by-most}
 use Rattle.zs_close.specs.Ending.{fewer, put_parent, put_parents, parents, delete_nodes, delete_session, end_changes}
 use Rattle.zs_close.proofs.ParentPaths.{parents-valid, parents-length}
 

@@ -1,77 +1,110 @@
--- The plan of a session's end is small enough for an etcd, which does not deny it.
-use Rattle.std.proofs.Common.{◌≡◌, ◌≤◌, ℤ, pos, Bool, true, false, length, List, [], ◌∷◌, ◌++◌, Option, Some, sym, ap, subst, arith}
-use Rattle.std.specs.Prelude.{◌≤ℤ◌, ◌<ℤ◌, All, IsTrue, nat_abs, option_map}
+-- The plan of a session's end writes each key once and is small enough for an etcd, which does not deny it.
+use Rattle.std.proofs.Common.{◌≡◌, ◌+◌, ◌≤◌, ℤ, pos, Bool, true, false, length, List, [], ◌∷◌, ◌++◌, Some, sym, ap, subst, arith}
+use Rattle.std.specs.Prelude.{◌≤ℤ◌, All, IsTrue, map, nat_abs, option_map}
 use Rattle.std.specs.List.{list_any}
 use Rattle.std.specs.List.Sorted.{IsStrictlySortedBy}
 use Rattle.std.specs.Ordering.{nat_cmp}
 use Rattle.std.specs.Cmp.Lexicographic.{slice_cmp}
+use Rattle.std.proofs.lemmas.List.{length-map}
+use Rattle.std.proofs.lemmas.List.Elements.{All-nil, All-cons, All-head, All-tail, All-map, All-contains}
 use Rattle.ev_types.specs.declared.answer.Kv.{Kv}
 use Rattle.ev_types.specs.declared.ask.Act.{Act}
-use Rattle.ev_types.specs.declared.ask.Ask.TheVariants as ask
 use Rattle.ev_types.specs.declared.ask.TxnReq.{TxnReq}
-use Rattle.ev_types.specs.Denials.{is_denied}
 use Rattle.ev_types.specs.Sizes.{act_size, guard_size, IsSendable}
-use Rattle.ev_types.specs.Store.{Store, revision, last_revision}
 use Rattle.zk_model.specs.declared.node.Node.{Node}
 use Rattle.zk_model.specs.declared.node.Trigger.{Trigger}
-use Rattle.zk_model.specs.declared.request.Request.TheVariants as req
 use Rattle.zk_model.specs.Paths.{is_child, is_path}
 use Rattle.zk_model.specs.Znodes.{num_children, owned}
 use Rattle.zk_transcript.specs.History.{State, IsSound}
 use Rattle.zx_base.specs.Maps.{Bytes, same}
-use Rattle.zn_layout.specs.Changes.{Change, head_put, are_distinct}
-use Rattle.zn_layout.specs.Keys.{SessionKey}
+use Rattle.zn_layout.specs.Changes.{Change, head_put, are_distinct, update_acts}
+use Rattle.zn_layout.specs.Keys.{Key, HeadKey, CountsKey, SessionKey, LeaseKey, key_bytes}
 use Rattle.zn_layout.specs.Records.{IsHeadRec}
 use Rattle.zn_layout.specs.StandsFor.{counts_record}
 use Rattle.zn_layout.specs.Updates.{update_txn}
-use Rattle.zn_layout.proofs.Denials.{update-sendable, update-not_denied}
+use Rattle.zn_layout.proofs.Denials.{update-sendable}
+use Rattle.zn_layout.proofs.Paths.{path_short}
 use Rattle.zn_view.specs.declared.plan.Plan.{Plan}
-use Rattle.zn_view.specs.declared.plan.Who.{Who}
-use Rattle.zn_view.specs.Asks.{guards_of, again_of, ranges_of, plan_txn}
+use Rattle.zn_view.specs.declared.snapshot.SeenKey.{SeenKey}
+use Rattle.zn_view.specs.Asks.{guards_of, again_of, picked, ranges_of, plan_txn, WritesOnce}
+use Rattle.zn_view.specs.Deciding.{IsTaken}
 use Rattle.zn_view.specs.Lookups.{sees, IsNodesIn}
 use Rattle.zn_view.specs.Seen.{View}
 use Rattle.zn_view.specs.Views.{IsOf}
-use Rattle.zn_view.proofs.AsSeen.{agrees-as_seen}
-use Rattle.zs_close.specs.Closing.{IsEndPlan, IsNarrow, IsTaken, IsTrimmed}
-use Rattle.zs_close.specs.Ending.{end_changes}
-use Rattle.zs_close.specs.Wanting.{IsNodesSeen}
-use Rattle.zs_close.proofs.Distinct.{end-distinct, end-leases, with_head-distinct}
+use Rattle.zn_view.proofs.Members.{in_contains}
+use Rattle.zn_view.proofs.Narrowing.{picked-each}
+use Rattle.zn_view.proofs.PlanSizes.{picked-length}
+use Rattle.zn_view.proofs.Sizes.{again-length, again-present, again-short, counts-size, guards-length, guards-short, head-size, head_put-size, life-size, session-size, sum_by-most}
+use Rattle.zn_view.proofs.TakenPlans.{small-taken}
+use Rattle.zs_close.specs.Closing.{IsEndPlan}
+use Rattle.zs_close.specs.Ending.{end_changes, parents}
+use Rattle.zs_close.specs.Wanting.{end_keys, read_keys}
+use Rattle.zs_close.proofs.Distinct.{end-distinct, end-leaseless, with_head-distinct}
 use Rattle.zs_close.proofs.EndFits.{childless}
-use Rattle.zs_close.proofs.EndPlans.{counts_in, counts-told, session-open, nodes-few}
+use Rattle.zs_close.proofs.EndPlans.{AreSeenFor, agrees-for, counts_in, counts-told, session-open, nodes-few}
 use Rattle.zs_close.proofs.Members.{rising-apart}
-use Rattle.zs_close.proofs.Sizes.{sum_by-most, head-size, head_put-size, end-length, end-size}
+use Rattle.zs_close.proofs.ParentPaths.{parents-length, parents-valid}
+use Rattle.zs_close.proofs.Sizes.{end-length, end-size}
 use Rattle.zs_close.proofs.TriggerBounds.{end_triggers-length, end_triggers-within}
-use Rattle.zs_close.proofs.Trimmed.{guards-short, again-length, again-short, again-present, trimmed-narrow}
 use Rattle.zs_close.proofs.Written.{written-head}
 
-module _ (alive : Bool) (who : Who) (v : View) (real : pos 1 ≤ℤ who.session) (kv : Kv) (ps : List Bytes) (saw : sees v (SessionKey (nat_abs who.session)) ≡ Some (Some kv)) (nodes : IsNodesIn kv ps)
-    (p : Plan) (plan : IsEndPlan alive who.session v ps p) (s : State) (sound : IsSound s) (of : IsOf v s) where
-  abbrev id : ℤ
-  id = who.session
+abbrev IsShortKey : Key → Type 0
+IsShortKey k = length (key_bytes k) ≤ 1033
 
+counts-short : (qs : List Bytes) → All (λ q. IsTrue (is_path q)) qs → All IsShortKey (map CountsKey qs)
+counts-short [] all = All-nil IsShortKey
+counts-short (q ∷ qs) all =
+    All-cons IsShortKey (CountsKey q) (map CountsKey qs) (omega (arith, counts-size q, path_short q (All-head (λ r. IsTrue (is_path r)) q qs all))) (counts-short qs (All-tail (λ r. IsTrue (is_path r)) q qs all))
+
+keys-short : (id : ℤ) (ps : List Bytes) → All (λ p. IsTrue (is_path p)) ps → All IsShortKey (end_keys id ps)
+keys-short id ps valid =
+    All-cons IsShortKey HeadKey (LeaseKey (nat_abs id) ∷ SessionKey (nat_abs id) ∷ map CountsKey (parents ps)) (omega (arith, head-size))
+    (All-cons IsShortKey (LeaseKey (nat_abs id)) (SessionKey (nat_abs id) ∷ map CountsKey (parents ps)) (omega (arith, life-size (nat_abs id)))
+    (All-cons IsShortKey (SessionKey (nat_abs id)) (map CountsKey (parents ps)) (omega (arith, session-size (nat_abs id))) (counts-short (parents ps) (parents-valid ps valid))))
+
+keys-few : (id : ℤ) (ps : List Bytes) → length (read_keys id ps) ≤ 3 + length ps
+keys-few id ps = omega (arith, length-map (end_keys id ps) key_bytes, length-map (parents ps) CountsKey, parents-length ps)
+
+module _ (alive : Bool) (id : ℤ) (v : View) (real : pos 1 ≤ℤ id) (kv : Kv) (ps : List Bytes) (saw : sees v (SessionKey (nat_abs id)) ≡ Some (Some kv)) (nodes : IsNodesIn kv ps)
+    (p : Plan) (plan : IsEndPlan alive id v ps p) (s : State) (sound : IsSound s) (of : IsOf v s) where
   valid : All (λ q. IsTrue (is_path q)) ps
   valid = nodes.0.valid
 
-  was_seen : IsNodesSeen (sees v (SessionKey (nat_abs id))) ps
-  was_seen = subst (λ (o : Option (Option Kv)). IsNodesSeen o ps) (sym saw) nodes
+  as_seen : AreSeenFor v id ps of.0
+  as_seen = agrees-for v id ps of.0 of.2
 
   few : length ps ≤ 40
-  few = nodes-few v id real of.0 s of.1 (agrees-as_seen v of.0 of.2) kv ps saw nodes sound
+  few = nodes-few v id real of.0 s of.1 ps as_seen kv saw nodes sound
 
   owns : owned s.tree id ≡ ps
-  owns = (session-open v id real of.0 s of.1 (agrees-as_seen v of.0 of.2) kv ps saw nodes).owns
+  owns = (session-open v id real of.0 s of.1 ps as_seen kv saw nodes).owns
+
+  -- what is guarded, and read again
+  abbrev keys : List SeenKey
+  keys = picked v (read_keys id ps)
+
+  few_keys : length keys ≤ 43
+  few_keys = omega (arith, picked-length v (read_keys id ps), keys-few id ps, few)
+
+  short_keys : All (λ (x : SeenKey). length x.key ≤ 1033) keys
+  short_keys =
+      let short = All-map (λ (k : Bytes). length k ≤ 1033) key_bytes (end_keys id ps) (keys-short id ps valid) in
+      picked-each (λ (x : SeenKey). length x.key ≤ 1033) v (read_keys id ps) (λ k o h e. All-contains (λ (b : Bytes). length b ≤ 1033) (read_keys id ps) k short (in_contains k (read_keys id ps) h))
 
   abbrev changes : List Change
   changes = end_changes alive id (counts_in s) ps
 
   abbrev again : List Act
-  again = ranges_of (pos 0) (again_of v.keys)
+  again = ranges_of (pos 0) (again_of keys)
 
   abbrev txn : TxnReq
-  txn = update_txn (guards_of v.keys) changes p.triggers again
+  txn = update_txn (guards_of keys) changes p.triggers again
+
+  acts : p.success ≡ update_acts changes p.triggers
+  acts = plan.success (counts_in s) (counts-told v id real of.0 s of.1 ps as_seen)
 
   is_txn : txn ≡ plan_txn p
-  is_txn = λ i. record { guards = sym plan.guards i; success = sym (plan.success (counts_in s) (counts-told v id real of.0 s of.1 (agrees-as_seen v of.0 of.2))) i; failure = ranges_of (pos 0) (sym plan.again i) }
+  is_txn = λ i. record { guards = sym plan.guards i; success = sym acts i; failure = ranges_of (pos 0) (sym plan.again i) }
 
   bounds : IsHeadRec p.triggers
   bounds = subst IsHeadRec (sym plan.triggers) (end_triggers-within ps few valid)
@@ -82,21 +115,23 @@ module _ (alive : Bool) (who : Who) (v : View) (real : pos 1 ≤ℤ who.session)
   few_changes : length changes ≤ 122
   few_changes = omega (arith, end-length alive id (counts_in s) ps, few)
 
-  sendable : IsNarrow v → IsSendable txn
-  sendable narrow =
-      let short = narrow.short in
-      let guards_few = narrow.few in
-      let again_few = again-length v.keys in
-      update-sendable (guards_of v.keys) changes p.triggers again (omega (arith, guards_few)) (omega (arith, few_changes)) (omega (arith, again_few, guards_few))
+  few_guards : length (guards_of keys) ≤ 43
+  few_guards = omega (arith, guards-length keys, few_keys)
+
+  few_again : length again ≤ 44
+  few_again = omega (arith, again-length keys, few_guards)
+
+  sendable : IsSendable txn
+  sendable = update-sendable (guards_of keys) changes p.triggers again (omega (arith, few_guards)) (omega (arith, few_changes)) (omega (arith, few_again))
       (omega (
         arith,
-        sum_by-most guard_size 1033 (guards_of v.keys) (guards-short v.keys short),
+        sum_by-most guard_size 1033 (guards_of keys) (guards-short keys short_keys),
         end-size alive id (counts_in s) ps valid,
         head_put-size p.triggers bounds,
         head-size,
-        sum_by-most act_size 1033 again (again-short v.keys short),
-        guards_few,
-        again_few,
+        sum_by-most act_size 1033 again (again-short keys short_keys),
+        few_guards,
+        few_again,
         few_changes,
         few_triggers,
       ))
@@ -112,16 +147,11 @@ module _ (alive : Bool) (who : Who) (v : View) (real : pos 1 ≤ℤ who.session)
   once : are_distinct (changes ++ head_put p.triggers ∷ []) ≡ true
   once = with_head-distinct p.triggers changes (written-head alive id (counts_in s) ps) (end-distinct (counts_in s) ps no_children alive id (rising-apart ps nodes.0.rising))
 
-  allowed : IsNarrow v → (t : Store) → revision t <ℤ last_revision → is_denied t (ask.Txn txn) ≡ false
-  allowed narrow t room = update-not_denied t (guards_of v.keys) changes p.triggers again
-      (omega (arith, narrow.few)) (omega (arith, few_changes)) (omega (arith, again-length v.keys, narrow.few))
-      once (end-leases t alive id (counts_in s) ps) (again-present (again_of v.keys)) room
-
-  pub narrow-taken : IsNarrow v → IsTaken p
-  narrow-taken narrow = record {
-    small = subst IsSendable is_txn (sendable narrow);
-    allowed = λ t room. subst (λ (x : TxnReq). is_denied t (ask.Txn x) ≡ false) is_txn (allowed narrow t room);
+  written_once : WritesOnce p
+  written_once = record {
+    own = record { changes = changes; acts = acts; leases = end-leaseless alive id (counts_in s) ps; triggers = bounds; reads = again-present p.again };
+    once = once;
   }
 
-  pub end-taken : IsTrimmed req.Close who v → IsTaken p
-  end-taken trimmed = narrow-taken (trimmed-narrow who v ps was_seen valid few trimmed)
+  pub end-taken : IsTaken p
+  end-taken = small-taken p written_once (subst IsSendable is_txn sendable)

@@ -1,4 +1,4 @@
 pub mod Ending
+pub mod Wanting
 pub mod Closing
 pub mod Reaping
-pub mod Wanting

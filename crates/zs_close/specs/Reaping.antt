@@ -3,19 +3,26 @@ use Rattle.std.specs.Prelude.{◌≡◌, ℤ, pos, nat_abs, ◌≤ℤ◌, ◌<�
 use Rattle.ev_types.specs.declared.answer.Kv.{Kv}
 use Rattle.ev_types.specs.Ranges.{Keys}
 use Rattle.ev_types.specs.Store.{acts_applied, last_revision}
+use Rattle.zk_model.specs.declared.request.Request.TheVariants as req
 use Rattle.zk_model.specs.Limits.{max_owned}
 use Rattle.zk_transcript.specs.History.{State, Session, IsSound, session_at, session_ended}
 use Rattle.zx_base.specs.Maps.{Bytes}
 use Rattle.zn_layout.specs.Keys.{SessionKey, LeaseKey, key_bytes}
 use Rattle.zn_layout.specs.StandsFor.{StandsFor}
 use Rattle.zn_view.specs.declared.plan.Plan.{Plan}
-use Rattle.zn_view.specs.Asks.{guards_of, again_of, ShowsHead}
+use Rattle.zn_view.specs.declared.plan.Who.{Who}
+use Rattle.zn_view.specs.Asks.{ShowsHead, WritesOwnKeys}
 use Rattle.zn_view.specs.Lookups.{sees, IsNodesIn}
+use Rattle.zn_view.specs.Needs.{GuardsReads}
 use Rattle.zn_view.specs.Seen.{View}
 use Rattle.zn_view.specs.Views.{IsOf, MayCommit}
 use Rattle.zs_close.specs.declared.reap.Reaping.{Reaping}
 use Rattle.zs_close.specs.declared.reap.Reaping.TheVariants.{Planned, Kept, Gone, TooMany}
 use Rattle.zs_close.specs.Closing.{IsEndPlan}
+
+-- a session of which no attachment is known
+abbrev pub whose : ℤ → Who
+whose id = record { session = id; mine = pos 0 }
 
 -- ---- by what was seen
 
@@ -60,11 +67,11 @@ pub record IsEnd (id : ℤ) (p : Plan) (m : Keys) (s : State) (z : ℤ) : Type 0
   pub keys : StandsFor (acts_applied z m p.success) (session_ended s z id)
   pub triggers : p.triggers ≡ (session_ended s z id).triggers
 
--- In each later sound state whose keys meet the guards it ends the session, all of whose nodes go. It is guarded by all that
--- the view saw, and by the absence of the record of the session's life.
+-- In each later sound state whose keys meet the guards it ends the session, all of whose nodes go. It is guarded by what the end
+-- of the session reads, as the view saw it, and so by the absence of the record of its life; and writes keys of the service alone.
 pub record IsReapPlan (id : ℤ) (v : View) (p : Plan) : Type 0 where
   pub ends : (m : Keys) (s : State) (z : ℤ) → IsSound s → StandsFor m s → MayCommit p v m → s.zxid <ℤ z → z ≤ℤ last_revision → IsEnd id p m s z
-  pub guards : p.guards ≡ guards_of v.keys
-  pub again : p.again ≡ again_of v.keys
+  pub reads : GuardsReads req.Close (whose id) v p
   pub absent : Contains p.guards (record { key = key_bytes (LeaseKey (nat_abs id)); mod_revision = pos 0 })
   pub shows : ShowsHead p.success
+  pub writes : WritesOwnKeys p

@@ -1,21 +1,13 @@
 -- What the end of a session looks up, and what a view lacks of it.
-use Rattle.std.specs.Prelude.{◌≡◌, ℤ, nat_abs, List, [], ◌∷◌, ◌++◌, map, Option, Some, None, All, is_some, if◌then◌else◌}
+use Rattle.std.specs.Prelude.{◌≡◌, ℤ, nat_abs, List, [], ◌∷◌, ◌++◌, map, Option, Some, None, All}
 use Rattle.ev_types.specs.declared.answer.Kv.{Kv}
 use Rattle.zx_base.specs.Maps.{Bytes}
 use Rattle.zn_layout.specs.Keys.{Key, HeadKey, CountsKey, SessionKey, LeaseKey, key_bytes}
 use Rattle.zn_view.specs.declared.want.Want.{Want}
+use Rattle.zn_view.specs.Lacking.{lacking}
 use Rattle.zn_view.specs.Lookups.{sees, HasSeen, IsNodesIn}
-use Rattle.zn_view.specs.Needs.{key_want}
-use Rattle.zn_view.specs.Seen.{View, seen}
+use Rattle.zn_view.specs.Seen.{View}
 use Rattle.zs_close.specs.Ending.{parents}
-
-abbrev pub lacking_one : View → Key → List Want
-lacking_one v k = if is_some (seen v (key_bytes k)) then [] else key_want k ∷ []
-
--- behind the wants that there are, those for the keys that weren't looked up
-abbrev pub lacking_from : View → List Want → List Key → List Want
-lacking_from v ws [] = ws
-lacking_from v ws (k ∷ ks) = lacking_from v (ws ++ lacking_one v k) ks
 
 -- the head, the record of the session's life, and the list of its nodes
 abbrev pub own_keys : ℤ → List Key
@@ -24,6 +16,10 @@ own_keys id = HeadKey ∷ LeaseKey (nat_abs id) ∷ SessionKey (nat_abs id) ∷ 
 -- and the counts of their parents
 abbrev pub end_keys : ℤ → List Bytes → List Key
 end_keys id ps = own_keys id ++ map CountsKey (parents ps)
+
+-- what is read for the end of a session with these nodes, and guarded by its plan
+abbrev pub read_keys : ℤ → List Bytes → List Bytes
+read_keys id ps = map key_bytes (end_keys id ps)
 
 -- the nodes that a view saw, none where it didn't look them up
 abbrev pub IsNodesSeen : Option (Option Kv) → List Bytes → Type 0
@@ -37,4 +33,4 @@ AreParentsSeen id v = (kv : Kv) (ps : List Bytes) → sees v (SessionKey (nat_ab
 
 -- what is lacking, by the nodes that the view saw
 abbrev pub AreEndWants : ℤ → View → List Want → Type 0
-AreEndWants id v ws = (ps : List Bytes) × IsNodesSeen (sees v (SessionKey (nat_abs id))) ps × (ws ≡ lacking_from v [] (end_keys id ps))
+AreEndWants id v ws = (ps : List Bytes) × IsNodesSeen (sees v (SessionKey (nat_abs id))) ps × (ws ≡ lacking v (read_keys id ps))

@@ -2,14 +2,13 @@
 
 ghost use Rattle.std.specs.Prelude.{◌≡◌, ◌≤ℤ◌, ℕ, All, Option, Some, pos, nat_abs, IfOk};
 ghost use Rattle.zk_model.specs.declared.request.Request.TheVariants as req;
-ghost use Rattle.zk_transcript.specs.History.{State, IsSound};
 ghost use Rattle.zn_layout.specs.Keys.{CountsKey, LeaseKey, SessionKey};
 ghost use Rattle.zn_layout.specs.Records.{IsSessionRec};
-ghost use Rattle.zn_view.specs.Asks.{IsAskedPlan};
+ghost use Rattle.zn_view.specs.Deciding.{IfPlanned, IsGood, IsTested};
 ghost use Rattle.zn_view.specs.Lookups.{sees, HasSeen};
-ghost use Rattle.zn_view.specs.Needs.{finished, AreNeeds};
-ghost use Rattle.zn_view.specs.Views.{IsDecision, IsOf, IsPlan};
-ghost use Rattle.zs_close.specs.Closing.{unsound as refusal, IfPlanned, IsClose, IsClosedBy, IsClosedWith, IsTaken, IsTrimmed, IsWhole};
+ghost use Rattle.zn_view.specs.Needs.{AreNeeds, IsWhole};
+ghost use Rattle.zn_view.specs.Views.{IsDecision};
+ghost use Rattle.zs_close.specs.Closing.{unsound as refusal, IsClose, IsClosedBy, IsClosedWith};
 ghost use Rattle.zs_close.specs.Ending.{parents};
 ghost use Rattle.zs_close.specs.Wanting.{AreParentsSeen};
 
@@ -93,9 +92,8 @@ pub fn plan_close(alloc: Global, who: Who, view: &View) -> Result<Decision, Memo
     requires real { pos 1 ≤ℤ who.session }
     requires whole { IsWhole req.Close who view.now }
     ensures decision { IfOk result (IsDecision req.Close who view.now) }
-    ensures plan { IfOk result (IfPlanned (λ p. (now : ℕ) → IsPlan req.Close who now view.now p (λ z. finished z p.draft))) }
-    ensures asked { IfOk result (IfPlanned (IsAskedPlan who view.now)) }
-    ensures taken { IfOk result (IfPlanned (λ p. (s : State) → IsSound s → IsOf view.now s → IsTrimmed req.Close who view.now → IsTaken p)) }
+    ensures tested { IfOk result (IsTested req.Close who view.now) }
+    ensures plan { IfOk result (IfPlanned (λ p. (now : ℕ) → IsGood req.Close who now view.now p)) }
 {
     let decision = close(alloc, who, view)?;
     Ok(decision)

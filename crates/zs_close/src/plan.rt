@@ -12,6 +12,7 @@ ghost use Rattle.zs_close.specs.Closing.{IsEndPlan};
 ghost use Rattle.zs_close.specs.Ending.{parents};
 
 use crate::changes::{end_acts, end_triggers};
+use crate::wants::end_keys;
 use ev_types::Act;
 use std::alloc::Global;
 use zk_model::{Body, Path, Reply};
@@ -44,14 +45,15 @@ pub(crate) fn end_plan(
     requires seen { All (λ q. HasSeen view.now (CountsKey q)) (parents paths.now) }
     ensures { IfOk result (IsEndPlan alive session view.now paths.now) }
 {
+    let keys = end_keys(alloc, session, paths)?;
     let acts = end_acts(alloc, view, alive, session, paths)?;
     let head = HeadRec {
         triggers: end_triggers(alloc, paths)?,
     };
     Ok(Plan {
-        guards: view.guards()?,
+        guards: view.guards_on(keys.as_slice())?,
         success: success(alloc, acts, &head)?,
-        again: view.again()?,
+        again: view.again_on(keys.as_slice())?,
         draft: Reply::Good(Body::Empty),
         triggers: head.triggers,
     })

@@ -6,11 +6,11 @@ ghost use Rattle.zk_transcript.specs.History.{State, IsSound};
 ghost use Rattle.zn_layout.specs.Keys.{CountsKey, LeaseKey, SessionKey};
 ghost use Rattle.zn_layout.specs.Records.{IsSessionRec};
 ghost use Rattle.zn_view.specs.Lookups.{sees, HasSeen};
-ghost use Rattle.zn_view.specs.Needs.{AreNeeds};
+ghost use Rattle.zn_view.specs.Deciding.{IsTaken};
+ghost use Rattle.zn_view.specs.Needs.{AreNeeds, IsWhole};
 ghost use Rattle.zn_view.specs.Views.{IsOf};
-ghost use Rattle.zs_close.specs.Closing.{IsNarrow, IsTaken, IsTrimmed, IsWhole};
 ghost use Rattle.zs_close.specs.Ending.{parents};
-ghost use Rattle.zs_close.specs.Reaping.{IfReaped, IsReap, IsReapDecision, IsReapPlan, IsReapedBy, IsReapedWith};
+ghost use Rattle.zs_close.specs.Reaping.{IfReaped, IsReap, IsReapDecision, IsReapPlan, IsReapedBy, IsReapedWith, whose};
 ghost use Rattle.zs_close.specs.Wanting.{AreEndWants, AreParentsSeen};
 
 use crate::plan::end_plan;
@@ -89,12 +89,11 @@ fn reap(alloc: Global, session: i64, view: &View) -> Result<Reaping, Memory>
 /// of its nodes has more than 40.
 pub fn plan_reap(alloc: Global, session: i64, view: &View) -> Result<Reaping, Memory>
     requires real { pos 1 ≤ℤ session }
-    requires whole { IsWhole req.Close (record { session = session; mine = pos 0 }) view.now }
+    requires whole { IsWhole req.Close (whose session) view.now }
     ensures seen { IfOk result (IsReap session view.now) }
     ensures decision { IfOk result (IsReapDecision session view.now) }
     ensures plan { IfOk result (IfReaped (IsReapPlan session view.now)) }
-    ensures narrow { IfOk result (IfReaped (λ p. (s : State) → IsSound s → IsOf view.now s → IsNarrow view.now → IsTaken p)) }
-    ensures taken { IfOk result (IfReaped (λ p. (s : State) → IsSound s → IsOf view.now s → IsTrimmed req.Close (record { session = session; mine = pos 0 }) view.now → IsTaken p)) }
+    ensures taken { IfOk result (IfReaped (λ p. (s : State) → IsSound s → IsOf view.now s → IsTaken p)) }
 {
     let reaping = reap(alloc, session, view)?;
     Ok(reaping)

@@ -1,13 +1,10 @@
 //! What the end of a session looks up.
 
-ghost use Rattle.std.specs.Prelude.{◌≡◌, ◌≤ℤ◌, ◌∷◌, ◌++◌, [], All, List, map, pos, nat_abs, is_some, IfOk, IsTrue, OnOk, if◌then◌else◌};
+ghost use Rattle.std.specs.Prelude.{◌≡◌, ◌≤ℤ◌, ◌++◌, ◌∷◌, [], All, map, pos, nat_abs, IfOk, IsTrue, OnOk};
 ghost use Rattle.zk_model.specs.Paths.{is_path};
-ghost use Rattle.zx_base.specs.Maps.{Bytes as ByteList};
-ghost use Rattle.zn_layout.specs.Keys.{CountsKey, SessionKey};
+ghost use Rattle.zn_layout.specs.Keys.{CountsKey, SessionKey, key_bytes};
 ghost use Rattle.zn_view.specs.Lookups.{sees};
-ghost use Rattle.zn_view.specs.Seen.{seen};
-ghost use Rattle.zn_view.specs.declared.want.Want.TheVariants as wanted;
-ghost use Rattle.zs_close.specs.Wanting.{lacking_from, own_keys, AreEndWants, IsNodesSeen};
+ghost use Rattle.zs_close.specs.Wanting.{own_keys as keys_of_session, read_keys, AreEndWants, IsNodesSeen};
 
 use crate::parents::parents;
 use std::alloc::Global;
@@ -16,55 +13,47 @@ use zn_layout::{counts_key, head_key, lease_key, session_key};
 use zn_view::{View, Want};
 use zx_base::{Bytes, Memory, Seq};
 
-/// Wants a key, unless it was looked up.
-fn want(wants: &mut Seq<Want>, view: &View, key: Bytes) -> Result<(), Memory>
-    ensures { OnOk result (wants.new ≡ wants.old ++ (if is_some (seen view.now key) then [] else wanted.Key key ∷ [])) }
-{
-    if view.found(key.as_slice()).is_some() {
-        return Ok(());
-    }
-    wants.push(Want::Key(key))
-}
-
 /// The head, the record of the session's life, and the list of its nodes.
-fn want_own(alloc: Global, view: &View, session: i64) -> Result<Seq<Want>, Memory>
+fn own_keys(alloc: Global, session: i64) -> Result<Seq<Bytes>, Memory>
     requires { pos 1 ≤ℤ session }
-    ensures { IfOk result (λ ws. ws ≡ lacking_from view.now [] (own_keys session)) }
+    ensures { IfOk result (λ keys. keys ≡ map key_bytes (keys_of_session session)) }
 {
-    let mut wants = Seq::new(alloc);
-    want(&mut wants, view, head_key(alloc)?)?;
-    want(&mut wants, view, lease_key(alloc, session)?)?;
-    want(&mut wants, view, session_key(alloc, session)?)?;
-    Ok(wants)
+    let mut keys = Seq::new(alloc);
+    keys.push(head_key(alloc)?)?;
+    keys.push(lease_key(alloc, session)?)?;
+    keys.push(session_key(alloc, session)?)?;
+    Ok(keys)
 }
 
-/// The counts of a parent.
-fn want_counts(
-    wants: &mut Seq<Want>,
-    alloc: Global,
-    view: &View,
-    parent: &Path,
-) -> Result<(), Memory>
-    requires { IsTrue (is_path parent.now) }
-    ensures { OnOk result ((rest : List ByteList) → lacking_from view.now wants.new (map CountsKey rest) ≡ lacking_from view.now wants.old (map CountsKey (parent.now ∷ rest))) }
+/// The counts of a node.
+fn push_counts_of(keys: &mut Seq<Bytes>, alloc: Global, path: &Path) -> Result<(), Memory>
+    requires { IsTrue (is_path path.now) }
+    ensures { OnOk result (keys.new ≡ keys.old ++ key_bytes (CountsKey path.now) ∷ []) }
 {
-    want(wants, view, counts_key(alloc, parent.bytes())?)?;
-    Ok(())
+    keys.push(counts_key(alloc, path.bytes())?)
 }
 
-fn want_parents(
-    wants: &mut Seq<Want>,
-    alloc: Global,
-    view: &View,
-    parents: &[Path],
-) -> Result<(), Memory>
-    requires { All (λ q. IsTrue (is_path q)) parents.now }
-    ensures { OnOk result (wants.new ≡ lacking_from view.now wants.old (map CountsKey parents.now)) }
+/// The counts of these nodes.
+fn push_counts(keys: &mut Seq<Bytes>, alloc: Global, paths: &[Path]) -> Result<(), Memory>
+    requires { All (λ q. IsTrue (is_path q)) paths.now }
+    ensures { OnOk result (keys.new ≡ keys.old ++ map key_bytes (map CountsKey paths.now)) }
 {
-    for parent in parents {
-        want_counts(wants, alloc, view, parent)?;
+    for path in paths {
+        push_counts_of(keys, alloc, path)?;
     }
     Ok(())
+}
+
+/// The keys that the end of a session with these nodes reads: its own, and the counts of the nodes' parents.
+pub(crate) fn end_keys(alloc: Global, session: i64, paths: &[Path]) -> Result<Seq<Bytes>, Memory>
+    requires real { pos 1 ≤ℤ session }
+    requires valid { All (λ p. IsTrue (is_path p)) paths.now }
+    ensures { IfOk result (λ keys. keys ≡ read_keys session paths.now) }
+{
+    let parents = parents(alloc, paths)?;
+    let mut keys = own_keys(alloc, session)?;
+    push_counts(&mut keys, alloc, parents.as_slice())?;
+    Ok(keys)
 }
 
 /// The nodes that the view saw of a session, none where it did not look them up.
@@ -89,8 +78,6 @@ pub(crate) fn end_needs(alloc: Global, view: &View, session: i64) -> Result<Seq<
     ensures { IfOk result (AreEndWants session view.now) }
 {
     let paths = nodes_seen(alloc, view, session)?;
-    let parents = parents(alloc, paths.as_slice())?;
-    let mut wants = want_own(alloc, view, session)?;
-    want_parents(&mut wants, alloc, view, parents.as_slice())?;
-    Ok(wants)
+    let keys = end_keys(alloc, session, paths.as_slice())?;
+    view.lacking(keys)
 }

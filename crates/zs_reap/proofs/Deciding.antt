@@ -20,20 +20,19 @@ use Rattle.zn_view.specs.declared.want.Want.TheVariants as want
 use Rattle.zn_view.specs.Adding.{at_revision}
 use Rattle.zn_view.specs.Asks.{transaction, with_part, with_parts}
 use Rattle.zn_view.specs.Lookups.{sees, IsNodesIn}
-use Rattle.zn_view.specs.Needs.{AreNeeds}
+use Rattle.zn_view.specs.Needs.{AreNeeds, IsWhole}
 use Rattle.zn_view.specs.Seen.{View, empty_view}
 use Rattle.zn_view.specs.Views.{IsOf}
 use Rattle.zs_close.specs.declared.reap.Reaping.{Reaping}
-use Rattle.zs_close.specs.declared.reap.Reaping.TheVariants.{Planned, Kept, Gone, TooMany}
-use Rattle.zs_close.specs.Closing.{IsNarrow, IsTaken, IsWhole}
-use Rattle.zs_close.specs.Reaping.{IfReaped, IsReap, IsReapDecision, IsReapPlan}
+use Rattle.zs_close.specs.declared.reap.Reaping.TheVariants.{Planned}
+use Rattle.zn_view.specs.Deciding.{IsTaken}
+use Rattle.zs_close.specs.Reaping.{IfReaped, IsReap, IsReapDecision, IsReapPlan, whose}
 use Rattle.zs_session.specs.Answering.{viewed}
 use Rattle.zs_reap.specs.declared.moves.Move.{Move}
 use Rattle.zs_reap.specs.declared.reap.Phase.{Phase}
 use Rattle.zs_reap.specs.declared.reap.Phase.TheVariants.{Removing}
 use Rattle.zs_reap.specs.declared.reap.ReapStep.{ReapStep}
-use Rattle.zs_reap.specs.Steps.{AreFew, AreNarrow, Asks, Decides, Follows, IsInPhase, IsLookedAt, LooksFirst, whose}
-use Rattle.zs_reap.proofs.Narrow.{again-narrow}
+use Rattle.zs_reap.specs.Steps.{AreFew, Asks, Decides, Follows, IsInPhase, IsLookedAt, LooksFirst}
 
 -- ---- a view of which nothing is lacking
 
@@ -46,7 +45,7 @@ no_wants [] e = refl
 no_wants (w ∷ ws) e = absurd (omega (arith, e))
 
 pub nothing-whole : (who : Who) (v : View) (ws : List Want) → AreNeeds req.Close who v ws → length ws ≡ 0 → IsWhole req.Close who v
-nothing-whole who v ws needs none w reads lacks = needs.enough (no_wants ws none) plain w reads lacks
+nothing-whole who v ws needs none _ w reads lacks = needs.enough (no_wants ws none) plain w reads lacks
 
 -- ---- a view of which something is lacking
 
@@ -54,14 +53,6 @@ pub looked-at : (id r : ℤ) (ws : List Want) (parts : List ActAns) (v : View) (
     → AreNeeds req.Close (whose id) v lacking → (length lacking ≡ 0 → ⊥) → LooksFirst id phase step → IsLookedAt id (viewed r ws parts) phase step
 looked-at id r ws parts v phase step lacking is needs some asks =
     subst (λ (w : View). IsLookedAt id w phase step) is (record { wants = lacking; lacking = record { needs = needs; some = λ e. some (ap (λ (l : List Want). length l) e) }; asks = asks })
-
--- ---- an etcd takes the plan
-
-pub narrow-taken : (v : View) (r : Reaping) → IsNarrow v → IfReaped (λ p. (s : State) → IsSound s → IsOf v s → IsNarrow v → IsTaken p) r → IfReaped (λ p. (s : State) → IsSound s → IsOf v s → IsTaken p) r
-narrow-taken v (Planned p) narrow h = λ s sound of. h s sound of narrow
-narrow-taken v Kept narrow h = tt
-narrow-taken v Gone narrow h = tt
-narrow-taken v TooMany narrow h = tt
 
 -- ---- the list of nodes that a view saw is one
 
@@ -73,29 +64,25 @@ few-seen id v kv ps saw nodes few other qs also are =
 
 -- ---- a plan is asked
 
-module _ (id : ℤ) (v : View) (r : Reaping) (p : Plan) (is : r ≡ Planned p) (narrow : IsNarrow v) where
-  abbrev AsksPlan : Move → Type 0
-  AsksPlan m = Asks (Removing p.again) (transaction p) m.phase m.step
+abbrev AsksPlan : Plan → Move → Type 0
+AsksPlan p m = Asks (Removing p.again) (transaction p) m.phase m.step
 
-  pub planned-decides : (result : Result Move Refused) → IsWhole req.Close (whose id) v → IsReap id v r → IsReapDecision id v r → IfReaped (IsReapPlan id v) r
-      → IfReaped (λ q. (s : State) → IsSound s → IsOf v s → IsNarrow v → IsTaken q) r → IfOk result AsksPlan → IfOk result (λ m. Decides id v m.phase m.step)
-  planned-decides (Err e) whole seen worth plan taken asks = tt
-  planned-decides (Ok m) whole seen worth plan taken asks = record {
-    whole = whole;
-    reaping = r;
-    seen = seen;
-    worth = worth;
-    plan = plan;
-    taken = narrow-taken v r narrow taken;
-    follows = subst (λ (x : Reaping). Follows v x m.phase m.step) (sym is) asks;
-  }
+pub planned-decides : (id : ℤ) (v : View) (r : Reaping) (p : Plan) → r ≡ Planned p → (result : Result Move Refused) → IsWhole req.Close (whose id) v → IsReap id v r → IsReapDecision id v r → IfReaped (IsReapPlan id v) r
+    → IfReaped (λ q. (s : State) → IsSound s → IsOf v s → IsTaken q) r → IfOk result (AsksPlan p) → IfOk result (λ m. Decides id v m.phase m.step)
+planned-decides id v r p is (Err e) whole seen worth plan taken asks = tt
+planned-decides id v r p is (Ok m) whole seen worth plan taken asks = record {
+  whole = whole;
+  reaping = r;
+  seen = seen;
+  worth = worth;
+  plan = plan;
+  taken = taken;
+  follows = subst (λ (x : Reaping). Follows v x m.phase m.step) (sym is) asks;
+}
 
-  again-held : IsReapPlan id v p → AreNarrow p.again
-  again-held plan = subst AreNarrow (sym plan.again) (again-narrow v narrow)
-
-  pub planned-held : (result : Result Move Refused) → IfReaped (IsReapPlan id v) r → IfOk result AsksPlan → IfOk result (λ m. IsInPhase m.phase)
-  planned-held (Err e) plan asks = tt
-  planned-held (Ok m) plan asks = subst IsInPhase (sym asks.0) (again-held (subst (IfReaped (IsReapPlan id v)) is plan))
+pub planned-held : (p : Plan) (result : Result Move Refused) → IfOk result (AsksPlan p) → IfOk result (λ m. IsInPhase m.phase)
+planned-held p (Err e) asks = tt
+planned-held p (Ok m) asks = subst IsInPhase (sym asks.0) tt
 
 -- ---- the revision of a view
 

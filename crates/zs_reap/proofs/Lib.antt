@@ -1,3 +1,3 @@
-pub mod Narrow
 pub mod Deciding
+pub mod FirstLook
 pub mod Waiting

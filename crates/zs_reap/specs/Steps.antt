@@ -1,7 +1,6 @@
 -- How a session that has lapsed is ended (Programmer's Guide, "Ephemeral Nodes": a session's nodes go when it ends): what a
 -- reaper asks in each phase, and what it does at the answer.
-use Rattle.std.specs.Prelude.{◌≡◌, ◌≤◌, ◌<◌, ◌⊎◌, ℤ, pos, nat_abs, ◌≤ℤ◌, Bool, true, false, not, List, [], ◌++◌, map, length, Option, Some, None, All}
-use Rattle.std.specs.List.{count_by}
+use Rattle.std.specs.Prelude.{◌≡◌, ◌≤◌, ◌<◌, ◌⊎◌, ℤ, pos, nat_abs, ◌≤ℤ◌, Bool, true, false, List, [], ◌++◌, map, length, Option, Some, None}
 use Rattle.ev_types.specs.declared.answer.ActAns.{ActAns}
 use Rattle.ev_types.specs.declared.answer.Answer.{Answer}
 use Rattle.ev_types.specs.declared.answer.Answer.TheVariants as answer
@@ -11,21 +10,19 @@ use Rattle.ev_types.specs.declared.ask.Ask.TheVariants as ask
 use Rattle.zk_model.specs.declared.request.Request.TheVariants as req
 use Rattle.zk_model.specs.Limits.{max_owned}
 use Rattle.zk_transcript.specs.History.{State, IsSound}
-use Rattle.zx_base.specs.Maps.{Bytes, same}
-use Rattle.zn_layout.specs.Keys.{HeadKey, SessionKey, key_bytes}
-use Rattle.zn_view.specs.declared.plan.Who.{Who}
+use Rattle.zx_base.specs.Maps.{Bytes}
+use Rattle.zn_layout.specs.Keys.{SessionKey}
 use Rattle.zn_view.specs.declared.want.Want.{Want}
-use Rattle.zn_view.specs.declared.want.Want.TheVariants as want
 use Rattle.zn_view.specs.Adding.{AreRecords, IsFirstDamaged}
 use Rattle.zn_view.specs.Asks.{reading, transaction}
 use Rattle.zn_view.specs.Lookups.{sees, IsNodesIn}
-use Rattle.zn_view.specs.Needs.{AreNeeds, key_want}
+use Rattle.zn_view.specs.Needs.{AreNeeds, IsWhole, key_want}
 use Rattle.zn_view.specs.Seen.{View, IsCount}
 use Rattle.zn_view.specs.Views.{IsOf}
 use Rattle.zs_close.specs.declared.reap.Reaping.{Reaping}
 use Rattle.zs_close.specs.declared.reap.Reaping.TheVariants.{Planned, Kept, Gone, TooMany}
-use Rattle.zs_close.specs.Closing.{IsTaken, IsWhole}
-use Rattle.zs_close.specs.Reaping.{IfReaped, IsReap, IsReapDecision, IsReapPlan}
+use Rattle.zn_view.specs.Deciding.{IsTaken}
+use Rattle.zs_close.specs.Reaping.{IfReaped, IsReap, IsReapDecision, IsReapPlan, whose}
 use Rattle.zs_close.specs.Wanting.{own_keys}
 use Rattle.zs_session.specs.declared.fault.StepFault.{StepFault}
 use Rattle.zs_session.specs.declared.fault.StepFault.TheVariants.{Damaged, Memory}
@@ -38,35 +35,17 @@ use Rattle.zs_reap.specs.declared.reap.ReapStep.TheVariants as steps
 
 -- ---- what is looked up
 
--- a session of which no attachment is known
-abbrev pub whose : ℤ → Who
-whose id = record { session = id; mine = pos 0 }
-
 -- first the head, the record of the session's life, and the list of its nodes
 abbrev pub first_wants : ℤ → List Want
 first_wants id = map key_want (own_keys id)
 
 -- ---- what a reaper knows
 
--- a key that is wanted is guarded in the end, unless it is the head
-abbrev pub is_guarded : Want → Bool
-is_guarded (want.Key k) = not (same k (key_bytes HeadKey))
-is_guarded (want.Children p) = false
-
-abbrev pub IsShortWant : Want → Type 0
-IsShortWant (want.Key k) = length k ≤ 1033
-IsShortWant (want.Children p) = Unit {0}
-
--- few keys, and short ones: a transaction may guard them all
-pub record AreNarrow (ws : List Want) : Type 0 where
-  pub few : count_by is_guarded ws ≤ 100
-  pub short : All IsShortWant ws
-
 abbrev pub IsInPhase : Phase → Type 0
 IsInPhase Unasked = Unit {0}
 IsInPhase Looking = Unit {0}
-IsInPhase (Counting revision wants) = IsCount revision × AreNarrow wants
-IsInPhase (Removing again) = AreNarrow again
+IsInPhase (Counting revision wants) = IsCount revision
+IsInPhase (Removing again) = Unit {0}
 IsInPhase Over = Unit {0}
 
 pub record IsHeld (r : Reap) : Type 0 where

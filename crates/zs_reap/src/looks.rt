@@ -4,9 +4,8 @@ ghost use Rattle.std.specs.Prelude.{◌≡◌, pos, ◌≤ℤ◌, IfOk, IfErr, O
 ghost use Rattle.ev_types.specs.declared.answer.Kv.{Kv as KeyValue};
 ghost use Rattle.zn_view.specs.Seen.{IsCount};
 ghost use Rattle.zn_view.specs.Adding.{AreNumbers};
-ghost use Rattle.zs_close.specs.Closing.{IsNarrow};
 ghost use Rattle.zs_session.specs.Answering.{viewed};
-ghost use Rattle.zs_reap.specs.Steps.{AreFew, AreNarrow, IsCrowdedFault, IsInPhase, IsReadFault, IsTested, Looked, LookedAgain, first_wants as wants_of_first};
+ghost use Rattle.zs_reap.specs.Steps.{AreFew, IsCrowdedFault, IsInPhase, IsReadFault, IsTested, Looked, LookedAgain, first_wants as wants_of_first};
 
 use crate::moves::{Move, count, decided, first_wants, look};
 use ev_types::{ActAns, Kv};
@@ -99,7 +98,6 @@ pub(crate) fn looked_again(
     parts: &[ActAns],
 ) -> Result<Move, StepFault>
     requires real { pos 1 ≤ℤ session }
-    requires narrow { AreNarrow wants.now }
     requires revision { IsCount revision }
     requires numbers { AreNumbers parts.now }
     ensures ok { IfOk result (λ m. LookedAgain session wants.now revision parts.now m.phase m.step) }

@@ -1,12 +1,12 @@
 //! What is asked next.
 
-ghost use Rattle.std.specs.Prelude.{◌≡◌, ◌≤◌, ◌++◌, [], pos, ◌≤ℤ◌, length, IfOk};
+ghost use Rattle.std.specs.Prelude.{◌≡◌, ◌++◌, pos, ◌≤ℤ◌, IfOk};
 ghost use Rattle.zk_model.specs.declared.request.Request.TheVariants as req;
 ghost use Rattle.zn_view.specs.Asks.{transaction};
 ghost use Rattle.zn_view.specs.Seen.{IsCount};
-ghost use Rattle.zs_close.specs.Closing.{IsNarrow, IsWhole};
-ghost use Rattle.zs_close.specs.Wanting.{AreEndWants};
-ghost use Rattle.zs_reap.specs.Steps.{AreFew, AreNarrow, Asks, Ends, IsCounted, Decides, IsInPhase, LacksSome, LooksFirst, first_wants as wants_of_first, whose};
+ghost use Rattle.zn_view.specs.Needs.{IsWhole};
+ghost use Rattle.zs_close.specs.Reaping.{whose};
+ghost use Rattle.zs_reap.specs.Steps.{AreFew, Asks, Ends, IsCounted, Decides, IsInPhase, LacksSome, LooksFirst, first_wants as wants_of_first};
 ghost use Rattle.zs_reap.specs.declared.reap.Phase.TheVariants as phases;
 
 use crate::reap::{Phase, ReapStep};
@@ -39,7 +39,8 @@ pub(crate) fn first_wants(alloc: Global, session: i64) -> Result<Seq<Want>, Memo
     ensures { IfOk result (λ ws. ws ≡ wants_of_first session) }
 {
     let nothing = View::empty(alloc);
-    needs_reap(alloc, session, &nothing)
+    let wants = needs_reap(alloc, session, &nothing)?;
+    Ok(wants)
 }
 
 /// Reads these.
@@ -74,8 +75,6 @@ pub(crate) fn count(
 ) -> Result<Move, Memory>
     requires real { pos 1 ≤ℤ session }
     requires revision { IsCount view.now.revision }
-    requires few { AreFew session view.now }
-    requires wants { AreEndWants session view.now lacking }
     requires lacks { LacksSome session view.now lacking }
     ensures asks { IfOk result (λ m. IsCounted session view.now m.phase m.step) }
     ensures held { IfOk result (λ m. IsInPhase m.phase) }
@@ -110,7 +109,6 @@ pub(crate) fn decided(alloc: Global, session: i64, view: &View) -> Result<Move, 
     requires real { pos 1 ≤ℤ session }
     requires whole { IsWhole req.Close (whose session) view.now }
     requires few { AreFew session view.now }
-    requires narrow { IsNarrow view.now }
     ensures asks { IfOk result (λ m. Decides session view.now m.phase m.step) }
     ensures held { IfOk result (λ m. IsInPhase m.phase) }
 {

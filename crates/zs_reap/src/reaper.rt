@@ -98,6 +98,13 @@ impl Reaper {
         }
     }
 
+    /// The session, and how far its end has come.
+    pub fn reap(&self) -> &Reap
+        ensures { result.now ≡ self.now }
+    {
+        &self.reap
+    }
+
     /// The next step. The first one has no answer; each other one has the answer to what was asked last. None is made behind a
     /// step that asked nothing. Where it has a fault the reaper is as it was: `Memory` may be tried again with the same answer;
     /// `Damaged` comes exactly where the answer shows, under a key that was looked up, a value that is no record, or, where all

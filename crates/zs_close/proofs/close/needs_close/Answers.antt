@@ -3,7 +3,7 @@ use Rattle.std.proofs.Common.{ℤ, rules, w64, subst}
 use Rattle.std.proofs.lemmas.Int.{to_z-of_z}
 use mir.Val.{SFits}
 use Rattle.zs_close.specs.Wanting.{AreEndWants}
-use Rattle.zs_close.proofs.Lacking.{close-needs}
+use Rattle.zs_close.proofs.KeysRead.{close-needs}
 use Rattle.zs_close.proofs.close.needs_close.Goals as goal
 
 pub returns : goal.returns

@@ -7,8 +7,8 @@ use Rattle.zn_layout.specs.Keys.{LeaseKey, SessionKey}
 use Rattle.zn_view.specs.Lookups.{HasSeen}
 use Rattle.zs_close.specs.Reaping.{IsReap}
 use Rattle.zs_close.specs.Wanting.{AreParentsSeen}
-use Rattle.zs_close.proofs.Lacking.{whole-life, whole-session, whole-parents}
-use Rattle.zs_close.proofs.Reaps.{reap-decides, reap-narrow, reap-plan, reap-taken}
+use Rattle.zs_close.proofs.KeysRead.{whole-life, whole-session, whole-parents}
+use Rattle.zs_close.proofs.Reaps.{reap-decides, reap-plan, reap-taken}
 use Rattle.zs_close.proofs.reap.plan_reap.Goals as goal
 
 pub reap-requires-clause-life : goal.reap-requires-clause-life
@@ -28,9 +28,6 @@ reap-requires-clause-parents c =
 
 pub returns-clause-seen : goal.returns-clause-seen
 returns-clause-seen c = subst (λ (i : ℤ). IsReap i c.args.view.now c.in_ok-reaping.reaping) (to_z-of_z w64 c.args.session c.ranges.session) c.in_ok-reaping.ensures
-
-pub returns-clause-narrow : goal.returns-clause-narrow
-returns-clause-narrow c = reap-narrow c.args.session c.args.view.now c.requires.real c.in_ok-reaping.reaping (subst (λ (i : ℤ). IsReap i c.args.view.now c.in_ok-reaping.reaping) (to_z-of_z w64 c.args.session c.ranges.session) c.in_ok-reaping.ensures)
 
 pub returns-clause-decision : goal.returns-clause-decision
 returns-clause-decision c = reap-decides c.args.session c.args.view.now c.requires.real c.in_ok-reaping.reaping (subst (λ (i : ℤ). IsReap i c.args.view.now c.in_ok-reaping.reaping) (to_z-of_z w64 c.args.session c.ranges.session) c.in_ok-reaping.ensures)

@@ -1,22 +1,18 @@
--- The view lacks nothing, and has few keys; or the session is looked at anew.
-use Rattle.std.proofs.Common.{rules, arith, ◌≡◌, length, ℤ, w64, to_z, of_z, pos, sym, ap, ◌∙◌, subst, inr}
+-- The view lacks nothing; or the session is looked at anew.
+use Rattle.std.proofs.Common.{rules, arith, ◌≡◌, length, ℤ, w64, to_z, of_z, pos, ap, ◌∙◌, subst, inr}
 use Rattle.std.proofs.lemmas.Int.{to_z-of_z}
 use Rattle.zk_model.specs.declared.request.Request.TheVariants as req
 use Rattle.zn_view.specs.Needs.{AreNeeds}
-use Rattle.zs_close.specs.Closing.{IsNarrow}
+use Rattle.zs_close.specs.Reaping.{whose}
 use Rattle.zs_session.specs.Answering.{viewed}
-use Rattle.zs_reap.specs.Steps.{IsTested, LooksFirst, whose}
+use Rattle.zs_reap.specs.Steps.{IsTested, LooksFirst}
 use Rattle.zs_reap.proofs.Deciding.{looked-at, nothing-whole}
-use Rattle.zs_reap.proofs.Narrow.{viewed-narrow}
 use Rattle.zs_reap.proofs.looks.looked_again.Goals as goal
 
 pub decided-requires-clause-whole : goal.decided-requires-clause-whole
 decided-requires-clause-whole c =
     let none : length c.in_ok-lacking.lacking ≡ 0 = search (arith, rules) in
     nothing-whole _ c.in_ok-view.view c.in_ok-lacking.lacking (c.in_ok-lacking.ensures.needs (pos 0)) none
-
-pub decided-requires-clause-narrow : goal.decided-requires-clause-narrow
-decided-requires-clause-narrow c = subst IsNarrow (sym c.in_ok-view.ensures.ok) (viewed-narrow (to_z w64 (of_z w64 c.args.revision)) c.args.wants.now c.args.parts.now c.requires.narrow)
 
 pub returns-clause-ok : goal.returns-clause-ok
 returns-clause-ok c =

@@ -3,7 +3,7 @@ use Rattle.std.proofs.Common.{◌≤◌, length, sym, subst}
 use Rattle.zk_model.specs.Limits.{max_path}
 use Rattle.zn_layout.proofs.Paths.{path_short}
 use Rattle.zx_base.specs.Maps.{Bytes}
-use Rattle.zs_close.proofs.wants.want_counts.Goals as goal
+use Rattle.zs_close.proofs.wants.push_counts_of.Goals as goal
 
 pub counts_key-requires : goal.counts_key-requires
-counts_key-requires c = subst (λ (p : Bytes). length p ≤ max_path) (sym c.bytes.ensures) (path_short c.args.parent.now c.requires)
+counts_key-requires c = subst (λ (p : Bytes). length p ≤ max_path) (sym c.bytes.ensures) (path_short c.args.path.now c.requires)
