@@ -44,10 +44,10 @@ first_place-take {A} show k (suc m) (l ∷ ls) i y h lt = go (show l) h (λ e. f
 
 -- ---- the state behind a legal history
 
-abbrev HasFirst : List TranscriptLine → Type 0
+abbrev pub HasFirst : List TranscriptLine → Type 0
 HasFirst lines = (u : UpdateRec) × (first_shown update_in lines ≡ Some u)
 
-first-there : (lines : List TranscriptLine) (k : ℕ) (u : UpdateRec) → slice_get lines k ≡ Some (Update u) → HasFirst lines
+pub first-there : (lines : List TranscriptLine) (k : ℕ) (u : UpdateRec) → slice_get lines k ≡ Some (Update u) → HasFirst lines
 first-there [] k u h = absurd (none_some h)
 first-there (l ∷ ls) zero u h = (u, ap (λ x. first_shown update_in (x ∷ ls)) (some_is h))
 first-there (l ∷ ls) (suc k) u h = go (update_in l) (first-there ls k u h)

@@ -31,7 +31,7 @@ module _ (lines more : List TranscriptLine) (conn : ℕ) where
   request-push : (i : ℕ) (xid : ℤ) (r : Request) → IsRequestAt lines conn i xid r → IsRequestAt (lines ++ more) conn i xid r
   request-push i xid r q = record { bytes = q.bytes; frame = frame-push i q.bytes q.frame; reads = q.reads }
 
-  frames-push : (i : ℕ) (fs : List (List ℕ)) → AreFrames lines conn i fs → AreFrames (lines ++ more) conn i fs
+  pub frames-push : (i : ℕ) (fs : List (List ℕ)) → AreFrames lines conn i fs → AreFrames (lines ++ more) conn i fs
   frames-push i [] h = tt
   frames-push i (f ∷ fs) h = (frame-push i f h.0, frames-push (i + 1) fs h.1)
 

@@ -84,12 +84,12 @@ records-walks store lines conn c c' w looked ws parts out Next f (inr h) = f h.1
 
 -- ---- a frame comes
 
-frames-push : (lines : List TranscriptLine) (conn i : ℕ) (fs : List (List ℕ)) (f : List ℕ) → AreFrames lines conn i fs → IsFrameAt lines conn (i + length fs) f → AreFrames lines conn i (fs ++ f ∷ [])
+pub frames-push : (lines : List TranscriptLine) (conn i : ℕ) (fs : List (List ℕ)) (f : List ℕ) → AreFrames lines conn i fs → IsFrameAt lines conn (i + length fs) f → AreFrames lines conn i (fs ++ f ∷ [])
 frames-push lines conn i [] f h g = (subst (λ n. IsFrameAt lines conn n f) (omega arith) g, tt)
 frames-push lines conn i (x ∷ fs) f h g = (h.0, frames-push lines conn (i + 1) fs f h.1 (subst (λ n. IsFrameAt lines conn n f) (omega arith) g))
 
 module _ (store : Store) (lines : List TranscriptLine) (conn : ℕ) (c c' : Core) (w : Walker) (looked : ℕ) (bytes : List ℕ) (out : List Action) (s : Stands store lines conn c w looked) (t : IsNextFrame lines conn c bytes) where
-  knows-still : (st : Stage) → Knows store lines conn c w looked st → Knows store lines conn (queued c bytes) w looked st
+  pub knows-still : (st : Stage) → Knows store lines conn c w looked st → Knows store lines conn (queued c bytes) w looked st
   knows-still (Unconnected fresh) x = x
   knows-still (Connecting connect) x = x
   knows-still Ready x = x

@@ -63,20 +63,20 @@ welcomed-stands store lines conn c who timeout number zxid place looked k = reco
 -- ---- what the input comes to
 
 -- the session's transaction succeeded
-record IsAttaching (c mid : Core) (x : Input) (first : List Action) : Type 0 where
-  connect : Connect
-  connecting : c.stage ≡ Connecting connect
-  answer : Answer
-  at_answer : x ≡ input.Answer answer
-  response : ConnectResponse
-  who : Who
-  timeout : ℤ
-  number : ℤ
-  zxid : ℤ
-  new : Connect
-  attaches : ConnectSteps connect (Some answer) (steps.Attached response who timeout number zxid) new
-  core : mid ≡ attached_core c who timeout number zxid
-  sent : first ≡ action.Send (connect_packet response) ∷ []
+pub record IsAttaching (c mid : Core) (x : Input) (first : List Action) : Type 0 where
+  pub connect : Connect
+  pub connecting : c.stage ≡ Connecting connect
+  pub answer : Answer
+  pub at_answer : x ≡ input.Answer answer
+  pub response : ConnectResponse
+  pub who : Who
+  pub timeout : ℤ
+  pub number : ℤ
+  pub zxid : ℤ
+  pub new : Connect
+  pub attaches : ConnectSteps connect (Some answer) (steps.Attached response who timeout number zxid) new
+  pub core : mid ≡ attached_core c who timeout number zxid
+  pub sent : first ≡ action.Send (connect_packet response) ∷ []
 
 abbrev ComesTo : Core → Core → Input → List Action → Type 0
 ComesTo c mid x first = IsSilent c mid first ⊎ IsRefusal c mid x first ⊎ IsAttaching c mid x first
@@ -210,7 +210,7 @@ module _ (c mid c' : Core) (x : Input) (now : ℕ) (first later : List Action) (
         actions = ap (λ l. first ++ l) s.1 ∙ append-nil first ∙ k.actions;
       }
 
-  welcome-walks : IsAttaching c mid x first → IsWelcome c c' x (first ++ later)
+  pub welcome-walks : IsAttaching c mid x first → IsWelcome c c' x (first ++ later)
   welcome-walks k = record {
     connect = k.connect;
     connecting = k.connecting;

@@ -98,7 +98,7 @@ line-only w l (Left k) x e = e
 pub shown-holds : (w : World) (c : ℕ) (z : ℤ) (l : TranscriptLine) → z ≡ (after w.lines).zxid → IsShownFrame c z l → Holds w → Holds (with_line w l)
 shown-holds w c z l last f h = quiet-holds w (with_line w l) l (shown-plain c z l f) (shown-quiet c z l f) refl refl (shown-last w.lines c z l last f) (same-air w (with_line w l) (line-only w l)) h
 
-shown-but : (w : World) (c d : ℕ) (z : ℤ) (l : TranscriptLine) → z ≡ (after w.lines).zxid → IsShownFrame c z l → But w d → But (with_line w l) d
+pub shown-but : (w : World) (c d : ℕ) (z : ℤ) (l : TranscriptLine) → z ≡ (after w.lines).zxid → IsShownFrame c z l → But w d → But (with_line w l) d
 shown-but w c d z l last f h =
     let holds = shown-holds w c z l last f h.holds in
     record {

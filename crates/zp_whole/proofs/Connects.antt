@@ -75,7 +75,7 @@ new-commits s lines c id t w room b h =
 -- ---- an attachment
 
 -- what is kept at the revision that was seen is the record that was seen
-was-seen : (s : Store) (id seen : ℤ) (life : LeaseRec) → WasLifeOf s id seen life → (kv : Kv) → at (present s) (life_key id) ≡ Some kv → kv.mod_revision ≡ seen → kv.value ≡ lease_value life
+pub was-seen : (s : Store) (id seen : ℤ) (life : LeaseRec) → WasLifeOf s id seen life → (kv : Kv) → at (present s) (life_key id) ≡ Some kv → kv.mod_revision ≡ seen → kv.value ≡ lease_value life
 was-seen s id seen life w kv there e =
     let k = key_bytes (life_key id) in
     let mods : mod_of (get (present s) k) ≡ mod_of (get (store_at s w.number) k) = ap mod_of there ∙ e ∙ sym w.put ∙ sym (ap mod_of w.there) in

@@ -1,29 +1,26 @@
 -- The answer to what an attached connection asked is delivered, and an entry that is true is taken.
-use Rattle.std.proofs.Common.{◌≡◌, ℕ, [], refl, sym, ap, ◌∙◌, subst, true, false}
-use Rattle.std.specs.Prelude.{Option, Some, None, option_and_then}
-use Rattle.std.specs.Arc.{arc_value}
 use Rattle.ev_types.specs.declared.answer.Answer.{Answer}
+use Rattle.std.proofs.Common.{[], ap, false, refl, subst, sym, true, ℕ, ◌∙◌, ◌≡◌}
+use Rattle.std.specs.Arc.{arc_value}
+use Rattle.std.specs.Prelude.{None, Option, Some, option_and_then}
 use Rattle.zk_transcript.specs.History.{after}
-use Rattle.zp_step.specs.Stages.{Core, Stage, Ready, Waiting, asked_of}
-use Rattle.zp_step.specs.declared.input.Input.{Input}
-use Rattle.zp_step.specs.declared.input.Input.TheVariants as input
-use Rattle.zp_laws.specs.Frames.{is_served}
-use Rattle.zp_laws.specs.Inputs.{IsTrueEntry, takes_entries}
 use Rattle.zp_happen.specs.Effects.{Delivers}
 use Rattle.zp_happen.specs.Faults.{flight_at}
 use Rattle.zp_happen.specs.Handing.{AnswerComes, AnswerComesTo, Handed}
 use Rattle.zp_happen.specs.Worlds.{Actor, Conn, Connection, World, conn_at, with_conn}
+use Rattle.zp_happen.specs.declared.flight.Flight.TheVariants.{Carried, Denied, Out}
 use Rattle.zp_happen.specs.declared.flight.Flight.{Flight}
-use Rattle.zp_happen.specs.declared.flight.Flight.TheVariants.{Out, Carried, Denied}
-use Rattle.zx_base.proofs.Options.{some_is}
+use Rattle.zp_laws.specs.Frames.{is_served}
+use Rattle.zp_laws.specs.Inputs.{IsTrueEntry, takes_entries}
+use Rattle.zp_step.specs.Stages.{Core, Ready, Stage, Waiting, asked_of}
+use Rattle.zp_step.specs.declared.input.Input.TheVariants as input
+use Rattle.zp_step.specs.declared.input.Input.{Input}
 use Rattle.zp_whole.proofs.Closing.{but-of}
 use Rattle.zp_whole.proofs.Ends.{landed-but, landed-is, refuse-whole}
-use Rattle.zp_whole.proofs.Handing.{IsReadyFor, handed-whole}
+use Rattle.zp_whole.proofs.Handing.{IsReadyFor, core-same, handed-whole}
 use Rattle.zp_whole.proofs.Numbers.{conn-here}
 use Rattle.zp_whole.specs.Connections.{IsFlying, Whole}
-
-core-same : (p q : Core) → Connection p ≡ Connection q → p ≡ q
-core-same p q e = cc
+use Rattle.zx_base.proofs.Options.{some_is}
 
 -- what is known of the connection is known of the one that is handed the input
 as-handed : (w w' : World) (c : ℕ) (i : Input) (x : Conn) (core : Core) → conn_at c w ≡ Some x → x.actor ≡ Connection core → IsReadyFor w c x core i → (hd : Handed c [] w i w') → IsReadyFor w c hd.conn hd.core i

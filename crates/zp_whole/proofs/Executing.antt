@@ -176,7 +176,7 @@ record IsOfRequest (kind : UpdateKind) (c i : ℕ) : Type 0 where
   shown : (z : ℤ) → own_update_shown c i (Update (record { zxid = z; kind = kind })) ≡ Some (record { zxid = z; kind = kind })
   index : index_in c kind ≡ Some i
 
-same-nat : (c : ℕ) → (c == c) ≡ true
+pub same-nat : (c : ℕ) → (c == c) ≡ true
 same-nat c = grind (arith, nat_tests)
 
 of-request : (q : Request) (id : ℤ) (c i m : ℕ) → IsOfRequest (kind_of_request c i id m q) c i

@@ -98,7 +98,7 @@ request-kept s u lines more c i kind t x b =
       txn = b.txn;
     }
 
-reap-kept : (s u : Store) (id : ℤ) (t : TxnReq) → Precedes s u → IsBoundReap s id t → IsBoundReap u id t
+pub reap-kept : (s u : Store) (id : ℤ) (t : TxnReq) → Precedes s u → IsBoundReap s id t → IsBoundReap u id t
 reap-kept s u id t x b = record {
   view = b.view;
   plan = b.plan;
@@ -141,7 +141,7 @@ new-kept s u lines more c id t x none silent b = record {
   txn = b.txn;
 }
 
-was-kept : (s u : Store) (id seen : ℤ) (life : LeaseRec) → Precedes s u → WasLifeOf s id seen life → WasLifeOf u id seen life
+pub was-kept : (s u : Store) (id seen : ℤ) (life : LeaseRec) → Precedes s u → WasLifeOf s id seen life → WasLifeOf u id seen life
 was-kept s u id seen life x w = record { number = w.number; known = omega (arith, w.known, x.longer); kv = w.kv; there = subst (λ m. at m (life_key id) ≡ Some w.kv) (sym (x.same w.number w.known)) w.there; put = w.put; value = w.value }
 
 attach-kept : (s u : Store) (lines more : List TranscriptLine) (c : ℕ) (id : ℤ) (t : TxnReq) → Precedes s u → attach_of c (lines ++ more) ≡ None → packets c (lines ++ more) ≡ [] → IsBoundAttach s lines c id t → IsBoundAttach u (lines ++ more) c id t

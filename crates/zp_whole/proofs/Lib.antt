@@ -12,6 +12,7 @@ pub mod Numbers
 pub mod Lines
 pub mod Effects
 pub mod Serving
+pub mod Naming
 pub mod Looking
 pub mod Executing
 pub mod Kept
@@ -27,6 +28,12 @@ pub mod First
 pub mod Opening
 pub mod Restarting
 pub mod Delivering
+pub mod Arriving
 pub mod Entering
 pub mod Reaping
+pub mod Knowing
+pub mod Acting
+pub mod Reapers
+pub mod Connecting
+pub mod Welcoming
 pub mod Happenings

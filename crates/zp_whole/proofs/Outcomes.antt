@@ -54,7 +54,7 @@ bound-commits s lines (Asked c i now) t w room next b h = request-commits s line
 bound-commits s lines (Closed sid c i) t w room next b h = request-commits s lines c i t (Closed sid c i) w room (next c i refl) b h
 bound-commits s lines (Reaped id) t w room next b h = reap-commits s lines id t w room b h
 
-next-room : (s : Store) → revision s <ℤ last_revision → next_revision s ≤ℤ last_revision
+pub next-room : (s : Store) → revision s <ℤ last_revision → next_revision s ≤ℤ last_revision
 next-room s h = omega (arith, ints, h)
 
 -- a transaction whose guards hold: either it changed nothing, or there was room and it commits

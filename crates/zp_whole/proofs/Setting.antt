@@ -1,15 +1,15 @@
--- An open connection becomes another one, with its flight, in a world that is whole but for it.
-use Rattle.std.proofs.Common.{◌≡◌, ◌≢◌, ℕ, refl, sym, ap, ◌∙◌, subst, true, false, inl, inr}
-use Rattle.std.specs.Prelude.{Option, Some, None, ◌⊎◌}
+-- An open connection, or a reaper, becomes another one, with its flight, in a world that is whole but for it.
+use Rattle.ev_types.specs.Store.{holds}
+use Rattle.std.proofs.Common.{ap, false, inl, inr, refl, subst, sym, true, ℕ, ◌∙◌, ◌≡◌, ◌≢◌}
+use Rattle.std.specs.Prelude.{None, Option, Some, ◌⊎◌}
 use Rattle.zk_transcript.specs.Legal.{Attachment, attach_of}
 use Rattle.zk_transcript.specs.Walks.{Walker}
-use Rattle.zp_step.specs.Stages.{Core, is_shut}
-use Rattle.zp_laws.specs.Frames.{is_served}
 use Rattle.zp_happen.specs.Worlds.{Conn, Connection, World, conn_at, is_closed, with_conn}
 use Rattle.zp_happen.specs.declared.flight.Asking.{Asking}
+use Rattle.zp_happen.specs.declared.flight.Flight.TheVariants.{Carried, Denied, Out}
 use Rattle.zp_happen.specs.declared.flight.Flight.{Flight}
-use Rattle.zp_happen.specs.declared.flight.Flight.TheVariants.{Out, Carried, Denied}
-use Rattle.zx_base.proofs.Options.{none_some, some_is}
+use Rattle.zp_laws.specs.Frames.{is_served}
+use Rattle.zp_step.specs.Stages.{Core, is_shut}
 use Rattle.zp_whole.proofs.Carrying.{one, request-asker}
 use Rattle.zp_whole.proofs.Closing.{But}
 use Rattle.zp_whole.proofs.Kept.{closed-same, no-stray, true-false}
@@ -17,6 +17,7 @@ use Rattle.zp_whole.proofs.Numbers.{conn-here, conn-there, either-number, of-sam
 use Rattle.zp_whole.specs.Bounds.{IsBoundAsk}
 use Rattle.zp_whole.specs.Connections.{IsClosedAt, IsServing, Whole}
 use Rattle.zp_whole.specs.Holding.{Holds, IsAhead, IsSpoken, Left, Of, Source, Talks, air, asker_in, out_in, out_of, request_in}
+use Rattle.zx_base.proofs.Options.{none_some, some_is}
 
 -- nothing of c may still be carried out but what is out of it
 pub lone : (w : World) (c : ℕ) (x : Conn) → ((e d : ℕ) (y : Conn) (a : Asking) → conn_at e w ≡ Some y → y.flight ≡ Some (Out a) → asker_in a ≡ Some d → d ≡ e) → ((k d : ℕ) (a : Asking) → air w (Left k) ≡ Some a → asker_in a ≡ Some d → IsClosedAt w d) → conn_at c w ≡ Some x → is_closed x.actor ≡ false
@@ -40,18 +41,17 @@ pub record IsHeardAs (w : World) (c : ℕ) (v : Conn) (k : ℕ) (a : Attachment)
   pub talks : Talks w.lines c k a walker
   pub ahead : (x : Asking) (i : ℕ) → v.flight ≡ Some (Out x) → request_in x ≡ Some (record { connection = c; index = i }) → IsAhead w.lines c walker i
 
-pub record Sets (w : World) (c : ℕ) (x v : Conn) (core : Core) : Type 0 where
+pub record Sets (w : World) (c : ℕ) (x v : Conn) : Type 0 where
   pub but : But w c
   pub there : conn_at c w ≡ Some x
   pub opens : is_closed x.actor ≡ false
-  pub actor : v.actor ≡ Connection core
-  pub unshut : is_shut core.stage ≡ false
-  pub serves : is_served core.stage ≡ true → IsServing w.store w.lines c core v.flight
+  pub unshut : (core : Core) → v.actor ≡ Connection core → is_shut core.stage ≡ false
+  pub serves : (core : Core) → v.actor ≡ Connection core → is_served core.stage ≡ true → IsServing w.store w.lines c core v.flight
   pub bound : (a : Asking) → v.flight ≡ Some (Out a) → IsBoundAsk w.store w.lines a
   pub own : (a : Asking) (d : ℕ) → v.flight ≡ Some (Out a) → asker_in a ≡ Some d → d ≡ c
   pub heard : (k : ℕ) (a : Attachment) → attach_of c w.lines ≡ Some (k, a) → IsHeardAs w c v k a
 
-module _ (w : World) (c : ℕ) (x v : Conn) (core : Core) (s : Sets w c x v core) where
+module _ (w : World) (c : ℕ) (x v : Conn) (s : Sets w c x v) where
   here : conn_at c (with_conn w c v) ≡ Some v
   here = conn-here w c v
 
@@ -118,12 +118,6 @@ module _ (w : World) (c : ℕ) (x v : Conn) (core : Core) (s : Sets w c x v core
   is-here : (d : ℕ) (y : Conn) → d ≡ c → conn_at d (with_conn w c v) ≡ Some y → v ≡ y
   is-here d y same e = some_is (sym here ∙ ap (λ n. conn_at n (with_conn w c v)) (sym same) ∙ e)
 
-  core-same : (p q : Core) → Connection p ≡ Connection q → p ≡ q
-  core-same p q e = cc
-
-  core-is : (d : ℕ) (y : Conn) (q : Core) → d ≡ c → conn_at d (with_conn w c v) ≡ Some y → y.actor ≡ Connection q → core ≡ q
-  core-is d y q same e a = core-same core q (sym s.actor ∙ ap (λ (z : Conn). z.actor) (is-here d y same e) ∙ a)
-
   still : (d : ℕ) → IsClosedAt w d → IsClosedAt (with_conn w c v) d
   still d t = elim (either-number d c) [
     | inl same ↦ absurd (true-false (sym t.2 ∙ ap (λ (y : Conn). is_closed y.actor) (some_is (sym t.1 ∙ ap (λ n. conn_at n w) same ∙ s.there)) ∙ s.opens))
@@ -135,13 +129,12 @@ module _ (w : World) (c : ℕ) (x v : Conn) (core : Core) (s : Sets w c x v core
     holds = sets-holds;
     serving = λ d y q e a t. elim (either-number d c) [
       | inl same ↦
-          let is = core-is d y q same e a in
-          subst (λ n. IsServing w.store w.lines n q y.flight) (sym same) (subst (λ (z : Conn). IsServing w.store w.lines c q z.flight) (is-here d y same e)
-          (subst (λ (p : Core). IsServing w.store w.lines c p v.flight) is (s.serves (ap (λ (p : Core). is_served p.stage) is ∙ t))))
+          let is = is-here d y same e in
+          subst (λ n. IsServing w.store w.lines n q y.flight) (sym same) (subst (λ (z : Conn). IsServing w.store w.lines c q z.flight) is (s.serves q (ap (λ (z : Conn). z.actor) is ∙ a) t))
       | inr apart ↦ (s.but).serving d y q apart (sym (others d apart) ∙ e) a t
     ];
     unshut = λ d y q e a. elim (either-number d c) [
-      | inl same ↦ ap (λ (p : Core). is_shut p.stage) (sym (core-is d y q same e a)) ∙ s.unshut
+      | inl same ↦ s.unshut q (ap (λ (z : Conn). z.actor) (is-here d y same e) ∙ a)
       | inr apart ↦ (s.but).unshut d y q (sym (others d apart) ∙ e) a
     ];
     own = λ e d y a p q r. elim (either-number e c) [

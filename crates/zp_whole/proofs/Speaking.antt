@@ -1,20 +1,23 @@
 -- An attached connection of which nothing may still be carried out is sent packets: they are its walk's, and leave all else.
-use Rattle.std.proofs.Common.{◌≡◌, ℕ, ◌+◌, List, [], ◌∷◌, ◌++◌, length, refl, sym, ap, ◌∙◌, subst, true, ℤ, inl, inr, append_assoc, append-nil}
-use Rattle.std.specs.Prelude.{Some, None, ◌==◌, if◌then◌else◌}
-use Rattle.std.specs.List.{list_all}
-use Rattle.std.proofs.lemmas.Bool.{and_parts}
 use Rattle.ev_types.specs.Store.{Store}
+use Rattle.std.proofs.Common.{List, [], ap, append-nil, append_assoc, inl, inr, length, refl, subst, sym, true, ℕ, ℤ, ◌++◌, ◌+◌, ◌∙◌, ◌∷◌, ◌≡◌}
+use Rattle.std.proofs.lemmas.Bool.{and_parts}
+use Rattle.std.specs.List.{list_all}
+use Rattle.std.specs.Prelude.{None, Some, if◌then◌else◌, ◌==◌}
+use Rattle.zk_least.proofs.Ahead.{ahead}
+use Rattle.zk_model.specs.Znodes.{below}
 use Rattle.zk_transcript.proofs.Appending.{after-push}
 use Rattle.zk_transcript.specs.Conversations.{IsShownFresh}
 use Rattle.zk_transcript.specs.History.{State, after, first_place}
-use Rattle.zk_transcript.specs.Legal.{Attachment, attach_of, attach_shown, index_shown, is_below}
+use Rattle.zk_transcript.specs.Legal.{Attachment, attach_of, attach_shown, follows, index_shown, is_below}
 use Rattle.zk_transcript.specs.Walks.{Walker, own_update, own_update_shown, packets, packets_from}
+use Rattle.zk_transcript.specs.declared.transcript.TranscriptLine.TheVariants.{Close, Frame as FrameLine, Lapse as LapseLine, Open, Send, Update}
 use Rattle.zk_transcript.specs.declared.transcript.TranscriptLine.{TranscriptLine}
-use Rattle.zk_transcript.specs.declared.transcript.TranscriptLine.TheVariants.{Update, Open, Frame as FrameLine, Send, Lapse as LapseLine, Close}
-use Rattle.zp_laws.specs.Standing.{is_ahead}
+use Rattle.zn_layout.specs.Fits.{left}
+use Rattle.zn_view.specs.Needs.{own}
 use Rattle.zp_happen.specs.Worlds.{World}
 use Rattle.zp_happen.specs.declared.flight.Asking.{Asking}
-use Rattle.zx_base.proofs.Options.{some_is}
+use Rattle.zp_laws.specs.Standing.{is_ahead}
 use Rattle.zp_whole.proofs.Actions.{is_speech}
 use Rattle.zp_whole.proofs.Carrying.{apart-in, asker-of, attaches-for, one, request-asker, unlike}
 use Rattle.zp_whole.proofs.Closing.{But, with_lines}
@@ -27,6 +30,7 @@ use Rattle.zp_whole.proofs.Serving.{Elsewhere, serving-push}
 use Rattle.zp_whole.proofs.Talking.{ahead-push, first_place-front, is_quiet, talks-push}
 use Rattle.zp_whole.specs.Holding.{Holds, IsSpoken, Left, Of, Source, Talks, air, asker_in}
 use Rattle.zp_whole.specs.Serving.{Serves}
+use Rattle.zx_base.proofs.Options.{some_is}
 
 speech-quiet : (c : ℕ) (l : TranscriptLine) → is_speech c l ≡ true → is_quiet l ≡ true
 speech-quiet c (Send d bytes) h = refl
@@ -143,12 +147,15 @@ elsewhere-speech lines ls c d apart h = record {
 
 -- ---- the step
 
--- nothing of c may still be carried out, and with these packets its conversation is so
-pub record Speaks (w : World) (c k : ℕ) (a : Attachment) (ls : List TranscriptLine) : Type 0 where
-  pub speech : list_all (is_speech c) ls ≡ true
-  pub attached : attach_of c w.lines ≡ Some (k, a)
+-- where the connection's conversation has come with these packets
+pub record HasTalked (lines : List TranscriptLine) (c k : ℕ) (a : Attachment) : Type 0 where
   pub walker : Walker
-  pub talks : Talks (w.lines ++ ls) c k a walker
+  pub talks : Talks lines c k a walker
+
+-- nothing of c may still be carried out; and with these packets its conversation goes on, where it has begun
+pub record Speaks (w : World) (c : ℕ) (ls : List TranscriptLine) : Type 0 where
+  pub speech : list_all (is_speech c) ls ≡ true
+  pub talked : (k : ℕ) (a : Attachment) → attach_of c w.lines ≡ Some (k, a) → HasTalked (w.lines ++ ls) c k a
   pub free : (o : Source) (x : Asking) → air w o ≡ Some x → asker_in x ≡ one c → ⊥
 
 lines-only : (w : World) (ls : List TranscriptLine) (o : Source) (x : Asking) → air (with_lines w ls) o ≡ Some x → air w o ≡ Some x
@@ -158,8 +165,8 @@ lines-only w ls (Left k) x e = e
 one-same : (a b : ℕ) → one a ≡ one b → a ≡ b
 one-same a b e = some_is e
 
-pub speaks-holds : (w : World) (c k : ℕ) (a : Attachment) (ls : List TranscriptLine) → Holds w → Speaks w c k a ls → Holds (with_lines w ls)
-speaks-holds w c k a ls h sp = record {
+pub speaks-holds : (w : World) (c : ℕ) (ls : List TranscriptLine) → Holds w → Speaks w c ls → Holds (with_lines w ls)
+speaks-holds w c ls h sp = record {
   serves = serves-speech c w.store w.lines ls sp.speech h.serves;
   fresh = fresh-speech c w.lines ls sp.speech h.fresh;
   bound = λ o x e. let old = lines-only w ls o x e in
@@ -170,23 +177,22 @@ speaks-holds w c k a ls h sp = record {
   spoken = λ d m b e. spoken d m b (sym (attach-speech c d w.lines ls sp.speech) ∙ e);
 }
   where
-    own_spoken : IsSpoken (with_lines w ls) c k a
-    own_spoken = record { walker = sp.walker; talks = sp.talks; ahead = λ o x i e r. absurd (sp.free o x (lines-only w ls o x e) (request-asker x c i r)) }
+    own_spoken : (k : ℕ) (a : Attachment) → attach_of c w.lines ≡ Some (k, a) → IsSpoken (with_lines w ls) c k a
+    own_spoken k a e = let t = sp.talked k a e in record { walker = t.walker; talks = t.talks; ahead = λ o x i eo r. absurd (sp.free o x (lines-only w ls o x eo) (request-asker x c i r)) }
 
     spoken : (d m : ℕ) (b : Attachment) → attach_of d w.lines ≡ Some (m, b) → IsSpoken (with_lines w ls) d m b
-    spoken d m b e = elim (either-number c d) [
-      | inl same ↦ (let p : (k, a) ≡ (m, b) = some_is (sym sp.attached ∙ ap (λ n. attach_of n w.lines) same ∙ e) in
-          subst (λ n. IsSpoken (with_lines w ls) n m b) same (subst (λ (q : ℕ × Attachment). IsSpoken (with_lines w ls) c q.0 q.1) p own_spoken))
+    spoken d m b e = elim (either-number d c) [
+      | inl same ↦ subst (λ n. IsSpoken (with_lines w ls) n m b) (sym same) (own_spoken m b (ap (λ n. attach_of n w.lines) (sym same) ∙ e))
       | inr apart ↦ (let old = h.spoken d m b e in record {
         walker = old.walker;
-        talks = talks-speech w.lines ls c d m b old.walker (λ f. apart (one-same c d f)) sp.speech old.talks;
+        talks = talks-speech w.lines ls c d m b old.walker (λ f. apart (sym (one-same c d f))) sp.speech old.talks;
         ahead = λ o x i eo r. let g = old.ahead o x i (lines-only w ls o x eo) r in record { unanswered = g.unanswered; follows = ahead-speech c d i w.lines ls sp.speech g.follows };
       })
     ]
 
-pub speaks-but : (w : World) (c k : ℕ) (a : Attachment) (ls : List TranscriptLine) → But w c → Speaks w c k a ls → But (with_lines w ls) c
-speaks-but w c k a ls h sp =
-    let holds = speaks-holds w c k a ls h.holds sp in
+pub speaks-but : (w : World) (c : ℕ) (ls : List TranscriptLine) → But w c → Speaks w c ls → But (with_lines w ls) c
+speaks-but w c ls h sp =
+    let holds = speaks-holds w c ls h.holds sp in
     record {
       holds = holds;
       serving = λ d x core apart e b s. serving-push w.store w.store w.lines ls d core x.flight ((h.holds).serves).legal (holds.serves).legal (precedes-self w.store)

@@ -1,7 +1,12 @@
 pub mod Serving
 pub mod Bounds
 pub mod Holding
+pub mod Naming
+pub mod Counting
+pub mod Connecting
+pub mod Reaping
 pub mod Connections
+pub mod Knowing
 pub mod Giving
 pub mod Entering
 pub mod Keeping

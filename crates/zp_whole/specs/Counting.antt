@@ -1,0 +1,23 @@
+-- What is known of an open connection in whatever stage: its own lines, and its frames.
+use Rattle.std.specs.Prelude.{List, None, Some, ℕ, ℤ, ◌≡◌, ◌≤◌}
+use Rattle.zk_transcript.specs.Conversations.{close_shown}
+use Rattle.zk_transcript.specs.History.{first_place, opening}
+use Rattle.zk_transcript.specs.Walks.{placed_frame}
+use Rattle.zk_transcript.specs.declared.transcript.TranscriptLine.{TranscriptLine}
+use Rattle.zp_laws.specs.Ending.{IsNumbered}
+use Rattle.zp_laws.specs.Frames.{next_frame}
+use Rattle.zp_step.specs.Stages.{Core, max_count}
+
+-- it has its line where it opened and no `close` line, and no frame from this index on has a line
+pub record IsLined (lines : List TranscriptLine) (c frames : ℕ) : Type 0 where
+  pub offer : ℤ × List ℕ
+  pub opened : opening c lines ≡ Some offer
+  pub unended : first_place (close_shown c) 0 lines ≡ None
+  pub to_come : (i : ℕ) → frames ≤ i → placed_frame c i lines ≡ None
+
+-- so many frames came, each of which was taken up or waits
+pub record HasFrames (lines : List TranscriptLine) (c frames : ℕ) (core : Core) : Type 0 where
+  pub lined : IsLined lines c frames
+  pub numbered : IsNumbered core core.stage
+  pub came : next_frame core ≡ frames
+  pub most : frames ≤ max_count
