@@ -43,7 +43,7 @@ use Rattle.zp_laws.proofs.Strides.{turn-next}
 
 -- ---- from the welcome on
 
-welcomed-stands : (store : Store) (lines : List TranscriptLine) (conn : ℕ) (c : Core) (who : Who) (timeout number zxid : ℤ) (place looked : ℕ) → IsAttachment lines conn c number zxid place
+pub welcomed-stands : (store : Store) (lines : List TranscriptLine) (conn : ℕ) (c : Core) (who : Who) (timeout number zxid : ℤ) (place looked : ℕ) → IsAttachment lines conn c number zxid place
     → Stands store lines conn (attached_core c who timeout number zxid) (at_start zxid (place + 1)) looked
 welcomed-stands store lines conn c who timeout number zxid place looked k = record {
   matches = record {

@@ -131,8 +131,8 @@ is_busy (Committing xid r v p moment) = true
 is_busy _ = false
 
 pub data Arrived (c c' : Core) (bytes : List ℕ) (out : List Action) : Type 0 where
-  Waits : (is : c' ≡ queued c bytes) (silent : out ≡ []) (header : has_header (read_request bytes) ≡ true) → Arrived c c' bytes out
-  Refused : (shut : is_shut c'.stage ≡ true) (why : Cause) (closed : out ≡ action.Close why ∷ []) → Arrived c c' bytes out
+  Queues : (is : c' ≡ queued c bytes) (silent : out ≡ []) (header : has_header (read_request bytes) ≡ true) → Arrived c c' bytes out
+  Shuts : (shut : is_shut c'.stage ≡ true) (why : Cause) (closed : out ≡ action.Close why ∷ []) → Arrived c c' bytes out
 
 busy-open : (st : Stage) → is_busy st ≡ true → is_shut st ≡ false
 busy-open (Connecting connect) h = refl
@@ -160,10 +160,10 @@ module _ (c c' : Core) (bytes : List ℕ) (now : ℕ) where
   settled : is_busy c.stage ≡ true → (mid : Core) (first later : List Action) (b : Bool) → has_header (read_request bytes) ≡ b → MatchBool b (Is (queued c bytes, []) mid first) (Is (closed_by c (cause.NoHeader c.taken)) mid first) → Goes now mid c' later → Arrived c c' bytes (first ++ later)
   settled busy mid first later true e i g =
       let s = goes-still now mid c' later (λ r. busy-ready c.stage busy (sym (ap (λ (d : Core). d.stage) i.0) ∙ r)) g in
-      Waits (s.0 ∙ i.0) (ap (λ l. l ++ later) i.1 ∙ s.1) e
+      Queues (s.0 ∙ i.0) (ap (λ l. l ++ later) i.1 ∙ s.1) e
   settled busy mid first later false e i g =
       let s = goes-still now mid c' later (λ r. (let f : Shut ≡ Ready = sym (ap (λ (d : Core). d.stage) i.0) ∙ r in absurd (cc))) g in
-      Refused (ap (λ (d : Core). is_shut d.stage) (s.0 ∙ i.0)) (cause.NoHeader c.taken) (ap (λ l. l ++ later) i.1 ∙ ap (λ l. action.Close (cause.NoHeader c.taken) ∷ l) s.1)
+      Shuts (ap (λ (d : Core). is_shut d.stage) (s.0 ∙ i.0)) (cause.NoHeader c.taken) (ap (λ l. l ++ later) i.1 ∙ ap (λ l. action.Close (cause.NoHeader c.taken) ∷ l) s.1)
 
   pub arrived : (out : List Action) → is_busy c.stage ≡ true → Steps c (input.Frame bytes) now c' out → Arrived c c' bytes out
   arrived out busy h =
@@ -269,8 +269,8 @@ pub busy-whole : (w w' : World) (c : ℕ) (behind : List TranscriptLine) (z : �
 busy-whole w w' c behind z bytes hd busy last shown came h = go (arrived hd.core hd.next bytes w.clock hd.out busy hd.stepped)
   where
     go : Arrived hd.core hd.next bytes hd.out → Whole w'
-    go (Refused shut why closed) = closing-whole w w' c behind (input.Frame bytes) why z hd shut closed last shown (but-of w c h)
-    go (Waits is silent header) =
+    go (Shuts shut why closed) = closing-whole w w' c behind (input.Frame bytes) why z hd shut closed last shown (but-of w c h)
+    go (Queues is silent header) =
         let v : Conn = record (hd.conn) { actor = Connection (queued hd.core bytes) } in
         let opens : is_shut hd.core.stage ≡ false = busy-open hd.core.stage busy in
         let e : w' ≡ with_conn w c v =

@@ -53,7 +53,7 @@ use Rattle.zp_whole.specs.Holding.{Source, Talks, air, asker_in, out_in, out_of,
 use Rattle.zx_base.proofs.Options.{none_some, some_is}
 
 -- an open stage at which a core stands is attached
-served-at : (s : Store) (lines : List TranscriptLine) (c : ℕ) (core : Core) (w : Walker) (looked : ℕ) (st : Stage) → is_shut st ≡ false → Knows s lines c core w looked st → is_served st ≡ true
+pub served-at : (s : Store) (lines : List TranscriptLine) (c : ℕ) (core : Core) (w : Walker) (looked : ℕ) (st : Stage) → is_shut st ≡ false → Knows s lines c core w looked st → is_served st ≡ true
 served-at s lines c core w looked (Unconnected f) h k = absurd k
 served-at s lines c core w looked (Connecting ph) h k = absurd k
 served-at s lines c core w looked Shut h k = absurd (cc)
@@ -331,3 +331,7 @@ module _ (w w' : World) (c : ℕ) (behind : List TranscriptLine) (i : Input) (hd
 
   pub handed-whole : (z : ℤ) → z ≡ (after w.lines).zxid → AreShown c z behind → Whole w'
   handed-whole z last shown = goes-on-whole w w' c behind i hd r.but r.nothing_out sends-on (sym end.closes) on z last shown
+
+  -- where it stays open it is attached still
+  pub stays-served : is_shut hd.next.stage ≡ false → is_served hd.next.stage ≡ true
+  stays-served going = served-at w.store w.lines c hd.next walks.walker (r.serves).looked hd.next.stage going (subst (λ b. StandsOpen b w.store w.lines c hd.next walks.walker (r.serves).looked) (open-is hd.next.stage going) walks.stands).knows

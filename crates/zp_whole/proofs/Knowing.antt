@@ -13,14 +13,14 @@ use Rattle.std.specs.Ordering.{int_eq}
 use Rattle.std.specs.Prelude.{None, Option, Some, if◌then◌else◌, not, slice_get, ◌≤ℤ◌, ◌⊎◌}
 use Rattle.zk_model.specs.declared.connect.ConnectRequest.{ConnectRequest}
 use Rattle.zk_transcript.proofs.Appending.{first_place-push}
-use Rattle.zk_transcript.proofs.Attachments.{attach_of-push}
+use Rattle.zk_transcript.proofs.Attachments.{attach_of-push, attach_of-skip}
 use Rattle.zk_transcript.proofs.Histories.{first_shown-push, legal-begun}
 use Rattle.zk_transcript.proofs.Lookups.{slice_get-front}
 use Rattle.zk_transcript.proofs.Walks.{state_at-push}
 use Rattle.zk_transcript.proofs.Zxids.{zxid-covers}
 use Rattle.zk_transcript.specs.Conversations.{close_shown}
 use Rattle.zk_transcript.specs.History.{State, after, first_place, first_shown, frame_shown, open_shown, session_at, state_at}
-use Rattle.zk_transcript.specs.Legal.{is_legal}
+use Rattle.zk_transcript.specs.Legal.{attach_of, is_legal}
 use Rattle.zk_transcript.specs.declared.transcript.TranscriptLine.TheVariants.{Update}
 use Rattle.zk_transcript.specs.declared.transcript.TranscriptLine.{TranscriptLine}
 use Rattle.zk_transcript.specs.declared.transcript.UpdateKind.{UpdateKind}
@@ -35,10 +35,13 @@ use Rattle.zp_laws.proofs.Updates.{last-update}
 use Rattle.zp_laws.specs.Inputs.{Precedes}
 use Rattle.zp_step.specs.Stages.{Checking, Committing, Connecting, Core, KeepingAlive, Reading, Ready, Shut, Stage, Unconnected, Waiting}
 use Rattle.zp_whole.proofs.Actions.{said}
+use Rattle.zp_whole.proofs.Executing.{precedes-self}
 use Rattle.zp_whole.proofs.Growing.{precedes-trans, reap-kept, was-kept}
-use Rattle.zp_whole.proofs.Naming.{ahead-unnamed, attach-unnamed, close-none, frame-none, never-opened, packets-unnamed}
+use Rattle.zp_whole.proofs.Lines.{is_plain, plain-attach}
+use Rattle.zp_whole.proofs.Naming.{attach-unnamed, close-none, elsewhere-unnamed, frame-none, never-opened}
 use Rattle.zp_whole.proofs.Numbers.{either-number}
 use Rattle.zp_whole.proofs.Packets.{both-true}
+use Rattle.zp_whole.proofs.Serving.{Elsewhere, elsewhere-plain}
 use Rattle.zp_whole.proofs.Talking.{first_place-front}
 use Rattle.zp_whole.specs.Connecting.{HasOwnLine, IsConnectFlight, IsConnecting, IsInStage, IsOwnSession, IsSeenLife, IsUntouched, RestsOn}
 use Rattle.zp_whole.specs.Connections.{IsClosedAt}
@@ -109,10 +112,10 @@ said-aside d (p ∷ ps) c = let k = said-aside d ps c in record { opens = k.open
 
 -- ---- before it has a session
 
-untouched-push : (lines more : List TranscriptLine) (c : ℕ) (fresh : Fresh) → is_unnamed c more ≡ true → IsUntouched lines c fresh → IsUntouched (lines ++ more) c fresh
+untouched-push : (lines more : List TranscriptLine) (c : ℕ) (fresh : Fresh) → Elsewhere lines more c → IsUntouched lines c fresh → IsUntouched (lines ++ more) c fresh
 untouched-push lines more c fresh h k = record {
-  silent = packets-unnamed c lines more h ∙ k.silent;
-  turn = ahead-unnamed c 1 lines more h k.turn;
+  silent = h.packets ∙ k.silent;
+  turn = h.below 1 k.turn;
   offered = first_shown-push (open_shown c) lines more (fresh.id, fresh.passwd) k.offered;
   offer = k.offer;
 }
@@ -150,35 +153,43 @@ session-push lines more c id timeout passwd zxid number k =
       passwd_is = k.passwd_is;
     }
 
-own-push : (lines more : List TranscriptLine) (c : ℕ) (x : Connect) (p : Phase) (a : Answer) → is_unnamed c more ≡ true → HasOwnLine lines c x p a → HasOwnLine (lines ++ more) c x p a
+own-push : (lines more : List TranscriptLine) (c : ℕ) (x : Connect) (p : Phase) (a : Answer) → attach_of c (lines ++ more) ≡ attach_of c lines → HasOwnLine lines c x p a → HasOwnLine (lines ++ more) c x p a
 own-push lines more c x Creating (answer.Txn r true parts) h k = session-push lines more c x.fresh.id (timeout_in x) x.fresh.passwd r (number_shown parts) k
-own-push lines more c x Creating (answer.Txn r false parts) h k = attach-unnamed c lines more h ∙ k
-own-push lines more c x Creating (answer.Range r f) h k = attach-unnamed c lines more h ∙ k
-own-push lines more c x Creating (answer.Granted r i t) h k = attach-unnamed c lines more h ∙ k
-own-push lines more c x Creating (answer.Alive r i t) h k = attach-unnamed c lines more h ∙ k
+own-push lines more c x Creating (answer.Txn r false parts) h k = h ∙ k
+own-push lines more c x Creating (answer.Range r f) h k = h ∙ k
+own-push lines more c x Creating (answer.Granted r i t) h k = h ∙ k
+own-push lines more c x Creating (answer.Alive r i t) h k = h ∙ k
 own-push lines more c x (Attaching seen life) (answer.Txn r true parts) h k = session-push lines more c x.request.session life.timeout life.passwd r (number_shown parts) k
-own-push lines more c x (Attaching seen life) (answer.Txn r false parts) h k = attach-unnamed c lines more h ∙ k
-own-push lines more c x (Attaching seen life) (answer.Range r f) h k = attach-unnamed c lines more h ∙ k
-own-push lines more c x (Attaching seen life) (answer.Granted r i t) h k = attach-unnamed c lines more h ∙ k
-own-push lines more c x (Attaching seen life) (answer.Alive r i t) h k = attach-unnamed c lines more h ∙ k
-own-push lines more c x Unasked a h k = attach-unnamed c lines more h ∙ k
-own-push lines more c x Looking a h k = attach-unnamed c lines more h ∙ k
-own-push lines more c x Granting a h k = attach-unnamed c lines more h ∙ k
-own-push lines more c x (Keeping seen life) a h k = attach-unnamed c lines more h ∙ k
-own-push lines more c x LookingAgain a h k = attach-unnamed c lines more h ∙ k
-own-push lines more c x Over a h k = attach-unnamed c lines more h ∙ k
+own-push lines more c x (Attaching seen life) (answer.Txn r false parts) h k = h ∙ k
+own-push lines more c x (Attaching seen life) (answer.Range r f) h k = h ∙ k
+own-push lines more c x (Attaching seen life) (answer.Granted r i t) h k = h ∙ k
+own-push lines more c x (Attaching seen life) (answer.Alive r i t) h k = h ∙ k
+own-push lines more c x Unasked a h k = h ∙ k
+own-push lines more c x Looking a h k = h ∙ k
+own-push lines more c x Granting a h k = h ∙ k
+own-push lines more c x (Keeping seen life) a h k = h ∙ k
+own-push lines more c x LookingAgain a h k = h ∙ k
+own-push lines more c x Over a h k = h ∙ k
 
--- the transcript and the store grow, by lines that don't name c
+-- the transcript and the store grow, by no update of c and no packet for it
 pub record GrowsBeside (s u : Store) (lines more : List TranscriptLine) (c : ℕ) : Type 0 where
   pub longer : Precedes s u
   pub legal : is_legal lines ≡ true
   pub still_legal : is_legal (lines ++ more) ≡ true
-  pub unnamed : is_unnamed c more ≡ true
+  pub elsewhere : Elsewhere lines more c
+  pub attach : attach_of c (lines ++ more) ≡ attach_of c lines
+
+pub grows-unnamed : (s u : Store) (lines more : List TranscriptLine) (c : ℕ) → Precedes s u → is_legal lines ≡ true → is_legal (lines ++ more) ≡ true → is_unnamed c more ≡ true → GrowsBeside s u lines more c
+grows-unnamed s u lines more c x a b h = record { longer = x; legal = a; still_legal = b; elsewhere = elsewhere-unnamed lines more c h; attach = attach-unnamed c lines more h }
+
+-- a line that is neither update nor packet
+pub grows-plain : (s : Store) (lines : List TranscriptLine) (l : TranscriptLine) (c : ℕ) → is_legal lines ≡ true → is_legal (lines ++ l ∷ []) ≡ true → is_plain l ≡ true → GrowsBeside s s lines (l ∷ []) c
+grows-plain s lines l c a b h = record { longer = precedes-self s; legal = a; still_legal = b; elsewhere = elsewhere-plain lines c l h; attach = attach_of-skip lines l c (plain-attach c l h) }
 
 module _ (s u : Store) (lines more : List TranscriptLine) (c : ℕ) (g : GrowsBeside s u lines more c) where
   connect-flies : (place : ℕ) (x : Connect) (f : Option Flight) → IsConnectFlight s lines c place x f → IsConnectFlight u (lines ++ more) c place x f
   connect-flies place x None k = k
-  connect-flies place x (Some (Out a)) k = record { asked = k.asked; kind = k.kind; rests = rests-push s u (after lines).zxid (after (lines ++ more)).zxid x.request x.phase g.longer (zxid-rises lines more g.legal g.still_legal) k.rests; unattached = attach-unnamed c lines more g.unnamed ∙ k.unattached }
+  connect-flies place x (Some (Out a)) k = record { asked = k.asked; kind = k.kind; rests = rests-push s u (after lines).zxid (after (lines ++ more)).zxid x.request x.phase g.longer (zxid-rises lines more g.legal g.still_legal) k.rests; unattached = g.attach ∙ k.unattached }
   connect-flies place x (Some (Carried a)) k =
       let later = state_at-push lines more k.looked k.within in
       record {
@@ -194,13 +205,13 @@ module _ (s u : Store) (lines more : List TranscriptLine) (c : ℕ) (g : GrowsBe
         risen = (let up = zxid-rises lines more g.legal g.still_legal in let same = ap (λ (t : State). t.zxid) later in omega (arith, ints, k.risen, up, same));
         stands = subst (StandsFor (present k.then_store)) (sym later) k.stands;
         rests = subst (λ (t : State). RestsOn k.then_store t.zxid x.request x.phase) (sym later) k.rests;
-        own = own-push lines more c x x.phase a g.unnamed k.own;
+        own = own-push lines more c x x.phase a g.attach k.own;
       }
-  connect-flies place x (Some Denied) k = attach-unnamed c lines more g.unnamed ∙ k
+  connect-flies place x (Some Denied) k = g.attach ∙ k
 
   pub connecting-push : (core : Core) (x : Connect) (f : Option Flight) → IsConnecting s lines c core x f → IsConnecting u (lines ++ more) c core x f
   connecting-push core x f k = record {
-    untouched = untouched-push lines more c x.fresh g.unnamed k.untouched;
+    untouched = untouched-push lines more c x.fresh g.elsewhere k.untouched;
     next = k.next;
     waiting = frames-longer lines more c 1 core.waiting k.waiting;
     place = k.place;
@@ -210,8 +221,8 @@ module _ (s u : Store) (lines more : List TranscriptLine) (c : ℕ) (g : GrowsBe
     flies = connect-flies k.place x f k.flies;
   }
 
-  stage-push : (core : Core) (f : Option Flight) (st : Stage) → IsInStage s lines c core f st → IsInStage u (lines ++ more) c core f st
-  stage-push core f (Unconnected fresh) (k, none) = (record { untouched = untouched-push lines more c fresh g.unnamed k.untouched; unattached = attach-unnamed c lines more g.unnamed ∙ k.unattached; none_waits = k.none_waits }, none)
+  pub stage-push : (core : Core) (f : Option Flight) (st : Stage) → IsInStage s lines c core f st → IsInStage u (lines ++ more) c core f st
+  stage-push core f (Unconnected fresh) (k, none) = (record { untouched = untouched-push lines more c fresh g.elsewhere k.untouched; unattached = g.attach ∙ k.unattached; none_waits = k.none_waits }, none)
   stage-push core f (Connecting x) k = connecting-push core x f k
   stage-push core f Ready k = tt
   stage-push core f (KeepingAlive b) k = tt
@@ -241,10 +252,10 @@ reap-flies s u r (Some Denied) x k = k
 
 -- ---- any number
 
-pub known-push : (s u : Store) (lines more : List TranscriptLine) (c : ℕ) (x : Conn) (a : Actor) → GrowsBeside s u lines more c → IsKnownAs s lines c x a → IsKnownAs u (lines ++ more) c x a
-known-push s u lines more c x (Connection core) g (n, st) = (counted-aside lines more c x.frames core (unnamed-aside more c g.unnamed) n, stage-push s u lines more c g core x.flight core.stage st)
-known-push s u lines more c x (Reaper r) g k = reap-flies s u r x.flight g.longer k
-known-push s u lines more c x Closed g k = tt
+pub known-push : (s u : Store) (lines more : List TranscriptLine) (c : ℕ) (x : Conn) (a : Actor) → GrowsBeside s u lines more c → AreAside more c → IsKnownAs s lines c x a → IsKnownAs u (lines ++ more) c x a
+known-push s u lines more c x (Connection core) g aside (n, st) = (counted-aside lines more c x.frames core aside n, stage-push s u lines more c g core x.flight core.stage st)
+known-push s u lines more c x (Reaper r) g aside k = reap-flies s u r x.flight g.longer k
+known-push s u lines more c x Closed g aside k = tt
 
 closed-known : (s : Store) (lines : List TranscriptLine) (c : ℕ) (x : Conn) (a : Actor) → is_closed a ≡ true → IsKnownAs s lines c x a
 closed-known s lines c x (Connection core) h = absurd (cc)
@@ -267,12 +278,12 @@ pub record ActsAlone (w w' : World) (c : ℕ) (more : List TranscriptLine) : Typ
 
 module _ (w w' : World) (c : ℕ) (more : List TranscriptLine) (h : Known w) (a : ActsAlone w w' c more) where
   grows : (d : ℕ) → is_unnamed d more ≡ true → GrowsBeside w.store w'.store w.lines more d
-  grows d n = record { longer = a.longer; legal = a.legal; still_legal = subst (λ l. is_legal l ≡ true) a.lines a.still_legal; unnamed = n }
+  grows d n = grows-unnamed w.store w'.store w.lines more d a.longer a.legal (subst (λ l. is_legal l ≡ true) a.lines a.still_legal) n
 
   other-used : (d : ℕ) (x : Conn) → d ≢ c → conn_at d w' ≡ Some x → IsKnownAs w'.store w'.lines d x x.actor
   other-used d x apart e = elim (a.unnamed d apart) [
     | inl t ↦ closed-known w'.store w'.lines d x x.actor (ap (λ (y : Conn). is_closed y.actor) (some_is (sym e ∙ a.others d apart ∙ t.1)) ∙ t.2)
-    | inr n ↦ subst (λ l. IsKnownAs w'.store l d x x.actor) (sym a.lines) (known-push w.store w'.store w.lines more d x x.actor (grows d n) (h.used d x (sym (a.others d apart) ∙ e)))
+    | inr n ↦ subst (λ l. IsKnownAs w'.store l d x x.actor) (sym a.lines) (known-push w.store w'.store w.lines more d x x.actor (grows d n) (unnamed-aside more d n) (h.used d x (sym (a.others d apart) ∙ e)))
   ]
 
   other-unused : (d : ℕ) → d ≢ c → conn_at d w' ≡ None → is_unnamed d w'.lines ≡ true

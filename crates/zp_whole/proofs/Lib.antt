@@ -36,4 +36,7 @@ pub mod Acting
 pub mod Reapers
 pub mod Connecting
 pub mod Welcoming
+pub mod Stepping
+pub mod Greeting
+pub mod Frames
 pub mod Happenings

@@ -48,7 +48,7 @@ use Rattle.zx_base.proofs.Options.{none_some, some_is}
 
 -- the next ask and what it rests on; or an end, of which the client is told where its resume is refused; or the welcome
 pub data LeadsTo (store : Store) (lines : List TranscriptLine) (c : ℕ) (z : ℤ) (x : Connect) (phase : Phase) : ConnectStep → Type 0 where
-  on : (q : Ask) (asked : asked_in x phase ≡ Some q) (rests : RestsOn store z x.request phase) (none : attach_of c lines ≡ None) → LeadsTo store lines c z x phase (steps.Ask q)
+  goes_on : (q : Ask) (asked : asked_in x phase ≡ Some q) (rests : RestsOn store z x.request phase) (none : attach_of c lines ≡ None) → LeadsTo store lines c z x phase (steps.Ask q)
   ahead : (client head : ℤ) → LeadsTo store lines c z x phase (steps.Ahead client head)
   taken : (r : ℤ) → LeadsTo store lines c z x phase (steps.Taken r)
   unknown : (none : attach_of c lines ≡ None) → LeadsTo store lines c z x phase steps.Unknown
@@ -64,7 +64,7 @@ pub record IsLookAt (store : Store) (s : State) (v : View) : Type 0 where
 
 module _ (store : Store) (lines : List TranscriptLine) (c : ℕ) (z : ℤ) (x : Connect) (phase : Phase) (none : attach_of c lines ≡ None) where
   waits-on : (next : Phase) (step : ConnectStep) (q : Ask) → asked_in x next ≡ Some q → RestsOn store z x.request next → Waits x next phase step → LeadsTo store lines c z x phase step
-  waits-on next (steps.Ask a) q e r (p, same) = on a (ap (asked_in x) p ∙ sym same) (subst (RestsOn store z x.request) (sym p) r) none
+  waits-on next (steps.Ask a) q e r (p, same) = goes_on a (ap (asked_in x) p ∙ sym same) (subst (RestsOn store z x.request) (sym p) r) none
   waits-on next (steps.Attached response who timeout number zxid) q e r (p, same) = absurd (none_some (same ∙ e))
   waits-on next (steps.Ahead client head) q e r (p, same) = ahead client head
   waits-on next steps.Unknown q e r (p, same) = unknown none
