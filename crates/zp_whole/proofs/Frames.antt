@@ -135,7 +135,7 @@ module _ (w w' : World) (c : ℕ) (behind : List TranscriptLine) (z : ℤ) (byte
           hd.result ∙ ap (λ l. leaves c w hd.conn (behind_step hd.next) (acts_all c (kind_asked c (Connection hd.next)) behind hd.conn.flight l)) silent
           ∙ ap (λ (d : Core). leaves c w hd.conn (behind_step d) (quiet hd.conn.flight)) is
           ∙ ap (λ b. leaves c w hd.conn (if b then Closed else Connection (queued hd.core bytes)) (quiet hd.conn.flight)) (h.unshut c hd.conn hd.core hd.found hd.serving) in
-          leaves-acts w w' c hd.conn (Connection (queued hd.core bytes)) (quiet hd.conn.flight) e (λ d apart. refl) (busy-whole w w' c behind z bytes hd busy last shown (λ s header. frame-at header) h) (
+          leaves-acts w w' c hd.conn (Connection (queued hd.core bytes)) (quiet hd.conn.flight) hd.found e refl (busy-whole w w' c behind z bytes hd busy last shown (λ s header. frame-at header) h) (
             subst (HasFrames (w.lines ++ []) c hd.conn.frames) is (frames (ap (λ (d : Core). is_shut d.stage) is ∙ h.unshut c hd.conn hd.core hd.found hd.serving) [] (record { opens = refl; closes = λ j. refl; frames = λ i j. refl })),
             subst (λ l. IsInStage w.store l c (queued hd.core bytes) hd.conn.flight hd.core.stage) (sym (append-nil w.lines)) (stage-queued w.store w.lines c hd.core bytes hd.conn.flight hd.core.stage busy refl (frame-at header) k.stage),
           )

@@ -1,4 +1,6 @@
 -- The world behind the answer to a connection without a session.
+use Rattle.zp_whole.proofs.Acting.{is_own, one-own}
+use Rattle.std.specs.List.{list_all}
 use Rattle.zp_laws.proofs.Going.{goes-walks}
 use Rattle.zp_whole.proofs.Stepping.{handed-acts}
 use Rattle.zk_jute.specs.Connects.{read_connect}
@@ -51,7 +53,7 @@ use Rattle.zp_step.specs.Steps.{Answers, Goes, StepsOpen}
 use Rattle.zp_step.specs.declared.action.Action.TheVariants as action
 use Rattle.zp_step.specs.declared.action.Action.{Action}
 use Rattle.zp_step.specs.declared.input.Input.TheVariants as input
-use Rattle.zp_whole.proofs.Acting.{Acts, apart-number, leaves-acts}
+use Rattle.zp_whole.proofs.Acting.{Acts, leaves-acts}
 use Rattle.zp_whole.proofs.Actions.{Split, said-packets, said-speech, split, split-sends}
 use Rattle.zp_whole.proofs.Carrying.{one}
 use Rattle.zp_whole.proofs.Closing.{But, but-of, ends-whole, with_lines}
@@ -123,7 +125,7 @@ pub record IsConnectAt (lines : List TranscriptLine) (c : ℕ) (core : Core) (x 
 module _ (w w' : World) (c : ℕ) (behind : List TranscriptLine) (i : Input) (hd : Handed c behind w i w') (x : Connect) (core : Core) (h : Whole w) (k : IsConnectAt w.lines c core x)
     (frames : is_shut hd.next.stage ≡ false → (more : List TranscriptLine) → AreAside more c → HasFrames (w.lines ++ more) c hd.conn.frames hd.next) where
   pub asks-acts : (p : Phase) (kept : ℕ) (q : Ask) → asked_in x p ≡ Some q → RestsOn w.store (after w.lines).zxid x.request p → attach_of c w.lines ≡ None → hd.next ≡ asking_core core kept (in_phase x p) q → hd.out ≡ action.Ask q ∷ [] → Acts w w' c
-  asks-acts p kept q asked rests none next out = leaves-acts w w' c hd.conn (Connection d) o is (λ e apart. refl) (subst Whole (sym plain) whole) known
+  asks-acts p kept q asked rests none next out = leaves-acts w w' c hd.conn (Connection d) o hd.found is refl (subst Whole (sym plain) whole) known
     where
       d : Core
       d = asking_core core kept (in_phase x p) q
@@ -216,14 +218,14 @@ module _ (w w' : World) (c : ℕ) (a : Answer) (hd : Handed c [] w (input.Answer
   -- ---- its resume is refused
 
   refuses : (packet : List ℕ) (why : Cause) → attach_of c w.lines ≡ None → hd.next.stage ≡ Shut → hd.out ≡ action.Send packet ∷ action.Close why ∷ [] → Acts w w' c
-  refuses packet why none shut out = leaves-acts w w' c hd.conn Closed (record { flight = None; lines = Send c packet ∷ Close c (ended.Cause why) ∷ []; strays = left_by hd.conn.flight }) is unnamed whole tt
+  refuses packet why none shut out = leaves-acts w w' c hd.conn Closed (record { flight = None; lines = Send c packet ∷ Close c (ended.Cause why) ∷ []; strays = left_by hd.conn.flight }) hd.found is own whole tt
     where
       is : w' ≡ leaves c w hd.conn Closed (record { flight = None; lines = Send c packet ∷ Close c (ended.Cause why) ∷ []; strays = left_by hd.conn.flight })
       is = hd.result ∙ ap (λ l. leaves c w hd.conn (behind_step hd.next) (acts_all c (kind_asked c (Connection hd.next)) [] hd.conn.flight l)) out
           ∙ ap (λ b. leaves c w hd.conn (if b then Closed else Connection hd.next) (record { flight = None; lines = Send c packet ∷ Close c (ended.Cause why) ∷ []; strays = left_by hd.conn.flight })) (ap is_shut shut)
 
-      unnamed : (d : ℕ) → d ≢ c → is_unnamed d (Send c packet ∷ Close c (ended.Cause why) ∷ []) ≡ true
-      unnamed d apart = both-true (not (d == c)) (not (d == c) && true) (apart-number d c apart) (both-true (not (d == c)) true (apart-number d c apart) refl)
+      own : list_all (is_own c) (Send c packet ∷ Close c (ended.Cause why) ∷ []) ≡ true
+      own = both-true (c == c) ((c == c) && true) (same-nat c) (one-own c)
 
       but1 : But (with_lines w (Send c packet ∷ [])) c
       but1 = speaks-but w c (Send c packet ∷ []) (but-of w c h) (record { speech = said-speech c (packet ∷ []); talked = λ m b e. absurd (none_some (sym none ∙ e)); free = free })

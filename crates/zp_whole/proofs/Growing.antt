@@ -190,7 +190,7 @@ ask-kept s u lines more a x p b = bound-as-kept s u lines more a.kind a.ask x p 
 
 -- ---- the store serves the lines
 
-quiet-change : (lines : List TranscriptLine) (l : TranscriptLine) (s : State) → is_quiet l ≡ true → change lines s l ≡ s
+pub quiet-change : (lines : List TranscriptLine) (l : TranscriptLine) (s : State) → is_quiet l ≡ true → change lines s l ≡ s
 quiet-change lines (Update u) s h = absurd (cc)
 quiet-change lines (Lapse r id) s h = absurd (cc)
 quiet-change lines _ s h = refl

@@ -39,4 +39,5 @@ pub mod Welcoming
 pub mod Stepping
 pub mod Greeting
 pub mod Frames
+pub mod Arrivals
 pub mod Happenings

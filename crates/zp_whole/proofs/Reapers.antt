@@ -35,7 +35,7 @@ use Rattle.zp_happen.specs.declared.flight.Flight.TheVariants.{Out}
 use Rattle.zp_laws.proofs.Parts.{revision-kept}
 use Rattle.zp_laws.specs.Inputs.{Precedes}
 use Rattle.zp_step.specs.Stages.{Core}
-use Rattle.zp_whole.proofs.Acting.{Acts, ends-unnamed, leaves-acts}
+use Rattle.zp_whole.proofs.Acting.{Acts, ends-own, leaves-acts}
 use Rattle.zp_whole.proofs.Asking.{ranges-read}
 use Rattle.zp_whole.proofs.Carrying.{request-asker}
 use Rattle.zp_whole.proofs.Closing.{but-of, ends-whole}
@@ -55,9 +55,9 @@ use Rattle.zs_reap.specs.Steps.{Answered, Asks, Decides, Follows, IsCounted, Loo
 use Rattle.zs_reap.specs.declared.reap.Phase.TheVariants.{Counting, Looking, Over, Removing, Unasked}
 use Rattle.zs_reap.specs.declared.reap.Phase.{Phase}
 use Rattle.zs_reap.specs.declared.reap.Reap.{Reap}
+use Rattle.zs_reap.specs.declared.reap.ReapStep.TheVariants as steps
 use Rattle.zs_reap.specs.declared.reap.ReapStep.{ReapStep}
 use Rattle.zs_session.specs.Answering.{viewed}
-use Rattle.zs_reap.specs.declared.reap.ReapStep.TheVariants as steps
 use Rattle.zx_base.proofs.Options.{none_some}
 
 -- ---- its ask is carried out
@@ -230,7 +230,7 @@ module _ (w w' : World) (c : ℕ) (x : Conn) (reap : Reap) (a : Answer) (there :
   ends-as : (next : Reap) (end : Ended) → next.phase ≡ Over → w' ≡ leaves c w x (behind_reap next) (ends c [] end (quiet x.flight)) → Acts w w' c
   ends-as next end over is =
       let e : w' ≡ leaves c w x Closed (ends c [] end (quiet x.flight)) = is ∙ ap (λ p. leaves c w x (if is_over p then Closed else Reaper next) (ends c [] end (quiet x.flight))) over in
-      leaves-acts w w' c x Closed (ends c [] end (quiet x.flight)) e (λ d apart. ends-unnamed d c [] end (quiet x.flight) apart refl refl)
+      leaves-acts w w' c x Closed (ends c [] end (quiet x.flight)) there e (ends-own c [] end (quiet x.flight) refl refl)
       (subst Whole (sym e) (ends-whole w c x ((after w.lines).zxid) [] end there refl tt (but-of w c h))) tt
 
   goes-as : (next : Reap) (q : Ask) → next.session ≡ reap.session → IsReapAsk w.store reap.session next.phase q → w' ≡ leaves c w x (behind_reap next) (quiet (Some (Out (record { ask = q; kind = kind_of_reap next.session next.phase })))) → Acts w w' c
@@ -240,7 +240,7 @@ module _ (w w' : World) (c : ℕ) (x : Conn) (reap : Reap) (a : Answer) (there :
       let e : w' ≡ leaves c w x (Reaper next) o = is ∙ ap (λ b. leaves c w x (if b then Closed else Reaper next) o) (ask-open w.store reap.session next.phase q asks) in
       let plain : w' ≡ with_conn w c (going next q) =
       e ∙ ap (λ l. record (with_conn w c (going next q)) { lines = l; strays = w.strays ++ [] }) (append-nil w.lines) ∙ ap (λ l. record (with_conn w c (going next q)) { strays = l }) (append-nil w.strays) in
-      leaves-acts w w' c x (Reaper next) o e (λ d apart. refl) (subst Whole (sym plain) (going-whole next q mine)) (record { asked = mine; kind = refl })
+      leaves-acts w w' c x (Reaper next) o there e refl (subst Whole (sym plain) (going-whole next q mine)) (record { asked = mine; kind = refl })
 
   comes-as : (next : Reap) (step : ReapStep) → next.session ≡ reap.session → ComesTo w.store reap.session next.phase step → w' ≡ leaves c w x (behind_reap next) (reap_acts c (kind_asked c (Reaper next)) x.flight step) → Acts w w' c
   comes-as next _ same (on q asks) is = goes-as next q same asks is
@@ -250,6 +250,6 @@ module _ (w w' : World) (c : ℕ) (x : Conn) (reap : Reap) (a : Answer) (there :
 
   pub reaps-acts : Reaps c w (Some a) w' x reap → Acts w w' c
   reaps-acts (inl e) =
-      leaves-acts w w' c x Closed (ended_by c (cause.Damaged e.key e.value) x.flight) e.result (λ d apart. ends-unnamed d c [] (ended.Cause (cause.Damaged e.key e.value)) (quiet x.flight) apart refl refl)
+      leaves-acts w w' c x Closed (ended_by c (cause.Damaged e.key e.value) x.flight) there e.result (ends-own c [] (ended.Cause (cause.Damaged e.key e.value)) (quiet x.flight) refl refl)
       (subst Whole (sym e.result) (ends-whole w c x ((after w.lines).zxid) [] (ended.Cause (cause.Damaged e.key e.value)) there refl tt (but-of w c h))) tt
   reaps-acts (inr r) = comes-as r.next r.step (r.stepped).same (reaps-to w.store reap a k (r.next).phase r.step (r.stepped).moves) r.result

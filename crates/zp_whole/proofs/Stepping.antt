@@ -1,7 +1,7 @@
 -- A connection takes a step: what is known of it behind the step, and that it acted by itself.
-use Rattle.std.proofs.Common.{Bool, List, [], ap, arith, false, inl, inr, refl, subst, sym, true, ℕ, ℤ, ◌++◌, ◌+◌, ◌∙◌, ◌∷◌, ◌≡◌, ◌≢◌, ◌≤◌}
+use Rattle.std.proofs.Common.{Bool, List, [], ap, arith, false, inl, inr, refl, subst, sym, true, ℕ, ℤ, ◌++◌, ◌+◌, ◌∙◌, ◌∷◌, ◌≡◌, ◌≤◌}
+use Rattle.std.specs.List.{list_all}
 use Rattle.std.specs.Prelude.{Option, Some, if◌then◌else◌}
-
 use Rattle.zk_transcript.specs.History.{after}
 use Rattle.zk_transcript.specs.declared.transcript.Cause.{Cause}
 use Rattle.zk_transcript.specs.declared.transcript.Ended.TheVariants as ended
@@ -21,7 +21,7 @@ use Rattle.zp_step.specs.Steps.{Steps as CoreSteps}
 use Rattle.zp_step.specs.declared.action.Action.TheVariants as action
 use Rattle.zp_step.specs.declared.action.Action.{Action}
 use Rattle.zp_step.specs.declared.input.Input.{Input}
-use Rattle.zp_whole.proofs.Acting.{Acts, acts-unnamed, ends-unnamed, leaves-acts, shown-unnamed}
+use Rattle.zp_whole.proofs.Acting.{Acts, acts-own, ends-own, is_own, leaves-acts, shown-own}
 use Rattle.zp_whole.proofs.Actions.{Asks, Closes, Rests, Split, Tail, is_closing, said, split, split-closes, split-outcome, tail_outcome}
 use Rattle.zp_whole.proofs.Closing.{AreShown, But}
 use Rattle.zp_whole.proofs.Ends.{closing-whole}
@@ -31,7 +31,7 @@ use Rattle.zp_whole.specs.Connecting.{IsInStage}
 use Rattle.zp_whole.specs.Connections.{Whole}
 use Rattle.zp_whole.specs.Counting.{HasFrames, IsLined}
 use Rattle.zp_whole.specs.Knowing.{IsKnownAs}
-use Rattle.zp_whole.specs.Naming.{is_unnamed}
+
 
 -- ---- its frames
 
@@ -52,7 +52,7 @@ closing-acts w w' c behind i why z hd shut out last shown h =
     let is : w' ≡ leaves c w hd.conn Closed o =
     hd.result ∙ ap (λ l. leaves c w hd.conn (behind_step hd.next) (acts_all c (kind_asked c (Connection hd.next)) behind hd.conn.flight l)) out
     ∙ ap (λ b. leaves c w hd.conn (if b then Closed else Connection hd.next) o) shut in
-    leaves-acts w w' c hd.conn Closed o is (λ d apart. ends-unnamed d c behind (ended.Cause why) (quiet hd.conn.flight) apart (shown-unnamed d c z behind apart shown) refl)
+    leaves-acts w w' c hd.conn Closed o hd.found is (ends-own c behind (ended.Cause why) (quiet hd.conn.flight) (shown-own c z behind shown) refl)
     (closing-whole w w' c behind i why z hd shut out last shown h) tt
 
 -- an input that ends it in whatever stage
@@ -71,8 +71,8 @@ module _ (w w' : World) (c : ℕ) (behind : List TranscriptLine) (i : Input) (z 
   o : StepOutcome
   o = acts_all c (kind_asked c (Connection hd.next)) behind hd.conn.flight hd.out
 
-  unnamed : (d : ℕ) → d ≢ c → is_unnamed d (acts_all c (kind_asked c (Connection hd.next)) behind hd.conn.flight hd.out).lines ≡ true
-  unnamed d apart = acts-unnamed d c (kind_asked c (Connection hd.next)) behind hd.out (quiet hd.conn.flight) apart (shown-unnamed d c z behind apart shown) refl
+  own : list_all (is_own c) (acts_all c (kind_asked c (Connection hd.next)) behind hd.conn.flight hd.out).lines ≡ true
+  own = acts-own c (kind_asked c (Connection hd.next)) behind hd.out (quiet hd.conn.flight) (shown-own c z behind shown) refl
 
   -- where it doesn't close, its packets alone are added
   tail-said : (t : Tail) → is_closing t ≡ false → (tail_outcome c (kind_asked c (Connection hd.next)) behind hd.conn.flight (said c parts.packets) t).lines ≡ said c parts.packets
@@ -104,5 +104,5 @@ module _ (w w' : World) (c : ℕ) (behind : List TranscriptLine) (i : Input) (z 
   )
 
   pub handed-acts : Acts w w' c
-  handed-acts = leaves-acts w w' c hd.conn (behind_step hd.next) (acts_all c (kind_asked c (Connection hd.next)) behind hd.conn.flight hd.out) hd.result unnamed whole
+  handed-acts = leaves-acts w w' c hd.conn (behind_step hd.next) (acts_all c (kind_asked c (Connection hd.next)) behind hd.conn.flight hd.out) hd.found hd.result own whole
       (known (is_shut hd.next.stage) refl (acts_all c (kind_asked c (Connection hd.next)) behind hd.conn.flight hd.out).flight)

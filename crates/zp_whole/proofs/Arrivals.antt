@@ -1,0 +1,156 @@
+-- Bytes of a client arrive: the frames that are whole with them come one after the other, and the world stays whole and known.
+use Rattle.std.proofs.Common.{Bool, List, [], ap, append_assoc, arith, false, length, refl, subst, sym, true, ℕ, ◌++◌, ◌+◌, ◌<◌, ◌∙◌, ◌∷◌, ◌≡◌, ◌≤◌}
+use Rattle.std.proofs.lemmas.Bool.Decides.{nat_tests}
+use Rattle.std.proofs.lemmas.List.Elements.{All-cons, All-head, All-nil, All-tail}
+use Rattle.std.specs.List.{list_all}
+use Rattle.std.specs.Prelude.{All, MatchBool, Option, Some, ◌==◌}
+use Rattle.zk_jute.specs.Frames.{Framed, IsFrame}
+use Rattle.zk_jute.specs.JuteValues.{Spelled}
+use Rattle.zk_model.specs.Limits.{max_frame}
+use Rattle.zk_transcript.specs.History.{after}
+use Rattle.zk_transcript.specs.Walks.{placed_frame}
+use Rattle.zk_transcript.specs.declared.transcript.TranscriptLine.TheVariants.{Frame as FrameLine}
+use Rattle.zk_transcript.specs.declared.transcript.TranscriptLine.{TranscriptLine}
+use Rattle.zp_happen.specs.Arriving.{FramesArrive, frame_lines, shown_frame}
+use Rattle.zp_happen.specs.Handing.{Handed}
+use Rattle.zp_happen.specs.Kinds.{kind_asked}
+use Rattle.zp_happen.specs.StepOutcomes.{StepOutcome, acts_all}
+use Rattle.zp_happen.specs.Worlds.{Actor, Conn, Connection, World, behind_step, conn_at, is_open_conn, zxid_at}
+use Rattle.zp_happen.specs.declared.flight.Flight.{Flight}
+use Rattle.zp_laws.proofs.Counting.{counted-small}
+use Rattle.zp_step.specs.Stages.{Core, counted_up, max_count}
+use Rattle.zp_step.specs.declared.input.Input.TheVariants as input
+use Rattle.zp_whole.proofs.Acting.{Acts, acts-entries, acts-known, is_own}
+use Rattle.zp_whole.proofs.Arriving.{lines-shown, shown-whole, zxid-shown}
+use Rattle.zp_whole.proofs.Executing.{same-nat}
+use Rattle.zp_whole.proofs.Frames.{HasJustCome, frame-acts, frame-placed, lined-frame}
+use Rattle.zp_whole.proofs.Knowing.{GrowsBeside, grows-plain, stage-push}
+use Rattle.zp_whole.proofs.Numbers.{conn-here, conn-there}
+use Rattle.zp_whole.proofs.Packets.{both-true}
+use Rattle.zp_whole.specs.Connecting.{IsInStage}
+use Rattle.zp_whole.specs.Connections.{Whole}
+use Rattle.zp_whole.specs.Counting.{HasFrames, IsLined}
+use Rattle.zp_whole.specs.Entering.{AreEntries}
+use Rattle.zp_whole.specs.Knowing.{IsKnownAs, Known}
+use Rattle.zx_base.proofs.Options.{some_is}
+
+pub spelled-small : (fs : List (List ℕ)) (front : List ℕ) → Spelled IsFrame fs front → All (λ f. length f ≤ max_frame) fs
+spelled-small [] front h = All-nil (λ f. length f ≤ max_frame)
+spelled-small (f ∷ fs) front (a, rest, one, more, e) = All-cons (λ g. length g ≤ max_frame) f fs one.2 (spelled-small fs rest more)
+
+pub framed-small : (bytes : List ℕ) (fs : List (List ℕ)) (rest : List ℕ) → Framed bytes fs rest → All (λ f. length f ≤ max_frame) fs
+framed-small bytes fs rest h = spelled-small fs h.0 h.1
+
+-- ---- both
+
+pub record IsAccounted (w : World) : Type 0 where
+  pub whole : Whole w
+  pub known : Known w
+  pub entries : AreEntries w.lines w.entries
+
+pub acts-accounted : (w w' : World) (c : ℕ) → IsAccounted w → Acts w w' c → IsAccounted w'
+acts-accounted w w' c k a = record { whole = a.whole; known = acts-known w w' c k.whole k.known a; entries = acts-entries w w' c k.entries a }
+
+-- ---- a frame is shown and handed in
+
+-- what was done behind the line of the frame was done behind the world before it
+acts-shown : (w w' : World) (c : ℕ) (x : Conn) (frame : List ℕ) → conn_at c w ≡ Some x → x.frames < max_count → Acts (shown_frame c w x frame) w' c → Acts w w' c
+acts-shown w w' c x frame there small a = record {
+  whole = a.whole;
+  store = a.store;
+  entries = a.entries;
+  more = FrameLine c x.frames (zxid_at w.store) frame ∷ a.more;
+  lines = a.lines ∙ append_assoc w.lines (FrameLine c x.frames (zxid_at w.store) frame ∷ []) a.more;
+  own = both-true (c == c) (list_all (is_own c) a.more) (same-nat c) a.own;
+  others = λ d apart. a.others d apart ∙ conn-there w c d (record x { frames = counted_up (x.frames + 1) }) apart;
+  now = a.now;
+  there = a.there;
+  frames = λ y e. (
+    let same : x ≡ y = some_is (sym there ∙ e) in
+    let up = counted-small (x.frames + 1) (omega (arith, small)) in
+    let more = a.frames (record x { frames = counted_up (x.frames + 1) }) (conn-here w c (record x { frames = counted_up (x.frames + 1) })) in
+    omega (arith, ap (λ (v : Conn). v.frames) same, up, more));
+  known = a.known;
+}
+
+core-of : (w : World) (c : ℕ) (x : Conn) (core : Core) (f : Option Flight) → Known w → conn_at c w ≡ Some x → x.actor ≡ Connection core → HasFrames w.lines c x.frames core × IsInStage w.store w.lines c core x.flight core.stage
+core-of w c x core f k there actor = subst (IsKnownAs w.store w.lines c x) actor (k.used c x there)
+
+module _ (w mid : World) (c : ℕ) (x : Conn) (frame : List ℕ) (more : List (List ℕ)) (k : IsAccounted w) (there : conn_at c w ≡ Some x) (small : All (λ f. length f ≤ max_frame) (frame ∷ more)) (count : x.frames < max_count)
+    (hd : Handed c (frame_lines c (counted_up (x.frames + 1)) (zxid_at w.store) more) (shown_frame c w x frame) (input.Frame frame) mid) where
+  w1 : World
+  w1 = shown_frame c w x frame
+
+  is-conn : record x { frames = counted_up (x.frames + 1) } ≡ hd.conn
+  is-conn = some_is (sym (conn-here w c (record x { frames = counted_up (x.frames + 1) })) ∙ hd.found)
+
+  up : counted_up (x.frames + 1) ≡ x.frames + 1
+  up = counted-small (x.frames + 1) (omega (arith, count))
+
+  frames-are : hd.conn.frames ≡ x.frames + 1
+  frames-are = ap (λ (v : Conn). v.frames) (sym is-conn) ∙ counted-small (x.frames + 1) (omega (arith, count))
+
+  actor : x.actor ≡ Connection hd.core
+  actor = ap (λ (v : Conn). v.actor) is-conn ∙ hd.serving
+
+  before : HasFrames w.lines c x.frames hd.core × IsInStage w.store w.lines c hd.core x.flight hd.core.stage
+  before = core-of w c x hd.core x.flight k.known there (ap (λ (v : Conn). v.actor) is-conn ∙ hd.serving)
+
+  whole1 : Whole (shown_frame c w x frame)
+  whole1 = shown-whole w c x frame there (All-head (λ f. length f ≤ max_frame) frame more small) k.whole
+
+  l : TranscriptLine
+  l = FrameLine c x.frames (zxid_at w.store) frame
+
+  grows : GrowsBeside w.store w.store w.lines (FrameLine c x.frames (zxid_at w.store) frame ∷ []) c
+  grows = grows-plain w.store w.lines (FrameLine c x.frames (zxid_at w.store) frame) c (((k.whole).holds).serves).legal ((whole1.holds).serves).legal refl
+
+  just : HasJustCome (shown_frame c w x frame) c hd.conn hd.core frame
+  just = record {
+    lined = subst (λ n. IsLined (w.lines ++ FrameLine c x.frames (zxid_at w.store) frame ∷ []) c n) (sym frames-are) (lined-frame w.lines c x.frames (zxid_at w.store) frame (before.0).lined);
+    numbered = (before.0).numbered;
+    came = omega (arith, (before.0).came, frames-are);
+    most = omega (arith, frames-are, count);
+    place = length w.lines;
+    framed = ap (λ n. placed_frame c n (w.lines ++ FrameLine c x.frames (zxid_at w.store) frame ∷ [])) (before.0).came ∙ frame-placed w.lines c x.frames (zxid_at w.store) frame ((before.0).lined.to_come x.frames (omega arith));
+    stage = subst (λ f. IsInStage w.store (w.lines ++ FrameLine c x.frames (zxid_at w.store) frame ∷ []) c hd.core f hd.core.stage) (ap (λ (v : Conn). v.flight) is-conn) (stage-push w.store w.store w.lines (FrameLine c x.frames (zxid_at w.store) frame ∷ []) c grows hd.core x.flight hd.core.stage before.1);
+  }
+
+  pub arrival-acts : Acts w mid c
+  arrival-acts =
+      let last : zxid_at w.store ≡ (after (w.lines ++ FrameLine c x.frames (zxid_at w.store) frame ∷ [])).zxid = zxid-shown (shown_frame c w x frame) whole1 in
+      acts-shown w mid c x frame there count
+      (frame-acts (shown_frame c w x frame) mid c (frame_lines c (counted_up (x.frames + 1)) (zxid_at w.store) more) (zxid_at w.store) frame hd last
+      (lines-shown c (counted_up (x.frames + 1)) (zxid_at w.store) more (All-tail (λ f. length f ≤ max_frame) frame more small)) whole1 just)
+
+-- ---- one after the other
+
+-- no frame is lost
+frames-rise : (c : ℕ) (w w' : World) (x : Conn) (fs : List (List ℕ)) → conn_at c w ≡ Some x → FramesArrive c w fs w' → (y : Conn) × (conn_at c w' ≡ Some y) × (max_count ≤ x.frames → max_count ≤ y.frames)
+frames-rise c w w' x [] there h = (x, ap (conn_at c) h ∙ there, λ le. le)
+frames-rise c w w' x (f ∷ fs) there (y, mid, found, hd, rest) = go (is_open_conn (conn_at c mid)) (λ v at r. frames-rise c mid w' v fs at r) rest
+  where
+    actor : Actor
+    actor = behind_step hd.next
+
+    o : StepOutcome
+    o = acts_all c (kind_asked c (Connection hd.next)) (frame_lines c (counted_up (y.frames + 1)) (zxid_at w.store) fs) hd.conn.flight hd.out
+
+    now : Conn
+    now = record (hd.conn) { actor = behind_step hd.next; flight = (acts_all c (kind_asked c (Connection hd.next)) (frame_lines c (counted_up (y.frames + 1)) (zxid_at w.store) fs) hd.conn.flight hd.out).flight }
+
+    here : conn_at c mid ≡ Some (record (hd.conn) { actor = behind_step hd.next; flight = (acts_all c (kind_asked c (Connection hd.next)) (frame_lines c (counted_up (y.frames + 1)) (zxid_at w.store) fs) hd.conn.flight hd.out).flight })
+    here = ap (conn_at c) hd.result ∙ conn-here (shown_frame c w y f) c (record (hd.conn) { actor = behind_step hd.next; flight = (acts_all c (kind_asked c (Connection hd.next)) (frame_lines c (counted_up (y.frames + 1)) (zxid_at w.store) fs) hd.conn.flight hd.out).flight })
+
+    same : hd.conn.frames ≡ counted_up (x.frames + 1)
+    same = ap (λ (v : Conn). v.frames) (sym (some_is (sym (conn-here w c (record y { frames = counted_up (y.frames + 1) })) ∙ hd.found))) ∙ ap (λ (v : Conn). counted_up (v.frames + 1)) (some_is (sym found ∙ there))
+
+    full : max_count ≤ x.frames → max_count ≤ hd.conn.frames
+    full le = omega (arith, same, counted-full (x.frames + 1) (omega (arith, le)))
+      where
+        counted-full : (n : ℕ) → max_count ≤ n → counted_up n ≡ max_count
+        counted-full n le = grind (arith, nat_tests)
+
+    go : (b : Bool) → ((u : Conn) → conn_at c mid ≡ Some u → FramesArrive c mid fs w' → (v : Conn) × (conn_at c w' ≡ Some v) × (max_count ≤ u.frames → max_count ≤ v.frames)) → MatchBool b (FramesArrive c mid fs w') (w' ≡ mid) → (v : Conn) × (conn_at c w' ≡ Some v) × (max_count ≤ x.frames → max_count ≤ v.frames)
+    go true later r = let t = later (record (hd.conn) { actor = behind_step hd.next; flight = (acts_all c (kind_asked c (Connection hd.next)) (frame_lines c (counted_up (y.frames + 1)) (zxid_at w.store) fs) hd.conn.flight hd.out).flight }) here r in (t.0, t.1, λ le. t.2 (full le))
+    go false later r = (record (hd.conn) { actor = behind_step hd.next; flight = (acts_all c (kind_asked c (Connection hd.next)) (frame_lines c (counted_up (y.frames + 1)) (zxid_at w.store) fs) hd.conn.flight hd.out).flight }, ap (conn_at c) r ∙ here, full)
