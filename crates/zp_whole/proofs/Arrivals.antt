@@ -1,37 +1,42 @@
 -- Bytes of a client arrive: the frames that are whole with them come one after the other, and the world stays whole and known.
-use Rattle.std.proofs.Common.{Bool, List, [], ap, append_assoc, arith, false, length, refl, subst, sym, true, ℕ, ◌++◌, ◌+◌, ◌<◌, ◌∙◌, ◌∷◌, ◌≡◌, ◌≤◌}
+use Rattle.ev_types.specs.Store.{Store}
+use Rattle.std.proofs.Common.{Bool, List, [], ap, append-nil, append_assoc, arith, false, inl, inr, length, refl, subst, sym, true, ℕ, ℤ, ◌++◌, ◌+◌, ◌<◌, ◌∙◌, ◌∷◌, ◌≡◌, ◌≤◌}
 use Rattle.std.proofs.lemmas.Bool.Decides.{nat_tests}
 use Rattle.std.proofs.lemmas.List.Elements.{All-cons, All-head, All-nil, All-tail}
 use Rattle.std.specs.List.{list_all}
-use Rattle.std.specs.Prelude.{All, MatchBool, Option, Some, ◌==◌}
+use Rattle.std.specs.Prelude.{All, MatchBool, None, Option, Some, nat_lt, ◌==◌, ◌⊎◌}
 use Rattle.zk_jute.specs.Frames.{Framed, IsFrame}
 use Rattle.zk_jute.specs.JuteValues.{Spelled}
 use Rattle.zk_model.specs.Limits.{max_frame}
 use Rattle.zk_transcript.specs.History.{after}
 use Rattle.zk_transcript.specs.Walks.{placed_frame}
+use Rattle.zk_transcript.specs.declared.transcript.Cause.TheVariants as cause
 use Rattle.zk_transcript.specs.declared.transcript.TranscriptLine.TheVariants.{Frame as FrameLine}
 use Rattle.zk_transcript.specs.declared.transcript.TranscriptLine.{TranscriptLine}
-use Rattle.zp_happen.specs.Arriving.{FramesArrive, frame_lines, shown_frame}
+use Rattle.zp_happen.specs.Arriving.{Arrives, EndsBadly, FramesArrive, frame_lines, shown_frame}
 use Rattle.zp_happen.specs.Handing.{Handed}
 use Rattle.zp_happen.specs.Kinds.{kind_asked}
 use Rattle.zp_happen.specs.StepOutcomes.{StepOutcome, acts_all}
-use Rattle.zp_happen.specs.Worlds.{Actor, Conn, Connection, World, behind_step, conn_at, is_open_conn, zxid_at}
+use Rattle.zp_happen.specs.Worlds.{Actor, Closed, Conn, Connection, Reaper, World, behind_step, conn_at, is_open_conn, with_conn, zxid_at}
 use Rattle.zp_happen.specs.declared.flight.Flight.{Flight}
 use Rattle.zp_laws.proofs.Counting.{counted-small}
 use Rattle.zp_step.specs.Stages.{Core, counted_up, max_count}
 use Rattle.zp_step.specs.declared.input.Input.TheVariants as input
 use Rattle.zp_whole.proofs.Acting.{Acts, acts-entries, acts-known, is_own}
-use Rattle.zp_whole.proofs.Arriving.{lines-shown, shown-whole, zxid-shown}
+use Rattle.zp_whole.proofs.Arriving.{alike-whole, lines-shown, shown-whole, zxid-shown}
+use Rattle.zp_whole.proofs.Closing.{but-of}
 use Rattle.zp_whole.proofs.Executing.{same-nat}
 use Rattle.zp_whole.proofs.Frames.{HasJustCome, frame-acts, frame-placed, lined-frame}
 use Rattle.zp_whole.proofs.Knowing.{GrowsBeside, grows-plain, stage-push}
 use Rattle.zp_whole.proofs.Numbers.{conn-here, conn-there}
 use Rattle.zp_whole.proofs.Packets.{both-true}
+use Rattle.zp_whole.proofs.Stepping.{closes-acts}
 use Rattle.zp_whole.specs.Connecting.{IsInStage}
 use Rattle.zp_whole.specs.Connections.{Whole}
 use Rattle.zp_whole.specs.Counting.{HasFrames, IsLined}
 use Rattle.zp_whole.specs.Entering.{AreEntries}
 use Rattle.zp_whole.specs.Knowing.{IsKnownAs, Known}
+use Rattle.zp_whole.specs.Reaping.{IsReapFlight}
 use Rattle.zx_base.proofs.Options.{some_is}
 
 pub spelled-small : (fs : List (List ℕ)) (front : List ℕ) → Spelled IsFrame fs front → All (λ f. length f ≤ max_frame) fs
@@ -154,3 +159,86 @@ frames-rise c w w' x (f ∷ fs) there (y, mid, found, hd, rest) = go (is_open_co
     go : (b : Bool) → ((u : Conn) → conn_at c mid ≡ Some u → FramesArrive c mid fs w' → (v : Conn) × (conn_at c w' ≡ Some v) × (max_count ≤ u.frames → max_count ≤ v.frames)) → MatchBool b (FramesArrive c mid fs w') (w' ≡ mid) → (v : Conn) × (conn_at c w' ≡ Some v) × (max_count ≤ x.frames → max_count ≤ v.frames)
     go true later r = let t = later (record (hd.conn) { actor = behind_step hd.next; flight = (acts_all c (kind_asked c (Connection hd.next)) (frame_lines c (counted_up (y.frames + 1)) (zxid_at w.store) fs) hd.conn.flight hd.out).flight }) here r in (t.0, t.1, λ le. t.2 (full le))
     go false later r = (record (hd.conn) { actor = behind_step hd.next; flight = (acts_all c (kind_asked c (Connection hd.next)) (frame_lines c (counted_up (y.frames + 1)) (zxid_at w.store) fs) hd.conn.flight hd.out).flight }, ap (conn_at c) r ∙ here, full)
+
+nat-either : (a b : ℕ) → (a < b) ⊎ (b ≤ a)
+nat-either a b = go (nat_lt a b) refl
+  where
+    go : (t : Bool) → nat_lt a b ≡ t → (a < b) ⊎ (b ≤ a)
+    go true e = inl (grind (arith, nat_tests))
+    go false e = inr (grind (arith, nat_tests))
+
+pub frames-accounted : (c : ℕ) (w w' : World) (x : Conn) (fs : List (List ℕ)) → conn_at c w ≡ Some x → All (λ f. length f ≤ max_frame) fs → ((y : Conn) → conn_at c w' ≡ Some y → y.frames < max_count) → IsAccounted w → FramesArrive c w fs w' → IsAccounted w'
+frames-accounted c w w' x [] there small count k h = subst IsAccounted (sym h) k
+frames-accounted c w w' x (f ∷ fs) there small count k (y, mid, found, hd, rest) = go (is_open_conn (conn_at c mid)) (λ v at j r. frames-accounted c mid w' v fs at (All-tail (λ g. length g ≤ max_frame) f fs small) count j r) rest
+  where
+    room : y.frames < max_count
+    room = elim (nat-either y.frames max_count) [
+      | inl less ↦ less
+      | inr full ↦ (let t = frames-rise c w w' y (f ∷ fs) found (y, mid, found, hd, rest) in let less = count t.0 t.1 in absurd (omega (arith, less, t.2 full)))
+    ]
+
+    a : Acts w mid c
+    a = arrival-acts w mid c y f fs k found small room hd
+
+    go : (b : Bool) → ((v : Conn) → conn_at c mid ≡ Some v → IsAccounted mid → FramesArrive c mid fs w' → IsAccounted w') → MatchBool b (FramesArrive c mid fs w') (w' ≡ mid) → IsAccounted w'
+    go true later r = later a.now a.there (acts-accounted w mid c k a) r
+    go false later r = subst IsAccounted (sym r) (acts-accounted w mid c k a)
+
+-- ---- a length out of range behind them
+
+ends-badly : (c : ℕ) (w w' : World) (place : ℕ) (bad : Option ℤ) → EndsBadly c w place bad w' → IsAccounted w → IsAccounted w'
+ends-badly c w w' place None h k = subst IsAccounted (sym h) k
+ends-badly c w w' place (Some n) h k = go (is_open_conn (conn_at c w)) h
+  where
+    go : (b : Bool) → MatchBool b (Handed c [] w (input.BadLength place n) w') (w' ≡ w) → IsAccounted w'
+    go true hd = acts-accounted w w' c k (closes-acts w w' c (input.BadLength place n) (cause.BadLength place n) refl hd (but-of w c k.whole))
+    go false e = subst IsAccounted (sym e) k
+
+ends-frames : (c : ℕ) (w w' : World) (place : ℕ) (bad : Option ℤ) (x : Conn) → EndsBadly c w place bad w' → conn_at c w ≡ Some x → (y : Conn) × (conn_at c w' ≡ Some y) × (y.frames ≡ x.frames)
+ends-frames c w w' place None x h there = (x, ap (conn_at c) h ∙ there, refl)
+ends-frames c w w' place (Some n) x h there = go (is_open_conn (conn_at c w)) h
+  where
+    go : (b : Bool) → MatchBool b (Handed c [] w (input.BadLength place n) w') (w' ≡ w) → (y : Conn) × (conn_at c w' ≡ Some y) × (y.frames ≡ x.frames)
+    go true hd =
+        let v : Conn = record (hd.conn) { actor = behind_step hd.next; flight = (acts_all c (kind_asked c (Connection hd.next)) [] hd.conn.flight hd.out).flight } in
+        (v, ap (conn_at c) hd.result ∙ conn-here w c v, ap (λ (u : Conn). u.frames) (some_is (sym hd.found ∙ there)))
+    go false e = (x, ap (conn_at c) e ∙ there, refl)
+
+-- ---- all of it
+
+alike-known : (s : Store) (lines : List TranscriptLine) (c : ℕ) (x v : Conn) (a : Actor) → v.frames ≡ x.frames → v.flight ≡ x.flight → IsKnownAs s lines c x a → IsKnownAs s lines c v a
+alike-known s lines c x v (Connection core) frames flight (n, st) = (subst (λ i. HasFrames lines c i core) (sym frames) n, subst (λ f. IsInStage s lines c core f core.stage) (sym flight) st)
+alike-known s lines c x v (Reaper r) frames flight k = subst (IsReapFlight s r) (sym flight) k
+alike-known s lines c x v Closed frames flight k = tt
+
+-- a connection with another stream
+pub alike-acts : (w : World) (c : ℕ) (x v : Conn) → conn_at c w ≡ Some x → v.actor ≡ x.actor → v.flight ≡ x.flight → v.frames ≡ x.frames → IsAccounted w → Acts w (with_conn w c v) c
+alike-acts w c x v there actor flight frames k = record {
+  whole = alike-whole w c x v there actor flight k.whole;
+  store = refl;
+  entries = refl;
+  more = [];
+  lines = sym (append-nil w.lines);
+  own = refl;
+  others = λ d apart. conn-there w c d v apart;
+  now = v;
+  there = conn-here w c v;
+  frames = λ y e. (let same = ap (λ (u : Conn). u.frames) (some_is (sym there ∙ e)) in omega (arith, same, frames));
+  known = subst (IsKnownAs w.store w.lines c v) (sym actor) (alike-known w.store w.lines c x v x.actor frames flight ((k.known).used c x there));
+}
+
+pub arrives-accounted : (c : ℕ) (w w' : World) (bytes : List ℕ) → ((y : Conn) → conn_at c w' ≡ Some y → y.frames < max_count) → Arrives c w bytes w' → IsAccounted w → IsAccounted w'
+arrives-accounted c w w' bytes count a k =
+    let v : Conn = record (a.conn) { stream = a.stream } in
+    let w1 : World = with_conn w c v in
+    let k1 = acts-accounted w w1 c k (alike-acts w c a.conn v a.found refl refl refl k) in
+    ends-badly c a.mid w' (a.stream).place a.bad a.ends
+    (frames-accounted c w1 a.mid v a.frames (conn-here w c v) (framed-small (a.conn.stream.rest ++ bytes) a.frames (a.cuts).rest (a.cuts).framed)
+    (λ y e. (let t = ends-frames c a.mid w' (a.stream).place a.bad y a.ends e in let less = count t.0 t.1 in omega (arith, less, t.2))) k1 a.arrive)
+
+pub arrives-frames : (c : ℕ) (w w' : World) (bytes : List ℕ) → (a : Arrives c w bytes w') → (y : Conn) × (conn_at c w' ≡ Some y) × (max_count ≤ (a.conn).frames → max_count ≤ y.frames)
+arrives-frames c w w' bytes a =
+    let v : Conn = record (a.conn) { stream = a.stream } in
+    let t = frames-rise c (with_conn w c v) a.mid v a.frames (conn-here w c v) a.arrive in
+    let u = ends-frames c a.mid w' (a.stream).place a.bad t.0 a.ends t.1 in
+    (u.0, u.1, λ le. omega (arith, t.2 le, u.2))

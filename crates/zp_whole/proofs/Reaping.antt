@@ -1,30 +1,30 @@
 -- A reaper begins, under a number that was not in use: it looks at its session.
-use Rattle.std.proofs.Common.{◌≡◌, ◌≢◌, ℕ, [], ◌++◌, refl, sym, ap, ◌∙◌, subst, ℤ, pos, inl, inr, append-nil}
-use Rattle.std.specs.Prelude.{Option, Some, None, ◌⊎◌, if◌then◌else◌}
 use Rattle.ev_types.specs.declared.ask.Ask.{Ask}
+use Rattle.std.proofs.Common.{[], ap, append-nil, inl, inr, pos, refl, subst, sym, ℕ, ℤ, ◌++◌, ◌∙◌, ◌≡◌, ◌≢◌}
+use Rattle.std.specs.Prelude.{None, Option, Some, if◌then◌else◌, ◌⊎◌}
 use Rattle.zn_view.specs.Asks.{reading}
-use Rattle.zs_reap.specs.Steps.{first_wants}
-use Rattle.zs_reap.specs.declared.reap.Phase.{Phase}
-use Rattle.zs_reap.specs.declared.reap.Reap.{Reap}
-use Rattle.zs_reap.specs.declared.reap.ReapStep.TheVariants as reaped
-use Rattle.zs_session.specs.declared.fault.StepFault.TheVariants.{Damaged, Memory}
-use Rattle.zx_base.specs.Maps.{Bytes}
-use Rattle.zp_step.specs.Stages.{Core}
 use Rattle.zp_happen.specs.Effects.{new_reap, new_reaper}
 use Rattle.zp_happen.specs.Handing.{ReapSteps, Reaps}
 use Rattle.zp_happen.specs.Kinds.{kind_of_reap}
 use Rattle.zp_happen.specs.StepOutcomes.{leaves, reap_acts}
 use Rattle.zp_happen.specs.Worlds.{Closed, Conn, Connection, Reaper, World, conn_at, is_over, with_conn}
 use Rattle.zp_happen.specs.declared.flight.Asking.{Asking}
-use Rattle.zp_happen.specs.declared.flight.Flight.{Flight}
 use Rattle.zp_happen.specs.declared.flight.Flight.TheVariants.{Out}
-use Rattle.zx_base.proofs.Options.{none_some, some_is}
+use Rattle.zp_happen.specs.declared.flight.Flight.{Flight}
+use Rattle.zp_step.specs.Stages.{Core}
 use Rattle.zp_whole.proofs.Asking.{ranges-read}
 use Rattle.zp_whole.proofs.Kept.{closed-same}
 use Rattle.zp_whole.proofs.Numbers.{conn-here, conn-there, either-number}
 use Rattle.zp_whole.specs.Bounds.{IsBoundAsk}
 use Rattle.zp_whole.specs.Connections.{IsClosedAt, Whole}
 use Rattle.zp_whole.specs.Holding.{Holds, Left, Of, Source, air, asker_in, out_in, out_of, request_in}
+use Rattle.zs_reap.specs.Steps.{first_wants}
+use Rattle.zs_reap.specs.declared.reap.Phase.{Phase}
+use Rattle.zs_reap.specs.declared.reap.Reap.{Reap}
+use Rattle.zs_reap.specs.declared.reap.ReapStep.TheVariants as reaped
+use Rattle.zs_session.specs.declared.fault.StepFault.TheVariants.{Damaged, Memory}
+use Rattle.zx_base.proofs.Options.{none_some, some_is}
+use Rattle.zx_base.specs.Maps.{Bytes}
 
 -- ---- a reaper under a new number, with an ask that is no update
 
@@ -97,18 +97,24 @@ module _ (w : World) (c : ℕ) (v : Conn) (reap : Reap) (q : Ask) (free : conn_a
 
 -- ---- the first step
 
-first-look : (w w' : World) (c p : ℕ) (id : ℤ) → conn_at c w ≡ None → ReapSteps c w (new_reaper p id) (new_reap id) None w' → Whole w → Whole w'
-first-look w w' c p id free r h =
+-- the reaper that has looked
+abbrev pub looking_reaper : ℕ → ℤ → Reap → Conn
+looking_reaper p id next = record (new_reaper p id) { actor = Reaper next; flight = Some (Out (record { ask = reading (pos 0) (first_wants id); kind = None })) }
+
+pub looks-first : (w w' : World) (c p : ℕ) (id : ℤ) (r : ReapSteps c w (new_reaper p id) (new_reap id) None w') → w' ≡ with_conn w c (looking_reaper p id r.next)
+looks-first w w' c p id r =
     let m = (r.stepped).moves in
     let q : Ask = reading (pos 0) (first_wants id) in
-    let v : Conn = record (new_reaper p id) { actor = Reaper r.next; flight = Some (Out (record { ask = q; kind = None })) } in
-    let is : w' ≡ with_conn w c v =
+    let v : Conn = looking_reaper p id r.next in
     r.result
     ∙ ap (λ s. leaves c w (new_reaper p id) (if is_over (r.next).phase then Closed else Reaper r.next) (reap_acts c (kind_of_reap (r.next).session (r.next).phase) None s)) m.1
     ∙ ap (λ (ph : Phase). leaves c w (new_reaper p id) (if is_over ph then Closed else Reaper r.next) (reap_acts c (kind_of_reap (r.next).session ph) None (reaped.Ask q))) m.0
     ∙ ap (λ l. record (with_conn w c v) { lines = l; strays = w.strays ++ [] }) (append-nil w.lines)
-    ∙ ap (λ s. record (with_conn w c v) { strays = s }) (append-nil w.strays) in
-    subst Whole (sym is) (placed-whole w c v r.next q free refl refl (record { success = ranges-read (pos 0) (first_wants id); failure = refl }) h)
+    ∙ ap (λ s. record (with_conn w c v) { strays = s }) (append-nil w.strays)
+
+first-look : (w w' : World) (c p : ℕ) (id : ℤ) → conn_at c w ≡ None → ReapSteps c w (new_reaper p id) (new_reap id) None w' → Whole w → Whole w'
+first-look w w' c p id free r h =
+    subst Whole (sym (looks-first w w' c p id r)) (placed-whole w c (looking_reaper p id r.next) r.next (reading (pos 0) (first_wants id)) free refl refl (record { success = ranges-read (pos 0) (first_wants id); failure = refl }) h)
 
 pub reap-whole : (w w' : World) (c p : ℕ) (id : ℤ) → conn_at c w ≡ None → Reaps c w None w' (new_reaper p id) (new_reap id) → Whole w → Whole w'
 reap-whole w w' c p id free (inl e) h = absurd (damaged-memory e.key e.value e.found)

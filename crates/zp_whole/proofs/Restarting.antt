@@ -18,15 +18,15 @@ use Rattle.zp_whole.proofs.Numbers.{conn-there, other-number, same-number}
 use Rattle.zp_whole.specs.Connections.{Whole}
 
 -- a function gives each of these entries
-abbrev Gives : (ℕ → Option Conn) → List (ℕ × Conn) → Type 0
+abbrev pub Gives : (ℕ → Option Conn) → List (ℕ × Conn) → Type 0
 Gives f [] = Unit {0}
 Gives f (e ∷ es) = (f e.0 ≡ Some e.1) × Gives f es
 
-abbrev Apart : ℕ → List (ℕ × Conn) → Type 0
+abbrev pub Apart : ℕ → List (ℕ × Conn) → Type 0
 Apart k [] = Unit {0}
 Apart k (e ∷ es) = (e.0 ≢ k) × Apart k es
 
-abbrev Distinct : List (ℕ × Conn) → Type 0
+abbrev pub Distinct : List (ℕ × Conn) → Type 0
 Distinct [] = Unit {0}
 Distinct (e ∷ es) = Apart e.0 es × Distinct es
 
@@ -42,7 +42,7 @@ below-apart : (k : ℕ) (es : List (ℕ × Conn)) → below_all nat_cmp k es ≡
 below-apart k [] h = tt
 below-apart k (e ∷ es) h = let q = and_parts (is_lt (nat_cmp k e.0)) (below_all nat_cmp k es) h in (less-apart k e.0 q.0, below-apart k es q.1)
 
-sorted-distinct : (es : List (ℕ × Conn)) → is_sorted nat_cmp es ≡ true → Distinct es
+pub sorted-distinct : (es : List (ℕ × Conn)) → is_sorted nat_cmp es ≡ true → Distinct es
 sorted-distinct [] h = tt
 sorted-distinct (e ∷ es) h = let q = and_parts (below_all nat_cmp e.0 es) (is_sorted nat_cmp es) h in (below-apart e.0 es q.0, sorted-distinct es q.1)
 
@@ -51,22 +51,22 @@ found-apart e more [] a g = tt
 found-apart e more (d ∷ es) a g =
     (ap (λ b. cond b (Some e.1) (find nat_cmp d.0 more)) (unsigned_tied d.0 e.0 ∙ other-number d.0 e.0 a.0) ∙ g.0, found-apart e more es a.1 g.1)
 
-all-found : (es : List (ℕ × Conn)) → Distinct es → Gives (λ k. find nat_cmp k es) es
+pub all-found : (es : List (ℕ × Conn)) → Distinct es → Gives (λ k. find nat_cmp k es) es
 all-found [] d = tt
 all-found (e ∷ es) d =
     (ap (λ b. cond b (Some e.1) (find nat_cmp e.0 es)) (unsigned_tied e.0 e.0 ∙ same-number e.0 e.0 refl), found-apart e es es d.0 (all-found es d.1))
 
-gives-as : (f g : ℕ → Option Conn) (es : List (ℕ × Conn)) → ((k : ℕ) → g k ≡ f k) → Gives f es → Gives g es
+pub gives-as : (f g : ℕ → Option Conn) (es : List (ℕ × Conn)) → ((k : ℕ) → g k ≡ f k) → Gives f es → Gives g es
 gives-as f g [] same h = tt
 gives-as f g (e ∷ es) same h = (same e.0 ∙ h.0, gives-as f g es same h.1)
 
-is-true : (b : Bool) → T b → b ≡ true
+pub is-true : (b : Bool) → T b → b ≡ true
 is-true true t = refl
 is-true false t = absurd t
 
 -- ---- one by one
 
-gives-others : (w : World) (c : ℕ) (x : Conn) (es : List (ℕ × Conn)) → Apart c es → Gives (λ k. conn_at k w) es → Gives (λ k. conn_at k (leaves c w x Closed (ended_by c cause.Restart x.flight))) es
+pub gives-others : (w : World) (c : ℕ) (x : Conn) (es : List (ℕ × Conn)) → Apart c es → Gives (λ k. conn_at k w) es → Gives (λ k. conn_at k (leaves c w x Closed (ended_by c cause.Restart x.flight))) es
 gives-others w c x [] a g = tt
 gives-others w c x (e ∷ es) a g = (conn-there w c e.0 (closed_conn x) a.0 ∙ g.0, gives-others w c x es a.1 g.1)
 
