@@ -2,3 +2,4 @@ pub mod SessionLaws
 pub mod Counts
 pub mod Marks
 pub mod Looking
+pub mod Kept

@@ -5,6 +5,8 @@
 //! stands on this crate, and the service does not.
 #![tactic(auto)]
 
+mod cursor;
+mod effects;
 mod ended;
 mod firsts;
 mod lines;
@@ -17,6 +19,8 @@ mod sessions;
 mod shown;
 mod state;
 
+pub use cursor::Cursor;
+pub use effects::Effects;
 pub use lines::{Applied, apply, attached_to, change, planned_commit};
 pub use moments::{after, asked_commit, state_at};
 pub use outcome::{Change, Commit};

@@ -56,7 +56,7 @@ fn attach_mark(line: &TranscriptLine) -> Option<Mark>
     }
 }
 
-fn line_at(lines: &[TranscriptLine], place: usize) -> &TranscriptLine
+pub fn line_at(lines: &[TranscriptLine], place: usize) -> &TranscriptLine
     requires { place < length lines.now }
     ensures { result.now ≡ get_or lines.now place result.now }
 {
