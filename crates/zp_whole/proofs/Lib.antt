@@ -39,5 +39,6 @@ pub mod Welcoming
 pub mod Stepping
 pub mod Greeting
 pub mod Frames
+pub mod Rising
 pub mod Arrivals
 pub mod Happenings

@@ -116,9 +116,9 @@ first-look : (w w' : World) (c p : ℕ) (id : ℤ) → conn_at c w ≡ None → 
 first-look w w' c p id free r h =
     subst Whole (sym (looks-first w w' c p id r)) (placed-whole w c (looking_reaper p id r.next) r.next (reading (pos 0) (first_wants id)) free refl refl (record { success = ranges-read (pos 0) (first_wants id); failure = refl }) h)
 
+pub damaged-memory : (k v : Bytes) → Damaged k v ≡ Memory → ⊥
+damaged-memory k v f = cc
+
 pub reap-whole : (w w' : World) (c p : ℕ) (id : ℤ) → conn_at c w ≡ None → Reaps c w None w' (new_reaper p id) (new_reap id) → Whole w → Whole w'
 reap-whole w w' c p id free (inl e) h = absurd (damaged-memory e.key e.value e.found)
-  where
-    damaged-memory : (k v : Bytes) → Damaged k v ≡ Memory → ⊥
-    damaged-memory k v f = cc
 reap-whole w w' c p id free (inr r) h = first-look w w' c p id free r h
