@@ -15,9 +15,7 @@ use Rattle.zk_transcript.specs.declared.transcript.TranscriptLine.TheVariants.{F
 use Rattle.zk_transcript.specs.declared.transcript.TranscriptLine.{TranscriptLine}
 use Rattle.zp_happen.specs.Arriving.{Arrives, EndsBadly, FramesArrive, frame_lines, shown_frame}
 use Rattle.zp_happen.specs.Handing.{Handed}
-use Rattle.zp_happen.specs.Kinds.{kind_asked}
-use Rattle.zp_happen.specs.StepOutcomes.{StepOutcome, acts_all}
-use Rattle.zp_happen.specs.Worlds.{Actor, Closed, Conn, Connection, Reaper, World, behind_step, conn_at, is_open_conn, with_conn, zxid_at}
+use Rattle.zp_happen.specs.Worlds.{Actor, Closed, Conn, Connection, Reaper, World, conn_at, is_open_conn, with_conn, zxid_at}
 use Rattle.zp_happen.specs.declared.flight.Flight.{Flight}
 use Rattle.zp_laws.proofs.Counting.{counted-small}
 use Rattle.zp_step.specs.Stages.{Core, counted_up, max_count}
@@ -30,11 +28,12 @@ use Rattle.zp_whole.proofs.Frames.{HasJustCome, frame-acts, frame-placed, lined-
 use Rattle.zp_whole.proofs.Knowing.{GrowsBeside, grows-plain, stage-push}
 use Rattle.zp_whole.proofs.Numbers.{conn-here, conn-there}
 use Rattle.zp_whole.proofs.Packets.{both-true}
+use Rattle.zp_whole.proofs.Rising.{badly-grown, frames-grown}
 use Rattle.zp_whole.proofs.Stepping.{closes-acts}
+use Rattle.zp_whole.specs.Accounting.{IsAccounted}
 use Rattle.zp_whole.specs.Connecting.{IsInStage}
 use Rattle.zp_whole.specs.Connections.{Whole}
 use Rattle.zp_whole.specs.Counting.{HasFrames, IsLined}
-use Rattle.zp_whole.specs.Entering.{AreEntries}
 use Rattle.zp_whole.specs.Knowing.{IsKnownAs, Known}
 use Rattle.zp_whole.specs.Reaping.{IsReapFlight}
 use Rattle.zx_base.proofs.Options.{some_is}
@@ -45,13 +44,6 @@ spelled-small (f ∷ fs) front (a, rest, one, more, e) = All-cons (λ g. length 
 
 pub framed-small : (bytes : List ℕ) (fs : List (List ℕ)) (rest : List ℕ) → Framed bytes fs rest → All (λ f. length f ≤ max_frame) fs
 framed-small bytes fs rest h = spelled-small fs h.0 h.1
-
--- ---- both
-
-pub record IsAccounted (w : World) : Type 0 where
-  pub whole : Whole w
-  pub known : Known w
-  pub entries : AreEntries w.lines w.entries
 
 pub acts-accounted : (w w' : World) (c : ℕ) → IsAccounted w → Acts w w' c → IsAccounted w'
 acts-accounted w w' c k a = record { whole = a.whole; known = acts-known w w' c k.whole k.known a; entries = acts-entries w w' c k.entries a }
@@ -130,36 +122,6 @@ module _ (w mid : World) (c : ℕ) (x : Conn) (frame : List ℕ) (more : List (L
 
 -- ---- one after the other
 
--- no frame is lost
-frames-rise : (c : ℕ) (w w' : World) (x : Conn) (fs : List (List ℕ)) → conn_at c w ≡ Some x → FramesArrive c w fs w' → (y : Conn) × (conn_at c w' ≡ Some y) × (max_count ≤ x.frames → max_count ≤ y.frames)
-frames-rise c w w' x [] there h = (x, ap (conn_at c) h ∙ there, λ le. le)
-frames-rise c w w' x (f ∷ fs) there (y, mid, found, hd, rest) = go (is_open_conn (conn_at c mid)) (λ v at r. frames-rise c mid w' v fs at r) rest
-  where
-    actor : Actor
-    actor = behind_step hd.next
-
-    o : StepOutcome
-    o = acts_all c (kind_asked c (Connection hd.next)) (frame_lines c (counted_up (y.frames + 1)) (zxid_at w.store) fs) hd.conn.flight hd.out
-
-    now : Conn
-    now = record (hd.conn) { actor = behind_step hd.next; flight = (acts_all c (kind_asked c (Connection hd.next)) (frame_lines c (counted_up (y.frames + 1)) (zxid_at w.store) fs) hd.conn.flight hd.out).flight }
-
-    here : conn_at c mid ≡ Some (record (hd.conn) { actor = behind_step hd.next; flight = (acts_all c (kind_asked c (Connection hd.next)) (frame_lines c (counted_up (y.frames + 1)) (zxid_at w.store) fs) hd.conn.flight hd.out).flight })
-    here = ap (conn_at c) hd.result ∙ conn-here (shown_frame c w y f) c (record (hd.conn) { actor = behind_step hd.next; flight = (acts_all c (kind_asked c (Connection hd.next)) (frame_lines c (counted_up (y.frames + 1)) (zxid_at w.store) fs) hd.conn.flight hd.out).flight })
-
-    same : hd.conn.frames ≡ counted_up (x.frames + 1)
-    same = ap (λ (v : Conn). v.frames) (sym (some_is (sym (conn-here w c (record y { frames = counted_up (y.frames + 1) })) ∙ hd.found))) ∙ ap (λ (v : Conn). counted_up (v.frames + 1)) (some_is (sym found ∙ there))
-
-    full : max_count ≤ x.frames → max_count ≤ hd.conn.frames
-    full le = omega (arith, same, counted-full (x.frames + 1) (omega (arith, le)))
-      where
-        counted-full : (n : ℕ) → max_count ≤ n → counted_up n ≡ max_count
-        counted-full n le = grind (arith, nat_tests)
-
-    go : (b : Bool) → ((u : Conn) → conn_at c mid ≡ Some u → FramesArrive c mid fs w' → (v : Conn) × (conn_at c w' ≡ Some v) × (max_count ≤ u.frames → max_count ≤ v.frames)) → MatchBool b (FramesArrive c mid fs w') (w' ≡ mid) → (v : Conn) × (conn_at c w' ≡ Some v) × (max_count ≤ x.frames → max_count ≤ v.frames)
-    go true later r = let t = later (record (hd.conn) { actor = behind_step hd.next; flight = (acts_all c (kind_asked c (Connection hd.next)) (frame_lines c (counted_up (y.frames + 1)) (zxid_at w.store) fs) hd.conn.flight hd.out).flight }) here r in (t.0, t.1, λ le. t.2 (full le))
-    go false later r = (record (hd.conn) { actor = behind_step hd.next; flight = (acts_all c (kind_asked c (Connection hd.next)) (frame_lines c (counted_up (y.frames + 1)) (zxid_at w.store) fs) hd.conn.flight hd.out).flight }, ap (conn_at c) r ∙ here, full)
-
 nat-either : (a b : ℕ) → (a < b) ⊎ (b ≤ a)
 nat-either a b = go (nat_lt a b) refl
   where
@@ -174,7 +136,7 @@ frames-accounted c w w' x (f ∷ fs) there small count k (y, mid, found, hd, res
     room : y.frames < max_count
     room = elim (nat-either y.frames max_count) [
       | inl less ↦ less
-      | inr full ↦ (let t = frames-rise c w w' y (f ∷ fs) found (y, mid, found, hd, rest) in let less = count t.0 t.1 in absurd (omega (arith, less, t.2 full)))
+      | inr full ↦ (let t = (frames-grown c w w' (f ∷ fs) (y, mid, found, hd, rest)).conns c y found in let less = count t.0 t.1 in absurd (omega (arith, less, t.2 full)))
     ]
 
     a : Acts w mid c
@@ -193,16 +155,6 @@ ends-badly c w w' place (Some n) h k = go (is_open_conn (conn_at c w)) h
     go : (b : Bool) → MatchBool b (Handed c [] w (input.BadLength place n) w') (w' ≡ w) → IsAccounted w'
     go true hd = acts-accounted w w' c k (closes-acts w w' c (input.BadLength place n) (cause.BadLength place n) refl hd (but-of w c k.whole))
     go false e = subst IsAccounted (sym e) k
-
-ends-frames : (c : ℕ) (w w' : World) (place : ℕ) (bad : Option ℤ) (x : Conn) → EndsBadly c w place bad w' → conn_at c w ≡ Some x → (y : Conn) × (conn_at c w' ≡ Some y) × (y.frames ≡ x.frames)
-ends-frames c w w' place None x h there = (x, ap (conn_at c) h ∙ there, refl)
-ends-frames c w w' place (Some n) x h there = go (is_open_conn (conn_at c w)) h
-  where
-    go : (b : Bool) → MatchBool b (Handed c [] w (input.BadLength place n) w') (w' ≡ w) → (y : Conn) × (conn_at c w' ≡ Some y) × (y.frames ≡ x.frames)
-    go true hd =
-        let v : Conn = record (hd.conn) { actor = behind_step hd.next; flight = (acts_all c (kind_asked c (Connection hd.next)) [] hd.conn.flight hd.out).flight } in
-        (v, ap (conn_at c) hd.result ∙ conn-here w c v, ap (λ (u : Conn). u.frames) (some_is (sym hd.found ∙ there)))
-    go false e = (x, ap (conn_at c) e ∙ there, refl)
 
 -- ---- all of it
 
@@ -234,11 +186,7 @@ arrives-accounted c w w' bytes count a k =
     let k1 = acts-accounted w w1 c k (alike-acts w c a.conn v a.found refl refl refl k) in
     ends-badly c a.mid w' (a.stream).place a.bad a.ends
     (frames-accounted c w1 a.mid v a.frames (conn-here w c v) (framed-small (a.conn.stream.rest ++ bytes) a.frames (a.cuts).rest (a.cuts).framed)
-    (λ y e. (let t = ends-frames c a.mid w' (a.stream).place a.bad y a.ends e in let less = count t.0 t.1 in omega (arith, less, t.2))) k1 a.arrive)
-
-pub arrives-frames : (c : ℕ) (w w' : World) (bytes : List ℕ) → (a : Arrives c w bytes w') → (y : Conn) × (conn_at c w' ≡ Some y) × (max_count ≤ (a.conn).frames → max_count ≤ y.frames)
-arrives-frames c w w' bytes a =
-    let v : Conn = record (a.conn) { stream = a.stream } in
-    let t = frames-rise c (with_conn w c v) a.mid v a.frames (conn-here w c v) a.arrive in
-    let u = ends-frames c a.mid w' (a.stream).place a.bad t.0 a.ends t.1 in
-    (u.0, u.1, λ le. omega (arith, t.2 le, u.2))
+    (λ y e. elim (nat-either y.frames max_count) [
+      | inl less ↦ less
+      | inr full ↦ (let t = (badly-grown c a.mid w' (a.stream).place a.bad a.ends).conns c y e in let less = count t.0 t.1 in absurd (omega (arith, less, t.2 full)))
+    ]) k1 a.arrive)

@@ -7,6 +7,7 @@ pub mod Connecting
 pub mod Reaping
 pub mod Connections
 pub mod Knowing
-pub mod Giving
 pub mod Entering
+pub mod Accounting
+pub mod Giving
 pub mod Keeping

@@ -1,0 +1,27 @@
+-- A world of which all is accounted for: it is whole, each number is known, and each update has its entry.
+use Rattle.ev_types.specs.Store.{last_revision, revision}
+use Rattle.std.specs.Prelude.{Some, ℕ, ◌<ℤ◌, ◌<◌, ◌≡◌}
+use Rattle.zp_happen.specs.Worlds.{Conn, World, conn_at}
+use Rattle.zp_step.specs.Stages.{max_count}
+use Rattle.zp_whole.specs.Connecting.{IsOffer}
+use Rattle.zp_whole.specs.Connections.{Whole}
+use Rattle.zp_whole.specs.Entering.{AreEntries}
+use Rattle.zp_whole.specs.Knowing.{Known}
+use Rattle.zt_text.specs.declared.script.Happening.TheVariants as line
+use Rattle.zt_text.specs.declared.script.Happening.{Happening}
+pub record IsAccounted (w : World) : Type 0 where
+  pub whole : Whole w
+  pub known : Known w
+  pub entries : AreEntries w.lines w.entries
+
+-- ---- what a script has to be for that
+
+-- A connection offers a number that sessions have, and a password of 16 bytes. A line of a text that is read does.
+abbrev pub OffersSession : Happening → Type 0
+OffersSession (line.Open c p id passwd) = IsOffer (record { id = id; passwd = passwd })
+OffersSession _ = Unit {0}
+
+-- the store has a revision to come, and each connection has had fewer frames than can be counted
+pub record IsWithinCounts (w : World) : Type 0 where
+  pub room : revision w.store <ℤ last_revision
+  pub frames : (c : ℕ) (x : Conn) → conn_at c w ≡ Some x → x.frames < max_count
