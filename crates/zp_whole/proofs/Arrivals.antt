@@ -122,7 +122,7 @@ module _ (w mid : World) (c : ℕ) (x : Conn) (frame : List ℕ) (more : List (L
 
 -- ---- one after the other
 
-nat-either : (a b : ℕ) → (a < b) ⊎ (b ≤ a)
+pub nat-either : (a b : ℕ) → (a < b) ⊎ (b ≤ a)
 nat-either a b = go (nat_lt a b) refl
   where
     go : (t : Bool) → nat_lt a b ≡ t → (a < b) ⊎ (b ≤ a)

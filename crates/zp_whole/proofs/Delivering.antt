@@ -65,7 +65,7 @@ answer-whole w w' c x core there actor served d h = go x.flight refl (subst (Del
 
 -- ---- an entry
 
-entry-idle : (core : Core) (st : Stage) → takes_entries st ≡ true → asked_of core.who st ≡ None
+pub entry-idle : (core : Core) (st : Stage) → takes_entries st ≡ true → asked_of core.who st ≡ None
 entry-idle core Ready h = refl
 entry-idle core (Waiting p) h = refl
 entry-idle core _ h = absurd (cc)

@@ -91,13 +91,16 @@ open-passes c w later h = go (conn_at c w) h
     go None e = absurd (some_none e)
     go (Some x) e = (passes (is_closed x.actor) why.ConnectionClosed later e).1
 
-entry-flight : (c : ℕ) (w : World) (x : Conn) → conn_at c w ≡ Some x → entry_fault c w None ≡ None → x.flight ≡ None
-entry-flight c w x there possible =
+pub entry-idle-at : (c : ℕ) (w : World) → entry_fault c w None ≡ None → flight_at c w ≡ None
+entry-idle-at c w possible =
     let entry : Option Why = if_fails (is_some (flight_at c w)) why.RequestOut (if_fails (is_none (next_entry c w)) why.NoEntry None) in
     let a = open-passes c w (if_fails (is_reaper_at c w) why.NotAConnection entry) possible in
     let b = passes (is_reaper_at c w) why.NotAConnection entry a in
     let d = passes (is_some (flight_at c w)) why.RequestOut (if_fails (is_none (next_entry c w)) why.NoEntry None) b.1 in
-    sym (ap (option_and_then (λ (y : Conn). y.flight)) there) ∙ none-is (flight_at c w) d.0
+    none-is (flight_at c w) d.0
+
+entry-flight : (c : ℕ) (w : World) (x : Conn) → conn_at c w ≡ Some x → entry_fault c w None ≡ None → x.flight ≡ None
+entry-flight c w x there possible = sym (ap (option_and_then (λ (y : Conn). y.flight)) there) ∙ entry-idle-at c w possible
 
 entry-true : (w : World) (c : ℕ) (m : MayEnter w c) (e : Entry) (i : Input) → Whole w → next_entry c w ≡ Some e → IsEntry e i → IsTrueEntryInput w ((m.attached).core) i
 entry-true w c m e (input.Entry shared) h next is =

@@ -41,4 +41,7 @@ pub mod Greeting
 pub mod Frames
 pub mod Rising
 pub mod Arrivals
+pub mod Accounts
+pub mod Lives
 pub mod Happenings
+pub mod Running

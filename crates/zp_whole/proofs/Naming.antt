@@ -12,7 +12,7 @@ use Rattle.zk_transcript.specs.declared.transcript.UpdateRec.{UpdateRec}
 use Rattle.zp_laws.specs.Standing.{is_ahead}
 use Rattle.zp_whole.proofs.Carrying.{no-attach, no-index, one, requested-for, unlike}
 use Rattle.zp_whole.proofs.Kept.{true-false}
-use Rattle.zp_whole.proofs.Numbers.{same-number}
+use Rattle.zp_whole.proofs.Numbers.{number-same, same-number}
 use Rattle.zp_whole.proofs.Packets.{both-true, packets-append}
 use Rattle.zp_whole.proofs.Serving.{Elsewhere}
 use Rattle.zp_whole.proofs.Talking.{ahead-push, first_place-front, own-none, talks-push}
@@ -37,6 +37,10 @@ number-made c (Some d) h e = let same : d ≡ c = some_is e in true-false (sym (
 pub made-number : (c : ℕ) (o : Option ℕ) → (o ≡ one c → ⊥) → is_made_for c o ≡ false
 made-number c None h = refl
 made-number c (Some d) h = unlike c d h
+
+pub made-of : (c : ℕ) (o : Option ℕ) → is_made_for c o ≡ true → o ≡ one c
+made-of c None h = absurd (cc)
+made-of c (Some d) h = ap one (sym (number-same c d h))
 
 unmade : (c : ℕ) (u : UpdateRec) → names c (Update u) ≡ false → made_for u.kind ≡ one c → ⊥
 unmade c u h = number-made c (made_for u.kind) h

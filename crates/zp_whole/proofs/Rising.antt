@@ -136,7 +136,7 @@ carried-grown w mid a f h = go (carry w.store a.ask) refl h
     go None e p = grown-same w mid p.1
     go (Some r) e p = stored-grown w mid r.0 a.kind (carry-precedes w.store r.0 a.ask r.1 e).longer p.1
 
-exec-grown : (w w' : World) (c : ℕ) → Executes c w w' → Grown w w'
+pub exec-grown : (w w' : World) (c : ℕ) → Executes c w w' → Grown w w'
 exec-grown w w' c ex =
     let g = carried-grown w ex.mid ex.asking ex.flight ex.carries in
     let t = g.conns c ex.conn ex.found in
@@ -179,7 +179,7 @@ failure-grown w w' c x (Connection core) there h = handed-grown w w' c [] input.
 failure-grown w w' c x (Reaper r) there h = grown-to w (leaves c w x Closed (ended_by c cause.LinkFault x.flight)) w' h (leaves-grown w c x Closed (ended_by c cause.LinkFault x.flight) there)
 failure-grown w w' c x Closed there h = absurd h
 
-delivers-grown : (w w' : World) (c : ℕ) (f : Option Flight) → Delivers c w w' f → Grown w w'
+pub delivers-grown : (w w' : World) (c : ℕ) (f : Option Flight) → Delivers c w w' f → Grown w w'
 delivers-grown w w' c None h = absurd h
 delivers-grown w w' c (Some (Out a)) h = absurd h
 delivers-grown w w' c (Some (Carried a)) (x, there, h) = grown-then w (landed c w) w' (landed-grown w c) (answer-grown (landed c w) w' c x a x.actor there h)
@@ -212,7 +212,7 @@ foreign-grown : (w w' : World) (k v : List ℕ) (o : Option Store) → foreign w
 foreign-grown w w' k v None e h = absurd h
 foreign-grown w w' k v (Some s) e h = grown-to w _ w' h (alike-grown w (record w { store = s }) (foreign-precedes w.store s k v e).longer refl)
 
-enters-grown : (w w' : World) (c : ℕ) (o : Option Entry) → EntersBy c w w' o → Grown w w'
+pub enters-grown : (w w' : World) (c : ℕ) (o : Option Entry) → EntersBy c w w' o → Grown w w'
 enters-grown w w' c None h = absurd h
 enters-grown w w' c (Some e) (i, is, hd) = handed-grown w w' c [] i hd
 
