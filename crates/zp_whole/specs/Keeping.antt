@@ -1,15 +1,18 @@
 -- What the laws say: which lines of a script keep a world whole.
-use Rattle.std.specs.Prelude.{◌≡◌, ℕ, true, Some, None}
-use Rattle.zt_text.specs.declared.script.Happening.{Happening}
-use Rattle.zp_step.specs.Stages.{Core}
-use Rattle.zp_laws.specs.Frames.{is_served}
+use Rattle.std.specs.Prelude.{All, List, None, Some, true, ℕ, ◌≡◌}
+use Rattle.zk_transcript.specs.Legal.{Tick}
 use Rattle.zp_happen.specs.Effects.{Does}
 use Rattle.zp_happen.specs.Faults.{fault}
-use Rattle.zp_happen.specs.Runs.{IsFirst}
+use Rattle.zp_happen.specs.Happens.{Happens}
+use Rattle.zp_happen.specs.Runs.{IsFirst, Runs}
 use Rattle.zp_happen.specs.Worlds.{Conn, Connection, World, conn_at}
+use Rattle.zp_laws.specs.Frames.{is_served}
+use Rattle.zp_step.specs.Stages.{Core}
+use Rattle.zp_whole.specs.Accounting.{IsAccounted, IsWithinCounts, OffersSession}
 use Rattle.zp_whole.specs.Connections.{Whole}
 use Rattle.zp_whole.specs.Entering.{AreEntries}
 use Rattle.zp_whole.specs.Giving.{IsOneHistory}
+use Rattle.zt_text.specs.declared.script.Happening.{Happening}
 
 -- before anything happened
 abbrev pub FirstIsWhole : Type 0
@@ -46,3 +49,17 @@ pub record IsAttachedIn (w : World) (c : ℕ) : Type 0 where
 pub record MayEnter (w : World) (c : ℕ) : Type 0 where
   pub attached : IsAttachedIn w c
   pub entries : AreEntries w.lines w.entries
+
+-- ---- whole scripts
+
+-- before anything happened all is accounted for
+abbrev pub FirstIsAccounted : Type 0
+FirstIsAccounted = (w : World) → IsFirst w → IsAccounted w
+
+-- and so it is behind each line whose tests pass, settle too, while counts are within their ranges
+abbrev pub KeepsAccounts : Type 0
+KeepsAccounts = (w w' : World) (h : Happening) → OffersSession h → IsWithinCounts w' → Happens w h w' → IsAccounted w → IsAccounted w'
+
+-- what every run of a script gives
+abbrev pub EveryRunGives : Type 0
+EveryRunGives = (hs : List Happening) (ticks : List Tick) (w : World) → All OffersSession hs → IsWithinCounts w → Runs hs ticks w → IsOneHistory w.lines

@@ -3,7 +3,7 @@
 ghost use Rattle.std.specs.Prelude.{◌≡◌, ℕ, ℤ, List};
 ghost use Rattle.zt_text.specs.declared.script.Happening.TheVariants as line;
 ghost use Rattle.zp_happen.specs.Worlds.{World};
-ghost use Rattle.zp_whole.specs.Keeping.{FirstHasEntries, FirstIsWhole, IsAttachedIn, Keeps, KeepsEntries, KeepsIf, MayEnter, WholeGives};
+ghost use Rattle.zp_whole.specs.Keeping.{EveryRunGives, FirstHasEntries, FirstIsAccounted, FirstIsWhole, IsAttachedIn, Keeps, KeepsAccounts, KeepsEntries, KeepsIf, MayEnter, WholeGives};
 
 /// The world before anything happened is whole.
 pub fn the_first_world_is_whole()
@@ -59,4 +59,18 @@ pub fn connections_end()
 pub fn connections_open()
     ensures open { (c p : ℕ) (id : ℤ) (passwd : List ℕ) → Keeps (line.Open c p id passwd) }
     ensures reap { (c p : ℕ) (id : ℤ) → Keeps (line.Reap c p id) }
+{}
+
+/// All is accounted for in the first world, and behind each line of a script, settle too: the world is whole, each connection is
+/// known in whatever stage, and each reaper, and each update has its entry. A connection offers a number that sessions have,
+/// the store has a revision to come, and no connection had 2^64 - 1 frames.
+pub fn every_line_is_accounted_for()
+    ensures first { FirstIsAccounted }
+    ensures happens { KeepsAccounts }
+{}
+
+/// Every run of a script, whichever connections, frames, lapses, cuts, restarts and orders of delivery it has, is one history of
+/// the service, and what each connection was sent behind its welcome is a walk of it.
+pub fn every_run_is_one_history()
+    ensures { EveryRunGives }
 {}
