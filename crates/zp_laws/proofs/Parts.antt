@@ -24,7 +24,7 @@ parts-from : (s : Store) (z : ℤ) (m : Keys) (r : ℤ) (ws : List Want) → len
 parts-from s z m r [] = refl
 parts-from s z m r (w ∷ ws) = omega (arith, parts-from s z m r ws)
 
-parts-worked : (s : Store) (r : ℤ) (ws : List Want) → length (worked s (ranges_of r ws)).parts ≡ length ws
+pub parts-worked : (s : Store) (r : ℤ) (ws : List Want) → length (worked s (ranges_of r ws)).parts ≡ length ws
 unfolding worked
 parts-worked s r ws = parts-from s (revision s +ℤ pos 1) (present s) r ws
 

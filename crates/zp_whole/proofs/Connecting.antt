@@ -1,6 +1,4 @@
 -- What a connection without a session asks is bound; and where it is carried out, the answer tells of the connection's own line.
-use Rattle.zp_laws.proofs.Attached.{first-there}
-use Rattle.zk_transcript.proofs.SoundHistories.{legal-bounded}
 use Rattle.ev_types.specs.Denials.{carry}
 use Rattle.ev_types.specs.Store.{Store, last_revision, present, revision, succeeds}
 use Rattle.ev_types.specs.declared.answer.ActAns.{ActAns}
@@ -23,8 +21,9 @@ use Rattle.zk_transcript.proofs.Attachments.{attach_of-new}
 use Rattle.zk_transcript.proofs.Histories.{first_shown-push}
 use Rattle.zk_transcript.proofs.Lookups.{first_shown-place}
 use Rattle.zk_transcript.proofs.SessionMaps.{at-insert_same}
+use Rattle.zk_transcript.proofs.SoundHistories.{legal-bounded, legal-sound}
 use Rattle.zk_transcript.proofs.Walks.{first_place-bound}
-use Rattle.zk_transcript.specs.History.{Session, State, after, attached_anew, connect, frame, frame_shown, granted_timeout, new_session, open_shown, opening, or_nothing, session_at, state_at, updated, when}
+use Rattle.zk_transcript.specs.History.{IsSound, Session, State, after, attached_anew, connect, frame, frame_shown, granted_timeout, new_session, open_shown, opening, or_nothing, session_at, state_at, updated, when}
 use Rattle.zk_transcript.specs.Legal.{attach_in, attach_of, index_in, is_below}
 use Rattle.zk_transcript.specs.Walks.{packets}
 use Rattle.zk_transcript.specs.declared.transcript.TranscriptLine.{TranscriptLine}
@@ -35,6 +34,7 @@ use Rattle.zn_layout.specs.declared.record.LeaseRec.{LeaseRec}
 use Rattle.zp_happen.specs.Kinds.{kind_of_connect}
 use Rattle.zp_happen.specs.declared.flight.Asking.{Asking}
 use Rattle.zp_happen.specs.declared.flight.Flight.TheVariants.{Carried, Denied, Out}
+use Rattle.zp_laws.proofs.Attached.{first-there}
 use Rattle.zp_laws.proofs.Growing.{frames-push as frames-longer}
 use Rattle.zp_laws.specs.Inputs.{Precedes}
 use Rattle.zp_step.specs.Stages.{Core}
@@ -191,6 +191,7 @@ module _ (s u : Store) (lines : List TranscriptLine) (c : ℕ) (core : Core) (x 
         within = omega arith;
         risen = (let same = ap (λ (t : State). t.zxid) whole in omega (arith, ints, same));
         stands = subst (StandsFor (present u)) (sym whole) (stands-now u (lines ++ more) v);
+        sound = subst IsSound (sym whole) (legal-sound (lines ++ more) v.legal);
         rests = subst (λ (t : State). RestsOn u t.zxid x.request x.phase) (sym whole) (rests-push s u (after lines).zxid (after (lines ++ more)).zxid x.request x.phase p up out.rests);
         own = own;
       }

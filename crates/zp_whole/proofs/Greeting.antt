@@ -1,27 +1,17 @@
 -- The world behind the answer to a connection without a session.
-use Rattle.zp_whole.proofs.Acting.{is_own, one-own}
-use Rattle.std.specs.List.{list_all}
-use Rattle.zp_laws.proofs.Going.{goes-walks}
-use Rattle.zp_whole.proofs.Stepping.{handed-acts}
-use Rattle.zk_jute.specs.Connects.{read_connect}
-use Rattle.zk_transcript.specs.Walks.{placed_frame}
-use Rattle.zp_laws.specs.Frames.{AreFrames}
-use Rattle.zp_step.specs.declared.input.Input.{Input}
-use Rattle.zp_whole.specs.Connecting.{IsUntouched}
-use Rattle.zp_whole.proofs.Actions.{said, said-packets, said-speech}
-use Rattle.zp_whole.proofs.Connecting.{connect-bound}
-use Rattle.zp_whole.proofs.Welcoming.{goes_on, ahead, taken, unknown, attached}
-use Rattle.zk_jute.specs.Packets.{connect_packet}
 use Rattle.ev_types.specs.declared.answer.Answer.{Answer}
 use Rattle.ev_types.specs.declared.ask.Ask.{Ask}
-use Rattle.std.proofs.Common.{List, [], ap, append-nil, append_assoc, arith, false, inl, inr, length, pos, refl, subst, sym, true, ℕ, ℤ, ◌++◌, ◌+◌, ◌∙◌, ◌∷◌, ◌≡◌, ◌≢◌}
-use Rattle.std.specs.Prelude.{None, Option, Some, if◌then◌else◌, not, option_and_then, ◌&&◌, ◌==◌, ◌≤ℤ◌, ◌⊎◌}
+use Rattle.std.proofs.Common.{List, [], ap, append-nil, append_assoc, arith, false, inl, inr, length, pos, refl, subst, sym, true, ℕ, ℤ, ◌++◌, ◌+◌, ◌∙◌, ◌∷◌, ◌≡◌}
+use Rattle.std.specs.List.{list_all}
+use Rattle.std.specs.Prelude.{None, Option, Some, if◌then◌else◌, option_and_then, ◌&&◌, ◌==◌, ◌≤ℤ◌, ◌⊎◌}
+use Rattle.zk_jute.specs.Connects.{read_connect}
+use Rattle.zk_jute.specs.Packets.{connect_packet}
 use Rattle.zk_model.specs.Limits.{max_long}
 use Rattle.zk_transcript.proofs.Lookups.{first_shown-place}
 use Rattle.zk_transcript.specs.Conversations.{answered_read_only, refusal}
 use Rattle.zk_transcript.specs.History.{after, frame_shown, state_at}
 use Rattle.zk_transcript.specs.Legal.{attach_of, is_legal}
-use Rattle.zk_transcript.specs.Walks.{at_start, packets_from}
+use Rattle.zk_transcript.specs.Walks.{at_start, packets_from, placed_frame}
 use Rattle.zk_transcript.specs.declared.transcript.Cause.TheVariants as cause
 use Rattle.zk_transcript.specs.declared.transcript.Cause.{Cause}
 use Rattle.zk_transcript.specs.declared.transcript.Ended.TheVariants as ended
@@ -41,7 +31,7 @@ use Rattle.zp_laws.proofs.Going.{goes-walks}
 use Rattle.zp_laws.proofs.WalkMoves.{walk-next}
 use Rattle.zp_laws.proofs.Welcoming.{welcomed-stands}
 use Rattle.zp_laws.specs.Ending.{EndsWell, StaysOut, asked_by}
-use Rattle.zp_laws.specs.Frames.{is_served}
+use Rattle.zp_laws.specs.Frames.{AreFrames, is_served}
 use Rattle.zp_laws.specs.Standing.{StandsOpen}
 use Rattle.zp_laws.specs.Walking.{IsAheadIn, IsStill, Walks, sends}
 use Rattle.zp_laws.specs.Welcomes.{IsAttachment}
@@ -53,28 +43,28 @@ use Rattle.zp_step.specs.Steps.{Answers, Goes, StepsOpen}
 use Rattle.zp_step.specs.declared.action.Action.TheVariants as action
 use Rattle.zp_step.specs.declared.action.Action.{Action}
 use Rattle.zp_step.specs.declared.input.Input.TheVariants as input
-use Rattle.zp_whole.proofs.Acting.{Acts, leaves-acts}
-use Rattle.zp_whole.proofs.Actions.{Split, said-packets, said-speech, split, split-sends}
+use Rattle.zp_step.specs.declared.input.Input.{Input}
+use Rattle.zp_whole.proofs.Acting.{Acts, is_own, leaves-acts, one-own}
+use Rattle.zp_whole.proofs.Actions.{Split, said, said-packets, said-speech, split, split-sends}
 use Rattle.zp_whole.proofs.Carrying.{one}
 use Rattle.zp_whole.proofs.Closing.{But, but-of, ends-whole, with_lines}
-use Rattle.zp_whole.proofs.Connecting.{IsAwaiting}
+use Rattle.zp_whole.proofs.Connecting.{IsAwaiting, connect-bound}
 use Rattle.zp_whole.proofs.Executing.{precedes-self, same-nat}
-use Rattle.zp_whole.proofs.Handing.{goes-on-whole, served-at, GoesOn, core-same}
+use Rattle.zp_whole.proofs.Handing.{GoesOn, core-same, goes-on-whole, served-at}
 use Rattle.zp_whole.proofs.Kept.{true-false}
 use Rattle.zp_whole.proofs.Knowing.{AreAside, rests-push}
 use Rattle.zp_whole.proofs.Packets.{both-true, packets-append}
 use Rattle.zp_whole.proofs.Setting.{lone, sets-whole}
 use Rattle.zp_whole.proofs.Speaking.{all-quiet, speaks-but}
-use Rattle.zp_whole.proofs.Stepping.{closing-acts, counts-on}
+use Rattle.zp_whole.proofs.Stepping.{closing-acts, counts-on, handed-acts}
 use Rattle.zp_whole.proofs.Talking.{talks-first}
-use Rattle.zp_whole.proofs.Welcoming.{LeadsTo, leads-to, unknown}
+use Rattle.zp_whole.proofs.Welcoming.{LeadsTo, ahead, attached, goes_on, leads-to, taken, unknown}
 use Rattle.zp_whole.specs.Bounds.{IsBoundAsk, attachment}
-use Rattle.zp_whole.specs.Connecting.{IsConnectAnswer, IsConnecting, IsOwnSession, RestsOn}
+use Rattle.zp_whole.specs.Connecting.{IsConnectAnswer, IsConnecting, IsOwnSession, IsUntouched, RestsOn}
 use Rattle.zp_whole.specs.Connections.{Whole}
 use Rattle.zp_whole.specs.Counting.{HasFrames}
 use Rattle.zp_whole.specs.Holding.{Source, Talks, air, asker_in, made_for, out_in, out_of}
 use Rattle.zp_whole.specs.Knowing.{IsKnownAs}
-use Rattle.zp_whole.specs.Naming.{is_unnamed}
 use Rattle.zs_session.specs.Connecting.{asked_in}
 use Rattle.zs_session.specs.declared.connect.Connect.{Connect}
 use Rattle.zs_session.specs.declared.connect.ConnectStep.{ConnectStep}
@@ -324,14 +314,14 @@ module _ (w w' : World) (c : ℕ) (a : Answer) (hd : Handed c [] w (input.Answer
   flown : IsConnectAnswer w.store w.lines c k.place x a
   flown = k.flies
 
-  by-step : (p : Phase) (step : ConnectStep) → LeadsTo w.store w.lines c (state_at w.lines flown.looked).zxid x p step → Is (connected hd.core w.clock (in_phase x p) step) s.mid s.first → Acts w w' c
+  by-step : (p : Phase) (step : ConnectStep) → LeadsTo w.store w.lines c (state_at w.lines flown.looked) x p step → Is (connected hd.core w.clock (in_phase x p) step) s.mid s.first → Acts w w' c
   by-step p _ (goes_on q asked rests none) i =
       let kept = kept_by w.clock hd.core.kept q in
       let t = still (asking_core hd.core kept (in_phase x p) q) (action.Ask q ∷ []) i.0 i.1 (λ e. absurd (cc)) in
       asks-acts w w' c [] (input.Answer a) hd x hd.core h (record { untouched = k.untouched; next = k.next; waiting = k.waiting; place = k.place; bytes = k.bytes; framed = k.framed; reads = k.reads }) frames p kept q asked (rests-push w.store w.store (state_at w.lines flown.looked).zxid (after w.lines).zxid x.request p (precedes-self w.store) flown.risen rests) none t.0 t.1
   by-step p _ (ahead client head) i = shut-by (cause.ZxidAhead client head) i
   by-step p _ (taken r) i = shut-by (cause.Taken r) i
-  by-step p _ (unknown none) i =
+  by-step p _ (unknown none refused) i =
       let t = still (record (hd.core) { stage = Shut }) (action.Send (connect_packet (refusal x.request)) ∷ action.Close cause.Unknown ∷ []) i.0 i.1 (λ e. absurd (cc)) in
       refuses (connect_packet (refusal x.request)) cause.Unknown none (ap (λ (y : Core). y.stage) t.0) t.1
   by-step p _ (attached id timeout passwd zxid number own) i =

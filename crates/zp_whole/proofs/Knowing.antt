@@ -19,7 +19,7 @@ use Rattle.zk_transcript.proofs.Lookups.{slice_get-front}
 use Rattle.zk_transcript.proofs.Walks.{state_at-push}
 use Rattle.zk_transcript.proofs.Zxids.{zxid-covers}
 use Rattle.zk_transcript.specs.Conversations.{close_shown}
-use Rattle.zk_transcript.specs.History.{State, after, first_place, first_shown, frame_shown, open_shown, session_at, state_at}
+use Rattle.zk_transcript.specs.History.{IsSound, State, after, first_place, first_shown, frame_shown, open_shown, session_at, state_at}
 use Rattle.zk_transcript.specs.Legal.{attach_of, is_legal}
 use Rattle.zk_transcript.specs.declared.transcript.TranscriptLine.TheVariants.{Update}
 use Rattle.zk_transcript.specs.declared.transcript.TranscriptLine.{TranscriptLine}
@@ -204,6 +204,7 @@ module _ (s u : Store) (lines more : List TranscriptLine) (c : ℕ) (g : GrowsBe
         within = omega (arith, k.within, length-append lines more);
         risen = (let up = zxid-rises lines more g.legal g.still_legal in let same = ap (λ (t : State). t.zxid) later in omega (arith, ints, k.risen, up, same));
         stands = subst (StandsFor (present k.then_store)) (sym later) k.stands;
+        sound = subst IsSound (sym later) k.sound;
         rests = subst (λ (t : State). RestsOn k.then_store t.zxid x.request x.phase) (sym later) k.rests;
         own = own-push lines more c x x.phase a g.attach k.own;
       }

@@ -35,6 +35,7 @@ pub mod Knowing
 pub mod Acting
 pub mod Reapers
 pub mod Connecting
+pub mod Refusing
 pub mod Welcoming
 pub mod Stepping
 pub mod Greeting

@@ -8,7 +8,7 @@ use Rattle.std.specs.Prelude.{List, None, Option, Some, [], length, pos, slice_g
 use Rattle.zk_jute.specs.Connects.{read_connect}
 use Rattle.zk_model.specs.Limits.{max_long}
 use Rattle.zk_model.specs.declared.connect.ConnectRequest.{ConnectRequest}
-use Rattle.zk_transcript.specs.History.{Session, after, opening, session_at, state_at}
+use Rattle.zk_transcript.specs.History.{IsSound, Session, after, opening, session_at, state_at}
 use Rattle.zk_transcript.specs.Legal.{attach_of}
 use Rattle.zk_transcript.specs.Walks.{packets, placed_frame}
 use Rattle.zk_transcript.specs.declared.transcript.TranscriptLine.TheVariants.{Update}
@@ -111,6 +111,7 @@ pub record IsConnectAnswer (store : Store) (lines : List TranscriptLine) (c plac
   -- no later update has a lesser zxid
   pub risen : (state_at lines looked).zxid ≤ℤ (after lines).zxid
   pub stands : StandsFor (present then_store) (state_at lines looked)
+  pub sound : IsSound (state_at lines looked)
   pub rests : RestsOn then_store (state_at lines looked).zxid x.request x.phase
   pub own : HasOwnLine lines c x x.phase a
 
