@@ -1,26 +1,27 @@
 -- Whatever may still be carried out may be carried out at any time: what holds of the world still holds.
-use Rattle.std.proofs.Common.{◌≡◌, ℕ, ◌+◌, List, [], ◌∷◌, ◌++◌, refl, sym, ap, ◌∙◌, subst, arith, Bool, true, false, ℤ, inl, inr, append-nil}
-use Rattle.std.specs.Prelude.{Option, Some, None, ◌==◌}
-use Rattle.std.specs.Option.{option_and_then}
-use Rattle.std.proofs.lemmas.Bool.Decides.{nat_tests}
+use Rattle.ev_types.specs.Denials.{carry}
 use Rattle.ev_types.specs.Store.{Store}
-use Rattle.ev_types.specs.declared.ask.Ask.{Ask}
+use Rattle.ev_types.specs.declared.answer.Answer.{Answer}
 use Rattle.ev_types.specs.declared.ask.Ask.TheVariants as ask
+use Rattle.ev_types.specs.declared.ask.Ask.{Ask}
 use Rattle.ev_types.specs.declared.ask.TxnReq.{TxnReq}
+use Rattle.std.proofs.Common.{Bool, List, [], ap, append-nil, arith, false, inl, inr, refl, subst, sym, true, ℕ, ℤ, ◌++◌, ◌+◌, ◌∙◌, ◌∷◌, ◌≡◌}
+use Rattle.std.proofs.lemmas.Bool.Decides.{nat_tests}
+use Rattle.std.specs.Option.{option_and_then}
+use Rattle.std.specs.Prelude.{None, Option, Some, ◌==◌, ◌⊎◌}
 use Rattle.zk_transcript.proofs.Attachments.{attach_of-push, attach_of-skip}
 use Rattle.zk_transcript.specs.Conversations.{IsShownFresh}
 use Rattle.zk_transcript.specs.History.{when}
 use Rattle.zk_transcript.specs.Legal.{Attachment, attach_of, attach_shown, index_shown, is_below}
 use Rattle.zk_transcript.specs.Walks.{Walker, at_start, packets}
-use Rattle.zk_transcript.specs.declared.transcript.TranscriptLine.{TranscriptLine}
 use Rattle.zk_transcript.specs.declared.transcript.TranscriptLine.TheVariants.{Update}
+use Rattle.zk_transcript.specs.declared.transcript.TranscriptLine.{TranscriptLine}
+use Rattle.zk_transcript.specs.declared.transcript.UpdateKind.TheVariants.{Asked, Attach, Begin, Closed, Reaped, Session as NewSession}
 use Rattle.zk_transcript.specs.declared.transcript.UpdateKind.{UpdateKind}
-use Rattle.zk_transcript.specs.declared.transcript.UpdateKind.TheVariants.{Begin, Session as NewSession, Attach, Asked, Closed, Reaped}
+use Rattle.zp_happen.specs.Worlds.{World}
+use Rattle.zp_happen.specs.declared.flight.Asking.{Asking}
 use Rattle.zp_laws.specs.Inputs.{Precedes}
 use Rattle.zp_laws.specs.Standing.{is_ahead}
-use Rattle.zp_happen.specs.declared.flight.Asking.{Asking}
-use Rattle.zp_happen.specs.Worlds.{World}
-use Rattle.zx_base.proofs.Options.{none_some, some_is}
 use Rattle.zp_whole.proofs.Commits.{Committed, line_of}
 use Rattle.zp_whole.proofs.Growing.{Apart, ApartIn, ask-kept, same-precedes, serves-same, shown-push}
 use Rattle.zp_whole.proofs.Outcomes.{IsNext, Still, Updated, outcome}
@@ -29,6 +30,7 @@ use Rattle.zp_whole.proofs.Talking.{ahead-push, own-none, talks-push, talks-star
 use Rattle.zp_whole.specs.Bounds.{IsBound, IsBoundAs, IsBoundAsk, attachment}
 use Rattle.zp_whole.specs.Holding.{Carries, Holds, IsAhead, IsSpoken, Source, Talks, air, asker_in, attaches, made_for, request_in, requested_by}
 use Rattle.zp_whole.specs.Serving.{Serves, next_revision, update_lines}
+use Rattle.zx_base.proofs.Options.{none_some, some_is}
 
 -- ---- what a request's transaction tells of its connection
 
@@ -146,7 +148,7 @@ like c d o x h = go (c == d) refl
     go false e = absurd (h (ap (λ b. when b x) e))
 
 -- the line that attaches a connection is its session's transaction, to which nothing was sent
-new-silent : (s : Store) (lines : List TranscriptLine) (kind : UpdateKind) (t : TxnReq) (c : ℕ) (z : ℤ) → IsBound s lines kind t → (attach_shown c (Update (record { zxid = z; kind = kind })) ≡ None → ⊥) → (made_for kind ≡ one c) × (packets c lines ≡ [])
+pub new-silent : (s : Store) (lines : List TranscriptLine) (kind : UpdateKind) (t : TxnReq) (c : ℕ) (z : ℤ) → IsBound s lines kind t → (attach_shown c (Update (record { zxid = z; kind = kind })) ≡ None → ⊥) → (made_for kind ≡ one c) × (packets c lines ≡ [])
 new-silent s lines (Begin n) t c z b h = absurd b
 new-silent s lines (NewSession id d) t c z b h = let e = like c d None (record { zxid = z; session = id }) h in (ap one (sym e), subst (λ n. packets n lines ≡ []) (sym e) (b.connected).silent)
 new-silent s lines (Attach id d) t c z b h = let e = like c d None (record { zxid = z; session = id }) h in (ap one (sym e), subst (λ n. packets n lines ≡ []) (sym e) (b.connected).silent)
@@ -222,14 +224,17 @@ bound-next s lines x kind c i e b r = go x.kind x.ask e b
     go (Some k) (ask.Grant id ttl) f b' = absurd b'
     go (Some k) (ask.Alive id) f b' = absurd b'
 
+-- what is carried out is the next request of its connection, if one
+carried-next : (w : World) (src : Source) (x : Asking) → Holds w → air w src ≡ Some x → (kind : UpdateKind) → x.kind ≡ Some kind → IsNext w.lines kind
+carried-next w src x h was kind e c i r =
+    let a = bound-next w.store w.lines x kind c i e (h.bound src x was) r in
+    ((h.spoken c a.place a.own a.is).ahead src x i was (request-of x kind c i e r)).follows
+
+pub air-outcome : (w : World) (src : Source) (x : Asking) (u : Store) (a : Answer) → Holds w → air w src ≡ Some x → carry w.store x.ask ≡ Some (u, a) → Still w.store u x.kind ⊎ Updated w.store u w.lines x.kind
+air-outcome w src x u a h was carried = outcome w.store u w.lines x a h.serves (carried-next w src x h was) (h.bound src x was) carried
+
 pub carries-holds : (w w' : World) (src : Source) → Holds w → Carries w src w' → Holds w'
-carries-holds w w' src h cr =
-    elim (outcome w.store cr.store w.lines cr.what cr.answer h.serves next (h.bound src cr.what cr.was) cr.carried) [
-      | inl q ↦ still-holds w w' src h cr q
-      | inr q ↦ updated-holds w w' src h cr q
-    ]
-  where
-    next : (kind : UpdateKind) → (cr.what).kind ≡ Some kind → IsNext w.lines kind
-    next kind e c i r =
-        let a = bound-next w.store w.lines cr.what kind c i e (h.bound src cr.what cr.was) r in
-        ((h.spoken c a.place a.own a.is).ahead src cr.what i cr.was (request-of cr.what kind c i e r)).follows
+carries-holds w w' src h cr = elim (air-outcome w src cr.what cr.store cr.answer h cr.was cr.carried) [
+  | inl q ↦ still-holds w w' src h cr q
+  | inr q ↦ updated-holds w w' src h cr q
+]

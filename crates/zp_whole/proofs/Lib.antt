@@ -32,6 +32,7 @@ pub mod Arriving
 pub mod Entering
 pub mod Reaping
 pub mod Knowing
+pub mod Within
 pub mod Acting
 pub mod Reapers
 pub mod Connecting
