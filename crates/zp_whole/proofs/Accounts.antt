@@ -3,6 +3,7 @@ use Rattle.ev_types.specs.Denials.{carry}
 use Rattle.ev_types.specs.Lapses.{foreign, lapse}
 use Rattle.ev_types.specs.Store.{Store, last_revision, revision}
 use Rattle.ev_types.specs.declared.answer.Answer.{Answer}
+use Rattle.ev_types.specs.declared.ask.TxnReq.{TxnReq}
 use Rattle.std.proofs.Common.{Bool, List, [], ap, append-nil, arith, false, inl, inr, pos, refl, subst, sym, true, ℕ, ℤ, ◌++◌, ◌-◌, ◌∙◌, ◌∷◌, ◌≡◌, ◌≢◌}
 use Rattle.std.specs.FinMap.{get}
 use Rattle.std.specs.Ordering.{int_eq}
@@ -10,9 +11,11 @@ use Rattle.std.specs.Prelude.{None, Option, Some, if◌then◌else◌, not, opti
 use Rattle.zk_transcript.proofs.Appending.{after-push}
 use Rattle.zk_transcript.proofs.Attachments.{attach_of-skip}
 use Rattle.zk_transcript.proofs.Lookups.{first_shown-new}
-use Rattle.zk_transcript.specs.Conversations.{close_shown}
+use Rattle.zk_transcript.specs.Conversations.{IsInConnection, close_shown}
 use Rattle.zk_transcript.specs.History.{Session, State, after, frame_shown, lapsed_in, open_shown, opening, session_at, when}
-use Rattle.zk_transcript.specs.declared.transcript.TranscriptLine.TheVariants.{Lapse as LapseLine, Open}
+use Rattle.zk_transcript.specs.Legal.{Attachment, attach_shown}
+use Rattle.zk_transcript.specs.Walks.{packets}
+use Rattle.zk_transcript.specs.declared.transcript.TranscriptLine.TheVariants.{Lapse as LapseLine, Open, Update}
 use Rattle.zk_transcript.specs.declared.transcript.TranscriptLine.{TranscriptLine}
 use Rattle.zk_transcript.specs.declared.transcript.UpdateKind.{UpdateKind}
 use Rattle.zn_view.specs.Asks.{reading}
@@ -24,8 +27,11 @@ use Rattle.zp_happen.specs.Worlds.{Actor, Closed, Conn, Connection, Reaper, Worl
 use Rattle.zp_happen.specs.declared.flight.Asking.{Asking}
 use Rattle.zp_happen.specs.declared.flight.Flight.TheVariants.{Carried, Denied}
 use Rattle.zp_laws.specs.Inputs.{Precedes}
+use Rattle.zp_laws.specs.Walking.{sends}
 use Rattle.zp_step.specs.Stages.{Checking, Committing, Connecting, Core, KeepingAlive, Reading, Ready, Shut, Stage, Unconnected, Waiting, new_core}
-use Rattle.zp_whole.proofs.Carrying.{asker-of, one}
+use Rattle.zp_whole.proofs.Actions.{said}
+use Rattle.zp_whole.proofs.Carrying.{air-outcome, asker-of, new-silent, one}
+use Rattle.zp_whole.proofs.Commits.{line_of}
 use Rattle.zp_whole.proofs.Connecting.{connect-carried, connect-denied}
 use Rattle.zp_whole.proofs.Effects.{foreign-precedes, lapse-precedes, left-at, stored-in}
 use Rattle.zp_whole.proofs.Entering.{entries-line, exec-entries, stray-entries}
@@ -37,20 +43,21 @@ use Rattle.zp_whole.proofs.Lines.{packets-plain}
 use Rattle.zp_whole.proofs.Naming.{close-none, frame-none, made-number, made-of, never-attached, never-carried, never-opened, never-sent}
 use Rattle.zp_whole.proofs.Numbers.{conn-here, conn-there, other-number, same-number}
 use Rattle.zp_whole.proofs.Opening.{open-whole}
-use Rattle.zp_whole.proofs.Packets.{both-true}
+use Rattle.zp_whole.proofs.Packets.{both-true, packets-append}
 use Rattle.zp_whole.proofs.Reapers.{reap-carried}
 use Rattle.zp_whole.proofs.Reaping.{damaged-memory, looking_reaper, looks-first, reap-whole}
 use Rattle.zp_whole.proofs.Talking.{ahead-push, first_place-front}
+use Rattle.zp_whole.proofs.Within.{within-aside, within-plain, within-same, within-silent, within-unnamed}
 use Rattle.zp_whole.specs.Accounting.{IsAccounted}
-use Rattle.zp_whole.specs.Bounds.{IsBoundAsk}
+use Rattle.zp_whole.specs.Bounds.{IsBound, IsBoundAsk}
 use Rattle.zp_whole.specs.Connecting.{IsConnecting, IsInStage, IsOffer}
 use Rattle.zp_whole.specs.Connections.{IsClosedAt, Whole}
 use Rattle.zp_whole.specs.Counting.{IsLined}
-use Rattle.zp_whole.specs.Holding.{Left, Of, air, made_for, out_in, out_of}
+use Rattle.zp_whole.specs.Holding.{Left, Of, Source, air, made_for, out_in, out_of}
 use Rattle.zp_whole.specs.Knowing.{IsKnownAs, Known}
 use Rattle.zp_whole.specs.Naming.{is_made_for, is_unnamed}
 use Rattle.zp_whole.specs.Reaping.{IsReapAsk, IsReapFlight}
-use Rattle.zp_whole.specs.Serving.{Serves, kind_lines, update_lines}
+use Rattle.zp_whole.specs.Serving.{Serves, kind_lines, next_revision, update_lines}
 use Rattle.zs_reap.specs.Steps.{first_wants}
 use Rattle.zs_session.specs.declared.connect.Fresh.{Fresh}
 use Rattle.zx_base.proofs.Options.{none_some, some_is}
@@ -65,6 +72,7 @@ tick-accounted w n k =
       whole = whole;
       known = known-none w v [] k.known (record { longer = precedes-self w.store; legal = (((k.whole).holds).serves).legal; still_legal = ((whole.holds).serves).legal; lines = sym (append-nil w.lines); all = λ d. refl; unnamed = λ d. inr refl });
       entries = k.entries;
+      within = k.within;
     }
 
 pub foreign-at : (w w' : World) (key v : List ℕ) (o : Option Store) → foreign w.store key v ≡ o → PutTo w w' o → Whole w' → IsAccounted w → IsAccounted w'
@@ -75,6 +83,7 @@ foreign-at w w' key v (Some u) e h whole k =
       whole = now;
       known = known-none w (record w { store = u }) [] k.known (record { longer = foreign-precedes w.store u key v e; legal = (((k.whole).holds).serves).legal; still_legal = ((now.holds).serves).legal; lines = sym (append-nil w.lines); all = λ d. refl; unnamed = λ d. inr refl });
       entries = k.entries;
+      within = k.within;
     })
 
 pub lapse-at : (w w' : World) (id : ℤ) (o : Option Store) → lapse w.store id ≡ o → LapsesTo id w w' o → Whole w' → IsAccounted w → IsAccounted w'
@@ -87,6 +96,7 @@ lapse-at w w' id (Some u) e h whole k =
       whole = now;
       known = known-none w v (LapseLine (revision u) id ∷ []) k.known (record { longer = (lapse-precedes w.store u id e).0; legal = (((k.whole).holds).serves).legal; still_legal = ((now.holds).serves).legal; lines = refl; all = λ d. refl; unnamed = λ d. inr refl });
       entries = entries-line w.lines (LapseLine (revision u) id) w.entries (ap (λ (s : State). s.updates) (after-push w.lines (LapseLine (revision u) id)) ∙ lapsed-updates (after w.lines) id (session_at id (after w.lines))) k.entries;
+      within = λ d. within-unnamed w.lines (LapseLine (revision u) id ∷ []) d refl (k.within d);
     })
   where
     lapsed-updates : (s : State) (n : ℤ) (o : Option Session) → (lapsed_in s n o).updates ≡ s.updates
@@ -102,6 +112,28 @@ update-unnamed d s u o h = go (int_eq (zxid_at s) (zxid_at u)) o h
     go true p f = refl
     go false None f = refl
     go false (Some kind) f = both-true (not (is_made_for d (made_for kind))) true (ap not (made-number d (made_for kind) (f kind refl))) refl
+
+-- an update that attaches a connection finds nothing sent to it
+attach-or-silent : (s : Store) (lines : List TranscriptLine) (kind : UpdateKind) (t : TxnReq) (d : ℕ) (z : ℤ) → IsBound s lines kind t → (attach_shown d (Update (record { zxid = z; kind = kind })) ≡ None) ⊎ (packets d lines ≡ [])
+attach-or-silent s lines kind t d z b = go (attach_shown d (Update (record { zxid = z; kind = kind }))) refl
+  where
+    go : (o : Option Attachment) → attach_shown d (Update (record { zxid = z; kind = kind })) ≡ o → (attach_shown d (Update (record { zxid = z; kind = kind })) ≡ None) ⊎ (packets d lines ≡ [])
+    go None e = inl e
+    go (Some a) e = inr (new-silent s lines kind t d z b (λ f. none_some (sym f ∙ e))).1
+
+carried-within : (w : World) (src : Source) (x : Asking) (u : Store) (b : Answer) → IsAccounted w → air w src ≡ Some x → carry w.store x.ask ≡ Some (u, b) → (d : ℕ) → IsInConnection (w.lines ++ update_lines w.store u x.kind) d
+carried-within w src x u b k was h d = elim (air-outcome w src x u b (k.whole).holds was h) [
+  | inl q ↦ subst (λ l. IsInConnection (w.lines ++ l) d) (sym q.lines) (within-same w.lines d (k.within d))
+  | inr q ↦ subst (λ l. IsInConnection (w.lines ++ l) d) (sym (ap (update_lines w.store u) q.is ∙ (q.done).line)) (by-line q.kind q.txn q.bound)
+]
+  where
+    by-line : (kind : UpdateKind) (t : TxnReq) → IsBound w.store w.lines kind t → IsInConnection (w.lines ++ line_of w.store kind ∷ []) d
+    by-line kind t bound =
+        let same : packets d (w.lines ++ line_of w.store kind ∷ []) ≡ packets d w.lines = packets-append d w.lines (line_of w.store kind ∷ []) ∙ append-nil (packets d w.lines) in
+        elim (attach-or-silent w.store w.lines kind t d (next_revision w.store) bound) [
+          | inl none ↦ within-aside w.lines (line_of w.store kind ∷ []) d same (attach_of-skip w.lines (line_of w.store kind) d none) (λ n. refl) (k.within d)
+          | inr silent ↦ within-silent (w.lines ++ line_of w.store kind ∷ []) d (same ∙ silent)
+        ]
 
 module _ (w w' : World) (c : ℕ) (ex : Executes c w w') (room : revision w.store <ℤ last_revision) (k : IsAccounted w) where
   x : Asking
@@ -188,8 +220,14 @@ module _ (w w' : World) (c : ℕ) (ex : Executes c w w') (room : revision w.stor
       (subst (λ f. IsKnownAs w'.store w'.lines c (record (ex.conn) { flight = Some f }) (ex.conn).actor) (sym p.0)
       (subst (λ s. IsKnownAs s w'.lines c (record (ex.conn) { flight = Some (Carried r.1) }) (ex.conn).actor) (sym store) (subst (λ l. IsKnownAs r.0 l c (record (ex.conn) { flight = Some (Carried r.1) }) (ex.conn).actor) (sym lines) (carried-as r.0 r.1 (ex.conn).actor e serves was))))
 
+  within-so : (o : Option (Store × Answer)) → carry w.store (ex.asking).ask ≡ o → CarriedBy w (ex.asking).kind ex.flight ex.mid o → (d : ℕ) → IsInConnection w'.lines d
+  within-so None e p d = subst (λ l. IsInConnection l d) (sym (ap (λ (u : World). u.lines) ex.result ∙ ap (λ (u : World). u.lines) p.1)) (k.within d)
+  within-so (Some r) e p d =
+      let st = stored-in w ex.mid r.0 (ex.asking).kind p.1 in
+      subst (λ l. IsInConnection l d) (sym (ap (λ (u : World). u.lines) ex.result ∙ st.lines)) (carried-within w (Of c) ex.asking r.0 r.1 k (ap out_of ex.found ∙ ap out_in ex.out) e d)
+
   pub exec-accounted : IsAccounted w'
-  exec-accounted = record { whole = whole; known = known-so (carry w.store (ex.asking).ask) refl ex.carries; entries = exec-entries w w' c ex (k.whole).holds k.entries }
+  exec-accounted = record { whole = whole; known = known-so (carry w.store (ex.asking).ask) refl ex.carries; entries = exec-entries w w' c ex (k.whole).holds k.entries; within = within-so (carry w.store (ex.asking).ask) refl ex.carries }
 
 -- a stray
 module _ (w w' : World) (n : ℕ) (ex : ExecutesStray n w w') (k : IsAccounted w) where
@@ -228,8 +266,14 @@ module _ (w w' : World) (n : ℕ) (ex : ExecutesStray n w w') (k : IsAccounted w
         unnamed = λ d. ended-or d r.0;
       })
 
+  stray-within : (o : Option (Store × Answer)) → carry w.store (ex.asking).ask ≡ o → CarriedBy w (ex.asking).kind ex.flight ex.mid o → (d : ℕ) → IsInConnection w'.lines d
+  stray-within None e p d = subst (λ l. IsInConnection l d) (sym (ap (λ (u : World). u.lines) ex.result ∙ ap (λ (u : World). u.lines) p.1)) (k.within d)
+  stray-within (Some r) e p d =
+      let st = stored-in w ex.mid r.0 (ex.asking).kind p.1 in
+      subst (λ l. IsInConnection l d) (sym (ap (λ (u : World). u.lines) ex.result ∙ st.lines)) (carried-within w (Left (n - 1)) ex.asking r.0 r.1 k in_air e d)
+
   pub stray-accounted : IsAccounted w'
-  stray-accounted = record { whole = stray_whole; known = stray-known (carry w.store (ex.asking).ask) refl ex.carries; entries = stray-entries w w' n ex (k.whole).holds k.entries }
+  stray-accounted = record { whole = stray_whole; known = stray-known (carry w.store (ex.asking).ask) refl ex.carries; entries = stray-entries w w' n ex (k.whole).holds k.entries; within = stray-within (carry w.store (ex.asking).ask) refl ex.carries }
 
 -- ---- a number is taken
 
@@ -289,6 +333,7 @@ module _ (w : World) (c p : ℕ) (id : ℤ) (passwd : List ℕ) (free : conn_at 
             (λ x e. subst (λ (q : Conn). IsKnownAs w.store (w.lines ++ Open c p id passwd ∷ []) c q q.actor) (some_is (sym (conn-here w c v) ∙ e)) opened-known)
             (λ e. absurd (none_some (sym e ∙ conn-here w c v)));
         entries = entries-line w.lines (Open c p id passwd) w.entries (ap (λ (s : State). s.updates) (after-push w.lines (Open c p id passwd))) k.entries;
+        within = λ d. within-plain w.lines (Open c p id passwd) d refl (λ n. refl) (k.within d);
       }
 
 pub reap-accounted : (w w' : World) (c p : ℕ) (id : ℤ) → conn_at c w ≡ None → Reaps c w None w' (new_reaper p id) (new_reap id) → IsAccounted w → IsAccounted w'
@@ -314,4 +359,5 @@ reap-accounted w w' c p id free (inr r) k =
           }))
           (λ e. absurd (none_some (sym e ∙ conn-here w c v)));
       entries = k.entries;
+      within = k.within;
     })

@@ -1,11 +1,12 @@
 -- A connection or a reaper acts by itself: all others are as they were, and the lines that are added name none of them.
 use Rattle.ev_types.specs.Store.{Store}
-use Rattle.std.proofs.Common.{Bool, List, [], ap, append-nil, append_assoc, arith, false, inr, refl, subst, sym, true, ℕ, ℤ, ◌++◌, ◌∙◌, ◌∷◌, ◌≡◌, ◌≢◌, ◌≤◌}
+use Rattle.std.proofs.Common.{Bool, List, [], ap, append-nil, append_assoc, arith, false, inl, inr, refl, subst, sym, true, ℕ, ℤ, ◌++◌, ◌∙◌, ◌∷◌, ◌≡◌, ◌≢◌, ◌≤◌}
 use Rattle.std.proofs.lemmas.Bool.{and_parts}
 use Rattle.std.proofs.lemmas.List.Folds.{list_all-append}
 use Rattle.std.specs.List.{list_all}
 use Rattle.std.specs.Prelude.{Option, Some, fold, not, ◌&&◌, ◌==◌}
 use Rattle.zk_transcript.proofs.Appending.{after-push}
+use Rattle.zk_transcript.specs.Conversations.{IsInConnection}
 use Rattle.zk_transcript.specs.History.{State, after}
 use Rattle.zk_transcript.specs.declared.transcript.Ended.TheVariants as ended
 use Rattle.zk_transcript.specs.declared.transcript.Ended.{Ended}
@@ -15,16 +16,19 @@ use Rattle.zk_transcript.specs.declared.transcript.UpdateKind.{UpdateKind}
 use Rattle.zn_layout.specs.declared.entry.Entry.{Entry}
 use Rattle.zp_happen.specs.StepOutcomes.{StepOutcome, acts, ends, leaves}
 use Rattle.zp_happen.specs.Worlds.{Actor, Conn, World, conn_at}
+use Rattle.zp_laws.specs.Walking.{sends}
 use Rattle.zp_step.specs.declared.action.Action.TheVariants as action
 use Rattle.zp_step.specs.declared.action.Action.{Action}
+use Rattle.zp_whole.proofs.Actions.{said}
 use Rattle.zp_whole.proofs.Closing.{AreShown}
 use Rattle.zp_whole.proofs.Entering.{entries-line}
 use Rattle.zp_whole.proofs.Executing.{same-nat}
 use Rattle.zp_whole.proofs.Growing.{quiet-change, same-precedes}
 use Rattle.zp_whole.proofs.Knowing.{known-alone}
-use Rattle.zp_whole.proofs.Numbers.{conn-here, conn-there, number-same, other-number}
+use Rattle.zp_whole.proofs.Numbers.{conn-here, conn-there, either-number, number-same, other-number}
 use Rattle.zp_whole.proofs.Packets.{both-true}
 use Rattle.zp_whole.proofs.Talking.{is_quiet}
+use Rattle.zp_whole.proofs.Within.{within-unnamed}
 use Rattle.zp_whole.specs.Connections.{Whole}
 use Rattle.zp_whole.specs.Entering.{AreEntries}
 use Rattle.zp_whole.specs.Knowing.{IsKnownAs, Known}
@@ -51,6 +55,8 @@ pub record Acts (w w' : World) (c : ℕ) : Type 0 where
   -- it has no fewer frames
   pub frames : (x : Conn) → conn_at c w ≡ Some x → x.frames ≤ now.frames
   pub known : IsKnownAs w'.store w'.lines c now now.actor
+  -- its packets stand within it still
+  pub within : IsInConnection w.lines c → IsInConnection w'.lines c
 
 -- ---- lines of c alone
 
@@ -126,11 +132,17 @@ quiet-entries lines (l ∷ ls) entries h k =
 pub acts-entries : (w w' : World) (c : ℕ) → AreEntries w.lines w.entries → Acts w w' c → AreEntries w'.lines w'.entries
 acts-entries w w' c k a = subst (λ es. AreEntries w'.lines es) (sym a.entries) (subst (λ l. AreEntries l w.entries) (sym a.lines) (quiet-entries w.lines a.more w.entries (all-own-quiet c a.more a.own) k))
 
+pub acts-within : (w w' : World) (c : ℕ) → ((d : ℕ) → IsInConnection w.lines d) → Acts w w' c → (d : ℕ) → IsInConnection w'.lines d
+acts-within w w' c k a d = elim (either-number d c) [
+  | inl same ↦ subst (IsInConnection w'.lines) (sym same) (a.within (k c))
+  | inr apart ↦ subst (λ l. IsInConnection l d) (sym a.lines) (within-unnamed w.lines a.more d (own-unnamed d c a.more apart a.own) (k d))
+]
+
 -- ---- what is left of it
 
 -- the world behind a step: c is this actor, with this flight
-pub leaves-acts : (w w' : World) (c : ℕ) (x : Conn) (actor : Actor) (o : StepOutcome) → conn_at c w ≡ Some x → w' ≡ leaves c w x actor o → list_all (is_own c) o.lines ≡ true → Whole w' → IsKnownAs w.store (w.lines ++ o.lines) c (record x { actor = actor; flight = o.flight }) actor → Acts w w' c
-leaves-acts w w' c x actor o was is own whole known = record {
+pub leaves-acts : (w w' : World) (c : ℕ) (x : Conn) (actor : Actor) (o : StepOutcome) → conn_at c w ≡ Some x → w' ≡ leaves c w x actor o → list_all (is_own c) o.lines ≡ true → Whole w' → IsKnownAs w.store (w.lines ++ o.lines) c (record x { actor = actor; flight = o.flight }) actor → (IsInConnection w.lines c → IsInConnection (w.lines ++ o.lines) c) → Acts w w' c
+leaves-acts w w' c x actor o was is own whole known within = record {
   whole = whole;
   store = ap (λ (v : World). v.store) is;
   entries = ap (λ (v : World). v.entries) is;
@@ -142,4 +154,5 @@ leaves-acts w w' c x actor o was is own whole known = record {
   there = ap (conn_at c) is ∙ conn-here w c (record x { actor = actor; flight = o.flight });
   frames = λ y e. (let same : x ≡ y = some_is (sym was ∙ e) in omega (arith, ap (λ (v : Conn). v.frames) same));
   known = subst (λ (v : World). IsKnownAs v.store v.lines c (record x { actor = actor; flight = o.flight }) actor) (sym is) known;
+  within = λ k. subst (λ (v : World). IsInConnection v.lines c) (sym is) (within k);
 }

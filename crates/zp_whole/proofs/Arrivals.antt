@@ -18,9 +18,11 @@ use Rattle.zp_happen.specs.Handing.{Handed}
 use Rattle.zp_happen.specs.Worlds.{Actor, Closed, Conn, Connection, Reaper, World, conn_at, is_open_conn, with_conn, zxid_at}
 use Rattle.zp_happen.specs.declared.flight.Flight.{Flight}
 use Rattle.zp_laws.proofs.Counting.{counted-small}
+use Rattle.zp_laws.specs.Walking.{sends}
 use Rattle.zp_step.specs.Stages.{Core, counted_up, max_count}
 use Rattle.zp_step.specs.declared.input.Input.TheVariants as input
-use Rattle.zp_whole.proofs.Acting.{Acts, acts-entries, acts-known, is_own}
+use Rattle.zp_whole.proofs.Acting.{Acts, acts-entries, acts-known, acts-within, is_own}
+use Rattle.zp_whole.proofs.Actions.{said}
 use Rattle.zp_whole.proofs.Arriving.{alike-whole, lines-shown, shown-whole, zxid-shown}
 use Rattle.zp_whole.proofs.Closing.{but-of}
 use Rattle.zp_whole.proofs.Executing.{same-nat}
@@ -30,6 +32,7 @@ use Rattle.zp_whole.proofs.Numbers.{conn-here, conn-there}
 use Rattle.zp_whole.proofs.Packets.{both-true}
 use Rattle.zp_whole.proofs.Rising.{badly-grown, frames-grown}
 use Rattle.zp_whole.proofs.Stepping.{closes-acts}
+use Rattle.zp_whole.proofs.Within.{within-frame}
 use Rattle.zp_whole.specs.Accounting.{IsAccounted}
 use Rattle.zp_whole.specs.Connecting.{IsInStage}
 use Rattle.zp_whole.specs.Connections.{Whole}
@@ -46,7 +49,7 @@ pub framed-small : (bytes : List ℕ) (fs : List (List ℕ)) (rest : List ℕ) �
 framed-small bytes fs rest h = spelled-small fs h.0 h.1
 
 pub acts-accounted : (w w' : World) (c : ℕ) → IsAccounted w → Acts w w' c → IsAccounted w'
-acts-accounted w w' c k a = record { whole = a.whole; known = acts-known w w' c k.whole k.known a; entries = acts-entries w w' c k.entries a }
+acts-accounted w w' c k a = record { whole = a.whole; known = acts-known w w' c k.whole k.known a; entries = acts-entries w w' c k.entries a; within = acts-within w w' c k.within a }
 
 -- ---- a frame is shown and handed in
 
@@ -68,6 +71,7 @@ acts-shown w w' c x frame there small a = record {
     let more = a.frames (record x { frames = counted_up (x.frames + 1) }) (conn-here w c (record x { frames = counted_up (x.frames + 1) })) in
     omega (arith, ap (λ (v : Conn). v.frames) same, up, more));
   known = a.known;
+  within = λ q. a.within (within-frame w.lines c x.frames (zxid_at w.store) frame q);
 }
 
 core-of : (w : World) (c : ℕ) (x : Conn) (core : Core) (f : Option Flight) → Known w → conn_at c w ≡ Some x → x.actor ≡ Connection core → HasFrames w.lines c x.frames core × IsInStage w.store w.lines c core x.flight core.stage
@@ -177,6 +181,7 @@ alike-acts w c x v there actor flight frames k = record {
   there = conn-here w c v;
   frames = λ y e. (let same = ap (λ (u : Conn). u.frames) (some_is (sym there ∙ e)) in omega (arith, same, frames));
   known = subst (IsKnownAs w.store w.lines c v) (sym actor) (alike-known w.store w.lines c x v x.actor frames flight ((k.known).used c x there));
+  within = λ q. q;
 }
 
 pub arrives-accounted : (c : ℕ) (w w' : World) (bytes : List ℕ) → ((y : Conn) → conn_at c w' ≡ Some y → y.frames < max_count) → Arrives c w bytes w' → IsAccounted w → IsAccounted w'

@@ -86,7 +86,7 @@ pub record IsAwaiting (s : Store) (lines : List TranscriptLine) (c : ℕ) (x : C
   pub reads : read_connect bytes ≡ Some x.request
   pub serves : Serves s lines
 
-connect-is : (lines : List TranscriptLine) (c : ℕ) (bytes : List ℕ) (r : ConnectRequest) → frame c 0 lines ≡ Some bytes → read_connect bytes ≡ Some r → connect c lines ≡ Some r
+pub connect-is : (lines : List TranscriptLine) (c : ℕ) (bytes : List ℕ) (r : ConnectRequest) → frame c 0 lines ≡ Some bytes → read_connect bytes ≡ Some r → connect c lines ≡ Some r
 connect-is lines c bytes r f e = ap (option_and_then read_connect) f ∙ e
 
 module _ (s : Store) (lines : List TranscriptLine) (c : ℕ) (x : Connect) (k : IsAwaiting s lines c x) where

@@ -1,8 +1,4 @@
 -- A frame comes, in whatever stage its connection is: what is known of the connection behind it.
-use Rattle.zp_whole.proofs.Arriving.{arrived}
-use Rattle.zp_whole.proofs.Handing.{stays-served}
-use Rattle.zp_whole.proofs.Greeting.{asks-acts}
-use Rattle.zs_session.specs.Connecting.{Waits as ConnectWaits}
 use Rattle.ev_types.specs.Store.{Store}
 use Rattle.std.proofs.Common.{Bool, List, [], ap, append-nil, arith, false, inl, inr, length, refl, subst, sym, true, ℕ, ℤ, ◌++◌, ◌+◌, ◌∙◌, ◌∷◌, ◌≡◌, ◌≤◌}
 use Rattle.std.proofs.lemmas.Bool.Decides.{nat_tests}
@@ -12,7 +8,7 @@ use Rattle.zk_jute.specs.Requests.{read_request}
 use Rattle.zk_model.specs.declared.connect.ConnectRequest.{ConnectRequest}
 use Rattle.zk_transcript.proofs.Histories.{first_shown-push}
 use Rattle.zk_transcript.proofs.Lookups.{first_place-new, first_place-skip}
-use Rattle.zk_transcript.specs.Conversations.{close_shown}
+use Rattle.zk_transcript.specs.Conversations.{IsInConnection, close_shown}
 use Rattle.zk_transcript.specs.History.{after, frame_shown, open_shown, when}
 use Rattle.zk_transcript.specs.Walks.{Walker, has_header, placed_frame}
 use Rattle.zk_transcript.specs.declared.transcript.Cause.TheVariants as cause
@@ -29,6 +25,7 @@ use Rattle.zp_laws.proofs.Ending.{steps_end_well}
 use Rattle.zp_laws.proofs.Steps.{frames-push}
 use Rattle.zp_laws.specs.Ending.{EndsWell, IsNumbered}
 use Rattle.zp_laws.specs.Frames.{AreFrames, IsFrameAt, is_served, next_frame, waits_from}
+use Rattle.zp_laws.specs.Walking.{sends}
 use Rattle.zp_step.proofs.Shutting.{goes-still, steps-open}
 use Rattle.zp_step.specs.Connects.{Opens, begun, connected, kept_by}
 use Rattle.zp_step.specs.Replies.{Is, closed_by}
@@ -38,19 +35,22 @@ use Rattle.zp_step.specs.declared.action.Action.TheVariants as action
 use Rattle.zp_step.specs.declared.action.Action.{Action}
 use Rattle.zp_step.specs.declared.input.Input.TheVariants as input
 use Rattle.zp_whole.proofs.Acting.{Acts, leaves-acts}
-use Rattle.zp_whole.proofs.Arriving.{Arrived, Queues, Shuts, busy-whole, is_busy}
+use Rattle.zp_whole.proofs.Actions.{said}
+use Rattle.zp_whole.proofs.Arriving.{Arrived, Queues, Shuts, arrived, busy-whole, is_busy}
 use Rattle.zp_whole.proofs.Closing.{AreShown, but-of}
 use Rattle.zp_whole.proofs.Executing.{same-nat}
-use Rattle.zp_whole.proofs.Greeting.{IsConnectAt, asking_core, in_phase}
-use Rattle.zp_whole.proofs.Handing.{IsReadyFor, handed-whole}
+use Rattle.zp_whole.proofs.Greeting.{IsConnectAt, asking_core, asks-acts, in_phase}
+use Rattle.zp_whole.proofs.Handing.{IsReadyFor, handed-whole, stays-served}
 use Rattle.zp_whole.proofs.Kept.{true-false}
 use Rattle.zp_whole.proofs.Knowing.{AreAside}
 use Rattle.zp_whole.proofs.Stepping.{closing-acts, counts-on, handed-acts}
 use Rattle.zp_whole.proofs.Talking.{first_place-front}
+use Rattle.zp_whole.proofs.Within.{within-more, within-same}
+use Rattle.zp_whole.specs.Bounds.{attachment}
 use Rattle.zp_whole.specs.Connecting.{IsInStage, IsUnconnected, RestsOn}
 use Rattle.zp_whole.specs.Connections.{IsFlying, IsServing, Whole}
 use Rattle.zp_whole.specs.Counting.{HasFrames, IsLined}
-use Rattle.zs_session.specs.Connecting.{asked_in}
+use Rattle.zs_session.specs.Connecting.{Waits as ConnectWaits, asked_in}
 use Rattle.zs_session.specs.declared.connect.Connect.{Connect}
 use Rattle.zs_session.specs.declared.connect.ConnectStep.TheVariants as steps
 use Rattle.zs_session.specs.declared.connect.ConnectStep.{ConnectStep}
@@ -138,13 +138,16 @@ module _ (w w' : World) (c : ℕ) (behind : List TranscriptLine) (z : ℤ) (byte
           leaves-acts w w' c hd.conn (Connection (queued hd.core bytes)) (quiet hd.conn.flight) hd.found e refl (busy-whole w w' c behind z bytes hd busy last shown (λ s header. frame-at header) h) (
             subst (HasFrames (w.lines ++ []) c hd.conn.frames) is (frames (ap (λ (d : Core). is_shut d.stage) is ∙ h.unshut c hd.conn hd.core hd.found hd.serving) [] (record { opens = refl; closes = λ j. refl; frames = λ i j. refl })),
             subst (λ l. IsInStage w.store l c (queued hd.core bytes) hd.conn.flight hd.core.stage) (sym (append-nil w.lines)) (stage-queued w.store w.lines c hd.core bytes hd.conn.flight hd.core.stage busy refl (frame-at header) k.stage),
-          )
+          ) (within-same w.lines c)
 
   -- ---- it is attached, and nothing is out
 
   idle-acts : is_served hd.core.stage ≡ true → hd.conn.flight ≡ None → Acts w w' c
-  idle-acts served none = handed-acts w w' c behind (input.Frame bytes) z hd end shown whole frames then_served
+  idle-acts served none = handed-acts w w' c behind (input.Frame bytes) z hd end shown whole frames then_served says
     where
+      says : IsInConnection w.lines c → IsInConnection (w.lines ++ said c (sends hd.out)) c
+      says q = (let v = h.serving c hd.conn hd.core hd.found hd.serving served in within-more w.lines c hd.conn.frames (sends hd.out) k.lined (v.place, attachment hd.core.who) v.first v.packets_were v.attached v.welcomed q)
+
       serves : IsServing w.store w.lines c hd.core hd.conn.flight
       serves = h.serving c hd.conn hd.core hd.found hd.serving served
 

@@ -1,21 +1,23 @@
 -- The world behind the answer to a connection without a session.
 use Rattle.ev_types.specs.declared.answer.Answer.{Answer}
 use Rattle.ev_types.specs.declared.ask.Ask.{Ask}
-use Rattle.std.proofs.Common.{List, [], ap, append-nil, append_assoc, arith, false, inl, inr, length, pos, refl, subst, sym, true, ℕ, ℤ, ◌++◌, ◌+◌, ◌∙◌, ◌∷◌, ◌≡◌}
+use Rattle.std.proofs.Common.{List, [], ap, append-nil, append_assoc, arith, false, inl, inr, length, pos, refl, subst, sym, true, ℕ, ℤ, ◌++◌, ◌+◌, ◌<◌, ◌∙◌, ◌∷◌, ◌≡◌, ◌≤◌}
+use Rattle.std.proofs.lemmas.Option.{slice_get_within}
 use Rattle.std.specs.List.{list_all}
 use Rattle.std.specs.Prelude.{None, Option, Some, if◌then◌else◌, option_and_then, ◌&&◌, ◌==◌, ◌≤ℤ◌, ◌⊎◌}
 use Rattle.zk_jute.specs.Connects.{read_connect}
 use Rattle.zk_jute.specs.Packets.{connect_packet}
 use Rattle.zk_model.specs.Limits.{max_long}
+use Rattle.zk_model.specs.declared.connect.ConnectRequest.{ConnectRequest}
 use Rattle.zk_transcript.proofs.Lookups.{first_shown-place}
-use Rattle.zk_transcript.specs.Conversations.{answered_read_only, refusal}
-use Rattle.zk_transcript.specs.History.{after, frame_shown, state_at}
+use Rattle.zk_transcript.specs.Conversations.{IsInConnection, answered_read_only, may_refuse, refusal, welcome}
+use Rattle.zk_transcript.specs.History.{Session, after, frame_shown, state_at}
 use Rattle.zk_transcript.specs.Legal.{attach_of, is_legal}
 use Rattle.zk_transcript.specs.Walks.{at_start, packets_from, placed_frame}
 use Rattle.zk_transcript.specs.declared.transcript.Cause.TheVariants as cause
 use Rattle.zk_transcript.specs.declared.transcript.Cause.{Cause}
 use Rattle.zk_transcript.specs.declared.transcript.Ended.TheVariants as ended
-use Rattle.zk_transcript.specs.declared.transcript.TranscriptLine.TheVariants.{Close, Send}
+use Rattle.zk_transcript.specs.declared.transcript.TranscriptLine.TheVariants.{Close, Send, Update}
 use Rattle.zk_transcript.specs.declared.transcript.TranscriptLine.{TranscriptLine}
 use Rattle.zk_transcript.specs.declared.transcript.UpdateKind.{UpdateKind}
 use Rattle.zn_view.specs.declared.plan.Who.{Who}
@@ -48,7 +50,7 @@ use Rattle.zp_whole.proofs.Acting.{Acts, is_own, leaves-acts, one-own}
 use Rattle.zp_whole.proofs.Actions.{Split, said, said-packets, said-speech, split, split-sends}
 use Rattle.zp_whole.proofs.Carrying.{one}
 use Rattle.zp_whole.proofs.Closing.{But, but-of, ends-whole, with_lines}
-use Rattle.zp_whole.proofs.Connecting.{IsAwaiting, connect-bound}
+use Rattle.zp_whole.proofs.Connecting.{IsAwaiting, connect-bound, connect-is}
 use Rattle.zp_whole.proofs.Executing.{precedes-self, same-nat}
 use Rattle.zp_whole.proofs.Handing.{GoesOn, core-same, goes-on-whole, served-at}
 use Rattle.zp_whole.proofs.Kept.{true-false}
@@ -59,6 +61,7 @@ use Rattle.zp_whole.proofs.Speaking.{all-quiet, speaks-but}
 use Rattle.zp_whole.proofs.Stepping.{closing-acts, counts-on, handed-acts}
 use Rattle.zp_whole.proofs.Talking.{talks-first}
 use Rattle.zp_whole.proofs.Welcoming.{LeadsTo, ahead, attached, goes_on, leads-to, taken, unknown}
+use Rattle.zp_whole.proofs.Within.{within-close, within-first, within-refusal, within-same}
 use Rattle.zp_whole.specs.Bounds.{IsBoundAsk, attachment}
 use Rattle.zp_whole.specs.Connecting.{IsConnectAnswer, IsConnecting, IsOwnSession, IsUntouched, RestsOn}
 use Rattle.zp_whole.specs.Connections.{Whole}
@@ -90,6 +93,12 @@ connecting-unready core x e r = let f : Connecting x ≡ Ready = sym e ∙ r in 
 shut-unready : (core : Core) → core.stage ≡ Shut → core.stage ≡ Ready → ⊥
 shut-unready core e r = let f : Shut ≡ Ready = sym e ∙ r in absurd (cc)
 
+-- the answer is the welcome to this session
+welcome-is : (r : ConnectRequest) (id timeout : ℤ) (passwd : List ℕ) (s : Session) → s.timeout ≡ timeout → s.passwd ≡ passwd → connect_packet (record { timeout = timeout; session = id; passwd = passwd; read_only = answered_read_only r }) ≡ connect_packet (welcome r id s)
+welcome-is r id timeout passwd s t p =
+    ap (λ y. connect_packet (record { timeout = y; session = id; passwd = passwd; read_only = answered_read_only r })) (sym t)
+    ∙ ap (λ y. connect_packet (record { timeout = s.timeout; session = id; passwd = y; read_only = answered_read_only r })) (sym p)
+
 -- the connect goes on in this phase
 abbrev pub in_phase : Connect → Phase → Connect
 in_phase x p = record { request = x.request; fresh = x.fresh; phase = p }
@@ -115,7 +124,7 @@ pub record IsConnectAt (lines : List TranscriptLine) (c : ℕ) (core : Core) (x 
 module _ (w w' : World) (c : ℕ) (behind : List TranscriptLine) (i : Input) (hd : Handed c behind w i w') (x : Connect) (core : Core) (h : Whole w) (k : IsConnectAt w.lines c core x)
     (frames : is_shut hd.next.stage ≡ false → (more : List TranscriptLine) → AreAside more c → HasFrames (w.lines ++ more) c hd.conn.frames hd.next) where
   pub asks-acts : (p : Phase) (kept : ℕ) (q : Ask) → asked_in x p ≡ Some q → RestsOn w.store (after w.lines).zxid x.request p → attach_of c w.lines ≡ None → hd.next ≡ asking_core core kept (in_phase x p) q → hd.out ≡ action.Ask q ∷ [] → Acts w w' c
-  asks-acts p kept q asked rests none next out = leaves-acts w w' c hd.conn (Connection d) o hd.found is refl (subst Whole (sym plain) whole) known
+  asks-acts p kept q asked rests none next out = leaves-acts w w' c hd.conn (Connection d) o hd.found is refl (subst Whole (sym plain) whole) known (within-same w.lines c)
     where
       d : Core
       d = asking_core core kept (in_phase x p) q
@@ -207,9 +216,14 @@ module _ (w w' : World) (c : ℕ) (a : Answer) (hd : Handed c [] w (input.Answer
 
   -- ---- its resume is refused
 
-  refuses : (packet : List ℕ) (why : Cause) → attach_of c w.lines ≡ None → hd.next.stage ≡ Shut → hd.out ≡ action.Send packet ∷ action.Close why ∷ [] → Acts w w' c
-  refuses packet why none shut out = leaves-acts w w' c hd.conn Closed (record { flight = None; lines = Send c packet ∷ Close c (ended.Cause why) ∷ []; strays = left_by hd.conn.flight }) hd.found is own whole tt
+  refuses : (packet : List ℕ) (why : Cause) → packet ≡ connect_packet (refusal x.request) → (m : ℕ) → k.place < m → m ≤ length w.lines → may_refuse x.request (state_at w.lines m) ≡ true → attach_of c w.lines ≡ None → hd.next.stage ≡ Shut → hd.out ≡ action.Send packet ∷ action.Close why ∷ [] → Acts w w' c
+  refuses packet why packet_is m after_it before_now may none shut out = leaves-acts w w' c hd.conn Closed (record { flight = None; lines = Send c packet ∷ Close c (ended.Cause why) ∷ []; strays = left_by hd.conn.flight }) hd.found is own whole tt within
     where
+      within : IsInConnection w.lines c → IsInConnection (w.lines ++ (Send c packet ∷ Close c (ended.Cause why) ∷ [])) c
+      within q = subst (λ l. IsInConnection l c) (append_assoc w.lines (Send c packet ∷ []) (Close c (ended.Cause why) ∷ [])) (within-close (w.lines ++ Send c packet ∷ []) c (ended.Cause why)
+          (within-refusal w.lines c hd.conn.frames (packet ∷ []) n.lined (length w.lines, packet) (k.place, k.bytes) x.request m none (packets-append c w.lines (Send c packet ∷ []) ∙ ap (λ l. l ++ packets_from c (length w.lines) (Send c packet ∷ [])) (k.untouched).silent ∙ first-packet c (length w.lines) packet []) k.framed
+          (connect-is w.lines c k.bytes x.request (first_shown-place (frame_shown c 0) 0 w.lines (k.place, k.bytes) k.framed) k.reads) after_it before_now before_now may packet_is))
+
       is : w' ≡ leaves c w hd.conn Closed (record { flight = None; lines = Send c packet ∷ Close c (ended.Cause why) ∷ []; strays = left_by hd.conn.flight })
       is = hd.result ∙ ap (λ l. leaves c w hd.conn (behind_step hd.next) (acts_all c (kind_asked c (Connection hd.next)) [] hd.conn.flight l)) out
           ∙ ap (λ b. leaves c w hd.conn (if b then Closed else Connection hd.next) (record { flight = None; lines = Send c packet ∷ Close c (ended.Cause why) ∷ []; strays = left_by hd.conn.flight })) (ap is_shut shut)
@@ -228,10 +242,10 @@ module _ (w w' : World) (c : ℕ) (a : Answer) (hd : Handed c [] w (input.Answer
 
   -- ---- it is welcomed
 
-  welcomes : (packet : List ℕ) (who : Who) (timeout number zxid : ℤ) (id t : ℤ) (passwd : List ℕ) → IsOwnSession w.lines c id t passwd zxid number → who ≡ record { session = id; mine = zxid } → (later : List Action) → hd.out ≡ action.Send packet ∷ later
+  welcomes : (packet : List ℕ) (who : Who) (timeout number zxid : ℤ) (id t : ℤ) (passwd : List ℕ) → (own : IsOwnSession w.lines c id t passwd zxid number) → who ≡ record { session = id; mine = zxid } → packet ≡ connect_packet (welcome x.request id own.session) → (later : List Action) → hd.out ≡ action.Send packet ∷ later
       → Goes w.clock (attached_core hd.core who timeout number zxid) hd.next later → Acts w w' c
-  welcomes packet who timeout number zxid id t passwd own who_is later out goes =
-      handed-acts w w' c [] (input.Answer a) ((after w.lines).zxid) hd end tt (goes-on-whole w w' c [] (input.Answer a) hd (but-of w c h) nothing_out parts (sym end.closes) on ((after w.lines).zxid) refl tt) frames served
+  welcomes packet who timeout number zxid id t passwd own who_is packet_is later out goes =
+      handed-acts w w' c [] (input.Answer a) ((after w.lines).zxid) hd end tt (goes-on-whole w w' c [] (input.Answer a) hd (but-of w c h) nothing_out parts (sym end.closes) on ((after w.lines).zxid) refl tt) frames served says
     where
       end : EndsWell hd.core hd.next (input.Answer a) hd.out
       end = steps_end_well hd.core hd.next (input.Answer a) w.clock hd.out opens hd.stepped
@@ -271,6 +285,11 @@ module _ (w w' : World) (c : ℕ) (a : Answer) (hd : Handed c [] w (input.Answer
 
       served : is_shut hd.next.stage ≡ false → is_served hd.next.stage ≡ true
       served going = served-at w.store w.lines c hd.next walks.walker 0 hd.next.stage going (subst (λ b. StandsOpen b w.store w.lines c hd.next walks.walker 0) (open-is hd.next.stage going) walks.stands).knows
+
+      says : IsInConnection w.lines c → IsInConnection (w.lines ++ said c (sends hd.out)) c
+      says q = within-first w.lines c hd.conn.frames (sends hd.out) n.lined (own.place, record { zxid = zxid; session = id }) (length w.lines, packet) (packets_from c (length w.lines + 1) (said c (sends later))) x.request own.session own.attached
+          (packets-append c w.lines (said c (sends hd.out)) ∙ ap (λ l. l ++ packets_from c (length w.lines) (said c (sends hd.out))) (k.untouched).silent ∙ ap (λ ps. packets_from c (length w.lines) (said c ps)) (ap sends out) ∙ first-packet c (length w.lines) packet (sends later))
+          (connect-is w.lines c k.bytes x.request (first_shown-place (frame_shown c 0) 0 w.lines (k.place, k.bytes) k.framed) k.reads) own.there (slice_get_within w.lines own.place (Update own.update) own.shown) (slice_get_within w.lines own.place (Update own.update) own.shown) packet_is
 
       on : GoesOn w c hd.next hd.out (said c parts.packets)
       on = record {
@@ -323,9 +342,9 @@ module _ (w w' : World) (c : ℕ) (a : Answer) (hd : Handed c [] w (input.Answer
   by-step p _ (taken r) i = shut-by (cause.Taken r) i
   by-step p _ (unknown none refused) i =
       let t = still (record (hd.core) { stage = Shut }) (action.Send (connect_packet (refusal x.request)) ∷ action.Close cause.Unknown ∷ []) i.0 i.1 (λ e. absurd (cc)) in
-      refuses (connect_packet (refusal x.request)) cause.Unknown none (ap (λ (y : Core). y.stage) t.0) t.1
+      refuses (connect_packet (refusal x.request)) cause.Unknown refl flown.looked flown.behind flown.within refused none (ap (λ (y : Core). y.stage) t.0) t.1
   by-step p _ (attached id timeout passwd zxid number own) i =
-      welcomes (connect_packet (record { timeout = timeout; session = id; passwd = passwd; read_only = answered_read_only x.request })) (record { session = id; mine = zxid }) timeout number zxid id timeout passwd own refl s.later
+      welcomes (connect_packet (record { timeout = timeout; session = id; passwd = passwd; read_only = answered_read_only x.request })) (record { session = id; mine = zxid }) timeout number zxid id timeout passwd own refl (welcome-is x.request id timeout passwd own.session own.timeout_is own.passwd_is) s.later
       (s.joined ∙ ap (λ l. l ++ s.later) i.1) (subst (λ (y : Core). Goes w.clock y hd.next s.later) i.0 s.goes)
 
   pub greeted-acts : Acts w w' c

@@ -1,5 +1,4 @@
 -- What a connection or a reaper does by itself, by the lines of a script.
-use Rattle.zp_whole.proofs.Reapers.{reaps-acts}
 use Rattle.ev_types.specs.declared.answer.Answer.{Answer}
 use Rattle.std.proofs.Common.{Bool, List, [], ap, arith, false, inl, inr, refl, subst, sym, true, ℕ, ℤ, ◌∙◌, ◌∷◌, ◌≡◌}
 use Rattle.std.specs.FinMap.{entries, entries_sorted, find, get-entries, is_sorted}
@@ -21,10 +20,12 @@ use Rattle.zp_laws.proofs.Ending.{steps_end_well}
 use Rattle.zp_laws.specs.Ending.{comes_in}
 use Rattle.zp_laws.specs.Frames.{is_served}
 use Rattle.zp_laws.specs.Inputs.{IsTrueEntry}
+use Rattle.zp_laws.specs.Walking.{sends}
 use Rattle.zp_step.specs.Stages.{Checking, Committing, Connecting, Core, KeepingAlive, Reading, Ready, Shut, Stage, Unconnected, Waiting, is_shut, wanted_in, wants_of}
 use Rattle.zp_step.specs.declared.input.Input.TheVariants as input
 use Rattle.zp_step.specs.declared.input.Input.{Input}
 use Rattle.zp_whole.proofs.Acting.{Acts, ends-own, leaves-acts}
+use Rattle.zp_whole.proofs.Actions.{said}
 use Rattle.zp_whole.proofs.Arrivals.{acts-accounted}
 use Rattle.zp_whole.proofs.Closing.{But, but-of, ends-whole}
 use Rattle.zp_whole.proofs.Delivering.{entry-idle}
@@ -34,9 +35,12 @@ use Rattle.zp_whole.proofs.Greeting.{greeted-acts}
 use Rattle.zp_whole.proofs.Handing.{IsReadyFor, core-same, handed-whole, stays-served}
 use Rattle.zp_whole.proofs.Kept.{true-false}
 use Rattle.zp_whole.proofs.Numbers.{conn-here, conn-there, either-number}
+use Rattle.zp_whole.proofs.Reapers.{reaps-acts}
 use Rattle.zp_whole.proofs.Restarting.{Distinct, Gives, all-found, gives-as, gives-others, is-true, sorted-distinct}
 use Rattle.zp_whole.proofs.Stepping.{closes-acts, counts-on, handed-acts}
+use Rattle.zp_whole.proofs.Within.{within-close, within-more}
 use Rattle.zp_whole.specs.Accounting.{IsAccounted}
+use Rattle.zp_whole.specs.Bounds.{attachment}
 use Rattle.zp_whole.specs.Connecting.{IsConnecting, IsInStage}
 use Rattle.zp_whole.specs.Connections.{IsFlying, IsServing, Whole}
 use Rattle.zp_whole.specs.Counting.{HasFrames}
@@ -64,6 +68,7 @@ acts-landed w w' c x there a = record {
     let more = a.frames (record x { flight = None }) (conn-here w c (record x { flight = None })) in
     omega (arith, same, more));
   known = a.known;
+  within = a.within;
 }
 
 -- whole again, where no session is attached to it
@@ -89,7 +94,7 @@ failure-acts : (w w' : World) (c : ℕ) (x : Conn) (a : Actor) → x.actor ≡ a
 failure-acts w w' c x (Connection core) e there f h = closes-acts w w' c input.Failed cause.LinkFault refl f h
 failure-acts w w' c x (Reaper r) e there f h =
     leaves-acts w w' c x Closed (ended_by c cause.LinkFault x.flight) there f (ends-own c [] (ended.Cause cause.LinkFault) (quiet x.flight) refl refl)
-    (subst Whole (sym f) (ends-whole w c x ((after w.lines).zxid) [] (ended.Cause cause.LinkFault) there refl tt h)) tt
+    (subst Whole (sym f) (ends-whole w c x ((after w.lines).zxid) [] (ended.Cause cause.LinkFault) there refl tt h)) tt (within-close w.lines c (ended.Cause cause.LinkFault))
 failure-acts w w' c x Closed e there f h = absurd f
 
 pub cut-acts : (w w' : World) (c : ℕ) → FailureComes c w w' → Whole w → Acts w w' c
@@ -124,6 +129,7 @@ served-acts w w' c i hd r none n =
     handed-acts w w' c [] i ((after w.lines).zxid) hd (steps_end_well hd.core hd.next i w.clock hd.out opens hd.stepped) tt (handed-whole w w' c [] i hd r ((after w.lines).zxid) refl tt)
     (λ going more aside. counts-on w.lines more c hd.conn.frames hd.core hd.next i w.clock hd.out opens hd.stepped n.numbered (omega (arith, n.came, none)) n.most n.lined aside going)
     (λ going. stays-served w w' c [] i hd r going)
+    (λ q. within-more w.lines c hd.conn.frames (sends hd.out) n.lined ((r.serves).place, attachment hd.core.who) (r.serves).first (r.serves).packets_were (r.serves).attached (r.serves).welcomed q)
 
 module _ (w w' : World) (c : ℕ) (x : Conn) (core : Core) (a : Answer) (there : conn_at c w ≡ Some x) (actor : x.actor ≡ Connection core) (flight : x.flight ≡ Some (Carried a)) (k : IsAccounted w) (hd : Handed c [] (with_conn w c (record x { flight = None })) (input.Answer a) w') where
   w1 : World
@@ -307,7 +313,7 @@ stopped-accounted p w (e ∷ es) d g h = go (is_open_at p e.1) (λ v. stopped-ac
         let v : World = leaves e.0 w e.1 Closed (ended_by e.0 cause.Restart e.1.flight) in
         later v (gives-others w e.0 e.1 es d.0 g.1)
         (acts-accounted w v e.0 h (leaves-acts w v e.0 e.1 Closed (ended_by e.0 cause.Restart e.1.flight) g.0 refl (ends-own e.0 [] (ended.Cause cause.Restart) (quiet e.1.flight) refl refl)
-        (ends-whole w e.0 e.1 ((after w.lines).zxid) [] (ended.Cause cause.Restart) g.0 refl tt (but-of w e.0 h.whole)) tt))
+        (ends-whole w e.0 e.1 ((after w.lines).zxid) [] (ended.Cause cause.Restart) g.0 refl tt (but-of w e.0 h.whole)) tt (within-close w.lines e.0 (ended.Cause cause.Restart))))
 
 pub restart-accounted : (w : World) (p : ℕ) → IsAccounted w → IsAccounted (restarted p w)
 restart-accounted w p h =

@@ -34,8 +34,10 @@ use Rattle.zp_happen.specs.declared.flight.Asking.{Asking}
 use Rattle.zp_happen.specs.declared.flight.Flight.TheVariants.{Out}
 use Rattle.zp_laws.proofs.Parts.{revision-kept}
 use Rattle.zp_laws.specs.Inputs.{Precedes}
+use Rattle.zp_laws.specs.Walking.{sends}
 use Rattle.zp_step.specs.Stages.{Core}
 use Rattle.zp_whole.proofs.Acting.{Acts, ends-own, leaves-acts}
+use Rattle.zp_whole.proofs.Actions.{said}
 use Rattle.zp_whole.proofs.Asking.{ranges-read}
 use Rattle.zp_whole.proofs.Carrying.{request-asker}
 use Rattle.zp_whole.proofs.Closing.{but-of, ends-whole}
@@ -43,6 +45,7 @@ use Rattle.zp_whole.proofs.Commits.{stands-now}
 use Rattle.zp_whole.proofs.Executing.{precedes-self}
 use Rattle.zp_whole.proofs.Knowing.{standing-push}
 use Rattle.zp_whole.proofs.Setting.{sets-whole}
+use Rattle.zp_whole.proofs.Within.{within-close, within-same}
 use Rattle.zp_whole.specs.Bounds.{IsBoundAs, IsBoundAsk, IsBoundReap}
 use Rattle.zp_whole.specs.Connections.{Whole}
 use Rattle.zp_whole.specs.Holding.{asker_in, made_for}
@@ -231,7 +234,7 @@ module _ (w w' : World) (c : ℕ) (x : Conn) (reap : Reap) (a : Answer) (there :
   ends-as next end over is =
       let e : w' ≡ leaves c w x Closed (ends c [] end (quiet x.flight)) = is ∙ ap (λ p. leaves c w x (if is_over p then Closed else Reaper next) (ends c [] end (quiet x.flight))) over in
       leaves-acts w w' c x Closed (ends c [] end (quiet x.flight)) there e (ends-own c [] end (quiet x.flight) refl refl)
-      (subst Whole (sym e) (ends-whole w c x ((after w.lines).zxid) [] end there refl tt (but-of w c h))) tt
+      (subst Whole (sym e) (ends-whole w c x ((after w.lines).zxid) [] end there refl tt (but-of w c h))) tt (within-close w.lines c end)
 
   goes-as : (next : Reap) (q : Ask) → next.session ≡ reap.session → IsReapAsk w.store reap.session next.phase q → w' ≡ leaves c w x (behind_reap next) (quiet (Some (Out (record { ask = q; kind = kind_of_reap next.session next.phase })))) → Acts w w' c
   goes-as next q same asks is =
@@ -240,7 +243,7 @@ module _ (w w' : World) (c : ℕ) (x : Conn) (reap : Reap) (a : Answer) (there :
       let e : w' ≡ leaves c w x (Reaper next) o = is ∙ ap (λ b. leaves c w x (if b then Closed else Reaper next) o) (ask-open w.store reap.session next.phase q asks) in
       let plain : w' ≡ with_conn w c (going next q) =
       e ∙ ap (λ l. record (with_conn w c (going next q)) { lines = l; strays = w.strays ++ [] }) (append-nil w.lines) ∙ ap (λ l. record (with_conn w c (going next q)) { strays = l }) (append-nil w.strays) in
-      leaves-acts w w' c x (Reaper next) o there e refl (subst Whole (sym plain) (going-whole next q mine)) (record { asked = mine; kind = refl })
+      leaves-acts w w' c x (Reaper next) o there e refl (subst Whole (sym plain) (going-whole next q mine)) (record { asked = mine; kind = refl }) (within-same w.lines c)
 
   comes-as : (next : Reap) (step : ReapStep) → next.session ≡ reap.session → ComesTo w.store reap.session next.phase step → w' ≡ leaves c w x (behind_reap next) (reap_acts c (kind_asked c (Reaper next)) x.flight step) → Acts w w' c
   comes-as next _ same (on q asks) is = goes-as next q same asks is
@@ -251,5 +254,5 @@ module _ (w w' : World) (c : ℕ) (x : Conn) (reap : Reap) (a : Answer) (there :
   pub reaps-acts : Reaps c w (Some a) w' x reap → Acts w w' c
   reaps-acts (inl e) =
       leaves-acts w w' c x Closed (ended_by c (cause.Damaged e.key e.value) x.flight) there e.result (ends-own c [] (ended.Cause (cause.Damaged e.key e.value)) (quiet x.flight) refl refl)
-      (subst Whole (sym e.result) (ends-whole w c x ((after w.lines).zxid) [] (ended.Cause (cause.Damaged e.key e.value)) there refl tt (but-of w c h))) tt
+      (subst Whole (sym e.result) (ends-whole w c x ((after w.lines).zxid) [] (ended.Cause (cause.Damaged e.key e.value)) there refl tt (but-of w c h))) tt (within-close w.lines c (ended.Cause (cause.Damaged e.key e.value)))
   reaps-acts (inr r) = comes-as r.next r.step (r.stepped).same (reaps-to w.store reap a k (r.next).phase r.step (r.stepped).moves) r.result

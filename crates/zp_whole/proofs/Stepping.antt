@@ -1,10 +1,12 @@
 -- A connection takes a step: what is known of it behind the step, and that it acted by itself.
-use Rattle.std.proofs.Common.{Bool, List, [], ap, arith, false, inl, inr, refl, subst, sym, true, ℕ, ℤ, ◌++◌, ◌+◌, ◌∙◌, ◌∷◌, ◌≡◌, ◌≤◌}
+use Rattle.std.proofs.Common.{Bool, List, [], ap, append_assoc, arith, false, inl, inr, refl, subst, sym, true, ℕ, ℤ, ◌++◌, ◌+◌, ◌∙◌, ◌∷◌, ◌≡◌, ◌≤◌}
 use Rattle.std.specs.List.{list_all}
 use Rattle.std.specs.Prelude.{Option, Some, if◌then◌else◌}
+use Rattle.zk_transcript.specs.Conversations.{IsInConnection}
 use Rattle.zk_transcript.specs.History.{after}
 use Rattle.zk_transcript.specs.declared.transcript.Cause.{Cause}
 use Rattle.zk_transcript.specs.declared.transcript.Ended.TheVariants as ended
+use Rattle.zk_transcript.specs.declared.transcript.TranscriptLine.TheVariants.{Close}
 use Rattle.zk_transcript.specs.declared.transcript.TranscriptLine.{TranscriptLine}
 use Rattle.zp_happen.specs.Handing.{Handed}
 use Rattle.zp_happen.specs.Kinds.{kind_asked}
@@ -14,6 +16,7 @@ use Rattle.zp_happen.specs.declared.flight.Flight.{Flight}
 use Rattle.zp_laws.proofs.Counting.{steps_count}
 use Rattle.zp_laws.specs.Ending.{EndsWell, IsNumbered, comes_in}
 use Rattle.zp_laws.specs.Frames.{is_served, next_frame}
+use Rattle.zp_laws.specs.Walking.{sends}
 use Rattle.zp_step.proofs.Shutting.{ends-named}
 use Rattle.zp_step.specs.Laws.{end_by}
 use Rattle.zp_step.specs.Stages.{Checking, Committing, Connecting, Core, KeepingAlive, Reading, Ready, Shut, Stage, Unconnected, Waiting, is_shut, max_count}
@@ -22,11 +25,12 @@ use Rattle.zp_step.specs.declared.action.Action.TheVariants as action
 use Rattle.zp_step.specs.declared.action.Action.{Action}
 use Rattle.zp_step.specs.declared.input.Input.{Input}
 use Rattle.zp_whole.proofs.Acting.{Acts, acts-own, ends-own, is_own, leaves-acts, shown-own}
-use Rattle.zp_whole.proofs.Actions.{Asks, Closes, Rests, Split, Tail, is_closing, said, split, split-closes, split-outcome, tail_outcome}
+use Rattle.zp_whole.proofs.Actions.{Asks, Closes, Rests, Split, Tail, is_closing, said, split, split-closes, split-outcome, split-sends, tail_outcome}
 use Rattle.zp_whole.proofs.Closing.{AreShown, But}
 use Rattle.zp_whole.proofs.Ends.{closing-whole}
 use Rattle.zp_whole.proofs.Kept.{true-false}
 use Rattle.zp_whole.proofs.Knowing.{AreAside, lined-aside, said-aside}
+use Rattle.zp_whole.proofs.Within.{within-end}
 use Rattle.zp_whole.specs.Connecting.{IsInStage}
 use Rattle.zp_whole.specs.Connections.{Whole}
 use Rattle.zp_whole.specs.Counting.{HasFrames, IsLined}
@@ -53,7 +57,7 @@ closing-acts w w' c behind i why z hd shut out last shown h =
     hd.result ∙ ap (λ l. leaves c w hd.conn (behind_step hd.next) (acts_all c (kind_asked c (Connection hd.next)) behind hd.conn.flight l)) out
     ∙ ap (λ b. leaves c w hd.conn (if b then Closed else Connection hd.next) o) shut in
     leaves-acts w w' c hd.conn Closed o hd.found is (ends-own c behind (ended.Cause why) (quiet hd.conn.flight) (shown-own c z behind shown) refl)
-    (closing-whole w w' c behind i why z hd shut out last shown h) tt
+    (closing-whole w w' c behind i why z hd shut out last shown h) tt (within-end w.lines c z behind (ended.Cause why) shown)
 
 -- an input that ends it in whatever stage
 pub closes-acts : (w w' : World) (c : ℕ) (i : Input) (why : Cause) → end_by i ≡ Some why → (hd : Handed c [] w i w') → But w c → Acts w w' c
@@ -64,7 +68,7 @@ closes-acts w w' c i why e hd h =
 -- ---- a step of a connection that is attached then, or that has closed
 
 module _ (w w' : World) (c : ℕ) (behind : List TranscriptLine) (i : Input) (z : ℤ) (hd : Handed c behind w i w') (end : EndsWell hd.core hd.next i hd.out) (shown : AreShown c z behind) (whole : Whole w')
-    (frames : is_shut hd.next.stage ≡ false → (more : List TranscriptLine) → AreAside more c → HasFrames (w.lines ++ more) c hd.conn.frames hd.next) (served : is_shut hd.next.stage ≡ false → is_served hd.next.stage ≡ true) where
+    (frames : is_shut hd.next.stage ≡ false → (more : List TranscriptLine) → AreAside more c → HasFrames (w.lines ++ more) c hd.conn.frames hd.next) (served : is_shut hd.next.stage ≡ false → is_served hd.next.stage ≡ true) (says : IsInConnection w.lines c → IsInConnection (w.lines ++ said c (sends hd.out)) c) where
   parts : Split hd.out
   parts = split hd.out end.well
 
@@ -103,6 +107,17 @@ module _ (w w' : World) (c : ℕ) (behind : List TranscriptLine) (i : Input) (z 
     in-stage hd.next.stage f (w.lines ++ (acts_all c (kind_asked c (Connection hd.next)) behind hd.conn.flight hd.out).lines) (served e),
   )
 
+  tail-within : (t : Tail) → IsInConnection (w.lines ++ said c parts.packets) c → IsInConnection (w.lines ++ (tail_outcome c (kind_asked c (Connection hd.next)) behind hd.conn.flight (said c parts.packets) t).lines) c
+  tail-within Rests k = k
+  tail-within (Asks a) k = k
+  tail-within (Closes why) k =
+      subst (λ l. IsInConnection l c) (append_assoc w.lines (said c parts.packets) (behind ++ Close c (ended.Cause why) ∷ []) ∙ ap (λ l. w.lines ++ l) (sym (append_assoc (said c parts.packets) behind (Close c (ended.Cause why) ∷ []))))
+      (within-end (w.lines ++ said c parts.packets) c z behind (ended.Cause why) shown k)
+
+  within : IsInConnection w.lines c → IsInConnection (w.lines ++ (acts_all c (kind_asked c (Connection hd.next)) behind hd.conn.flight hd.out).lines) c
+  within k = subst (λ (x : StepOutcome). IsInConnection (w.lines ++ x.lines) c) (sym (split-outcome c (kind_asked c (Connection hd.next)) behind hd.conn.flight hd.out parts))
+      (tail-within parts.tail (subst (λ ps. IsInConnection (w.lines ++ said c ps) c) (split-sends hd.out parts) (says k)))
+
   pub handed-acts : Acts w w' c
   handed-acts = leaves-acts w w' c hd.conn (behind_step hd.next) (acts_all c (kind_asked c (Connection hd.next)) behind hd.conn.flight hd.out) hd.found hd.result own whole
-      (known (is_shut hd.next.stage) refl (acts_all c (kind_asked c (Connection hd.next)) behind hd.conn.flight hd.out).flight)
+      (known (is_shut hd.next.stage) refl (acts_all c (kind_asked c (Connection hd.next)) behind hd.conn.flight hd.out).flight) within

@@ -1,5 +1,5 @@
 -- The packets of each connection stand within it: the answer to the connect first, none behind the close.
-use Rattle.std.proofs.Common.{Bool, List, [], ap, arith, false, length, refl, subst, suc, sym, true, ℕ, ℤ, ◌++◌, ◌+◌, ◌<◌, ◌∙◌, ◌∷◌, ◌≡◌, ◌≤◌}
+use Rattle.std.proofs.Common.{Bool, List, [], ap, append-nil, append_assoc, arith, false, length, refl, subst, suc, sym, true, ℕ, ℤ, ◌++◌, ◌+◌, ◌<◌, ◌∙◌, ◌∷◌, ◌≡◌, ◌≤◌}
 use Rattle.std.proofs.lemmas.Bool.Decides.{nat_tests}
 use Rattle.std.proofs.lemmas.List.Elements.{All-cons, All-head, All-nil, All-tail}
 use Rattle.std.specs.List.{list_all}
@@ -19,10 +19,12 @@ use Rattle.zk_transcript.specs.Walks.{Due, packets, packets_from, placed_frame}
 use Rattle.zk_transcript.specs.declared.transcript.Ended.{Ended}
 use Rattle.zk_transcript.specs.declared.transcript.TranscriptLine.TheVariants.{Close, Frame as FrameLine, Lapse as LapseLine, Open, Send, Update}
 use Rattle.zk_transcript.specs.declared.transcript.TranscriptLine.{TranscriptLine}
+use Rattle.zp_laws.specs.Walking.{sends}
 use Rattle.zp_whole.proofs.Actions.{said, said-speech}
+use Rattle.zp_whole.proofs.Closing.{AreShown}
 use Rattle.zp_whole.proofs.Executing.{same-nat}
 use Rattle.zp_whole.proofs.Knowing.{said-aside}
-use Rattle.zp_whole.proofs.Lines.{packets-plain}
+use Rattle.zp_whole.proofs.Lines.{is_plain, packets-plain, plain-attach}
 use Rattle.zp_whole.proofs.Naming.{attach-unnamed, close-none, packets-unnamed}
 use Rattle.zp_whole.proofs.Packets.{both-true, packets-append}
 use Rattle.zp_whole.proofs.Speaking.{attach-speech}
@@ -144,6 +146,27 @@ within-close lines c end k = record {
     go None e = subst (λ o. list_all (λ (p : Due). is_before p.0 o) (packets c lines) ≡ true)
         (sym (first_place-new (close_shown c) 0 lines (Close c end) c e (ap (λ b. when b c) (same-nat c)) ∙ ap (λ n. Some (n, c)) (omega arith))) (all-before (length lines) c (packets c lines) (packets-within c lines))
     go (Some x) e = subst (λ o. list_all (λ (p : Due). is_before p.0 o) (packets c lines) ≡ true) (e ∙ sym (first_place-push (close_shown c) 0 lines (Close c end ∷ []) x e)) k.in_time
+
+-- ---- its frames
+
+pub within-plain : (lines : List TranscriptLine) (l : TranscriptLine) (c : ℕ) → is_plain l ≡ true → ((n : ℕ) → first_place (close_shown c) n (l ∷ []) ≡ None) → IsInConnection lines c → IsInConnection (lines ++ l ∷ []) c
+within-plain lines l c plain closes k = within-aside lines (l ∷ []) c (packets-plain c lines l plain) (attach_of-skip lines l c (plain-attach c l plain)) closes k
+
+pub within-frame : (lines : List TranscriptLine) (c i : ℕ) (z : ℤ) (bytes : List ℕ) → IsInConnection lines c → IsInConnection (lines ++ FrameLine c i z bytes ∷ []) c
+within-frame lines c i z bytes k = within-plain lines (FrameLine c i z bytes) c refl (λ n. refl) k
+
+pub within-shown : (lines : List TranscriptLine) (c : ℕ) (z : ℤ) (ls : List TranscriptLine) → AreShown c z ls → IsInConnection lines c → IsInConnection (lines ++ ls) c
+within-shown lines c z [] h k = subst (λ l. IsInConnection l c) (sym (append-nil lines)) k
+within-shown lines c z (l ∷ ls) (f, more) k =
+    subst (λ m. IsInConnection m c) (append_assoc lines (l ∷ []) ls)
+    (within-shown (lines ++ l ∷ []) c z ls more (subst (λ m. IsInConnection (lines ++ m ∷ []) c) (sym f.is) (within-frame lines c f.index z f.bytes k)))
+
+-- its end, behind frames that came at once
+pub within-end : (lines : List TranscriptLine) (c : ℕ) (z : ℤ) (behind : List TranscriptLine) (end : Ended) → AreShown c z behind → IsInConnection lines c → IsInConnection (lines ++ (behind ++ Close c end ∷ [])) c
+within-end lines c z behind end h k = subst (λ l. IsInConnection l c) (append_assoc lines behind (Close c end ∷ [])) (within-close (lines ++ behind) c end (within-shown lines c z behind h k))
+
+pub within-same : (lines : List TranscriptLine) (c : ℕ) → IsInConnection lines c → IsInConnection (lines ++ []) c
+within-same lines c k = subst (λ l. IsInConnection l c) (sym (append-nil lines)) k
 
 -- ---- its packets
 

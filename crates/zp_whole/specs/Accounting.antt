@@ -1,6 +1,7 @@
 -- A world of which all is accounted for: it is whole, each number is known, and each update has its entry.
 use Rattle.ev_types.specs.Store.{last_revision, revision}
 use Rattle.std.specs.Prelude.{Some, ℕ, ◌<ℤ◌, ◌<◌, ◌≡◌}
+use Rattle.zk_transcript.specs.Conversations.{IsInConnection}
 use Rattle.zp_happen.specs.Worlds.{Conn, World, conn_at}
 use Rattle.zp_step.specs.Stages.{max_count}
 use Rattle.zp_whole.specs.Connecting.{IsOffer}
@@ -13,6 +14,8 @@ pub record IsAccounted (w : World) : Type 0 where
   pub whole : Whole w
   pub known : Known w
   pub entries : AreEntries w.lines w.entries
+  -- what each connection was sent stands within it
+  pub within : (c : ℕ) → IsInConnection w.lines c
 
 -- ---- what a script has to be for that
 
