@@ -8,7 +8,7 @@ use Rattle.std.specs.FinMap.{get-empty}
 use Rattle.std.specs.Ordering.{nat_cmp}
 use Rattle.std.specs.Prelude.{All, None, Option, Some, if◌then◌else◌, is_some, option_and_then, ◌<ℤ◌}
 use Rattle.zk_jute.specs.JuteWriting.{with_length}
-use Rattle.zk_transcript.specs.Conversations.{IsInConnection, IsServed}
+use Rattle.zk_transcript.specs.Conversations.{IsInConnection}
 use Rattle.zk_transcript.specs.Legal.{Tick}
 use Rattle.zn_layout.specs.Begin.{begin_lines}
 use Rattle.zp_happen.specs.Carrying.{Executes}
@@ -20,10 +20,8 @@ use Rattle.zp_happen.specs.Runs.{IsFirst, Runs, RunsFrom}
 use Rattle.zp_happen.specs.Worlds.{Conn, World, conn_at, is_closed}
 use Rattle.zp_happen.specs.declared.flight.Flight.TheVariants.{Carried, Denied, Out}
 use Rattle.zp_happen.specs.declared.flight.Flight.{Flight}
-use Rattle.zp_laws.specs.Walking.{sends}
 use Rattle.zp_step.specs.Stages.{max_count}
 use Rattle.zp_whole.proofs.Accounts.{exec-accounted, foreign-at, lapse-at, open-accounted, reap-accounted, stray-accounted, tick-accounted}
-use Rattle.zp_whole.proofs.Actions.{said}
 use Rattle.zp_whole.proofs.Arrivals.{acts-accounted, arrives-accounted, nat-either}
 use Rattle.zp_whole.proofs.Entering.{first-entries}
 use Rattle.zp_whole.proofs.First.{first-whole}
@@ -34,7 +32,7 @@ use Rattle.zp_whole.proofs.Lives.{answer-acts, cut-acts, end-acts, entry-acts, l
 use Rattle.zp_whole.proofs.Rising.{Grown, delivers-grown, does-grown, enters-grown, exec-grown, grown-same, grown-then}
 use Rattle.zp_whole.proofs.Within.{within-silent}
 use Rattle.zp_whole.specs.Accounting.{IsAccounted, IsWithinCounts, OffersSession}
-use Rattle.zp_whole.specs.Giving.{IsOneHistory}
+use Rattle.zp_whole.specs.Giving.{IsServedRun}
 use Rattle.zp_whole.specs.Knowing.{Known}
 use Rattle.zt_text.specs.declared.script.Happening.TheVariants as line
 use Rattle.zt_text.specs.declared.script.Happening.{Happening}
@@ -209,11 +207,10 @@ runs-accounted w w' (h ∷ hs) ticks offers within (mid, more, one, e, rest) k =
 pub every-run-accounted : (hs : List Happening) (ticks : List Tick) (w : World) → All OffersSession hs → IsWithinCounts w → Runs hs ticks w → IsAccounted w
 every-run-accounted hs ticks w offers within (first, begins, runs) = runs-accounted first w hs ticks offers within runs (first-accounted first begins)
 
-accounted-served : (w : World) → IsAccounted w → (c : ℕ) → IsServed w.lines c
-accounted-served w k c = record { within = k.within c; walks = λ a e. (let h = whole-gives w k.whole in h.walks c a.0 a.1 e) }
+accounted-served : (w : World) → IsAccounted w → IsServedRun w.lines
+accounted-served w k =
+    let h = whole-gives w k.whole in
+    record { history = h; served = λ c. record { within = k.within c; walks = λ a e. h.walks c a.0 a.1 e } }
 
-pub every-run-served : (hs : List Happening) (ticks : List Tick) (w : World) → All OffersSession hs → IsWithinCounts w → Runs hs ticks w → (c : ℕ) → IsServed w.lines c
+pub every-run-served : (hs : List Happening) (ticks : List Tick) (w : World) → All OffersSession hs → IsWithinCounts w → Runs hs ticks w → IsServedRun w.lines
 every-run-served hs ticks w offers within runs = accounted-served w (every-run-accounted hs ticks w offers within runs)
-
-pub every-run-whole : (hs : List Happening) (ticks : List Tick) (w : World) → All OffersSession hs → IsWithinCounts w → Runs hs ticks w → IsOneHistory w.lines
-every-run-whole hs ticks w offers within runs = whole-gives w (every-run-accounted hs ticks w offers within runs).whole

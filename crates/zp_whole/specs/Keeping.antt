@@ -11,7 +11,7 @@ use Rattle.zp_step.specs.Stages.{Core}
 use Rattle.zp_whole.specs.Accounting.{IsAccounted, IsWithinCounts, OffersSession}
 use Rattle.zp_whole.specs.Connections.{Whole}
 use Rattle.zp_whole.specs.Entering.{AreEntries}
-use Rattle.zp_whole.specs.Giving.{IsOneHistory}
+use Rattle.zp_whole.specs.Giving.{IsOneHistory, IsServedRun}
 use Rattle.zt_text.specs.declared.script.Happening.{Happening}
 
 -- before anything happened
@@ -62,4 +62,4 @@ KeepsAccounts = (w w' : World) (h : Happening) → OffersSession h → IsWithinC
 
 -- what every run of a script gives
 abbrev pub EveryRunGives : Type 0
-EveryRunGives = (hs : List Happening) (ticks : List Tick) (w : World) → All OffersSession hs → IsWithinCounts w → Runs hs ticks w → IsOneHistory w.lines
+EveryRunGives = (hs : List Happening) (ticks : List Tick) (w : World) → All OffersSession hs → IsWithinCounts w → Runs hs ticks w → IsServedRun w.lines

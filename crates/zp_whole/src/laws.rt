@@ -70,7 +70,8 @@ pub fn every_line_is_accounted_for()
 {}
 
 /// Every run of a script, whichever connections, frames, lapses, cuts, restarts and orders of delivery it has, is one history of
-/// the service, and what each connection was sent behind its welcome is a walk of it.
+/// the service. Each connection was sent the answer to its connect first, then, behind a welcome, a walk of that history that is
+/// fresh and in turn, and nothing behind its close.
 pub fn every_run_is_one_history()
     ensures { EveryRunGives }
 {}

@@ -1,5 +1,5 @@
-use Rattle.zp_whole.proofs.Running.{every-run-whole}
+use Rattle.zp_whole.proofs.Running.{every-run-served}
 use Rattle.zp_whole.proofs.laws.every_run_is_one_history.Goals as goal
 
 pub returns : goal.returns
-returns c = every-run-whole
+returns c = every-run-served
