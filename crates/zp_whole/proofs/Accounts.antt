@@ -27,9 +27,7 @@ use Rattle.zp_happen.specs.Worlds.{Actor, Closed, Conn, Connection, Reaper, Worl
 use Rattle.zp_happen.specs.declared.flight.Asking.{Asking}
 use Rattle.zp_happen.specs.declared.flight.Flight.TheVariants.{Carried, Denied}
 use Rattle.zp_laws.specs.Inputs.{Precedes}
-use Rattle.zp_laws.specs.Walking.{sends}
 use Rattle.zp_step.specs.Stages.{Checking, Committing, Connecting, Core, KeepingAlive, Reading, Ready, Shut, Stage, Unconnected, Waiting, new_core}
-use Rattle.zp_whole.proofs.Actions.{said}
 use Rattle.zp_whole.proofs.Carrying.{air-outcome, asker-of, new-silent, one}
 use Rattle.zp_whole.proofs.Commits.{line_of}
 use Rattle.zp_whole.proofs.Connecting.{connect-carried, connect-denied}
@@ -304,16 +302,19 @@ module _ (w : World) (c p : ℕ) (id : ℤ) (passwd : List ℕ) (free : conn_at 
   opened-known : IsKnownAs w.store (w.lines ++ Open c p id passwd ∷ []) c (new_conn p (Connection (new_core (record { id = id; passwd = passwd })))) (Connection (new_core (record { id = id; passwd = passwd })))
   opened-known = (
     record { lined = lined; numbered = refl; came = refl; most = omega arith },
-    (record {
-      untouched = record {
-        silent = packets-plain c w.lines (Open c p id passwd) refl ∙ never-sent c w.lines none;
-        turn = ahead-push w.lines (Open c p id passwd) c 1 refl (never-carried c 1 w.lines none);
-        offered = offered;
-        offer = offer;
-      };
-      unattached = attach_of-skip w.lines (Open c p id passwd) c refl ∙ never-attached c w.lines none;
-      none_waits = refl;
-    }, refl),
+    (
+      record {
+        untouched = record {
+          silent = packets-plain c w.lines (Open c p id passwd) refl ∙ never-sent c w.lines none;
+          turn = ahead-push w.lines (Open c p id passwd) c 1 refl (never-carried c 1 w.lines none);
+          offered = offered;
+          offer = offer;
+        };
+        unattached = attach_of-skip w.lines (Open c p id passwd) c refl ∙ never-attached c w.lines none;
+        none_waits = refl;
+      },
+      refl,
+    ),
   )
 
   pub open-accounted : IsAccounted (opened w c p id passwd)

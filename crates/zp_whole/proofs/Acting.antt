@@ -16,10 +16,8 @@ use Rattle.zk_transcript.specs.declared.transcript.UpdateKind.{UpdateKind}
 use Rattle.zn_layout.specs.declared.entry.Entry.{Entry}
 use Rattle.zp_happen.specs.StepOutcomes.{StepOutcome, acts, ends, leaves}
 use Rattle.zp_happen.specs.Worlds.{Actor, Conn, World, conn_at}
-use Rattle.zp_laws.specs.Walking.{sends}
 use Rattle.zp_step.specs.declared.action.Action.TheVariants as action
 use Rattle.zp_step.specs.declared.action.Action.{Action}
-use Rattle.zp_whole.proofs.Actions.{said}
 use Rattle.zp_whole.proofs.Closing.{AreShown}
 use Rattle.zp_whole.proofs.Entering.{entries-line}
 use Rattle.zp_whole.proofs.Executing.{same-nat}

@@ -18,11 +18,9 @@ use Rattle.zp_happen.specs.Handing.{Handed}
 use Rattle.zp_happen.specs.Worlds.{Actor, Closed, Conn, Connection, Reaper, World, conn_at, is_open_conn, with_conn, zxid_at}
 use Rattle.zp_happen.specs.declared.flight.Flight.{Flight}
 use Rattle.zp_laws.proofs.Counting.{counted-small}
-use Rattle.zp_laws.specs.Walking.{sends}
 use Rattle.zp_step.specs.Stages.{Core, counted_up, max_count}
 use Rattle.zp_step.specs.declared.input.Input.TheVariants as input
 use Rattle.zp_whole.proofs.Acting.{Acts, acts-entries, acts-known, acts-within, is_own}
-use Rattle.zp_whole.proofs.Actions.{said}
 use Rattle.zp_whole.proofs.Arriving.{alike-whole, lines-shown, shown-whole, zxid-shown}
 use Rattle.zp_whole.proofs.Closing.{but-of}
 use Rattle.zp_whole.proofs.Executing.{same-nat}
@@ -66,10 +64,10 @@ acts-shown w w' c x frame there small a = record {
   now = a.now;
   there = a.there;
   frames = λ y e. (
-    let same : x ≡ y = some_is (sym there ∙ e) in
-    let up = counted-small (x.frames + 1) (omega (arith, small)) in
-    let more = a.frames (record x { frames = counted_up (x.frames + 1) }) (conn-here w c (record x { frames = counted_up (x.frames + 1) })) in
-    omega (arith, ap (λ (v : Conn). v.frames) same, up, more));
+      let same : x ≡ y = some_is (sym there ∙ e) in
+      let up = counted-small (x.frames + 1) (omega (arith, small)) in
+      let more = a.frames (record x { frames = counted_up (x.frames + 1) }) (conn-here w c (record x { frames = counted_up (x.frames + 1) })) in
+      omega (arith, ap (λ (v : Conn). v.frames) same, up, more));
   known = a.known;
   within = λ q. a.within (within-frame w.lines c x.frames (zxid_at w.store) frame q);
 }

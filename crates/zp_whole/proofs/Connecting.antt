@@ -105,33 +105,39 @@ module _ (s : Store) (lines : List TranscriptLine) (c : ℕ) (x : Connect) (k : 
   connect-bound Unasked q r e = absurd r
   connect-bound Looking q r e = subst (IsBoundAs s lines None) (some_is e) (record { success = ranges-read (pos 0) (first_wants x.request); failure = refl })
   connect-bound Granting q r e = subst (IsBoundAs s lines None) (some_is e) tt
-  connect-bound Creating q (anew, past) e = subst (IsBoundAs s lines (Some (NewSession x.fresh.id c))) (some_is e) (record {
-    request = x.request;
-    connected = is-unattached past;
-    anew = anew;
-    fresh = x.fresh;
-    own = refl;
-    least = ((k.untouched).offer).least;
-    most = ((k.untouched).offer).most;
-    long = ((k.untouched).offer).long;
-    offered = (k.untouched).offered;
-    txn = refl;
-  }, ranges-read (pos 0) (session_wants x.fresh.id))
+  connect-bound Creating q (anew, past) e = subst (IsBoundAs s lines (Some (NewSession x.fresh.id c))) (some_is e) (
+    record {
+      request = x.request;
+      connected = is-unattached past;
+      anew = anew;
+      fresh = x.fresh;
+      own = refl;
+      least = ((k.untouched).offer).least;
+      most = ((k.untouched).offer).most;
+      long = ((k.untouched).offer).long;
+      offered = (k.untouched).offered;
+      txn = refl;
+    },
+    ranges-read (pos 0) (session_wants x.fresh.id),
+  )
   connect-bound (Keeping seen life) q r e = subst (IsBoundAs s lines None) (some_is e) tt
   connect-bound LookingAgain q r e = subst (IsBoundAs s lines None) (some_is e) (record { success = ranges-read (pos 0) (attach_wants x.request.session); failure = refl })
-  connect-bound (Attaching seen life) q (saw, past) e = subst (IsBoundAs s lines (Some (Attach x.request.session c))) (some_is e) (record {
-    request = x.request;
-    connected = is-unattached past;
-    own = refl;
-    least = saw.session;
-    seen = seen;
-    life = life;
-    put = saw.put;
-    within = saw.within;
-    passwd = saw.passwd;
-    was = saw.was;
-    txn = refl;
-  }, ranges-read (pos 0) (attach_wants x.request.session))
+  connect-bound (Attaching seen life) q (saw, past) e = subst (IsBoundAs s lines (Some (Attach x.request.session c))) (some_is e) (
+    record {
+      request = x.request;
+      connected = is-unattached past;
+      own = refl;
+      least = saw.session;
+      seen = seen;
+      life = life;
+      put = saw.put;
+      within = saw.within;
+      passwd = saw.passwd;
+      was = saw.was;
+      txn = refl;
+    },
+    ranges-read (pos 0) (attach_wants x.request.session),
+  )
   connect-bound Over q r e = absurd r
 
 -- ---- it is carried out
@@ -314,11 +320,11 @@ module _ (s u : Store) (lines : List TranscriptLine) (c : ℕ) (core : Core) (x 
           let done = plan-commits s u lines (NewSession x.fresh.id c) (new_session_txn x.fresh (timeout_in x)) b w room (λ d i r. absurd (none_some r)) bound.0 f (ht (new_session_txn x.fresh (timeout_in x)) of_txn) in
           let ans = succeeded (new_session_txn x.fresh (timeout_in x)) of_txn f in
           let number = number-welcomed (new_session_guards x.fresh.id) (new_session_changes x.fresh (timeout_in x)) (session_wants x.fresh.id) s u (revision u) ans.0 (after (lines ++ line_of s (NewSession x.fresh.id c) ∷ []))
-              (carried-so (new_session_txn x.fresh (timeout_in x)) of_txn ans.0 ans.1) (stands-now u (lines ++ line_of s (NewSession x.fresh.id c) ∷ []) (done.0).serves) in
+          (carried-so (new_session_txn x.fresh (timeout_in x)) of_txn ans.0 ans.1) (stands-now u (lines ++ line_of s (NewSession x.fresh.id c) ∷ []) (done.0).serves) in
           let sess = new_session (opening c lines) (connect c lines) c (next_revision s) in
           let own : IsOwnSession (lines ++ line_of s (NewSession x.fresh.id c) ∷ []) c x.fresh.id (timeout_in x) x.fresh.passwd (revision u) (number_shown ans.0) = session-in (NewSession x.fresh.id c) x.fresh.id (λ z. new-attaches c z x.fresh.id) of_kind ((k.untouched).offer).least (timeout_in x) x.fresh.passwd (number_shown ans.0) sess done.0 (session-new lines (after lines) (next_revision s) x.fresh.id c)
-              (ap (λ o. granted_timeout (or_nothing (pos 0) (option_map (λ (r : ConnectRequest). r.timeout) o))) (connect-is lines c k.bytes x.request (first_shown-place (frame_shown c 0) 0 lines (k.place, k.bytes) k.framed) k.reads))
-              (ap (λ o. or_nothing [] (option_map (λ (y : ℤ × List ℕ). y.1) o)) (k.untouched).offered) number in
+          (ap (λ o. granted_timeout (or_nothing (pos 0) (option_map (λ (r : ConnectRequest). r.timeout) o))) (connect-is lines c k.bytes x.request (first_shown-place (frame_shown c 0) 0 lines (k.place, k.bytes) k.framed) k.reads))
+          (ap (λ o. or_nothing [] (option_map (λ (y : ℤ × List ℕ). y.1) o)) (k.untouched).offered) number in
           line-added (NewSession x.fresh.id c) x.fresh.id (λ z. new-attaches c z x.fresh.id) of_kind done.0 done.1
           (subst (λ y. HasOwnLine (lines ++ line_of s (NewSession x.fresh.id c) ∷ []) c x x.phase y) (sym ans.1)
           (subst (λ p. HasOwnLine (lines ++ line_of s (NewSession x.fresh.id c) ∷ []) c x p (answer.Txn (revision u) true ans.0)) (sym e) own))
@@ -347,11 +353,11 @@ module _ (s u : Store) (lines : List TranscriptLine) (c : ℕ) (core : Core) (x 
           let done = plan-commits s u lines (Attach x.request.session c) (attach_txn x.request.session seen life) b w room (λ d i r. absurd (none_some r)) bound.0 f (ht (attach_txn x.request.session seen life) of_txn) in
           let ans = succeeded (attach_txn x.request.session seen life) of_txn f in
           let number = number-welcomed (attach_guards x.request.session seen) (attach_changes x.request.session life) (attach_wants x.request.session) s u (revision u) ans.0 (after (lines ++ line_of s (Attach x.request.session c) ∷ []))
-              (carried-so (attach_txn x.request.session seen life) of_txn ans.0 ans.1) (stands-now u (lines ++ line_of s (Attach x.request.session c) ∷ []) (done.0).serves) in
+          (carried-so (attach_txn x.request.session seen life) of_txn ans.0 ans.1) (stands-now u (lines ++ line_of s (Attach x.request.session c) ∷ []) (done.0).serves) in
           let d = session-attached x.request.session seen life lines c (present s) (after lines) (next_revision s) (saw.0).session (saw.0).put (saw.0).within (stands-now s lines w) (was-seen s x.request.session seen life (saw.0).was) f (zxid-next s lines w) (next-room s room) in
           let sess : Session = record (d.session) { connection = c; attached = next_revision s } in
           let own = session-in (Attach x.request.session c) x.request.session (λ z. anew-attaches c z x.request.session) of_kind (saw.0).session life.timeout life.passwd (number_shown ans.0) sess done.0 (session-anew lines (after lines) (next_revision s) x.request.session c d.session d.there)
-              d.timeout d.passwd number in
+          d.timeout d.passwd number in
           line-added (Attach x.request.session c) x.request.session (λ z. anew-attaches c z x.request.session) of_kind done.0 done.1
           (subst (λ y. HasOwnLine (lines ++ line_of s (Attach x.request.session c) ∷ []) c x x.phase y) (sym ans.1)
           (subst (λ p. HasOwnLine (lines ++ line_of s (Attach x.request.session c) ∷ []) c x p (answer.Txn (revision u) true ans.0)) (sym e) own))

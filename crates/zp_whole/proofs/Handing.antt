@@ -1,21 +1,18 @@
 -- An open connection of which nothing may still be carried out takes an input, and its conversation goes on by what it sends: the
 -- world behind its step is whole.
 use Rattle.ev_types.specs.Store.{Store}
-use Rattle.ev_types.specs.declared.ask.Ask.TheVariants as ask
 use Rattle.ev_types.specs.declared.ask.Ask.{Ask}
 use Rattle.std.proofs.Common.{List, [], ap, append-nil, append_assoc, arith, false, inl, inr, length, pos, refl, subst, sym, true, ℕ, ℤ, ◌++◌, ◌+◌, ◌∙◌, ◌∷◌, ◌≡◌, ◌≤◌}
 use Rattle.std.proofs.lemmas.List.Elements.{Contains-append_right}
 use Rattle.std.specs.List.{list_all}
 use Rattle.std.specs.Prelude.{Contains, None, Option, Some, if◌then◌else◌, map, ◌≤ℤ◌, ◌⊎◌}
-use Rattle.zk_least.proofs.Ahead.{ahead}
 use Rattle.zk_model.specs.Limits.{max_long}
 use Rattle.zk_transcript.specs.History.{after}
-use Rattle.zk_transcript.specs.Legal.{Attachment, attach_of, follows, is_legal}
+use Rattle.zk_transcript.specs.Legal.{Attachment, attach_of, is_legal}
 use Rattle.zk_transcript.specs.Walks.{Due, Walker, at_start, packets, packets_from}
 use Rattle.zk_transcript.specs.declared.transcript.Ended.TheVariants as ended
 use Rattle.zk_transcript.specs.declared.transcript.TranscriptLine.TheVariants.{Close}
 use Rattle.zk_transcript.specs.declared.transcript.TranscriptLine.{TranscriptLine}
-use Rattle.zn_view.specs.Needs.{own}
 use Rattle.zn_view.specs.declared.plan.Who.{Who}
 use Rattle.zp_happen.specs.Handing.{Handed}
 use Rattle.zp_happen.specs.Kinds.{kind_asked, kind_in_stage}

@@ -25,7 +25,6 @@ use Rattle.zp_step.specs.Stages.{Checking, Committing, Connecting, Core, Keeping
 use Rattle.zp_step.specs.declared.input.Input.TheVariants as input
 use Rattle.zp_step.specs.declared.input.Input.{Input}
 use Rattle.zp_whole.proofs.Acting.{Acts, ends-own, leaves-acts}
-use Rattle.zp_whole.proofs.Actions.{said}
 use Rattle.zp_whole.proofs.Arrivals.{acts-accounted}
 use Rattle.zp_whole.proofs.Closing.{But, but-of, ends-whole}
 use Rattle.zp_whole.proofs.Delivering.{entry-idle}
@@ -64,9 +63,9 @@ acts-landed w w' c x there a = record {
   now = a.now;
   there = a.there;
   frames = λ y e. (
-    let same = ap (λ (u : Conn). u.frames) (some_is (sym there ∙ e)) in
-    let more = a.frames (record x { flight = None }) (conn-here w c (record x { flight = None })) in
-    omega (arith, same, more));
+      let same = ap (λ (u : Conn). u.frames) (some_is (sym there ∙ e)) in
+      let more = a.frames (record x { flight = None }) (conn-here w c (record x { flight = None })) in
+      omega (arith, same, more));
   known = a.known;
   within = a.within;
 }

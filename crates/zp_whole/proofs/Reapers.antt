@@ -34,10 +34,8 @@ use Rattle.zp_happen.specs.declared.flight.Asking.{Asking}
 use Rattle.zp_happen.specs.declared.flight.Flight.TheVariants.{Out}
 use Rattle.zp_laws.proofs.Parts.{revision-kept}
 use Rattle.zp_laws.specs.Inputs.{Precedes}
-use Rattle.zp_laws.specs.Walking.{sends}
 use Rattle.zp_step.specs.Stages.{Core}
 use Rattle.zp_whole.proofs.Acting.{Acts, ends-own, leaves-acts}
-use Rattle.zp_whole.proofs.Actions.{said}
 use Rattle.zp_whole.proofs.Asking.{ranges-read}
 use Rattle.zp_whole.proofs.Carrying.{request-asker}
 use Rattle.zp_whole.proofs.Closing.{but-of, ends-whole}

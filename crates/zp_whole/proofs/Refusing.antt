@@ -1,7 +1,7 @@
 -- A resume is refused only where its session isn't open, has lapsed, or has another password.
 use Rattle.ev_types.specs.Denials.{carry}
 use Rattle.ev_types.specs.Ranges.{Keys}
-use Rattle.ev_types.specs.Store.{Store, chosen, worked}
+use Rattle.ev_types.specs.Store.{Store}
 use Rattle.ev_types.specs.declared.answer.ActAns.{ActAns}
 use Rattle.ev_types.specs.declared.answer.Answer.TheVariants as answer
 use Rattle.ev_types.specs.declared.answer.Kv.{Kv}

@@ -1,5 +1,4 @@
 -- An open connection, or a reaper, becomes another one, with its flight, in a world that is whole but for it.
-use Rattle.ev_types.specs.Store.{holds}
 use Rattle.std.proofs.Common.{ap, false, inl, inr, refl, subst, sym, true, ℕ, ◌∙◌, ◌≡◌, ◌≢◌}
 use Rattle.std.specs.Prelude.{None, Option, Some, ◌⊎◌}
 use Rattle.zk_transcript.specs.Legal.{Attachment, attach_of}

@@ -4,17 +4,13 @@ use Rattle.std.proofs.Common.{List, [], ap, append-nil, append_assoc, inl, inr, 
 use Rattle.std.proofs.lemmas.Bool.{and_parts}
 use Rattle.std.specs.List.{list_all}
 use Rattle.std.specs.Prelude.{None, Some, if◌then◌else◌, ◌==◌}
-use Rattle.zk_least.proofs.Ahead.{ahead}
-use Rattle.zk_model.specs.Znodes.{below}
 use Rattle.zk_transcript.proofs.Appending.{after-push}
 use Rattle.zk_transcript.specs.Conversations.{IsShownFresh}
 use Rattle.zk_transcript.specs.History.{State, after, first_place}
-use Rattle.zk_transcript.specs.Legal.{Attachment, attach_of, attach_shown, follows, index_shown, is_below}
+use Rattle.zk_transcript.specs.Legal.{Attachment, attach_of, attach_shown, index_shown, is_below}
 use Rattle.zk_transcript.specs.Walks.{Walker, own_update, own_update_shown, packets, packets_from}
 use Rattle.zk_transcript.specs.declared.transcript.TranscriptLine.TheVariants.{Close, Frame as FrameLine, Lapse as LapseLine, Open, Send, Update}
 use Rattle.zk_transcript.specs.declared.transcript.TranscriptLine.{TranscriptLine}
-use Rattle.zn_layout.specs.Fits.{left}
-use Rattle.zn_view.specs.Needs.{own}
 use Rattle.zp_happen.specs.Worlds.{World}
 use Rattle.zp_happen.specs.declared.flight.Asking.{Asking}
 use Rattle.zp_laws.specs.Standing.{is_ahead}

@@ -36,7 +36,6 @@ use Rattle.zp_whole.specs.Connections.{Whole}
 use Rattle.zp_whole.specs.Counting.{HasFrames, IsLined}
 use Rattle.zp_whole.specs.Knowing.{IsKnownAs}
 
-
 -- ---- its frames
 
 -- each that came in was taken up or waits

@@ -19,7 +19,6 @@ use Rattle.zk_transcript.specs.Walks.{Due, packets, packets_from, placed_frame}
 use Rattle.zk_transcript.specs.declared.transcript.Ended.{Ended}
 use Rattle.zk_transcript.specs.declared.transcript.TranscriptLine.TheVariants.{Close, Frame as FrameLine, Lapse as LapseLine, Open, Send, Update}
 use Rattle.zk_transcript.specs.declared.transcript.TranscriptLine.{TranscriptLine}
-use Rattle.zp_laws.specs.Walking.{sends}
 use Rattle.zp_whole.proofs.Actions.{said, said-speech}
 use Rattle.zp_whole.proofs.Closing.{AreShown}
 use Rattle.zp_whole.proofs.Executing.{same-nat}
@@ -216,9 +215,11 @@ module _ (lines : List TranscriptLine) (c n : ℕ) (ps : List (List ℕ)) (lined
   within-refusal p f r m none sent framed connected behind within before may is = record {
     silent = λ e. absurd (is-open e);
     connected = subst (λ o. IsConnectAnswered (lines ++ said c ps) c (packets c (lines ++ said c ps)) o) (sym (attach-same ∙ none))
-        (subst (λ l. IsConnectAnswered (lines ++ said c ps) c l None) (sym sent)
-        (subst (λ o. IsRefused (lines ++ said c ps) c p o (connect c (lines ++ said c ps))) (sym (first_place-push (frame_shown c 0) 0 lines (said c ps) f framed))
-        (subst (λ o. IsRefused (lines ++ said c ps) c p (Some f) o) (sym (connect-push lines (said c ps) c r connected))
-        (m, behind, before, subst (λ s. IsTrue (may_refuse r s)) (sym (state_at-push lines (said c ps) m within)) may, is)), refl));
+        (subst (λ l. IsConnectAnswered (lines ++ said c ps) c l None) (sym sent) (
+          subst (λ o. IsRefused (lines ++ said c ps) c p o (connect c (lines ++ said c ps))) (sym (first_place-push (frame_shown c 0) 0 lines (said c ps) f framed))
+              (subst (λ o. IsRefused (lines ++ said c ps) c p (Some f) o) (sym (connect-push lines (said c ps) c r connected))
+              (m, behind, before, subst (λ s. IsTrue (may_refuse r s)) (sym (state_at-push lines (said c ps) m within)) may, is)),
+          refl,
+        ));
     in_time = in-time;
   }

@@ -10,6 +10,7 @@ use Rattle.zp_whole.specs.Entering.{AreEntries}
 use Rattle.zp_whole.specs.Knowing.{Known}
 use Rattle.zt_text.specs.declared.script.Happening.TheVariants as line
 use Rattle.zt_text.specs.declared.script.Happening.{Happening}
+
 pub record IsAccounted (w : World) : Type 0 where
   pub whole : Whole w
   pub known : Known w

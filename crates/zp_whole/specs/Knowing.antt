@@ -8,6 +8,7 @@ use Rattle.zp_whole.specs.Connecting.{IsInStage}
 use Rattle.zp_whole.specs.Counting.{HasFrames}
 use Rattle.zp_whole.specs.Naming.{is_unnamed}
 use Rattle.zp_whole.specs.Reaping.{IsReapFlight}
+
 abbrev pub IsKnownAs : Store → List TranscriptLine → ℕ → Conn → Actor → Type 0
 IsKnownAs store lines c x (Connection core) = HasFrames lines c x.frames core × IsInStage store lines c core x.flight core.stage
 IsKnownAs store lines c x (Reaper reap) = IsReapFlight store reap x.flight

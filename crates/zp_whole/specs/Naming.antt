@@ -4,6 +4,7 @@ use Rattle.std.specs.Prelude.{Bool, List, None, Option, Some, false, not, ℕ, �
 use Rattle.zk_transcript.specs.declared.transcript.TranscriptLine.TheVariants.{Close, Frame as FrameLine, Lapse as LapseLine, Open, Send, Update}
 use Rattle.zk_transcript.specs.declared.transcript.TranscriptLine.{TranscriptLine}
 use Rattle.zp_whole.specs.Holding.{made_for}
+
 abbrev pub is_made_for : ℕ → Option ℕ → Bool
 is_made_for c None = false
 is_made_for c (Some d) = c == d

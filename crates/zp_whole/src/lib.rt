@@ -27,6 +27,5 @@ mod laws;
 pub use laws::{
     a_whole_world_is_one_history, asks_are_carried_out, attached_connections_go_on,
     connections_end, connections_open, every_line_is_accounted_for, every_run_is_one_history,
-    the_first_world_is_whole, the_store_changes_by_itself,
-    updates_have_entries,
+    the_first_world_is_whole, the_store_changes_by_itself, updates_have_entries,
 };
