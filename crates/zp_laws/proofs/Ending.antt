@@ -86,7 +86,7 @@ sends-only (action.Send bytes ∷ more) a b = sends-only more a b
 sends-only (action.Ask x ∷ more) a b = absurd (cc)
 sends-only (action.Close why ∷ more) a b = absurd (cc)
 
-asks-nothing : (out : List Action) → only_sends out ≡ true → asked_by out ≡ None
+pub asks-nothing : (out : List Action) → only_sends out ≡ true → asked_by out ≡ None
 asks-nothing [] e = refl
 asks-nothing (action.Send bytes ∷ more) e = asks-nothing more e
 asks-nothing (action.Ask a ∷ more) e = absurd (cc)

@@ -1,6 +1,7 @@
 pub mod Cases
 pub mod ConnectAsks
 pub mod Ending
+pub mod Planning
 pub mod Counting
 pub mod Updates
 pub mod WalkMoves

@@ -6,3 +6,4 @@ pub mod Ending
 pub mod Welcomes
 pub mod Growing
 pub mod Honest
+pub mod Planning

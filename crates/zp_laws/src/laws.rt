@@ -3,6 +3,7 @@
 ghost use Rattle.zp_laws.specs.Ending.{StepsCount, StepsEndWell};
 ghost use Rattle.zp_laws.specs.Growing.{StandingLasts};
 ghost use Rattle.zp_laws.specs.Honest.{PastIsRecords, PresentIsRecords, RecordsAreSound};
+ghost use Rattle.zp_laws.specs.Planning.{PlansAreMadeNow};
 ghost use Rattle.zp_laws.specs.Walking.{PlansAreBound, SendsAreWalks};
 ghost use Rattle.zp_laws.specs.Welcomes.{ConnectsAre};
 
@@ -25,6 +26,11 @@ pub fn sends_are_walks()
 /// answer and no failure.
 pub fn steps_end_well()
     ensures { StepsEndWell }
+{}
+
+/// A plan is made at the moment of the step that asks its transaction; a step that makes none asks nothing for the plan that is out.
+pub fn plans_are_made_now()
+    ensures { PlansAreMadeNow }
 {}
 
 /// Each frame that came was taken up or waits behind the others, and no other one: a step that leaves the connection open

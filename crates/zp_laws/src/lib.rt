@@ -14,19 +14,20 @@
 //! - `Inputs`: which inputs are true of the store and of the transcript;
 //! - `Walking`: a step is a walk (`SendsAreWalks`), and what it asks is bound (`PlansAreBound`);
 //! - `Ending`: the order of its actions (`StepsEndWell`), and its frames (`StepsCount`);
+//! - `Planning`: the moment of a plan (`PlansAreMadeNow`);
 //! - `Welcomes`: a step without a session (`ConnectsAre`);
 //! - `Growing`: what leaves a core where it stands (`StandingLasts`);
 //! - `Honest`: an etcd that keeps its guarantees shows records.
 //!
 //! In `proofs/` by topic: `Updates`, `WalkMoves`, `Strides` (the walk); `Going`, `Replying`, `Entering` (frames, replies,
 //! entries); `Revisions`, `Arming`, `Attached`, `Telling`, `Deciding`, `Parts` (what is decided on a view); `Carried` (a plan
-//! that was carried out); `Steps`, `Asking` (whole steps); `ConnectAsks`, `Ending`, `Counting`, `Welcoming`, `Growing`,
+//! that was carried out); `Steps`, `Asking` (whole steps); `ConnectAsks`, `Ending`, `Planning`, `Counting`, `Welcoming`, `Growing`,
 //! `Honest`.
 #![tactic(auto)]
 
 mod laws;
 
 pub use laws::{
-    connects_are_answered, honest_values_are_records, plans_are_bound, sends_are_walks,
+    connects_are_answered, honest_values_are_records, plans_are_bound, plans_are_made_now, sends_are_walks,
     standing_lasts, steps_count, steps_end_well,
 };
