@@ -47,3 +47,4 @@ pub mod Accounts
 pub mod Lives
 pub mod Happenings
 pub mod Running
+pub mod Since

@@ -55,7 +55,7 @@ room-before w w' g k = (within-before w w' g k).room
 
 -- ---- each line but settle
 
-number-free : (o : Option Conn) → if_fails (is_some o) why.NumberInUse None ≡ None → o ≡ None
+pub number-free : (o : Option Conn) → if_fails (is_some o) why.NumberInUse None ≡ None → o ≡ None
 number-free None h = refl
 number-free (Some x) h = absurd (none_some (sym h))
 
@@ -85,7 +85,7 @@ does-accounted w w' (line.Settle c) offer within free h k = absurd h
 -- ---- settle
 
 -- what is out is carried out or answered, or, where nothing is, the next entry is taken
-data Settling (c : ℕ) (w : World) : Happening → Type 0 where
+pub data Settling (c : ℕ) (w : World) : Happening → Type 0 where
   carries : Settling c w (line.Exec c)
   answers : Settling c w (line.Answer c)
   enters : (idle : flight_at c w ≡ None) → Settling c w (line.Entry c)
@@ -99,7 +99,7 @@ entry-is true true c h e = some_is e
 entry-is true false c h e = absurd (none_some e)
 entry-is false b c h e = absurd (none_some e)
 
-settling-is : (c : ℕ) (w : World) (h : Happening) → settling c w ≡ Some h → Settling c w h
+pub settling-is : (c : ℕ) (w : World) (h : Happening) → settling c w ≡ Some h → Settling c w h
 settling-is c w h e = by-conn (conn_at c w) refl e
   where
     by-flight : (x : Conn) (f : Option Flight) → conn_at c w ≡ Some x → x.flight ≡ f → flight_line c w x f ≡ Some h → Settling c w h
@@ -122,7 +122,7 @@ settling-accounted c w w' _ carries within h k = exec-keeps-accounts w w' c with
 settling-accounted c w w' _ answers within h k = acts-accounted w w' c k (answer-acts w w' c h k)
 settling-accounted c w w' _ (enters idle) within h k = acts-accounted w w' c k (entry-acts w w' c (next_entry c w) refl h idle k)
 
-abbrev SettlesOn : ℕ → ℕ → World → World → Option Happening → Type 0
+abbrev pub SettlesOn : ℕ → ℕ → World → World → Option Happening → Type 0
 SettlesOn n c w w' o = elim o [ None ↦ w' ≡ w | Some h ↦ (mid : World) × Does w h mid × Settles n c mid w' ]
 
 settles-grown : (n c : ℕ) (w w' : World) → Settles n c w w' → Grown w w'
