@@ -52,7 +52,7 @@ first-shown : IsShownFresh (begin_lines 0)
 first-shown zero c i z bytes h = absurd (cc)
 first-shown (suc k) c i z bytes h = absurd (none_some h)
 
-no-air : (s : Store) (o : Source) (x : Asking) → air (world_over s) o ≡ Some x → ⊥
+pub no-air : (s : Store) (o : Source) (x : Asking) → air (world_over s) o ≡ Some x → ⊥
 no-air s (Of c) x e = none_some (sym (ap out_of (no-conn s c)) ∙ e)
 no-air s (Left zero) x e = none_some e
 no-air s (Left (suc k)) x e = none_some e

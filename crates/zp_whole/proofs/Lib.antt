@@ -48,3 +48,4 @@ pub mod Lives
 pub mod Happenings
 pub mod Running
 pub mod Since
+pub mod Timing

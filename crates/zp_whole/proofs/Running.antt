@@ -41,7 +41,7 @@ use Rattle.zx_base.proofs.Options.{none_some, some_is}
 
 -- ---- counts that are within their ranges were so before
 
-within-before : (w w' : World) → Grown w w' → IsWithinCounts w' → IsWithinCounts w
+pub within-before : (w w' : World) → Grown w w' → IsWithinCounts w' → IsWithinCounts w
 within-before w w' g k = record {
   room = (let up = g.revisions in omega (arith, ints, up, k.room));
   frames = λ c x there. elim (nat-either x.frames max_count) [
@@ -194,7 +194,7 @@ first-accounted w (s, a, e, is) = record {
   within = λ c. subst (λ (v : World). IsInConnection v.lines c) (sym is) (within-silent (begin_lines 0) c refl);
 }
 
-runs-grown : (w w' : World) (hs : List Happening) (ticks : List Tick) → RunsFrom w hs ticks w' → Grown w w'
+pub runs-grown : (w w' : World) (hs : List Happening) (ticks : List Tick) → RunsFrom w hs ticks w' → Grown w w'
 runs-grown w w' [] ticks (none, same) = grown-same w w' same
 runs-grown w w' (h ∷ hs) ticks (mid, more, one, e, rest) = grown-then w mid w' (effect-grown w mid h one.possible one.effect) (runs-grown mid w' hs more rest)
 
