@@ -25,14 +25,12 @@ use Rattle.zp_whole.proofs.Accounts.{exec-accounted, foreign-at, lapse-at, open-
 use Rattle.zp_whole.proofs.Arrivals.{acts-accounted, arrives-accounted, nat-either}
 use Rattle.zp_whole.proofs.Entering.{first-entries}
 use Rattle.zp_whole.proofs.First.{first-whole}
-use Rattle.zp_whole.proofs.Giving.{whole-gives}
 use Rattle.zp_whole.proofs.Happenings.{entry-idle-at, passes}
 use Rattle.zp_whole.proofs.Kept.{foreign-whole, lapse-whole}
 use Rattle.zp_whole.proofs.Lives.{answer-acts, cut-acts, end-acts, entry-acts, lag-acts, refuse-acts, restart-accounted}
 use Rattle.zp_whole.proofs.Rising.{Grown, delivers-grown, does-grown, enters-grown, exec-grown, grown-same, grown-then}
 use Rattle.zp_whole.proofs.Within.{within-silent}
 use Rattle.zp_whole.specs.Accounting.{IsAccounted, IsWithinCounts, OffersSession}
-use Rattle.zp_whole.specs.Giving.{IsServedRun}
 use Rattle.zp_whole.specs.Knowing.{Known}
 use Rattle.zt_text.specs.declared.script.Happening.TheVariants as line
 use Rattle.zt_text.specs.declared.script.Happening.{Happening}
@@ -206,11 +204,3 @@ runs-accounted w w' (h ∷ hs) ticks offers within (mid, more, one, e, rest) k =
 
 pub every-run-accounted : (hs : List Happening) (ticks : List Tick) (w : World) → All OffersSession hs → IsWithinCounts w → Runs hs ticks w → IsAccounted w
 every-run-accounted hs ticks w offers within (first, begins, runs) = runs-accounted first w hs ticks offers within runs (first-accounted first begins)
-
-accounted-served : (w : World) → IsAccounted w → IsServedRun w.lines
-accounted-served w k =
-    let h = whole-gives w k.whole in
-    record { history = h; served = λ c. record { within = k.within c; walks = λ a e. h.walks c a.0 a.1 e } }
-
-pub every-run-served : (hs : List Happening) (ticks : List Tick) (w : World) → All OffersSession hs → IsWithinCounts w → Runs hs ticks w → IsServedRun w.lines
-every-run-served hs ticks w offers within runs = accounted-served w (every-run-accounted hs ticks w offers within runs)

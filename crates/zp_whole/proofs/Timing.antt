@@ -1,5 +1,4 @@
 -- The moment of each update is the script's clock at a line between that of its frame and its own.
-use Rattle.zp_happen.specs.Runs.{tick_of}
 use Rattle.ev_types.specs.Store.{Store}
 use Rattle.ev_types.specs.declared.ask.Ask.TheVariants as ask
 use Rattle.ev_types.specs.declared.ask.Ask.{Ask}
@@ -23,17 +22,19 @@ use Rattle.zk_transcript.specs.declared.transcript.UpdateKind.{UpdateKind}
 use Rattle.zk_transcript.specs.declared.transcript.UpdateRec.{UpdateRec}
 use Rattle.zn_layout.specs.Begin.{begin_lines}
 use Rattle.zp_happen.specs.Happens.{Happens, max_settling}
-use Rattle.zp_happen.specs.Runs.{IsFirst, Runs, RunsFrom}
+use Rattle.zp_happen.specs.Runs.{IsFirst, Runs, RunsFrom, tick_of}
 use Rattle.zp_happen.specs.Worlds.{World}
 use Rattle.zp_happen.specs.declared.flight.Asking.{Asking}
 use Rattle.zp_whole.proofs.Arrivals.{nat-either}
 use Rattle.zp_whole.proofs.Effects.{clock-air}
 use Rattle.zp_whole.proofs.First.{no-air}
+use Rattle.zp_whole.proofs.Giving.{whole-gives}
 use Rattle.zp_whole.proofs.Looking.{get-last}
-use Rattle.zp_whole.proofs.Running.{first-accounted, happens-accounted, runs-grown, within-before}
+use Rattle.zp_whole.proofs.Running.{every-run-accounted, first-accounted, happens-accounted, runs-grown, within-before}
 use Rattle.zp_whole.proofs.Since.{IsKnownIn, IsOfNow, Since, WasAsked, does-since, settles-since}
 use Rattle.zp_whole.specs.Accounting.{IsAccounted, IsWithinCounts, OffersSession}
 use Rattle.zp_whole.specs.Bounds.{IsBoundAs}
+use Rattle.zp_whole.specs.Giving.{IsServedRun}
 use Rattle.zp_whole.specs.Holding.{Source, air}
 use Rattle.zt_text.specs.declared.script.Happening.TheVariants as line
 use Rattle.zt_text.specs.declared.script.Happening.{Happening}
@@ -170,8 +171,8 @@ since-timed ticks w w' k timed s = timed-then ticks w w' k timed s.more s.lines 
 
 tick-timed : (ticks : List Tick) (w w' : World) (n : ℕ) → IsAccounted w → IsTimed ticks w → w' ≡ record w { clock = n } → IsTimed (ticks ++ tick_of w' ∷ []) w'
 tick-timed ticks w w' n k timed is = subst (λ v. IsTimed (ticks ++ tick_of v ∷ []) v) (sym is) (
-  timed-then ticks w (record w { clock = n }) k timed [] (sym (append-nil w.lines)) (λ o x e. inl (record { source = o; what = x; was = clock-air w n o x e; same = refl })) (λ j u e. absurd (none_some e))
-)
+    timed-then ticks w (record w { clock = n }) k timed [] (sym (append-nil w.lines)) (λ o x e. inl (record { source = o; what = x; was = clock-air w n o x e; same = refl })) (λ j u e. absurd (none_some e))
+    )
 
 happens-timed : (ticks : List Tick) (w w' : World) (h : Happening) → IsAccounted w → IsTimed ticks w → Happens w h w' → IsTimed (ticks ++ tick_of w' ∷ []) w'
 happens-timed ticks w w' (line.Settle c) k timed p = since-timed ticks w w' k timed (settles-since (max_settling c w) c w w' p.effect)
@@ -213,5 +214,11 @@ runs-timed done ticks w w' (h ∷ hs) offers within (mid, more, one, e, rest) k 
     (subst (λ l. IsTimed l w') (append_assoc done (tick_of mid ∷ []) more)
     (runs-timed (done ++ tick_of mid ∷ []) more mid w' hs (All-tail OffersSession h hs offers) within rest k1 (happens-timed done w mid h k timed one)))
 
-pub every-run-punctual : (hs : List Happening) (ticks : List Tick) (w : World) → All OffersSession hs → IsWithinCounts w → Runs hs ticks w → IsPunctual ticks w.lines
+every-run-punctual : (hs : List Happening) (ticks : List Tick) (w : World) → All OffersSession hs → IsWithinCounts w → Runs hs ticks w → IsPunctual ticks w.lines
 every-run-punctual hs ticks w offers within (first, begins, runs) = (runs-timed [] ticks first w hs offers within runs (first-accounted first begins) (first-timed first begins)).punctual
+
+pub every-run-served : (hs : List Happening) (ticks : List Tick) (w : World) → All OffersSession hs → IsWithinCounts w → Runs hs ticks w → IsServedRun ticks w.lines
+every-run-served hs ticks w offers within runs =
+    let k = every-run-accounted hs ticks w offers within runs in
+    let h = whole-gives w k.whole in
+    record { history = h; punctual = every-run-punctual hs ticks w offers within runs; served = λ c. record { within = k.within c; walks = λ a e. h.walks c a.0 a.1 e } }

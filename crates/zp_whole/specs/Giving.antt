@@ -1,7 +1,7 @@
 -- What a whole world gives: its updates are one history of the service, and what each connection was sent is a walk of it.
 use Rattle.std.specs.Prelude.{◌≡◌, ℕ, ◌+◌, true, List, Some}
 use Rattle.zk_transcript.specs.Conversations.{IsServed, IsShownFresh, later_packets}
-use Rattle.zk_transcript.specs.Legal.{Attachment, attach_of, is_legal, is_ordered}
+use Rattle.zk_transcript.specs.Legal.{Attachment, IsPunctual, Tick, attach_of, is_legal, is_ordered}
 use Rattle.zk_transcript.specs.Walks.{IsWalk}
 use Rattle.zk_transcript.specs.declared.transcript.TranscriptLine.{TranscriptLine}
 
@@ -14,8 +14,11 @@ pub record IsOneHistory (lines : List TranscriptLine) : Type 0 where
   -- behind the welcome: some choices, fresh and in turn, give the packets, each not before its due place
   pub walks : (c k : ℕ) (a : Attachment) → attach_of c lines ≡ Some (k, a) → IsWalk lines c a.session a.zxid (k + 1) (later_packets c lines)
 
--- What every run of a script gives: one history, and each connection is served, whatever became of it. That is, it was sent first the
--- answer to its connect, behind a welcome a walk from its attachment on, and nothing behind its close.
-pub record IsServedRun (lines : List TranscriptLine) : Type 0 where
+-- What every run of a script gives, where its lines left these clocks: one history, at moments of the script, and each connection is
+-- served, whatever became of it. That is, it was sent first the answer to its connect, behind a welcome a walk from its attachment
+-- on, and nothing behind its close.
+pub record IsServedRun (ticks : List Tick) (lines : List TranscriptLine) : Type 0 where
   pub history : IsOneHistory lines
+  -- the moment of an update is the clock's between its frame and itself
+  pub punctual : IsPunctual ticks lines
   pub served : (c : ℕ) → IsServed lines c

@@ -62,4 +62,4 @@ KeepsAccounts = (w w' : World) (h : Happening) → OffersSession h → IsWithinC
 
 -- what every run of a script gives
 abbrev pub EveryRunGives : Type 0
-EveryRunGives = (hs : List Happening) (ticks : List Tick) (w : World) → All OffersSession hs → IsWithinCounts w → Runs hs ticks w → IsServedRun w.lines
+EveryRunGives = (hs : List Happening) (ticks : List Tick) (w : World) → All OffersSession hs → IsWithinCounts w → Runs hs ticks w → IsServedRun ticks w.lines

@@ -70,8 +70,9 @@ pub fn every_line_is_accounted_for()
 {}
 
 /// Every run of a script, whichever connections, frames, lapses, cuts, restarts and orders of delivery it has, is one history of
-/// the service. Each connection was sent the answer to its connect first, then, behind a welcome, a walk of that history that is
-/// fresh and in turn, and nothing behind its close.
+/// the service, in which the moment of an update is the script's clock between its frame and itself. Each connection was sent
+/// the answer to its connect first, then, behind a welcome, a walk of that history that is fresh and in turn, and nothing behind
+/// its close.
 pub fn every_run_is_one_history()
     ensures { EveryRunGives }
 {}

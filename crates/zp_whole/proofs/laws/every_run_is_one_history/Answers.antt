@@ -1,4 +1,4 @@
-use Rattle.zp_whole.proofs.Running.{every-run-served}
+use Rattle.zp_whole.proofs.Timing.{every-run-served}
 use Rattle.zp_whole.proofs.laws.every_run_is_one_history.Goals as goal
 
 pub returns : goal.returns
