@@ -1,19 +1,16 @@
 -- A plan is made at the moment of the step that asks its transaction.
 use Rattle.zp_step.specs.Looking.{asks_for}
-use Rattle.std.proofs.Common.{◌≡◌, ℕ, List, [], ◌∷◌, ◌++◌, take, refl, sym, ap, ◌∙◌, subst, Bool, true, false, ℤ, pos, inl, inr, append-nil}
+use Rattle.std.proofs.Common.{◌≡◌, ℕ, List, [], ◌++◌, take, refl, sym, ap, ◌∙◌, subst, Bool, true, false, ℤ, pos, inl, inr, append-nil}
 use Rattle.std.specs.Prelude.{Option, Some, None, ◌⊎◌, if◌then◌else◌, MatchBool}
 use Rattle.std.specs.Arc.{arc_value}
 use Rattle.std.specs.Ordering.{int_eq}
 use Rattle.ev_types.specs.declared.answer.ActAns.{ActAns}
 use Rattle.ev_types.specs.declared.answer.Answer.{Answer}
 use Rattle.ev_types.specs.declared.answer.Kv.{Kv}
-use Rattle.ev_types.specs.declared.ask.Ask.{Ask}
 use Rattle.zk_jute.specs.Connects.{read_connect}
-use Rattle.zk_jute.specs.Packets.{reply_packet}
 use Rattle.zk_jute.specs.Requests.{Frame, NoHeader, Unreadable, Unknown, Asks, read_request}
 use Rattle.zk_model.specs.Watches.{fire_all, no_watches}
 use Rattle.zk_model.specs.declared.connect.ConnectRequest.{ConnectRequest}
-use Rattle.zk_model.specs.declared.reply.Notice.{Notice}
 use Rattle.zk_model.specs.declared.request.Request.{Request}
 use Rattle.zk_transcript.specs.Answers.{Told, plain_reply, xid_of}
 use Rattle.zk_transcript.specs.Walks.{has_header, is_auth_refusal}
@@ -30,29 +27,25 @@ use Rattle.zn_view.specs.declared.plan.Plan.{Plan}
 use Rattle.zn_view.specs.declared.want.Want.{Want}
 use Rattle.zs_session.specs.Alive.{is_alive_due}
 use Rattle.zs_session.specs.Answering.{viewed}
-use Rattle.zs_session.specs.Connecting.{asked_by as connect_asked, asked_in}
 use Rattle.zs_session.specs.Sessions.{attach_wants, life_key}
 use Rattle.zs_session.specs.declared.connect.Connect.{Connect}
 use Rattle.zs_session.specs.declared.connect.ConnectStep.{ConnectStep}
 use Rattle.zs_session.specs.declared.connect.ConnectStep.TheVariants as steps
-use Rattle.zs_session.specs.declared.connect.Fresh.{Fresh}
 use Rattle.zp_step.specs.Connects.{Connects, Opens, begun, connected}
 use Rattle.zp_step.specs.Entries.{entered, then_reply}
-use Rattle.zp_step.specs.Keepalives.{Checked, KeptAlive, Looked, StillMine, TakesUp, checks, keeps_alive}
+use Rattle.zp_step.specs.Keepalives.{Looked, StillMine, TakesUp, checks, keeps_alive}
 use Rattle.zp_step.specs.Looking.{IfRecords, Looks, change_by, decided, expired, max_ranges, moved, pending}
-use Rattle.zp_step.specs.Plans.{Committed, ReadOn, finishes}
-use Rattle.zp_step.specs.Replies.{Is, close_behind, closed_by, is_due, replied, send_notices, stage_behind, waits}
-use Rattle.zp_step.specs.Stages.{Core, Pending, Stage, Unconnected, Connecting, Ready, KeepingAlive, Checking, Reading, Committing, Waiting, Shut, asked_of, is_shut, seen_by}
+use Rattle.zp_step.specs.Plans.{Committed, finishes}
+use Rattle.zp_step.specs.Replies.{Is, closed_by, is_due, replied, stage_behind, waits}
+use Rattle.zp_step.specs.Stages.{Core, Pending, Stage, Unconnected, Connecting, Ready, KeepingAlive, Checking, Reading, Committing, Waiting, Shut, is_shut}
 use Rattle.zp_step.specs.Steps.{Answers, Comes, Goes, Handles, Steps, StepsOpen, counted, queued, rests, takes}
 use Rattle.zp_step.specs.Taking.{Takes, TakesReadable, end_of_plain, plainly}
 use Rattle.zp_step.specs.declared.action.Action.{Action}
-use Rattle.zp_step.specs.declared.action.Action.TheVariants as action
 use Rattle.zp_step.specs.declared.input.Input.{Input}
 use Rattle.zp_step.specs.declared.input.Input.TheVariants as input
 use Rattle.zp_step.proofs.Shutting.{steps-open}
-use Rattle.zp_laws.specs.Ending.{EndsWell, StaysOut, asked_by, closes, ends_well, takes_out}
+use Rattle.zp_laws.specs.Ending.{asked_by}
 use Rattle.zp_laws.proofs.Cases.{either, of_alive, of_txn}
-use Rattle.zp_laws.proofs.ConnectAsks.{connect-asks}
 use Rattle.zp_laws.proofs.Ending.{asks-nothing, notices-only}
 use Rattle.zp_laws.specs.Planning.{IsPlannedAt}
 

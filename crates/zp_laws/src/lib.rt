@@ -28,6 +28,6 @@
 mod laws;
 
 pub use laws::{
-    connects_are_answered, honest_values_are_records, plans_are_bound, plans_are_made_now, sends_are_walks,
-    standing_lasts, steps_count, steps_end_well,
+    connects_are_answered, honest_values_are_records, plans_are_bound, plans_are_made_now,
+    sends_are_walks, standing_lasts, steps_count, steps_end_well,
 };

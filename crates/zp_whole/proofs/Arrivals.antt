@@ -16,7 +16,6 @@ use Rattle.zk_transcript.specs.declared.transcript.TranscriptLine.{TranscriptLin
 use Rattle.zp_happen.specs.Arriving.{Arrives, EndsBadly, FramesArrive, frame_lines, shown_frame}
 use Rattle.zp_happen.specs.Handing.{Handed}
 use Rattle.zp_happen.specs.Worlds.{Actor, Closed, Conn, Connection, Reaper, World, conn_at, is_open_conn, with_conn, zxid_at}
-use Rattle.zp_happen.specs.declared.flight.Flight.{Flight}
 use Rattle.zp_laws.proofs.Counting.{counted-small}
 use Rattle.zp_step.specs.Stages.{Core, counted_up, max_count}
 use Rattle.zp_step.specs.declared.input.Input.TheVariants as input
@@ -72,8 +71,8 @@ acts-shown w w' c x frame there small a = record {
   within = λ q. a.within (within-frame w.lines c x.frames (zxid_at w.store) frame q);
 }
 
-core-of : (w : World) (c : ℕ) (x : Conn) (core : Core) (f : Option Flight) → Known w → conn_at c w ≡ Some x → x.actor ≡ Connection core → HasFrames w.lines c x.frames core × IsInStage w.store w.lines c core x.flight core.stage
-core-of w c x core f k there actor = subst (IsKnownAs w.store w.lines c x) actor (k.used c x there)
+core-of : (w : World) (c : ℕ) (x : Conn) (core : Core) → Known w → conn_at c w ≡ Some x → x.actor ≡ Connection core → HasFrames w.lines c x.frames core × IsInStage w.store w.lines c core x.flight core.stage
+core-of w c x core k there actor = subst (IsKnownAs w.store w.lines c x) actor (k.used c x there)
 
 module _ (w mid : World) (c : ℕ) (x : Conn) (frame : List ℕ) (more : List (List ℕ)) (k : IsAccounted w) (there : conn_at c w ≡ Some x) (small : All (λ f. length f ≤ max_frame) (frame ∷ more)) (count : x.frames < max_count)
     (hd : Handed c (frame_lines c (counted_up (x.frames + 1)) (zxid_at w.store) more) (shown_frame c w x frame) (input.Frame frame) mid) where
@@ -93,7 +92,7 @@ module _ (w mid : World) (c : ℕ) (x : Conn) (frame : List ℕ) (more : List (L
   actor = ap (λ (v : Conn). v.actor) is-conn ∙ hd.serving
 
   before : HasFrames w.lines c x.frames hd.core × IsInStage w.store w.lines c hd.core x.flight hd.core.stage
-  before = core-of w c x hd.core x.flight k.known there (ap (λ (v : Conn). v.actor) is-conn ∙ hd.serving)
+  before = core-of w c x hd.core k.known there (ap (λ (v : Conn). v.actor) is-conn ∙ hd.serving)
 
   whole1 : Whole (shown_frame c w x frame)
   whole1 = shown-whole w c x frame there (All-head (λ f. length f ≤ max_frame) frame more small) k.whole

@@ -53,7 +53,6 @@ use Rattle.zp_whole.proofs.Transactions.{txn-answered, txn-reads}
 use Rattle.zp_whole.specs.Bounds.{IsBound, IsBoundAs, IsBoundAsk, IsUnattached}
 use Rattle.zp_whole.specs.Connecting.{HasOwnLine, IsConnectAnswer, IsConnectOut, IsConnecting, IsOwnSession, IsSeenLife, IsUntouched, RestsOn}
 use Rattle.zp_whole.specs.Connections.{HasSmallFrames}
-use Rattle.zp_whole.specs.Holding.{requested_by}
 use Rattle.zp_whole.specs.Serving.{Serves, next_revision, only_reads, update_lines}
 use Rattle.zs_session.proofs.Attachments.{session-attached}
 use Rattle.zs_session.proofs.Welcomes.{number-welcomed}
@@ -141,16 +140,6 @@ module _ (s : Store) (lines : List TranscriptLine) (c : ℕ) (x : Connect) (k : 
   connect-bound Over q r e = absurd r
 
 -- ---- it is carried out
-
-no-request : (c : ℕ) (x : Connect) (p : Phase) (kind : UpdateKind) (d i : ℕ) → kind_of_connect c x p ≡ Some kind → requested_by kind ≡ Some (record { connection = d; index = i }) → ⊥
-no-request c x Creating kind d i e r = none_some (ap requested_by (some_is e) ∙ r)
-no-request c x (Attaching seen life) kind d i e r = none_some (ap requested_by (some_is e) ∙ r)
-no-request c x Unasked kind d i e r = none_some e
-no-request c x Looking kind d i e r = none_some e
-no-request c x Granting kind d i e r = none_some e
-no-request c x (Keeping seen life) kind d i e r = none_some e
-no-request c x LookingAgain kind d i e r = none_some e
-no-request c x Over kind d i e r = none_some e
 
 -- the line that attaches a session
 pub record IsAttachLine (c : ℕ) (z id : ℤ) (kind : UpdateKind) : Type 0 where

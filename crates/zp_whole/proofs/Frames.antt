@@ -113,9 +113,6 @@ pub record HasJustCome (w : World) (c : ℕ) (conn : Conn) (core : Core) (bytes 
   pub stage : IsInStage w.store w.lines c core conn.flight core.stage
 
 module _ (w w' : World) (c : ℕ) (behind : List TranscriptLine) (z : ℤ) (bytes : List ℕ) (hd : Handed c behind w (input.Frame bytes) w') (last : z ≡ (after w.lines).zxid) (shown : AreShown c z behind) (h : Whole w) (k : HasJustCome w c hd.conn hd.core bytes) where
-  open_now : is_shut hd.core.stage ≡ false
-  open_now = h.unshut c hd.conn hd.core hd.found hd.serving
-
   frames : is_shut hd.next.stage ≡ false → (more : List TranscriptLine) → AreAside more c → HasFrames (w.lines ++ more) c hd.conn.frames hd.next
   frames going more aside = counts-on w.lines more c hd.conn.frames hd.core hd.next (input.Frame bytes) w.clock hd.out (h.unshut c hd.conn hd.core hd.found hd.serving) hd.stepped k.numbered k.came k.most k.lined aside going
 
@@ -215,7 +212,7 @@ module _ (w w' : World) (c : ℕ) (behind : List TranscriptLine) (z : ℤ) (byte
       by-step : (r : ConnectRequest) → read_connect bytes ≡ Some r → (p : Phase) (step : ConnectStep) → ConnectWaits (begun r fresh) Looking p step → Is (connected (counted hd.core bytes) w.clock (in_phase (begun r fresh) p) step) s.mid s.first → Acts w w' c
       by-step r reads p (steps.Ask q) (f, g) i =
           let kept = kept_by w.clock hd.core.kept q in
-          let t = still (asking_core (counted hd.core bytes) kept (in_phase (begun r fresh) p) q) (action.Ask q ∷ []) i.0 i.1 (λ u. absurd (cc)) in
+          let t = still (asking_core (counted hd.core bytes) kept (in_phase (begun r fresh) p)) (action.Ask q ∷ []) i.0 i.1 (λ u. absurd (cc)) in
           asks-acts w w' c behind (input.Frame bytes) hd (begun r fresh) (counted hd.core bytes) h (at r reads) frames p kept q (ap (asked_in (begun r fresh)) f ∙ sym g) (subst (RestsOn w.store (after w.lines).zxid r) (sym f) tt) (mine.0).unattached t.0 t.1
       by-step r reads p (steps.Attached response who timeout number zxid) (f, g) i = absurd (none_some g)
       by-step r reads p (steps.Ahead client head) (f, g) i = absurd (none_some g)

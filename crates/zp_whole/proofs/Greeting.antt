@@ -87,12 +87,6 @@ asks-same x b LookingAgain = refl
 asks-same x b (Attaching seen life) = refl
 asks-same x b Over = refl
 
-connecting-unready : (core : Core) (x : Connect) → core.stage ≡ Connecting x → core.stage ≡ Ready → ⊥
-connecting-unready core x e r = let f : Connecting x ≡ Ready = sym e ∙ r in absurd (cc)
-
-shut-unready : (core : Core) → core.stage ≡ Shut → core.stage ≡ Ready → ⊥
-shut-unready core e r = let f : Shut ≡ Ready = sym e ∙ r in absurd (cc)
-
 -- the answer is the welcome to this session
 welcome-is : (r : ConnectRequest) (id timeout : ℤ) (passwd : List ℕ) (s : Session) → s.timeout ≡ timeout → s.passwd ≡ passwd → connect_packet (record { timeout = timeout; session = id; passwd = passwd; read_only = answered_read_only r }) ≡ connect_packet (welcome r id s)
 welcome-is r id timeout passwd s t p =
@@ -103,8 +97,8 @@ welcome-is r id timeout passwd s t p =
 abbrev pub in_phase : Connect → Phase → Connect
 in_phase x p = record { request = x.request; fresh = x.fresh; phase = p }
 
-abbrev pub asking_core : Core → ℕ → Connect → Ask → Core
-asking_core core kept x q = record core { stage = Connecting x; kept = kept }
+abbrev pub asking_core : Core → ℕ → Connect → Core
+asking_core core kept x = record core { stage = Connecting x; kept = kept }
 
 pub first-packet : (c n : ℕ) (bytes : List ℕ) (ps : List (List ℕ)) → packets_from c n (said c (bytes ∷ ps)) ≡ (n, bytes) ∷ packets_from c (n + 1) (said c ps)
 first-packet c n bytes ps = ap (λ b. if b then (n, bytes) ∷ packets_from c (n + 1) (said c ps) else packets_from c (n + 1) (said c ps)) (same-nat c)
@@ -123,28 +117,28 @@ pub record IsConnectAt (lines : List TranscriptLine) (c : ℕ) (core : Core) (x 
 
 module _ (w w' : World) (c : ℕ) (behind : List TranscriptLine) (i : Input) (hd : Handed c behind w i w') (x : Connect) (core : Core) (h : Whole w) (k : IsConnectAt w.lines c core x)
     (frames : is_shut hd.next.stage ≡ false → (more : List TranscriptLine) → AreAside more c → HasFrames (w.lines ++ more) c hd.conn.frames hd.next) where
-  pub asks-acts : (p : Phase) (kept : ℕ) (q : Ask) → asked_in x p ≡ Some q → RestsOn w.store (after w.lines).zxid x.request p → attach_of c w.lines ≡ None → hd.next ≡ asking_core core kept (in_phase x p) q → hd.out ≡ action.Ask q ∷ [] → Acts w w' c
+  pub asks-acts : (p : Phase) (kept : ℕ) (q : Ask) → asked_in x p ≡ Some q → RestsOn w.store (after w.lines).zxid x.request p → attach_of c w.lines ≡ None → hd.next ≡ asking_core core kept (in_phase x p) → hd.out ≡ action.Ask q ∷ [] → Acts w w' c
   asks-acts p kept q asked rests none next out = leaves-acts w w' c hd.conn (Connection d) o hd.found is refl (subst Whole (sym plain) whole) known (within-same w.lines c)
     where
       d : Core
-      d = asking_core core kept (in_phase x p) q
+      d = asking_core core kept (in_phase x p)
 
       z : Asking
       z = record { ask = q; kind = kind_of_connect c (in_phase x p) p }
 
       v : Conn
-      v = record (hd.conn) { actor = Connection (asking_core core kept (in_phase x p) q); flight = Some (Out (record { ask = q; kind = kind_of_connect c (in_phase x p) p })) }
+      v = record (hd.conn) { actor = Connection (asking_core core kept (in_phase x p)); flight = Some (Out (record { ask = q; kind = kind_of_connect c (in_phase x p) p })) }
 
       o : StepOutcome
       o = record { flight = Some (Out (record { ask = q; kind = kind_of_connect c (in_phase x p) p })); lines = []; strays = [] }
 
-      is : w' ≡ leaves c w hd.conn (Connection (asking_core core kept (in_phase x p) q)) (record { flight = Some (Out (record { ask = q; kind = kind_of_connect c (in_phase x p) p })); lines = []; strays = [] })
+      is : w' ≡ leaves c w hd.conn (Connection (asking_core core kept (in_phase x p))) (record { flight = Some (Out (record { ask = q; kind = kind_of_connect c (in_phase x p) p })); lines = []; strays = [] })
       is = hd.result ∙ ap (λ l. leaves c w hd.conn (behind_step hd.next) (acts_all c (kind_asked c (Connection hd.next)) behind hd.conn.flight l)) out
           ∙ ap (λ (e : Core). leaves c w hd.conn (behind_step e) (acts_all c (kind_asked c (Connection e)) behind hd.conn.flight (action.Ask q ∷ []))) next
 
-      plain : w' ≡ with_conn w c (record (hd.conn) { actor = Connection (asking_core core kept (in_phase x p) q); flight = Some (Out (record { ask = q; kind = kind_of_connect c (in_phase x p) p })) })
-      plain = is ∙ ap (λ l. record (with_conn w c (record (hd.conn) { actor = Connection (asking_core core kept (in_phase x p) q); flight = Some (Out (record { ask = q; kind = kind_of_connect c (in_phase x p) p })) })) { lines = l; strays = w.strays ++ [] }) (append-nil w.lines)
-          ∙ ap (λ l. record (with_conn w c (record (hd.conn) { actor = Connection (asking_core core kept (in_phase x p) q); flight = Some (Out (record { ask = q; kind = kind_of_connect c (in_phase x p) p })) })) { strays = l }) (append-nil w.strays)
+      plain : w' ≡ with_conn w c (record (hd.conn) { actor = Connection (asking_core core kept (in_phase x p)); flight = Some (Out (record { ask = q; kind = kind_of_connect c (in_phase x p) p })) })
+      plain = is ∙ ap (λ l. record (with_conn w c (record (hd.conn) { actor = Connection (asking_core core kept (in_phase x p)); flight = Some (Out (record { ask = q; kind = kind_of_connect c (in_phase x p) p })) })) { lines = l; strays = w.strays ++ [] }) (append-nil w.lines)
+          ∙ ap (λ l. record (with_conn w c (record (hd.conn) { actor = Connection (asking_core core kept (in_phase x p)); flight = Some (Out (record { ask = q; kind = kind_of_connect c (in_phase x p) p })) })) { strays = l }) (append-nil w.strays)
 
       awaiting : IsAwaiting w.store w.lines c (in_phase x p)
       awaiting =
@@ -164,21 +158,21 @@ module _ (w w' : World) (c : ℕ) (behind : List TranscriptLine) (i : Input) (hd
       attaches-c kind e LookingAgain f g = absurd (none_some (ap (option_and_then made_for) (sym f) ∙ g))
       attaches-c kind e Over f g = absurd (none_some (ap (option_and_then made_for) (sym f) ∙ g))
 
-      whole : Whole (with_conn w c (record (hd.conn) { actor = Connection (asking_core core kept (in_phase x p) q); flight = Some (Out (record { ask = q; kind = kind_of_connect c (in_phase x p) p })) }))
-      whole = sets-whole w c hd.conn (record (hd.conn) { actor = Connection (asking_core core kept (in_phase x p) q); flight = Some (Out (record { ask = q; kind = kind_of_connect c (in_phase x p) p })) }) (record {
+      whole : Whole (with_conn w c (record (hd.conn) { actor = Connection (asking_core core kept (in_phase x p)); flight = Some (Out (record { ask = q; kind = kind_of_connect c (in_phase x p) p })) }))
+      whole = sets-whole w c hd.conn (record (hd.conn) { actor = Connection (asking_core core kept (in_phase x p)); flight = Some (Out (record { ask = q; kind = kind_of_connect c (in_phase x p) p })) }) (record {
         but = but-of w c h;
         there = hd.found;
         opens = ap is_closed hd.serving;
-        unshut = λ e f. ap (λ (u : Core). is_shut u.stage) (sym (core-same (asking_core core kept (in_phase x p) q) e f));
-        serves = λ e f s. absurd (true-false (sym (ap (λ (u : Core). is_served u.stage) (core-same (asking_core core kept (in_phase x p) q) e f) ∙ s)));
+        unshut = λ e f. ap (λ (u : Core). is_shut u.stage) (sym (core-same (asking_core core kept (in_phase x p)) e f));
+        serves = λ e f s. absurd (true-false (sym (ap (λ (u : Core). is_served u.stage) (core-same (asking_core core kept (in_phase x p)) e f) ∙ s)));
         bound = λ y e. subst (IsBoundAsk w.store w.lines) (out-same (record { ask = q; kind = kind_of_connect c (in_phase x p) p }) y e) (connect-bound w.store w.lines c (in_phase x p) awaiting p q rests (asks-same x p p ∙ asked));
         own = λ y e f g. attaches-c y.kind e p (ap (λ (u : Asking). u.kind) (sym (out-same (record { ask = q; kind = kind_of_connect c (in_phase x p) p }) y f))) g;
         heard = λ m b e. absurd (none_some (sym none ∙ e));
       })
 
-      known : IsKnownAs w.store (w.lines ++ []) c (record (hd.conn) { actor = Connection (asking_core core kept (in_phase x p) q); flight = Some (Out (record { ask = q; kind = kind_of_connect c (in_phase x p) p })) }) (Connection (asking_core core kept (in_phase x p) q))
-      known = subst (λ l. IsKnownAs w.store l c (record (hd.conn) { actor = Connection (asking_core core kept (in_phase x p) q); flight = Some (Out (record { ask = q; kind = kind_of_connect c (in_phase x p) p })) }) (Connection (asking_core core kept (in_phase x p) q))) (sym (append-nil w.lines)) (
-        subst (λ l. HasFrames l c hd.conn.frames (asking_core core kept (in_phase x p) q)) (append-nil w.lines) (subst (HasFrames (w.lines ++ []) c hd.conn.frames) next (frames (ap (λ (e : Core). is_shut e.stage) next) [] (record { opens = refl; closes = λ j. refl; frames = λ i j. refl }))),
+      known : IsKnownAs w.store (w.lines ++ []) c (record (hd.conn) { actor = Connection (asking_core core kept (in_phase x p)); flight = Some (Out (record { ask = q; kind = kind_of_connect c (in_phase x p) p })) }) (Connection (asking_core core kept (in_phase x p)))
+      known = subst (λ l. IsKnownAs w.store l c (record (hd.conn) { actor = Connection (asking_core core kept (in_phase x p)); flight = Some (Out (record { ask = q; kind = kind_of_connect c (in_phase x p) p })) }) (Connection (asking_core core kept (in_phase x p)))) (sym (append-nil w.lines)) (
+        subst (λ l. HasFrames l c hd.conn.frames (asking_core core kept (in_phase x p))) (append-nil w.lines) (subst (HasFrames (w.lines ++ []) c hd.conn.frames) next (frames (ap (λ (e : Core). is_shut e.stage) next) [] (record { opens = refl; closes = λ j. refl; frames = λ i j. refl }))),
         record {
           untouched = k.untouched;
           next = k.next;
@@ -336,7 +330,7 @@ module _ (w w' : World) (c : ℕ) (a : Answer) (hd : Handed c [] w (input.Answer
   by-step : (p : Phase) (step : ConnectStep) → LeadsTo w.store w.lines c (state_at w.lines flown.looked) x p step → Is (connected hd.core w.clock (in_phase x p) step) s.mid s.first → Acts w w' c
   by-step p _ (goes_on q asked rests none) i =
       let kept = kept_by w.clock hd.core.kept q in
-      let t = still (asking_core hd.core kept (in_phase x p) q) (action.Ask q ∷ []) i.0 i.1 (λ e. absurd (cc)) in
+      let t = still (asking_core hd.core kept (in_phase x p)) (action.Ask q ∷ []) i.0 i.1 (λ e. absurd (cc)) in
       asks-acts w w' c [] (input.Answer a) hd x hd.core h (record { untouched = k.untouched; next = k.next; waiting = k.waiting; place = k.place; bytes = k.bytes; framed = k.framed; reads = k.reads }) frames p kept q asked (rests-push w.store w.store (state_at w.lines flown.looked).zxid (after w.lines).zxid x.request p (precedes-self w.store) flown.risen rests) none t.0 t.1
   by-step p _ (ahead client head) i = shut-by (cause.ZxidAhead client head) i
   by-step p _ (taken r) i = shut-by (cause.Taken r) i

@@ -99,9 +99,6 @@ failure-acts w w' c x Closed e there f h = absurd f
 pub cut-acts : (w w' : World) (c : ℕ) → FailureComes c w w' → Whole w → Acts w w' c
 cut-acts w w' c (x, there, f) h = failure-acts w w' c x x.actor refl there f (but-of w c h)
 
-landed-at : (w : World) (c : ℕ) (x : Conn) (v : World) → conn_at c w ≡ Some x → v ≡ landed c w → v ≡ with_conn w c (record x { flight = None })
-landed-at w c x v there e = e ∙ landed-is w c x there
-
 was-there : (w : World) (c : ℕ) (y : Conn) → conn_at c (landed c w) ≡ Some y → (x : Conn) × (conn_at c w ≡ Some x)
 was-there w c y e = go (conn_at c w) refl
   where

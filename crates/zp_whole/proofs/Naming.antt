@@ -5,7 +5,7 @@ use Rattle.std.specs.Prelude.{None, Option, Some, if◌then◌else◌, not, ◌&
 use Rattle.zk_transcript.specs.Conversations.{close_shown}
 use Rattle.zk_transcript.specs.History.{first_place, first_shown, frame_shown, open_shown, opening, when}
 use Rattle.zk_transcript.specs.Legal.{Attachment, attach_of, attach_shown, index_shown, is_below}
-use Rattle.zk_transcript.specs.Walks.{Walker, own_update, own_update_shown, packets, packets_from, placed_frame}
+use Rattle.zk_transcript.specs.Walks.{Walker, own_update, own_update_shown, packets, packets_from}
 use Rattle.zk_transcript.specs.declared.transcript.TranscriptLine.TheVariants.{Close, Frame as FrameLine, Lapse as LapseLine, Open, Send, Update}
 use Rattle.zk_transcript.specs.declared.transcript.TranscriptLine.{TranscriptLine}
 use Rattle.zk_transcript.specs.declared.transcript.UpdateRec.{UpdateRec}
@@ -23,10 +23,6 @@ use Rattle.zx_base.proofs.Options.{none_some, some_is}
 not-true : (b : Bool) → not b ≡ true → b ≡ false
 not-true true h = absurd (cc)
 not-true false h = refl
-
-true-not : (b : Bool) → b ≡ false → not b ≡ true
-true-not true h = absurd (cc)
-true-not false h = refl
 
 -- ---- one line
 
@@ -87,25 +83,11 @@ none-shown {A} show c (l ∷ ls) h f =
     let q = and_parts (not (names c l)) (is_unnamed c ls) f in
     ap (λ o. elim o as (λ (p : Option A). Option A) [ Some z ↦ Some z | None ↦ first_shown show ls ]) (h l (not-true (names c l) q.0)) ∙ none-shown show c ls h q.1
 
-shown-front : {A : Type 0} (show : TranscriptLine → Option A) (xs ys : List TranscriptLine) → first_shown show ys ≡ None → first_shown show (xs ++ ys) ≡ first_shown show xs
-shown-front show [] ys h = h
-shown-front {A} show (x ∷ xs) ys h = ap (λ o. elim (show x) [ Some y ↦ Some y | None ↦ o ]) (shown-front show xs ys h)
-
--- what a longer transcript shows of the connection
-pub frame-unnamed : (c i : ℕ) (lines more : List TranscriptLine) → is_unnamed c more ≡ true → placed_frame c i (lines ++ more) ≡ placed_frame c i lines
-frame-unnamed c i lines more h = first_place-front (frame_shown c i) 0 lines more (λ n. no-place (frame_shown c i) c n more (unnamed-frame c i) h)
-
-pub close-unnamed : (c : ℕ) (lines more : List TranscriptLine) → is_unnamed c more ≡ true → first_place (close_shown c) 0 (lines ++ more) ≡ first_place (close_shown c) 0 lines
-close-unnamed c lines more h = first_place-front (close_shown c) 0 lines more (λ n. no-place (close_shown c) c n more (unnamed-close c) h)
-
 pub attach-unnamed : (c : ℕ) (lines more : List TranscriptLine) → is_unnamed c more ≡ true → attach_of c (lines ++ more) ≡ attach_of c lines
 attach-unnamed c lines more h = first_place-front (attach_shown c) 0 lines more (λ n. no-place (attach_shown c) c n more (unnamed-attach c) h)
 
 pub own-unnamed : (c i : ℕ) (lines more : List TranscriptLine) → is_unnamed c more ≡ true → own_update c i (lines ++ more) ≡ own_update c i lines
 own-unnamed c i lines more h = first_place-front (own_update_shown c i) 0 lines more (λ n. no-place (own_update_shown c i) c n more (unnamed-own c i) h)
-
-pub open-unnamed : (c : ℕ) (lines more : List TranscriptLine) → is_unnamed c more ≡ true → opening c (lines ++ more) ≡ opening c lines
-open-unnamed c lines more h = shown-front (open_shown c) lines more (none-shown (open_shown c) c more (unnamed-open c) h)
 
 no-packets : (c k : ℕ) (ls : List TranscriptLine) → is_unnamed c ls ≡ true → packets_from c k ls ≡ []
 no-packets c k [] h = refl

@@ -92,10 +92,6 @@ answered-push lines more c [] o below h = h
 answered-push lines more c (p ∷ ps) None below h = (refused-push lines more c p (All-head (IsBelow (length lines)) p ps below) h.0, h.1)
 answered-push lines more c (p ∷ ps) (Some a) below h = welcomed-push lines more c a.0 a.1.session p (All-head (IsBelow (length lines)) p ps below) h
 
--- behind the first packet more may come, where a session is attached
-answered-more : (lines : List TranscriptLine) (c : ℕ) (p : Due) (ps qs : List Due) (a : ℕ × Attachment) → IsConnectAnswered lines c (p ∷ ps) (Some a) → IsConnectAnswered lines c (p ∷ (ps ++ qs)) (Some a)
-answered-more lines c p ps qs a h = h
-
 -- ---- lines that are no packets of it, and neither open, attach nor close it
 
 unopened-before : (lines more : List TranscriptLine) (c : ℕ) → opening c (lines ++ more) ≡ None → opening c lines ≡ None
