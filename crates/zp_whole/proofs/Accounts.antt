@@ -1,13 +1,13 @@
 -- Each line of a script keeps a world of which all is accounted for.
 use Rattle.ev_types.specs.Denials.{carry}
 use Rattle.ev_types.specs.Lapses.{foreign, lapse}
-use Rattle.ev_types.specs.Store.{Store, last_revision, revision}
+use Rattle.ev_types.specs.Store.{Store, revision}
 use Rattle.ev_types.specs.declared.answer.Answer.{Answer}
 use Rattle.ev_types.specs.declared.ask.TxnReq.{TxnReq}
 use Rattle.std.proofs.Common.{Bool, List, [], ap, append-nil, arith, false, inl, inr, pos, refl, subst, sym, true, ℕ, ℤ, ◌++◌, ◌-◌, ◌∙◌, ◌∷◌, ◌≡◌, ◌≢◌}
 use Rattle.std.specs.FinMap.{get}
 use Rattle.std.specs.Ordering.{int_eq}
-use Rattle.std.specs.Prelude.{None, Option, Some, if◌then◌else◌, not, option_and_then, ◌<ℤ◌, ◌==◌, ◌⊎◌}
+use Rattle.std.specs.Prelude.{None, Option, Some, if◌then◌else◌, not, option_and_then, ◌==◌, ◌⊎◌}
 use Rattle.zk_transcript.proofs.Appending.{after-push}
 use Rattle.zk_transcript.proofs.Attachments.{attach_of-skip}
 use Rattle.zk_transcript.proofs.Lookups.{first_shown-new}
@@ -133,7 +133,7 @@ carried-within w src x u b k was h d = elim (air-outcome w src x u b (k.whole).h
           | inr silent ↦ within-silent (w.lines ++ line_of w.store kind ∷ []) d (same ∙ silent)
         ]
 
-module _ (w w' : World) (c : ℕ) (ex : Executes c w w') (room : revision w.store <ℤ last_revision) (k : IsAccounted w) where
+module _ (w w' : World) (c : ℕ) (ex : Executes c w w') (k : IsAccounted w) where
   x : Asking
   x = ex.asking
 
@@ -155,7 +155,7 @@ module _ (w w' : World) (c : ℕ) (ex : Executes c w w') (room : revision w.stor
   -- carried out at this store, with this answer
   carried-stage : (u : Store) (b : Answer) (core : Core) (st : Stage) → carry w.store (ex.asking).ask ≡ Some (u, b) → IsInStage w.store w.lines c core (ex.conn).flight st → IsInStage u (w.lines ++ update_lines w.store u (ex.asking).kind) c core (Some (Carried b)) st
   carried-stage u b core (Unconnected fresh) h (n, none) = absurd (none_some (sym none ∙ ex.out))
-  carried-stage u b core (Connecting y) h n = connect-carried w.store u w.lines c core y ex.asking b ((k.whole).holds).serves room h (subst (IsConnecting w.store w.lines c core y) ex.out n) ((k.whole).small c)
+  carried-stage u b core (Connecting y) h n = connect-carried w.store u w.lines c core y ex.asking b ((k.whole).holds).serves h (subst (IsConnecting w.store w.lines c core y) ex.out n) ((k.whole).small c)
   carried-stage u b core Ready h n = tt
   carried-stage u b core (KeepingAlive f) h n = tt
   carried-stage u b core (Checking f) h n = tt

@@ -1,6 +1,6 @@
 -- What a connection without a session asks is bound; and where it is carried out, the answer tells of the connection's own line.
 use Rattle.ev_types.specs.Denials.{carry}
-use Rattle.ev_types.specs.Store.{Store, last_revision, present, revision, succeeds}
+use Rattle.ev_types.specs.Store.{Store, present, revision, succeeds}
 use Rattle.ev_types.specs.declared.answer.ActAns.{ActAns}
 use Rattle.ev_types.specs.declared.answer.Answer.TheVariants as answer
 use Rattle.ev_types.specs.declared.answer.Answer.{Answer}
@@ -12,7 +12,7 @@ use Rattle.std.proofs.Math.Seq.{take-length}
 use Rattle.std.proofs.lemmas.Int.{ints}
 use Rattle.std.proofs.lemmas.List.{length-append}
 use Rattle.std.specs.FinMap.{get}
-use Rattle.std.specs.Prelude.{None, Some, option_and_then, option_map, ◌<ℤ◌, ◌≤ℤ◌}
+use Rattle.std.specs.Prelude.{None, Some, option_and_then, option_map, ◌≤ℤ◌}
 use Rattle.zk_jute.specs.Connects.{read_connect}
 use Rattle.zk_model.specs.Limits.{max_frame}
 use Rattle.zk_model.specs.declared.connect.ConnectRequest.{ConnectRequest}
@@ -31,6 +31,7 @@ use Rattle.zk_transcript.specs.declared.transcript.UpdateKind.TheVariants.{Attac
 use Rattle.zk_transcript.specs.declared.transcript.UpdateKind.{UpdateKind}
 use Rattle.zn_layout.specs.StandsFor.{StandsFor}
 use Rattle.zn_layout.specs.declared.record.LeaseRec.{LeaseRec}
+use Rattle.zn_view.specs.Asks.{ranges_of}
 use Rattle.zp_happen.specs.Kinds.{kind_of_connect}
 use Rattle.zp_happen.specs.declared.flight.Asking.{Asking}
 use Rattle.zp_happen.specs.declared.flight.Flight.TheVariants.{Carried, Denied, Out}
@@ -41,7 +42,7 @@ use Rattle.zp_step.specs.Stages.{Core}
 use Rattle.zp_whole.proofs.Asking.{ranges-read}
 use Rattle.zp_whole.proofs.Commits.{Committed, line_of, stands-now, zxid-next, zxid-within}
 use Rattle.zp_whole.proofs.Connects.{was-seen}
-use Rattle.zp_whole.proofs.Executing.{precedes-self, same-nat}
+use Rattle.zp_whole.proofs.Executing.{precedes-self, same-nat, update-room}
 use Rattle.zp_whole.proofs.Growing.{same-precedes, serves-same}
 use Rattle.zp_whole.proofs.Knowing.{rests-push, zxid-rises}
 use Rattle.zp_whole.proofs.Looking.{get-last}
@@ -152,7 +153,7 @@ new-attaches c z id = record { attaches = ap (λ b. when b (record { zxid = z; s
 anew-attaches : (c : ℕ) (z id : ℤ) → IsAttachLine c z id (Attach id c)
 anew-attaches c z id = record { attaches = ap (λ b. when b (record { zxid = z; session = id })) (same-nat c); no_index = refl }
 
-module _ (s u : Store) (lines : List TranscriptLine) (c : ℕ) (core : Core) (x : Connect) (a : Asking) (b : Answer) (w : Serves s lines) (room : revision s <ℤ last_revision) (h : carry s a.ask ≡ Some (u, b)) (k : IsConnecting s lines c core x (Some (Out a)))
+module _ (s u : Store) (lines : List TranscriptLine) (c : ℕ) (core : Core) (x : Connect) (a : Asking) (b : Answer) (w : Serves s lines) (h : carry s a.ask ≡ Some (u, b)) (k : IsConnecting s lines c core x (Some (Out a)))
     (small : HasSmallFrames lines c) where
   out : IsConnectOut s lines c x a
   out = k.flies
@@ -306,8 +307,9 @@ module _ (s u : Store) (lines : List TranscriptLine) (c : ℕ) (core : Core) (x 
       go : (p : Bool) → succeeds s (new_session_txn x.fresh (timeout_in x)) ≡ p → Carries_to (lines ++ update_lines s u a.kind)
       go false f = guards-fail (new_session_txn x.fresh (timeout_in x)) of_txn bound.1 f (λ r parts. subst (λ p. HasOwnLine lines c x p (answer.Txn r false parts)) (sym e) out.unattached)
       go true f =
-          let done = plan-commits s u lines (NewSession x.fresh.id c) (new_session_txn x.fresh (timeout_in x)) b w room (λ d i r. absurd (none_some r)) bound.0 f (ht (new_session_txn x.fresh (timeout_in x)) of_txn) in
           let ans = succeeded (new_session_txn x.fresh (timeout_in x)) of_txn f in
+          let room = update-room s u (new_session_guards x.fresh.id) (new_session_changes x.fresh (timeout_in x)) [] (ranges_of (pos 0) (session_wants x.fresh.id)) ans.0 (carried-so (new_session_txn x.fresh (timeout_in x)) of_txn ans.0 ans.1) in
+          let done = plan-commits s u lines (NewSession x.fresh.id c) (new_session_txn x.fresh (timeout_in x)) b w room (λ d i r. absurd (none_some r)) bound.0 f (ht (new_session_txn x.fresh (timeout_in x)) of_txn) in
           let number = number-welcomed (new_session_guards x.fresh.id) (new_session_changes x.fresh (timeout_in x)) (session_wants x.fresh.id) s u (revision u) ans.0 (after (lines ++ line_of s (NewSession x.fresh.id c) ∷ []))
           (carried-so (new_session_txn x.fresh (timeout_in x)) of_txn ans.0 ans.1) (stands-now u (lines ++ line_of s (NewSession x.fresh.id c) ∷ []) (done.0).serves) in
           let sess = new_session (opening c lines) (connect c lines) c (next_revision s) in
@@ -339,8 +341,9 @@ module _ (s u : Store) (lines : List TranscriptLine) (c : ℕ) (core : Core) (x 
       go : (p : Bool) → succeeds s (attach_txn x.request.session seen life) ≡ p → Carries_to (lines ++ update_lines s u a.kind)
       go false f = guards-fail (attach_txn x.request.session seen life) of_txn bound.1 f (λ r parts. subst (λ p. HasOwnLine lines c x p (answer.Txn r false parts)) (sym e) out.unattached)
       go true f =
-          let done = plan-commits s u lines (Attach x.request.session c) (attach_txn x.request.session seen life) b w room (λ d i r. absurd (none_some r)) bound.0 f (ht (attach_txn x.request.session seen life) of_txn) in
           let ans = succeeded (attach_txn x.request.session seen life) of_txn f in
+          let room = update-room s u (attach_guards x.request.session seen) (attach_changes x.request.session life) [] (ranges_of (pos 0) (attach_wants x.request.session)) ans.0 (carried-so (attach_txn x.request.session seen life) of_txn ans.0 ans.1) in
+          let done = plan-commits s u lines (Attach x.request.session c) (attach_txn x.request.session seen life) b w room (λ d i r. absurd (none_some r)) bound.0 f (ht (attach_txn x.request.session seen life) of_txn) in
           let number = number-welcomed (attach_guards x.request.session seen) (attach_changes x.request.session life) (attach_wants x.request.session) s u (revision u) ans.0 (after (lines ++ line_of s (Attach x.request.session c) ∷ []))
           (carried-so (attach_txn x.request.session seen life) of_txn ans.0 ans.1) (stands-now u (lines ++ line_of s (Attach x.request.session c) ∷ []) (done.0).serves) in
           let d = session-attached x.request.session seen life lines c (present s) (after lines) (next_revision s) (saw.0).session (saw.0).put (saw.0).within (stands-now s lines w) (was-seen s x.request.session seen life (saw.0).was) f (zxid-next s lines w) (next-room s room) in

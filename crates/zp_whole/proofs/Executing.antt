@@ -11,7 +11,10 @@ use Rattle.ev_types.specs.Store.{Store, last_revision, present, revision, succee
 use Rattle.ev_types.specs.declared.answer.ActAns.{ActAns}
 use Rattle.ev_types.specs.declared.answer.Answer.{Answer}
 use Rattle.ev_types.specs.declared.answer.Answer.TheVariants as answer
+use Rattle.ev_types.specs.declared.ask.Act.{Act}
 use Rattle.ev_types.specs.declared.ask.Ask.TheVariants as ask
+use Rattle.ev_types.specs.declared.ask.Guard.{Guard}
+use Rattle.zk_model.specs.declared.node.Trigger.{Trigger}
 use Rattle.zk_model.specs.declared.request.Request.{Request}
 use Rattle.zk_model.specs.declared.request.Request.TheVariants as req
 use Rattle.zk_transcript.proofs.Attachments.{attach_of-push}
@@ -24,6 +27,7 @@ use Rattle.zk_transcript.specs.declared.transcript.TranscriptLine.{TranscriptLin
 use Rattle.zk_transcript.specs.declared.transcript.TranscriptLine.TheVariants.{Update}
 use Rattle.zk_transcript.specs.declared.transcript.UpdateKind.{UpdateKind}
 use Rattle.zk_transcript.specs.declared.transcript.UpdateKind.TheVariants.{Asked, Closed}
+use Rattle.zn_layout.specs.Changes.{Change}
 use Rattle.zn_layout.specs.StandsFor.{StandsFor}
 use Rattle.zn_layout.specs.Updates.{update_txn}
 use Rattle.zn_layout.proofs.Commits.{committed}
@@ -298,13 +302,15 @@ read-serving s u lines c core x b w bound none k h own =
       | inr q ↦ absurd (none_some (sym none ∙ q.is))
     ]
 
--- where a plan was carried out the store had a revision to come, since the head was put
+-- where an update's transaction was carried out the store had a revision to come, since the head was put
+pub update-room : (s u : Store) (guards : List Guard) (cs : List Change) (ts : List Trigger) (again : List Act) (parts : List ActAns) → carry s (ask.Txn (update_txn guards cs ts again)) ≡ Some (u, answer.Txn (revision u) true parts) → revision s <ℤ last_revision
+update-room s u guards cs ts again parts h = let c = committed s u guards cs ts again (revision u) parts h in omega (arith, ints, c.zxid_is, c.most)
+
 plan-room : (s u : Store) (p : Plan) (parts : List ActAns) → WritesOwnKeys p → carry s (ask.Txn (plan_txn p)) ≡ Some (u, answer.Txn (revision u) true parts) → revision s <ℤ last_revision
 plan-room s u p parts w h =
     let again = ranges_of (pos 0) p.again in
     let is : plan_txn p ≡ update_txn p.guards w.changes p.triggers again = λ i. record { guards = p.guards; success = w.acts i; failure = again } in
-    let c = committed s u p.guards w.changes p.triggers again (revision u) parts (subst (λ t. carry s (ask.Txn t) ≡ Some (u, answer.Txn (revision u) true parts)) is h) in
-    omega (arith, ints, c.zxid_is, c.most)
+    update-room s u p.guards w.changes p.triggers again parts (subst (λ t. carry s (ask.Txn t) ≡ Some (u, answer.Txn (revision u) true parts)) is h)
 
 bound-plan : (s : Store) (lines : List TranscriptLine) (x : Asking) (kind : UpdateKind) (p : Plan) → x.kind ≡ Some kind → x.ask ≡ transaction p → IsBoundAsk s lines x → IsBound s lines kind (plan_txn p) × (only_reads (plan_txn p).failure ≡ true)
 bound-plan s lines x kind p a b bound = subst (λ q. IsBoundAs s lines (Some kind) q) b (subst (λ o. IsBoundAs s lines o x.ask) a bound)

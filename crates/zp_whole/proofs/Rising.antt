@@ -1,9 +1,9 @@
--- Revisions and frames only become more.
+-- Connections stay, and their frames only become more.
 use Rattle.ev_types.specs.Denials.{carry}
 use Rattle.ev_types.specs.Lapses.{foreign, lapse}
 use Rattle.ev_types.specs.Store.{Store, revision}
 use Rattle.ev_types.specs.declared.answer.Answer.{Answer}
-use Rattle.std.proofs.Common.{Bool, List, [], ap, arith, false, inl, inr, length, refl, subst, sym, true, ℕ, ℤ, ◌++◌, ◌+◌, ◌-◌, ◌∙◌, ◌∷◌, ◌≡◌, ◌≢◌, ◌≤◌}
+use Rattle.std.proofs.Common.{Bool, List, [], ap, arith, false, inl, inr, refl, subst, sym, true, ℕ, ℤ, ◌++◌, ◌+◌, ◌-◌, ◌∙◌, ◌∷◌, ◌≡◌, ◌≢◌, ◌≤◌}
 use Rattle.std.proofs.lemmas.Bool.Decides.{nat_tests}
 use Rattle.std.specs.FinMap.{entries, entries_sorted, find, get, get-entries, is_sorted}
 use Rattle.std.specs.Ordering.{nat_cmp}
@@ -29,8 +29,7 @@ use Rattle.zp_happen.specs.declared.flight.Flight.{Flight}
 use Rattle.zp_step.specs.Stages.{counted_up, max_count, new_core}
 use Rattle.zp_step.specs.declared.input.Input.TheVariants as input
 use Rattle.zp_step.specs.declared.input.Input.{Input}
-use Rattle.zp_whole.proofs.Effects.{foreign-precedes, lapse-precedes, stored-in}
-use Rattle.zp_whole.proofs.Kept.{carry-precedes}
+use Rattle.zp_whole.proofs.Effects.{stored-in}
 use Rattle.zp_whole.proofs.Numbers.{conn-here, conn-there, either-number}
 use Rattle.zp_whole.proofs.Reaping.{damaged-memory, looking_reaper, looks-first}
 use Rattle.zp_whole.proofs.Restarting.{Distinct, Gives, all-found, gives-as, gives-others, is-true, sorted-distinct}
@@ -42,21 +41,19 @@ use Rattle.zx_base.proofs.Options.{none_some, some_is}
 
 -- each connection that was there is there still; a count of frames that stood at its end stands there
 pub record Grown (w w' : World) : Type 0 where
-  pub revisions : length w.store.revisions ≤ length w'.store.revisions
   pub conns : (c : ℕ) (x : Conn) → conn_at c w ≡ Some x → (y : Conn) × (conn_at c w' ≡ Some y) × (max_count ≤ x.frames → max_count ≤ y.frames)
 
 pub grown-same : (w w' : World) → w' ≡ w → Grown w w'
-grown-same w w' e = record { revisions = omega (arith, ap (λ (v : World). length v.store.revisions) e); conns = λ c x there. (x, ap (conn_at c) e ∙ there, λ le. le) }
+grown-same w w' e = record { conns = λ c x there. (x, ap (conn_at c) e ∙ there, λ le. le) }
 
 pub grown-then : (u v w : World) → Grown u v → Grown v w → Grown u w
 grown-then u v w a b = record {
-  revisions = omega (arith, a.revisions, b.revisions);
   conns = λ c x there. (let p = a.conns c x there in let q = b.conns c p.0 p.1 in (q.0, q.1, λ le. q.2 (p.2 le)));
 }
 
 -- one connection changes, and has no fewer frames
 with-grown : (w : World) (c : ℕ) (x v : Conn) → conn_at c w ≡ Some x → (max_count ≤ x.frames → max_count ≤ v.frames) → Grown w (with_conn w c v)
-with-grown w c x v there up = record { revisions = omega arith; conns = λ d y e. go d y e (either-number d c) }
+with-grown w c x v there up = record { conns = λ d y e. go d y e (either-number d c) }
   where
     go : (d : ℕ) (y : Conn) → conn_at d w ≡ Some y → (d ≡ c) ⊎ (d ≢ c) → (u : Conn) × (conn_at d (with_conn w c v) ≡ Some u) × (max_count ≤ y.frames → max_count ≤ u.frames)
     go d y e (inl same) =
@@ -65,20 +62,20 @@ with-grown w c x v there up = record { revisions = omega arith; conns = λ d y e
     go d y e (inr apart) = (y, conn-there w c d v apart ∙ e, λ le. le)
 
 new-grown : (w : World) (c : ℕ) (v : Conn) → conn_at c w ≡ None → Grown w (with_conn w c v)
-new-grown w c v free = record { revisions = omega arith; conns = λ d y e. go d y e (either-number d c) }
+new-grown w c v free = record { conns = λ d y e. go d y e (either-number d c) }
   where
     go : (d : ℕ) (y : Conn) → conn_at d w ≡ Some y → (d ≡ c) ⊎ (d ≢ c) → (u : Conn) × (conn_at d (with_conn w c v) ≡ Some u) × (max_count ≤ y.frames → max_count ≤ u.frames)
     go d y e (inl same) = absurd (none_some (sym free ∙ ap (λ n. conn_at n w) (sym same) ∙ e))
     go d y e (inr apart) = (y, conn-there w c d v apart ∙ e, λ le. le)
 
 -- the same store and connections, whatever else
-alike-grown : (w w' : World) → length w.store.revisions ≤ length w'.store.revisions → w'.conns ≡ w.conns → Grown w w'
-alike-grown w w' up e = record { revisions = up; conns = λ c x there. (x, ap (λ m. get m c) e ∙ there, λ le. le) }
+alike-grown : (w w' : World) → w'.conns ≡ w.conns → Grown w w'
+alike-grown w w' e = record { conns = λ c x there. (x, ap (λ m. get m c) e ∙ there, λ le. le) }
 
 pub leaves-grown : (w : World) (c : ℕ) (x : Conn) (actor : Actor) (o : StepOutcome) → conn_at c w ≡ Some x → Grown w (leaves c w x actor o)
 leaves-grown w c x actor o there =
     let v : Conn = record x { actor = actor; flight = o.flight } in
-    grown-then w (with_conn w c v) (leaves c w x actor o) (with-grown w c x v there (λ le. le)) (alike-grown (with_conn w c v) (leaves c w x actor o) (omega arith) refl)
+    grown-then w (with_conn w c v) (leaves c w x actor o) (with-grown w c x v there (λ le. le)) (alike-grown (with_conn w c v) (leaves c w x actor o) refl)
 
 grown-to : (w v w' : World) → w' ≡ v → Grown w v → Grown w w'
 grown-to w v w' e g = subst (Grown w) (sym e) g
@@ -95,7 +92,7 @@ counted-full n le = grind (arith, nat_tests)
 shown-grown : (w : World) (c : ℕ) (x : Conn) (frame : List ℕ) → conn_at c w ≡ Some x → Grown w (shown_frame c w x frame)
 shown-grown w c x frame there =
     let v : Conn = record x { frames = counted_up (x.frames + 1) } in
-    grown-then w (with_conn w c v) (shown_frame c w x frame) (with-grown w c x v there (λ le. omega (arith, counted-full (x.frames + 1) (omega (arith, le))))) (alike-grown (with_conn w c v) (shown_frame c w x frame) (omega arith) refl)
+    grown-then w (with_conn w c v) (shown_frame c w x frame) (with-grown w c x v there (λ le. omega (arith, counted-full (x.frames + 1) (omega (arith, le))))) (alike-grown (with_conn w c v) (shown_frame c w x frame) refl)
 
 pub frames-grown : (c : ℕ) (w w' : World) (fs : List (List ℕ)) → FramesArrive c w fs w' → Grown w w'
 frames-grown c w w' [] h = grown-same w w' h
@@ -124,17 +121,15 @@ arrives-grown c w w' bytes a =
 
 -- ---- what is carried out
 
-stored-grown : (w mid : World) (s : Store) (kind : Option UpdateKind) → length w.store.revisions ≤ length s.revisions → HasStore w s kind mid → Grown w mid
-stored-grown w mid s kind up h =
-    let st = stored-in w mid s kind h in
-    alike-grown w mid (omega (arith, up, ap (λ (u : Store). length u.revisions) st.store)) st.conns
+stored-grown : (w mid : World) (s : Store) (kind : Option UpdateKind) → HasStore w s kind mid → Grown w mid
+stored-grown w mid s kind h = alike-grown w mid (stored-in w mid s kind h).conns
 
 carried-grown : (w mid : World) (a : Asking) (f : Flight) → CarriesOut w a f mid → Grown w mid
 carried-grown w mid a f h = go (carry w.store a.ask) refl h
   where
     go : (o : Option (Store × Answer)) → carry w.store a.ask ≡ o → CarriedBy w a.kind f mid o → Grown w mid
     go None e p = grown-same w mid p.1
-    go (Some r) e p = stored-grown w mid r.0 a.kind (carry-precedes w.store r.0 a.ask r.1 e).longer p.1
+    go (Some r) e p = stored-grown w mid r.0 a.kind p.1
 
 pub exec-grown : (w w' : World) (c : ℕ) → Executes c w w' → Grown w w'
 exec-grown w w' c ex =
@@ -154,7 +149,7 @@ exec-grown w w' c ex =
 stray-grown : (w w' : World) (k : ℕ) → ExecutesStray k w w' → Grown w w'
 stray-grown w w' k ex =
     let v : World = record (ex.mid) { strays = slice_set ex.mid.strays (k - 1) None } in
-    grown-to w v w' ex.result (grown-then w ex.mid v (carried-grown w ex.mid ex.asking ex.flight ex.carries) (alike-grown ex.mid v (omega arith) refl))
+    grown-to w v w' ex.result (grown-then w ex.mid v (carried-grown w ex.mid ex.asking ex.flight ex.carries) (alike-grown ex.mid v refl))
 
 -- ---- what is delivered
 
@@ -206,11 +201,11 @@ restart-grown p w =
 
 lapse-grown : (w w' : World) (id : ℤ) (o : Option Store) → lapse w.store id ≡ o → LapsesTo id w w' o → Grown w w'
 lapse-grown w w' id None e h = absurd h
-lapse-grown w w' id (Some s) e h = grown-to w _ w' h (alike-grown w (record w { store = s; lines = w.lines ++ LapseLine (revision s) id ∷ [] }) ((lapse-precedes w.store s id e).0).longer refl)
+lapse-grown w w' id (Some s) e h = grown-to w _ w' h (alike-grown w (record w { store = s; lines = w.lines ++ LapseLine (revision s) id ∷ [] }) refl)
 
 foreign-grown : (w w' : World) (k v : List ℕ) (o : Option Store) → foreign w.store k v ≡ o → PutTo w w' o → Grown w w'
 foreign-grown w w' k v None e h = absurd h
-foreign-grown w w' k v (Some s) e h = grown-to w _ w' h (alike-grown w (record w { store = s }) (foreign-precedes w.store s k v e).longer refl)
+foreign-grown w w' k v (Some s) e h = grown-to w _ w' h (alike-grown w (record w { store = s }) refl)
 
 pub enters-grown : (w w' : World) (c : ℕ) (o : Option Entry) → EntersBy c w w' o → Grown w w'
 enters-grown w w' c None h = absurd h
@@ -232,7 +227,7 @@ pub does-grown : (w w' : World) (h : Happening) → fault w h ≡ None → Does 
 unfolding fault
 does-grown w w' (line.Open c p id passwd) free h = grown-to w (opened w c p id passwd) w' h (
     grown-then w (with_conn w c (new_conn p (Connection (new_core (record { id = id; passwd = passwd }))))) (opened w c p id passwd)
-    (new-grown w c (new_conn p (Connection (new_core (record { id = id; passwd = passwd })))) (number-free (conn_at c w) free)) (alike-grown _ (opened w c p id passwd) (omega arith) refl)
+    (new-grown w c (new_conn p (Connection (new_core (record { id = id; passwd = passwd })))) (number-free (conn_at c w) free)) (alike-grown _ (opened w c p id passwd) refl)
     )
 does-grown w w' (line.Frame c bytes) free h = arrives-grown c w w' (with_length bytes) h
 does-grown w w' (line.Arrive c bytes) free h = arrives-grown c w w' bytes h
@@ -249,5 +244,5 @@ does-grown w w' (line.Lapse id) free h = lapse-grown w w' id (lapse w.store id) 
 does-grown w w' (line.Foreign k v) free h = foreign-grown w w' k v (foreign w.store k v) refl h
 does-grown w w' (line.Reap c p id) free (inl e) = absurd (damaged-memory e.key e.value e.found)
 does-grown w w' (line.Reap c p id) free (inr r) = grown-to w (with_conn w c (looking_reaper p id r.next)) w' (looks-first w w' c p id r) (new-grown w c (looking_reaper p id r.next) (number-free (conn_at c w) free))
-does-grown w w' (line.Tick n) free h = grown-to w _ w' h (alike-grown w (record w { clock = w.clock + n }) (omega arith) refl)
+does-grown w w' (line.Tick n) free h = grown-to w _ w' h (alike-grown w (record w { clock = w.clock + n }) refl)
 does-grown w w' (line.Settle c) free h = absurd h

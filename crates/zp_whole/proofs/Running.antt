@@ -1,17 +1,14 @@
 -- Each line of a script, settle too, and each run of a script keeps a world of which all is accounted for.
 use Rattle.ev_types.specs.Lapses.{foreign, lapse}
-use Rattle.ev_types.specs.Store.{last_revision, revision}
 use Rattle.std.proofs.Common.{Bool, List, [], ap, arith, false, inl, inr, refl, subst, suc, sym, true, zero, ℕ, ◌+◌, ◌∙◌, ◌∷◌, ◌≡◌}
-use Rattle.std.proofs.lemmas.Int.{ints}
 use Rattle.std.proofs.lemmas.List.Elements.{All-head, All-tail}
 use Rattle.std.specs.FinMap.{get-empty}
 use Rattle.std.specs.Ordering.{nat_cmp}
-use Rattle.std.specs.Prelude.{All, None, Option, Some, if◌then◌else◌, is_some, option_and_then, ◌<ℤ◌}
+use Rattle.std.specs.Prelude.{All, None, Option, Some, if◌then◌else◌, is_some, option_and_then}
 use Rattle.zk_jute.specs.JuteWriting.{with_length}
 use Rattle.zk_transcript.specs.Conversations.{IsInConnection}
 use Rattle.zk_transcript.specs.Legal.{Tick}
 use Rattle.zn_layout.specs.Begin.{begin_lines}
-use Rattle.zp_happen.specs.Carrying.{Executes}
 use Rattle.zp_happen.specs.Effects.{Does}
 use Rattle.zp_happen.specs.Entries.{cursor_at, next_entry}
 use Rattle.zp_happen.specs.Faults.{fault, flight_at, if_fails, is_kept_key}
@@ -41,15 +38,11 @@ use Rattle.zx_base.proofs.Options.{none_some, some_is}
 
 pub within-before : (w w' : World) → Grown w w' → IsWithinCounts w' → IsWithinCounts w
 within-before w w' g k = record {
-  room = (let up = g.revisions in omega (arith, ints, up, k.room));
   frames = λ c x there. elim (nat-either x.frames max_count) [
     | inl less ↦ less
     | inr full ↦ (let t = g.conns c x there in let less = k.frames c t.0 t.1 in absurd (omega (arith, less, t.2 full)))
   ];
 }
-
-room-before : (w w' : World) → Grown w w' → IsWithinCounts w' → revision w.store <ℤ last_revision
-room-before w w' g k = (within-before w w' g k).room
 
 -- ---- each line but settle
 
@@ -57,15 +50,12 @@ pub number-free : (o : Option Conn) → if_fails (is_some o) why.NumberInUse Non
 number-free None h = refl
 number-free (Some x) h = absurd (none_some (sym h))
 
-pub exec-keeps-accounts : (w w' : World) (c : ℕ) → IsWithinCounts w' → Executes c w w' → IsAccounted w → IsAccounted w'
-exec-keeps-accounts w w' c within h k = exec-accounted w w' c h (room-before w w' (exec-grown w w' c h) within) k
-
 pub does-accounted : (w w' : World) (h : Happening) → OffersSession h → IsWithinCounts w' → fault w h ≡ None → Does w h w' → IsAccounted w → IsAccounted w'
 unfolding fault
 does-accounted w w' (line.Open c p id passwd) offer within free h k = subst IsAccounted (sym h) (open-accounted w c p id passwd (number-free (conn_at c w) free) offer k)
 does-accounted w w' (line.Frame c bytes) offer within free h k = arrives-accounted c w w' (with_length bytes) (λ y e. within.frames c y e) h k
 does-accounted w w' (line.Arrive c bytes) offer within free h k = arrives-accounted c w w' bytes (λ y e. within.frames c y e) h k
-does-accounted w w' (line.Exec c) offer within free h k = exec-keeps-accounts w w' c within h k
+does-accounted w w' (line.Exec c) offer within free h k = exec-accounted w w' c h k
 does-accounted w w' (line.Answer c) offer within free h k = acts-accounted w w' c k (answer-acts w w' c h k)
 does-accounted w w' (line.Cut c) offer within free h k = acts-accounted w w' c k (cut-acts w w' c h k.whole)
 does-accounted w w' (line.Refuse c) offer within free h k = acts-accounted w w' c k (refuse-acts w w' c h k.whole)
@@ -115,10 +105,10 @@ settling-grown c w w' _ carries h = exec-grown w w' c h
 settling-grown c w w' _ answers h = delivers-grown w w' c (flight_at c w) h
 settling-grown c w w' _ (enters idle) h = enters-grown w w' c (next_entry c w) h
 
-settling-accounted : (c : ℕ) (w w' : World) (h : Happening) → Settling c w h → IsWithinCounts w' → Does w h w' → IsAccounted w → IsAccounted w'
-settling-accounted c w w' _ carries within h k = exec-keeps-accounts w w' c within h k
-settling-accounted c w w' _ answers within h k = acts-accounted w w' c k (answer-acts w w' c h k)
-settling-accounted c w w' _ (enters idle) within h k = acts-accounted w w' c k (entry-acts w w' c (next_entry c w) refl h idle k)
+settling-accounted : (c : ℕ) (w w' : World) (h : Happening) → Settling c w h → Does w h w' → IsAccounted w → IsAccounted w'
+settling-accounted c w w' _ carries h k = exec-accounted w w' c h k
+settling-accounted c w w' _ answers h k = acts-accounted w w' c k (answer-acts w w' c h k)
+settling-accounted c w w' _ (enters idle) h k = acts-accounted w w' c k (entry-acts w w' c (next_entry c w) refl h idle k)
 
 abbrev pub SettlesOn : ℕ → ℕ → World → World → Option Happening → Type 0
 SettlesOn n c w w' o = elim o [ None ↦ w' ≡ w | Some h ↦ (mid : World) × Does w h mid × Settles n c mid w' ]
@@ -131,13 +121,13 @@ settles-grown (suc n) c w w' h = go (settling c w) refl (λ mid. settles-grown n
     go None e later g = grown-same w w' g
     go (Some x) e later (mid, does, rest) = grown-then w mid w' (settling-grown c w mid x (settling-is c w x e) does) (later mid rest)
 
-settles-accounted : (n c : ℕ) (w w' : World) → IsWithinCounts w' → Settles n c w w' → IsAccounted w → IsAccounted w'
-settles-accounted zero c w w' within h k = subst IsAccounted (sym h) k
-settles-accounted (suc n) c w w' within h k = go (settling c w) refl (λ mid r. settles-accounted n c mid w' within r) h
+settles-accounted : (n c : ℕ) (w w' : World) → Settles n c w w' → IsAccounted w → IsAccounted w'
+settles-accounted zero c w w' h k = subst IsAccounted (sym h) k
+settles-accounted (suc n) c w w' h k = go (settling c w) refl (λ mid r. settles-accounted n c mid w' r) h
   where
     go : (o : Option Happening) → settling c w ≡ o → ((mid : World) → Settles n c mid w' → IsAccounted mid → IsAccounted w') → SettlesOn n c w w' o → IsAccounted w'
     go None e later g = subst IsAccounted (sym g) k
-    go (Some x) e later (mid, does, rest) = later mid rest (settling-accounted c w mid x (settling-is c w x e) (within-before mid w' (settles-grown n c mid w' rest) within) does k)
+    go (Some x) e later (mid, does, rest) = later mid rest (settling-accounted c w mid x (settling-is c w x e) does k)
 
 -- ---- a line whose tests pass
 
@@ -161,7 +151,7 @@ effect-grown w w' (line.Reap c p id) free h = does-grown w w' (line.Reap c p id)
 effect-grown w w' (line.Tick n) free h = does-grown w w' (line.Tick n) free h
 
 effect-accounted : (w w' : World) (h : Happening) → OffersSession h → IsWithinCounts w' → fault w h ≡ None → Effect w h w' → IsAccounted w → IsAccounted w'
-effect-accounted w w' (line.Settle c) offer within free h k = settles-accounted (max_settling c w) c w w' within h k
+effect-accounted w w' (line.Settle c) offer within free h k = settles-accounted (max_settling c w) c w w' h k
 effect-accounted w w' (line.Open c p id passwd) offer within free h k = does-accounted w w' (line.Open c p id passwd) offer within free h k
 effect-accounted w w' (line.Frame c bytes) offer within free h k = does-accounted w w' (line.Frame c bytes) offer within free h k
 effect-accounted w w' (line.Arrive c bytes) offer within free h k = does-accounted w w' (line.Arrive c bytes) offer within free h k

@@ -1,6 +1,5 @@
 -- A world of which all is accounted for: it is whole, each number is known, and each update has its entry.
-use Rattle.ev_types.specs.Store.{last_revision, revision}
-use Rattle.std.specs.Prelude.{Some, ℕ, ◌<ℤ◌, ◌<◌, ◌≡◌}
+use Rattle.std.specs.Prelude.{Some, ℕ, ◌<◌, ◌≡◌}
 use Rattle.zk_transcript.specs.Conversations.{IsInConnection}
 use Rattle.zp_happen.specs.Worlds.{Conn, World, conn_at}
 use Rattle.zp_step.specs.Stages.{max_count}
@@ -25,7 +24,6 @@ abbrev pub OffersSession : Happening → Type 0
 OffersSession (line.Open c p id passwd) = IsOffer (record { id = id; passwd = passwd })
 OffersSession _ = Unit {0}
 
--- the store has a revision to come, and each connection has had fewer frames than can be counted
+-- each connection has had fewer frames than can be counted
 pub record IsWithinCounts (w : World) : Type 0 where
-  pub room : revision w.store <ℤ last_revision
   pub frames : (c : ℕ) (x : Conn) → conn_at c w ≡ Some x → x.frames < max_count

@@ -62,8 +62,8 @@ pub fn connections_open()
 {}
 
 /// All is accounted for in the first world, and behind each line of a script, settle too: the world is whole, each connection is
-/// known in whatever stage, and each reaper, and each update has its entry. A connection offers a number that sessions have,
-/// the store has a revision to come, and no connection had 2^64 - 1 frames.
+/// known in whatever stage, and each reaper, and each update has its entry. A connection offers a number that sessions have, and
+/// no connection had 2^64 - 1 frames.
 pub fn every_line_is_accounted_for()
     ensures first { FirstIsAccounted }
     ensures happens { KeepsAccounts }
