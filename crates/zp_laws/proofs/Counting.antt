@@ -220,6 +220,12 @@ goes-keeps now n b c c' out small (inr k) (takes d frame more first later ready 
     as_served (inl s) = inl s
     as_served (inr q) = inr (q.0, ((λ h. (q.1).0 refl), (q.1).1))
 
+-- it goes on until no frame waits, or one is at work
+goes-rested : (now : ℕ) (c c' : Core) (out : List Action) → Goes now c c' out → c'.stage ≡ Ready → c'.waiting ≡ []
+goes-rested now c c' out (rests (inl busy) same none) ready = absurd (busy (sym (ap (λ (d : Core). d.stage) same) ∙ ready))
+goes-rested now c c' out (rests (inr empty) same none) ready = ap (λ (d : Core). d.waiting) same ∙ empty
+goes-rested now c c' out (takes d frame more first later is w t g o) ready = goes-rested now d c' later g ready
+
 -- ---- a step
 
 at-stage : (c mid : Core) (bytes : List ℕ) (n : ℕ) (out : List Action) (st : Stage) → c.stage ≡ st → n ≤ max_count → waits_from st c.next + length c.waiting + 1 ≡ n → IsNumbered c st
@@ -284,9 +290,9 @@ steps_count c c' x now out open_now k small h = go (steps-open c c' x now out op
     n : ℕ
     n = next_frame c + comes_in x
 
-    counts : Keeps (is_served c.stage) n c' → (is_shut c'.stage ≡ true) ⊎ CountsOn c c' x
-    counts (inl s) = inl s
-    counts (inr q) = inr (record { number = q.0; served = (q.1).0; numbered = (q.1).1 })
+    counts : (c'.stage ≡ Ready → c'.waiting ≡ []) → Keeps (is_served c.stage) n c' → (is_shut c'.stage ≡ true) ⊎ CountsOn c c' x
+    counts r (inl s) = inl s
+    counts r (inr q) = inr (record { number = q.0; served = (q.1).0; numbered = (q.1).1; rested = r })
 
     go : StepsOpen c x now c' out → (is_shut c'.stage ≡ true) ⊎ CountsOn c c' x
-    go s = counts (goes-keeps now n (is_served c.stage) s.mid c' s.later small (handled-keeps c s.mid now n s.first small k x refl s.handled) s.goes)
+    go s = counts (goes-rested now s.mid c' s.later s.goes) (goes-keeps now n (is_served c.stage) s.mid c' s.later small (handled-keeps c s.mid now n s.first small k x refl s.handled) s.goes)

@@ -1,7 +1,7 @@
 -- Of every step: the order of its actions, and that no frame is lost.
 use Rattle.std.specs.Prelude.{◌≡◌, ℕ, ◌+◌, ◌≤◌, ◌⊎◌, Bool, true, false, List, [], ◌∷◌, Option, Some, None}
 use Rattle.ev_types.specs.declared.ask.Ask.{Ask}
-use Rattle.zp_step.specs.Stages.{Core, Stage, Unconnected, asked_of, is_shut, max_count}
+use Rattle.zp_step.specs.Stages.{Core, Stage, Unconnected, Ready, asked_of, is_shut, max_count}
 use Rattle.zp_step.specs.Steps.{Steps}
 use Rattle.zp_step.specs.declared.action.Action.{Action}
 use Rattle.zp_step.specs.declared.action.Action.TheVariants as action
@@ -66,6 +66,8 @@ pub record CountsOn (c c' : Core) (x : Input) : Type 0 where
   pub number : next_frame c' ≡ next_frame c + comes_in x
   pub served : is_served c.stage ≡ true → is_served c'.stage ≡ true
   pub numbered : IsNumbered c' c'.stage
+  -- no frame waits while it is ready
+  pub rested : c'.stage ≡ Ready → c'.waiting ≡ []
 
 -- while the indices are of 64 bits
 abbrev pub StepsCount : Type 0

@@ -34,7 +34,7 @@ pub fn plans_are_made_now()
 {}
 
 /// Each frame that came was taken up or waits behind the others, and no other one: a step that leaves the connection open
-/// raises the index of the next frame by one where its input is a frame, and otherwise leaves it.
+/// raises the index of the next frame by one where its input is a frame, and otherwise leaves it. None waits while it is ready.
 pub fn steps_count()
     ensures { StepsCount }
 {}

@@ -301,7 +301,7 @@ module _ (w : World) (c p : ℕ) (id : ℤ) (passwd : List ℕ) (free : conn_at 
 
   opened-known : IsKnownAs w.store (w.lines ++ Open c p id passwd ∷ []) c (new_conn p (Connection (new_core (record { id = id; passwd = passwd })))) (Connection (new_core (record { id = id; passwd = passwd })))
   opened-known = (
-    record { lined = lined; numbered = refl; came = refl; most = omega arith },
+    record { lined = lined; numbered = refl; came = refl; most = omega arith; rested = λ e. refl },
     (
       record {
         untouched = record {

@@ -71,7 +71,7 @@ acts-shown w w' c x frame there small a = record {
   within = λ q. a.within (within-frame w.lines c x.frames (zxid_at w.store) frame q);
 }
 
-core-of : (w : World) (c : ℕ) (x : Conn) (core : Core) → Known w → conn_at c w ≡ Some x → x.actor ≡ Connection core → HasFrames w.lines c x.frames core × IsInStage w.store w.lines c core x.flight core.stage
+pub core-of : (w : World) (c : ℕ) (x : Conn) (core : Core) → Known w → conn_at c w ≡ Some x → x.actor ≡ Connection core → HasFrames w.lines c x.frames core × IsInStage w.store w.lines c core x.flight core.stage
 core-of w c x core k there actor = subst (IsKnownAs w.store w.lines c x) actor (k.used c x there)
 
 module _ (w mid : World) (c : ℕ) (x : Conn) (frame : List ℕ) (more : List (List ℕ)) (k : IsAccounted w) (there : conn_at c w ≡ Some x) (small : All (λ f. length f ≤ max_frame) (frame ∷ more)) (count : x.frames < max_count)

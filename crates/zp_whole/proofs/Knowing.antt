@@ -89,7 +89,7 @@ lined-aside lines more c frames h k = record {
 }
 
 pub counted-aside : (lines more : List TranscriptLine) (c frames : ℕ) (core : Core) → AreAside more c → HasFrames lines c frames core → HasFrames (lines ++ more) c frames core
-counted-aside lines more c frames core h k = record { lined = lined-aside lines more c frames h k.lined; numbered = k.numbered; came = k.came; most = k.most }
+counted-aside lines more c frames core h k = record { lined = lined-aside lines more c frames h k.lined; numbered = k.numbered; came = k.came; most = k.most; rested = k.rested }
 
 pub unnamed-aside : (more : List TranscriptLine) (c : ℕ) → is_unnamed c more ≡ true → AreAside more c
 unnamed-aside more c h = record { opens = never-opened c more h; closes = λ n. close-none c n more h; frames = λ i n. frame-none c i n more h }

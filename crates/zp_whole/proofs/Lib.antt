@@ -49,3 +49,4 @@ pub mod Happenings
 pub mod Running
 pub mod Since
 pub mod Timing
+pub mod Settled

@@ -115,7 +115,7 @@ refuse-acts w w' c (y, found, f) h =
 
 -- ---- the answer comes
 
-known-at : (w : World) (c : ℕ) (x : Conn) (a : Actor) → Known w → conn_at c w ≡ Some x → x.actor ≡ a → IsKnownAs w.store w.lines c x a
+pub known-at : (w : World) (c : ℕ) (x : Conn) (a : Actor) → Known w → conn_at c w ≡ Some x → x.actor ≡ a → IsKnownAs w.store w.lines c x a
 known-at w c x a k there e = subst (IsKnownAs w.store w.lines c x) e (k.used c x there)
 
 -- of an attached connection

@@ -44,7 +44,7 @@ pub counts-on : (lines more : List TranscriptLine) (c frames : ℕ) (core next :
 counts-on lines more c frames core next i now out opens steps numbered came most lined aside going =
     elim (steps_count core next i now out opens numbered (omega (arith, came, most)) steps) [
       | inl shut ↦ absurd (true-false (sym shut ∙ going))
-      | inr on ↦ record { lined = lined-aside lines more c frames aside lined; numbered = on.numbered; came = on.number ∙ came; most = most }
+      | inr on ↦ record { lined = lined-aside lines more c frames aside lined; numbered = on.numbered; came = on.number ∙ came; most = most; rested = on.rested }
     ]
 
 -- ---- a step that only closes

@@ -1,12 +1,12 @@
 -- What is known of an open connection in whatever stage: its own lines, and its frames.
-use Rattle.std.specs.Prelude.{List, None, Some, ℕ, ℤ, ◌≡◌, ◌≤◌}
+use Rattle.std.specs.Prelude.{List, None, Some, [], ℕ, ℤ, ◌≡◌, ◌≤◌}
 use Rattle.zk_transcript.specs.Conversations.{close_shown}
 use Rattle.zk_transcript.specs.History.{first_place, opening}
 use Rattle.zk_transcript.specs.Walks.{placed_frame}
 use Rattle.zk_transcript.specs.declared.transcript.TranscriptLine.{TranscriptLine}
 use Rattle.zp_laws.specs.Ending.{IsNumbered}
 use Rattle.zp_laws.specs.Frames.{next_frame}
-use Rattle.zp_step.specs.Stages.{Core, max_count}
+use Rattle.zp_step.specs.Stages.{Core, Ready, max_count}
 
 -- it has its line where it opened and no `close` line, and no frame from this index on has a line
 pub record IsLined (lines : List TranscriptLine) (c frames : ℕ) : Type 0 where
@@ -21,3 +21,5 @@ pub record HasFrames (lines : List TranscriptLine) (c frames : ℕ) (core : Core
   pub numbered : IsNumbered core core.stage
   pub came : next_frame core ≡ frames
   pub most : frames ≤ max_count
+  -- none waits while it is ready
+  pub rested : core.stage ≡ Ready → core.waiting ≡ []

@@ -9,5 +9,6 @@ pub mod Connections
 pub mod Knowing
 pub mod Entering
 pub mod Accounting
+pub mod Settled
 pub mod Giving
 pub mod Keeping

@@ -4,6 +4,7 @@ ghost use Rattle.std.specs.Prelude.{◌≡◌, ℕ, ℤ, List};
 ghost use Rattle.zt_text.specs.declared.script.Happening.TheVariants as line;
 ghost use Rattle.zp_happen.specs.Worlds.{World};
 ghost use Rattle.zp_whole.specs.Keeping.{EveryRunGives, FirstHasEntries, FirstIsAccounted, FirstIsWhole, IsAttachedIn, Keeps, KeepsAccounts, KeepsEntries, KeepsIf, MayEnter, WholeGives};
+ghost use Rattle.zp_whole.specs.Settled.{SettledIsIdle};
 
 /// The world before anything happened is whole.
 pub fn the_first_world_is_whole()
@@ -67,6 +68,12 @@ pub fn connections_open()
 pub fn every_line_is_accounted_for()
     ensures first { FirstIsAccounted }
     ensures happens { KeepsAccounts }
+{}
+
+/// Where settle has nothing to do for a connection, the connection waits for its client alone, with no frame left to answer, or
+/// it has ended: no reply waits for an entry that nothing brings.
+pub fn settled_connections_are_idle()
+    ensures { SettledIsIdle }
 {}
 
 /// Every run of a script, whichever connections, frames, lapses, cuts, restarts and orders of delivery it has, is one history of

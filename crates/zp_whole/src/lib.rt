@@ -16,7 +16,7 @@
 //! - `Naming`, `Counting`: the lines that name a connection; the frames of an open one (`HasFrames`);
 //! - `Connecting`: a connection without a session (`IsConnecting`); `Reaping`: a reaper (`IsReapFlight`);
 //! - `Knowing`: each number (`Known`); `Entering`: the entries of a world (`AreEntries`);
-//! - `Accounting`: all of it (`IsAccounted`), and what is asked of a script for that;
+//! - `Accounting`: all of it (`IsAccounted`), and what is asked of a script for that; `Settled`: a connection at rest (`IsIdle`);
 //! - `Giving`: what a whole world gives (`IsOneHistory`), and what every run gives (`IsServedRun`);
 //! - `Keeping`: what the laws say.
 //!
@@ -26,7 +26,7 @@
 //! `Asking`, `Handing`, `Delivering` (steps); `First`, `Opening`, `Giving`, `Entering`, `Happenings`; `Naming`, `Knowing`,
 //! `Within`, `Acting`, `Stepping` (one that acts by itself leaves all others); `Connecting`, `Refusing`, `Welcoming`, `Greeting`
 //! (connects); `Arriving`, `Frames`, `Arrivals` (bytes of a client); `Reaping`, `Reapers`; `Rising` (counts); `Accounts`,
-//! `Lives`, `Running` (each line, settle, and whole scripts); `Since`, `Timing` (moments).
+//! `Lives`, `Running` (each line, settle, and whole scripts); `Since`, `Timing` (moments); `Settled` (rest).
 #![tactic(auto)]
 
 mod laws;
@@ -34,5 +34,6 @@ mod laws;
 pub use laws::{
     a_whole_world_is_one_history, asks_are_carried_out, attached_connections_go_on,
     connections_end, connections_open, every_line_is_accounted_for, every_run_is_one_history,
-    the_first_world_is_whole, the_store_changes_by_itself, updates_have_entries,
+    settled_connections_are_idle, the_first_world_is_whole, the_store_changes_by_itself,
+    updates_have_entries,
 };
