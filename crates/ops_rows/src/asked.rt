@@ -10,10 +10,13 @@ use crate::requests::request;
 use row_files::Words;
 use std::alloc::Global;
 use zk_model::Request;
-use zk_model::limit::{MAX_FRAME, MAX_MOMENT};
+use zk_model::limit::MAX_FRAME;
 use zn_ops::{decide, finish, is_single, needs};
 use zn_view::{Arm, Decision, View, Want, Who};
 use zx_base::Memory;
+
+/// The moments that are decided at are below this one, in milliseconds since 1970.
+const MOMENTS: u64 = 4_611_686_018_427_387_904;
 
 fn is_short(request: &Request) -> bool
     ensures { IsTrue result → length (content_in request.now) ≤ max_frame }
@@ -46,7 +49,7 @@ fn decision(
     now: u64,
     view: &View,
 ) -> Result<Option<Decision>, Memory> {
-    if !is_single(request) || who.session < 1 || MAX_MOMENT < now || !is_short(request) {
+    if !is_single(request) || who.session < 1 || MOMENTS <= now || !is_short(request) {
         return Ok(None);
     }
     let wants = needs(alloc, request, who, view)?;

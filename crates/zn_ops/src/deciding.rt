@@ -1,7 +1,7 @@
 //! The decision on a single request: its form first, then its session, then the tree.
 
-ghost use Rattle.std.specs.Prelude.{◌≡◌, ◌≤◌, ◌≤ℤ◌, true, pos, nat_abs, length, None, IfOk};
-ghost use Rattle.zk_model.specs.Limits.{max_frame, max_moment};
+ghost use Rattle.std.specs.Prelude.{◌^◌, ◌<◌, ◌≡◌, ◌≤◌, ◌≤ℤ◌, true, pos, nat_abs, length, None, IfOk};
+ghost use Rattle.zk_model.specs.Limits.{max_frame};
 ghost use Rattle.zk_model.specs.Watches.{no_watches};
 ghost use Rattle.zk_transcript.specs.Answers.{plain_request};
 ghost use Rattle.zn_ops.specs.Forms.{is_single};
@@ -46,7 +46,7 @@ fn decide_by_tree(
 ) -> Result<Decision, Memory>
     requires single { is_single request.now ≡ true }
     requires real { pos 1 ≤ℤ who.session }
-    requires moment { now ≤ max_moment }
+    requires moment { now < 2 ^ 62 }
     requires short { length (content_in request.now) ≤ max_frame }
     requires whole { IsWhole request.now who view.now }
     requires formed { plain_request no_watches request.now ≡ None }
@@ -72,7 +72,7 @@ fn decide_by_session(
 ) -> Result<Decision, Memory>
     requires single { is_single request.now ≡ true }
     requires real { pos 1 ≤ℤ who.session }
-    requires moment { now ≤ max_moment }
+    requires moment { now < 2 ^ 62 }
     requires short { length (content_in request.now) ≤ max_frame }
     requires whole { IsWhole request.now who view.now }
     requires formed { plain_request no_watches request.now ≡ None }
@@ -92,7 +92,7 @@ fn decide_by_session(
 
 /// Decides a request on a view that lacks nothing which it reads: what [`needs`](crate::needs) names of that view is nothing.
 /// The request is neither a multi nor a closeSession; of a setWatches the reply alone is decided. `now` is in milliseconds
-/// since 1970; the session's number is at least 1.
+/// since 1970, below 2^62; the session's number is at least 1.
 ///
 /// A request that its form decides is answered so. Otherwise it has expired where the record of the session's life is not
 /// there, and has moved where that was put at another revision than `who.mine`; and otherwise the tree decides. What is planned
@@ -106,7 +106,7 @@ pub fn decide(
 ) -> Result<Decision, Memory>
     requires single { is_single request.now ≡ true }
     requires real { pos 1 ≤ℤ who.session }
-    requires moment { now ≤ max_moment }
+    requires moment { now < 2 ^ 62 }
     requires short { length (content_in request.now) ≤ max_frame }
     requires whole { IsWhole request.now who view.now }
     ensures decision { IfOk result (IsDecision request.now who view.now) }

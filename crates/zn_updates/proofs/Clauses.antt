@@ -1,5 +1,5 @@
 -- From the decision of a choice to what is promised of it.
-use Rattle.std.proofs.Common.{◌≡◌, ℕ, ◌≤◌, ℤ, pos, true, false, Bool, cond, length, List, None, refl, sym, ap, ◌∙◌, subst, arith}
+use Rattle.std.proofs.Common.{◌^◌, ◌<◌, ◌≡◌, ℕ, ◌≤◌, ℤ, pos, true, false, Bool, cond, length, List, None, refl, sym, ap, ◌∙◌, subst, arith}
 use Rattle.std.specs.Prelude.{◌≤ℤ◌, nat_abs, map, All, Contains}
 use Rattle.std.proofs.lemmas.List.{length-map}
 use Rattle.std.proofs.lemmas.List.Elements.{All-map}
@@ -9,7 +9,7 @@ use Rattle.zk_model.specs.declared.node.Trigger.{Trigger}
 use Rattle.zk_model.specs.declared.reply.PartResult.{PartResult}
 use Rattle.zk_model.specs.declared.request.Part.{Part}
 use Rattle.zk_model.specs.declared.request.Request.{Request}
-use Rattle.zk_model.specs.Limits.{max_moment, max_owned}
+use Rattle.zk_model.specs.Limits.{max_owned}
 use Rattle.zk_model.specs.Watches.{no_watches}
 use Rattle.zk_transcript.specs.Answers.{plain_request, tree_reply}
 use Rattle.zk_transcript.specs.History.{State, IsSound}
@@ -73,7 +73,7 @@ key_in (want.Children q) = q
 
 -- ---- all that is promised
 
-module _ (r : Request) (p : Part) (who : Who) (v : View) (ks : List Key) (choice : ℕ → Choice) (now : ℕ) (part : IsPart r p) (chosen : IsChosen p who v choice) (moment : now ≤ max_moment) (real : pos 1 ≤ℤ who.session)
+module _ (r : Request) (p : Part) (who : Who) (v : View) (ks : List Key) (choice : ℕ → Choice) (now : ℕ) (part : IsPart r p) (chosen : IsChosen p who v choice) (moment : now < 2 ^ 62) (real : pos 1 ≤ℤ who.session)
     (plain : plain_request no_watches r ≡ None) (d : Decision) (is : d ≡ decision_of (on_keys v ks) (choice now)) where
   pub by_form : IsToldByForm r d
   by_form t e = absurd (none_some (sym plain ∙ e))

@@ -1,5 +1,5 @@
 -- The decision of a create is what is promised of it.
-use Rattle.std.proofs.Common.{◌≡◌, ℕ, ◌≤◌, ℤ, pos, true, false, Bool, cond, List, [], ◌∷◌, ◌++◌, length, arith, Option, Some, None, refl, sym, ap, ◌∙◌, subst, inl, inr, ⊎_elim, is_some}
+use Rattle.std.proofs.Common.{◌^◌, ◌<◌, ◌≡◌, ℕ, ◌≤◌, ℤ, pos, true, false, Bool, cond, List, [], ◌∷◌, ◌++◌, length, arith, Option, Some, None, refl, sym, ap, ◌∙◌, subst, inl, inr, ⊎_elim, is_some}
 use Rattle.std.specs.Prelude.{◌≤ℤ◌, All, not, nat_abs, map, IsTrue, nat_le, if◌then◌else◌}
 use Rattle.std.proofs.lemmas.List.{length-append}
 use Rattle.std.proofs.lemmas.List.Elements.{All-append, All-cons, All-nil}
@@ -15,7 +15,7 @@ use Rattle.zk_model.specs.declared.request.Acl.{Acl}
 use Rattle.zk_model.specs.declared.request.Part.TheVariants.{Create}
 use Rattle.zk_model.specs.declared.request.Request.TheVariants as req
 use Rattle.zk_model.specs.Codes.{node_exists}
-use Rattle.zk_model.specs.Limits.{max_creates, max_frame, max_moment, max_owned}
+use Rattle.zk_model.specs.Limits.{max_creates, max_frame, max_owned}
 use Rattle.zk_model.specs.PathFaults.{is_valid}
 use Rattle.zk_model.specs.Paths.{is_path, parent, sequence_path, with_one}
 use Rattle.zk_model.specs.Single.{Outcome, create_at, create_node, create_under, form_refusal, is_ephemeral, is_sequential, made_path, named, single, effect, unless_refused}
@@ -201,7 +201,7 @@ module _ (path content : Bytes) (acl : List Acl) (flags : ℤ) (formed : form_re
 
     -- ---- where the view has what a state has
 
-    module _ (m : Keys) (s : State) (z : ℤ) (now : ℕ) (moment : now ≤ max_moment) (sound : IsSound s) (stands : StandsFor m s) (tells : Tells v m) (y : Session) (opened : session_at who.session s ≡ Some y) where
+    module _ (m : Keys) (s : State) (z : ℤ) (now : ℕ) (moment : now < 2 ^ 62) (sound : IsSound s) (stands : StandsFor m s) (tells : Tells v m) (y : Session) (opened : session_at who.session s ≡ Some y) where
       own_shown : is_ephemeral flags ≡ true → ShowsOwned paths (owned s.tree who.session)
       own_shown is = subst (λ (o : ℤ). ShowsOwned paths (owned s.tree o)) (of_abs who.session long.least)
           (paths-shown v m s stands tells (nat_abs who.session) y paths (ap (λ (o : ℤ). session_at o s) (of_abs who.session long.least) ∙ opened) (own_seen is))
@@ -375,7 +375,7 @@ module _ (path content : Bytes) (acl : List Acl) (flags : ℤ) (formed : form_re
 
   -- ---- what is promised
 
-  module _ (who : Who) (v : View) (now : ℕ) (moment : now ≤ max_moment) (short : length content ≤ max_frame) (real : pos 1 ≤ℤ who.session) (long : IsLongCount who.session) (d : Decision) where
+  module _ (who : Who) (v : View) (now : ℕ) (moment : now < 2 ^ 62) (short : length content ≤ max_frame) (real : pos 1 ≤ℤ who.session) (long : IsLongCount who.session) (d : Decision) where
     module _ (q : Bytes) (up : parent (named flags path) ≡ Some q) (looked_up : (w : SeenCounts) → IsCountsSeen (sees v (CountsKey q)) (Some w) → HasSeen v (DataKey (path_for (is_sequential flags) path (Some w))))
         (is : IsCreate v path content now (is_sequential flags) (is_ephemeral flags) who.session (Some q) d) where
       abbrev node : Bytes

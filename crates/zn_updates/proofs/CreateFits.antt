@@ -7,7 +7,7 @@ use Rattle.std.proofs.lemmas.Int.{ints}
 use Rattle.zx_base.specs.Maps.{Bytes, same}
 use Rattle.zx_base.proofs.MapLaws.{either, same-true, apart-from_same}
 use Rattle.zk_model.specs.declared.node.Node.{Node}
-use Rattle.zk_model.specs.Limits.{max_creates, max_frame, max_moment}
+use Rattle.zk_model.specs.Limits.{max_creates, max_frame}
 use Rattle.zk_model.specs.Paths.{parent, is_path}
 use Rattle.zk_model.specs.Single.{with_child}
 use Rattle.zk_model.specs.Znodes.{num_children, new_node, owned}
@@ -43,7 +43,7 @@ one_more-within c within room =
     let fewer = within.fewer in
     record { children = omega (arith, ints); fewer = omega (arith, ints); creates = below_most c.creates within.creates room }
 
-pub new_record-within : (content : Bytes) (now : ℕ) (owner : ℤ) → now ≤ max_moment → length content ≤ max_frame → IsLongCount owner → IsNodeRec (new_record content now owner)
+pub new_record-within : (content : Bytes) (now : ℕ) (owner : ℤ) → now < 2 ^ 62 → length content ≤ max_frame → IsLongCount owner → IsNodeRec (new_record content now owner)
 new_record-within content now owner moment short owned = record {
   czxid = zero_within;
   version_least = omega (arith, ints);
@@ -60,7 +60,7 @@ no_counts-within = record { children = omega (arith, ints); fewer = omega (arith
 module _ (s : State) (p q content : Bytes) (z : ℤ) (now : ℕ) (up : Node) (above : SeenCounts) (owner : ℤ) (sound : IsSound s)
     (below_q : parent p ≡ Some q) (there : get s.tree q ≡ Some up) (none : get s.tree p ≡ None) (plain : up.owner ≡ pos 0)
     (seen : IsSeenCounts z above up (num_children s.tree q)) (room : int_eq above.counts.creates max_creates ≡ false)
-    (moment : now ≤ max_moment) (short : length content ≤ max_frame) (owner_within : IsLongCount owner) where
+    (moment : now < 2 ^ 62) (short : length content ≤ max_frame) (owner_within : IsLongCount owner) where
   abbrev fresh : Node
   fresh = new_node content owner z now
 

@@ -9,7 +9,7 @@ use Rattle.zx_base.specs.Maps.{Bytes}
 use Rattle.zk_model.specs.declared.node.Node.{Node}
 use Rattle.zk_model.specs.declared.reply.PartResult.TheVariants as result
 use Rattle.zk_model.specs.Codes.{no_node, no_children_for_ephemerals, system_error}
-use Rattle.zk_model.specs.Limits.{max_creates, max_frame, max_moment, max_owned}
+use Rattle.zk_model.specs.Limits.{max_creates, max_frame, max_owned}
 use Rattle.zk_model.specs.Paths.{parent, is_path}
 use Rattle.zk_model.specs.Single.{Outcome, Refused, Done, is_ephemeral, create_node, with_child}
 use Rattle.zk_model.specs.Znodes.{num_children, new_node, owned}
@@ -30,7 +30,7 @@ few_paths : (ps : List Bytes) → nat_le max_owned (length ps) ≡ false → len
 few_paths ps h = grind (arith, nat_tests)
 
 module _ (s : State) (p q content : Bytes) (flags session z : ℤ) (now : ℕ) (sound : IsSound s) (below : parent p ≡ Some q) (valid : IsTrue (is_path p))
-    (moment : now ≤ max_moment) (short : length content ≤ max_frame) (y : Session) (opened : session_at session s ≡ Some y) (within : IsLongCount session) where
+    (moment : now < 2 ^ 62) (short : length content ≤ max_frame) (y : Session) (opened : session_at session s ≡ Some y) (within : IsLongCount session) where
   -- below the node at q, which may be there
   abbrev pub created_under : Option Node → Option Node → Outcome
   created_under None here = Refused no_node

@@ -1,5 +1,5 @@
 -- A choice that is right wherever the keys have what was seen makes a decision that is right, and a plan that commits.
-use Rattle.std.proofs.Common.{◌≡◌, ℕ, ◌≤◌, ℤ, pos, List, Option, Some, None, refl, sym, ap, ◌∙◌, subst, arith}
+use Rattle.std.proofs.Common.{◌^◌, ◌<◌, ◌≡◌, ℕ, ℤ, pos, List, Option, Some, None, refl, sym, ap, ◌∙◌, subst, arith}
 use Rattle.std.specs.Prelude.{◌≤ℤ◌, ◌<ℤ◌, nat_abs}
 use Rattle.std.proofs.lemmas.Int.{ints}
 use Rattle.ev_types.specs.declared.answer.Kv.{Kv}
@@ -12,7 +12,7 @@ use Rattle.zk_model.specs.declared.reply.PartResult.TheVariants as result
 use Rattle.zk_model.specs.declared.reply.Reply.TheVariants as reply
 use Rattle.zk_model.specs.declared.request.Part.{Part}
 use Rattle.zk_model.specs.declared.request.Request.{Request}
-use Rattle.zk_model.specs.Limits.{max_moment, max_owned}
+use Rattle.zk_model.specs.Limits.{max_owned}
 use Rattle.zk_model.specs.Single.{Outcome, Refused, single}
 use Rattle.zk_model.specs.Watches.{no_watches}
 use Rattle.zk_model.specs.Znodes.{Tree}
@@ -50,7 +50,7 @@ code_of (Make cs ts draft) = None
 
 -- in every sound state of keys that have what the view saw, and in which the session is open, at every moment
 pub record IsChosen (p : Part) (who : Who) (v : View) (choice : ℕ → Choice) : Type 0 where
-  pub right : (m : Keys) (s : State) (z : ℤ) (now : ℕ) → now ≤ max_moment → IsSound s → StandsFor m s → Tells v m → (x : Session) → session_at who.session s ≡ Some x
+  pub right : (m : Keys) (s : State) (z : ℤ) (now : ℕ) → now < 2 ^ 62 → IsSound s → StandsFor m s → Tells v m → (x : Session) → session_at who.session s ≡ Some x
       → IsRight z s (choice now) (single s.tree max_owned who.session p z now)
   pub same_code : (now : ℕ) → code_of (choice now) ≡ code_of (choice 0)
 
@@ -110,7 +110,7 @@ living id None None kv e h = absurd (cc)
 living id None (Some y) kv e h = absurd h
 living id (Some x) k kv e h = (x, refl)
 
-module _ (r : Request) (p : Part) (who : Who) (v : View) (choice : ℕ → Choice) (now : ℕ) (part : IsPart r p) (chosen : IsChosen p who v choice) (moment : now ≤ max_moment)
+module _ (r : Request) (p : Part) (who : Who) (v : View) (choice : ℕ → Choice) (now : ℕ) (part : IsPart r p) (chosen : IsChosen p who v choice) (moment : now < 2 ^ 62)
     (cs : List Change) (ts : List Trigger) (draft : PartResult) (is : choice now ≡ Make cs ts draft) (bounds : IsHeadRec ts) (real : pos 1 ≤ℤ who.session) (attached : IsAttached who v) where
   abbrev plan : Plan
   plan = plan_of v cs ts draft

@@ -1,5 +1,5 @@
 -- The decision of a delete is what is promised of it.
-use Rattle.std.proofs.Common.{◌≡◌, ◌≢◌, ℕ, ◌≤◌, ℤ, pos, true, false, Bool, cond, List, [], ◌∷◌, ◌++◌, Option, Some, None, refl, sym, ap, ◌∙◌, subst, inl, inr, ⊎_elim, length, arith}
+use Rattle.std.proofs.Common.{◌^◌, ◌<◌, ◌≡◌, ◌≢◌, ℕ, ◌≤◌, ℤ, pos, true, false, Bool, cond, List, [], ◌∷◌, ◌++◌, Option, Some, None, refl, sym, ap, ◌∙◌, subst, inl, inr, ⊎_elim, length, arith}
 use Rattle.std.specs.Prelude.{◌≤ℤ◌, All, not, nat_abs, map, IsTrue, ◌&&◌}
 use Rattle.std.proofs.lemmas.List.Elements.{All-cons, All-nil}
 use Rattle.std.specs.FinMap.{get}
@@ -14,7 +14,7 @@ use Rattle.zk_model.specs.declared.node.Trigger.TheVariants.{Deleted, Children}
 use Rattle.zk_model.specs.declared.request.Part.TheVariants.{Delete}
 use Rattle.zk_model.specs.declared.request.Request.TheVariants as req
 use Rattle.zk_model.specs.Codes.{bad_arguments, no_node}
-use Rattle.zk_model.specs.Limits.{max_moment, max_owned}
+use Rattle.zk_model.specs.Limits.{max_owned}
 use Rattle.zk_model.specs.Paths.{is_path, parent, root}
 use Rattle.zk_model.specs.Single.{Refused, form_refusal, single, effect, delete, unless_refused, matches}
 use Rattle.zk_model.specs.Watches.{no_watches}
@@ -276,7 +276,7 @@ module _ (p : Bytes) (version : ℤ) where
   not_owned : (owner : ℤ) → int_eq owner (pos 0) ≡ false → owner ≡ pos 0 → ⊥
   not_owned owner e is = true_false (sym ((Decides-int_eq owner (pos 0)).1 is) ∙ e)
 
-  module _ (who : Who) (v : View) (now : ℕ) (valid : (is_path p && not (same p root)) ≡ true) (moment : now ≤ max_moment) (real : pos 1 ≤ℤ who.session) (d : Decision) where
+  module _ (who : Who) (v : View) (now : ℕ) (valid : (is_path p && not (same p root)) ≡ true) (moment : now < 2 ^ 62) (real : pos 1 ≤ℤ who.session) (d : Decision) where
     module _ (q : Bytes) (below : parent p ≡ Some q) (is : IsDelete v p version who.session (Some q) d) where
       path : is_path p ≡ true
       path = (both _ _ valid).0

@@ -1,5 +1,5 @@
 -- What keys mean is carried along equal look-ups; sessions' numbers.
-use Rattle.std.proofs.Common.{◌≡◌, ℕ, ℤ, pos, ◌≤◌, true, false, List, Option, Some, None, refl, sym, ap, ◌∙◌, subst, arith, eqb-true}
+use Rattle.std.proofs.Common.{◌^◌, ◌<◌, ◌≡◌, ℕ, ℤ, pos, true, false, List, Option, Some, None, refl, sym, ap, ◌∙◌, subst, arith, eqb-true}
 use Rattle.std.proofs.lemmas.Bool.{eqb-false}
 use Rattle.std.specs.Prelude.{◌≤ℤ◌, nat_abs, nat_eq}
 use Rattle.std.specs.Ordering.{int_eq}
@@ -7,7 +7,6 @@ use Rattle.std.proofs.lemmas.Int.{ints}
 use Rattle.std.proofs.lemmas.Bool.Decides.{Decides-int_eq}
 use Rattle.zx_base.specs.Maps.{Bytes}
 use Rattle.zk_model.specs.declared.node.Node.{Node}
-use Rattle.zk_model.specs.Limits.{max_moment}
 use Rattle.zk_transcript.specs.History.{Session}
 use Rattle.zn_layout.specs.Records.{node_value, counts_value, IsLongCount, IsNodeRec, IsCountRec}
 use Rattle.zn_layout.specs.StandsFor.{Stored, data_record, DataMeans, CountsMean, NodesMean}
@@ -72,7 +71,7 @@ session_other r id e is = eqb-false r (nat_abs id) e (ap nat_abs (sym is))
 
 -- ---- numbers within their bounds
 
-pub moment_within : (now : ℕ) → now ≤ max_moment → IsLongCount (pos now)
+pub moment_within : (now : ℕ) → now < 2 ^ 62 → IsLongCount (pos now)
 moment_within now h = record { least = omega (arith, ints); most = omega (arith, ints) }
 
 pub zero_within : IsLongCount (pos 0)

@@ -1,5 +1,5 @@
 -- The decision of a setData is what is promised of it.
-use Rattle.std.proofs.Common.{◌≡◌, ℕ, ◌≤◌, ℤ, pos, true, false, Bool, cond, List, [], ◌∷◌, length, Option, Some, None, refl, sym, ap, ◌∙◌, subst, inl, inr, arith}
+use Rattle.std.proofs.Common.{◌^◌, ◌<◌, ◌≡◌, ℕ, ◌≤◌, ℤ, pos, true, false, Bool, cond, List, [], ◌∷◌, length, Option, Some, None, refl, sym, ap, ◌∙◌, subst, inl, inr, arith}
 use Rattle.std.specs.Prelude.{◌≤ℤ◌, not, nat_abs, map, IsTrue}
 use Rattle.std.proofs.lemmas.List.Elements.{All-cons, All-nil}
 use Rattle.ev_types.specs.declared.answer.Kv.{Kv}
@@ -10,7 +10,7 @@ use Rattle.zk_model.specs.declared.node.Trigger.TheVariants.{Changed}
 use Rattle.zk_model.specs.declared.request.Part.TheVariants.{SetData}
 use Rattle.zk_model.specs.declared.request.Request.TheVariants as req
 use Rattle.zk_model.specs.Codes.{bad_arguments}
-use Rattle.zk_model.specs.Limits.{max_frame, max_moment, max_owned, max_version}
+use Rattle.zk_model.specs.Limits.{max_frame, max_owned, max_version}
 use Rattle.zk_model.specs.Paths.{is_path}
 use Rattle.zk_model.specs.Single.{form_refusal, single, effect, set_data, unless_refused, matches}
 use Rattle.zk_model.specs.Watches.{no_watches}
@@ -127,7 +127,7 @@ module _ (p content : Bytes) (version : ℤ) where
     to = reads_to who v;
   }
 
-  module _ (who : Who) (v : View) (now : ℕ) (valid : is_path p ≡ true) (moment : now ≤ max_moment) (short : length content ≤ max_frame) (real : pos 1 ≤ℤ who.session) (d : Decision) (is : IsSetData v p content version now who.session d) where
+  module _ (who : Who) (v : View) (now : ℕ) (valid : is_path p ≡ true) (moment : now < 2 ^ 62) (short : length content ≤ max_frame) (real : pos 1 ≤ℤ who.session) (d : Decision) (is : IsSetData v p content version now who.session d) where
     abbrev choice : ℕ → Choice
     choice at_moment = set_data_choice p content version at_moment is.0 is.1
 

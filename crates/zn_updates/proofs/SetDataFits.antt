@@ -1,5 +1,5 @@
 -- The change of a setData fits it.
-use Rattle.std.proofs.Common.{◌≡◌, ℕ, ℤ, pos, ◌≤◌, true, false, cond, length, Some, None, refl, sym, ap, ◌∙◌, subst, ⊎_elim, arith, ◌+ℤ◌}
+use Rattle.std.proofs.Common.{◌^◌, ◌<◌, ◌≡◌, ℕ, ℤ, pos, ◌≤◌, true, false, cond, length, Some, None, refl, sym, ap, ◌∙◌, subst, ⊎_elim, arith, ◌+ℤ◌}
 use Rattle.std.specs.Prelude.{◌≤ℤ◌}
 use Rattle.std.specs.Ordering.{int_eq}
 use Rattle.std.specs.FinMap.{get, insert}
@@ -7,7 +7,7 @@ use Rattle.std.proofs.lemmas.Int.{ints}
 use Rattle.zx_base.specs.Maps.{Bytes, same}
 use Rattle.zx_base.proofs.MapLaws.{either, same-true, apart-from_same, get-insert_same, get-insert_other}
 use Rattle.zk_model.specs.declared.node.Node.{Node}
-use Rattle.zk_model.specs.Limits.{max_frame, max_moment, max_version}
+use Rattle.zk_model.specs.Limits.{max_frame, max_version}
 use Rattle.zk_model.specs.Single.{with_content}
 use Rattle.zk_model.specs.Znodes.{num_children, owned}
 use Rattle.zk_transcript.specs.History.{State, session_at}
@@ -31,7 +31,7 @@ below_most : (n : ℤ) → n ≤ℤ max_version → int_eq n max_version ≡ fal
 below_most n h apart = let far : n ≡ max_version → ⊥ = λ e. true_false (sym (int_eq-same n max_version e) ∙ apart) in omega (arith, ints)
 
 -- the record that is put keeps its bounds
-pub set_record-within : (x : SeenData) (content : Bytes) (now : ℕ) → IsDataWithin x → int_eq x.version max_version ≡ false → now ≤ max_moment → length content ≤ max_frame → IsNodeRec (set_record x content now)
+pub set_record-within : (x : SeenData) (content : Bytes) (now : ℕ) → IsDataWithin x → int_eq x.version max_version ≡ false → now < 2 ^ 62 → length content ≤ max_frame → IsNodeRec (set_record x content now)
 set_record-within x content now within room moment short =
     let least = within.version_least in
     record {
@@ -45,7 +45,7 @@ set_record-within x content now within room moment short =
     }
 
 module _ (s : State) (p content : Bytes) (z : ℤ) (now : ℕ) (n : Node) (x : SeenData) (here : get s.tree p ≡ Some n) (seen : IsSeenData z x n)
-    (room : int_eq x.version max_version ≡ false) (moment : now ≤ max_moment) (short : length content ≤ max_frame) where
+    (room : int_eq x.version max_version ≡ false) (moment : now < 2 ^ 62) (short : length content ≤ max_frame) where
   abbrev changed : Node
   changed = with_content n content z now
 

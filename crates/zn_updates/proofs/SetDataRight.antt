@@ -1,5 +1,5 @@
 -- A setData's choice by the records that show its node is what it comes to.
-use Rattle.std.proofs.Common.{◌≡◌, ℕ, ℤ, ◌≤◌, Bool, true, false, cond, not, [], ◌∷◌, length, Option, Some, None, refl, sym, ap, ◌∙◌, subst}
+use Rattle.std.proofs.Common.{◌^◌, ◌<◌, ◌≡◌, ℕ, ℤ, ◌≤◌, Bool, true, false, cond, not, [], ◌∷◌, length, Option, Some, None, refl, sym, ap, ◌∙◌, subst}
 use Rattle.std.specs.Ordering.{int_eq}
 use Rattle.std.specs.FinMap.{get, insert}
 use Rattle.zx_base.specs.Maps.{Bytes}
@@ -8,7 +8,7 @@ use Rattle.zk_model.specs.declared.node.Stat.{Stat}
 use Rattle.zk_model.specs.declared.node.Trigger.TheVariants.{Changed}
 use Rattle.zk_model.specs.declared.reply.PartResult.TheVariants as result
 use Rattle.zk_model.specs.Codes.{bad_version, system_error}
-use Rattle.zk_model.specs.Limits.{max_frame, max_moment, max_version}
+use Rattle.zk_model.specs.Limits.{max_frame, max_version}
 use Rattle.zk_model.specs.Single.{Outcome, Refused, Done, matches, set_data, with_content}
 use Rattle.zk_model.specs.Znodes.{num_children, stat_of}
 use Rattle.zk_transcript.specs.History.{State}
@@ -21,7 +21,7 @@ use Rattle.zn_updates.specs.Choices.{Refuse, Make, set_stat, set_changes, set_da
 use Rattle.zn_updates.specs.Right.{IsRight}
 use Rattle.zn_updates.proofs.SetDataFits.{set_data_fits}
 
-module _ (s : State) (p content : Bytes) (version z : ℤ) (now : ℕ) (moment : now ≤ max_moment) (short : length content ≤ max_frame) where
+module _ (s : State) (p content : Bytes) (version z : ℤ) (now : ℕ) (moment : now < 2 ^ 62) (short : length content ≤ max_frame) where
   abbrev set_data_done : Node → Outcome
   set_data_done n = Done (result.Set (stat_of s.tree p (with_content n content z now))) (insert s.tree p (with_content n content z now)) (Changed p ∷ [])
 

@@ -1,6 +1,6 @@
 //! delete (ZooKeeper API, `delete`), decided on the records of its node, of the parent and of the owner.
 
-ghost use Rattle.std.specs.Prelude.{◌≡◌, ◌≤◌, ◌≤ℤ◌, ◌∷◌, [], ◌++◌, pos, true, nat_abs, length, option_copied, IfOk, IfSome, IsTrue};
+ghost use Rattle.std.specs.Prelude.{◌^◌, ◌<◌, ◌≡◌, ◌≤◌, ◌≤ℤ◌, ◌∷◌, [], ◌++◌, pos, true, nat_abs, length, option_copied, IfOk, IfSome, IsTrue};
 ghost use Rattle.std.specs.Ordering.{int_eq};
 ghost use Rattle.zk_model.specs.Paths.{is_path};
 ghost use Rattle.zk_model.specs.declared.reply.PartResult.TheVariants as results;
@@ -10,7 +10,6 @@ ghost use Rattle.zn_updates.specs.Choices.{Make, delete_choice, delete_here as d
 ghost use Rattle.zn_updates.specs.Making.{chosen_of};
 ghost use Rattle.zn_updates.specs.Seen.{IsDataWithin};
 ghost use Rattle.std.specs.Prelude.{ℤ, Option, Some};
-ghost use Rattle.zk_model.specs.Limits.{max_moment};
 ghost use Rattle.zk_model.specs.Paths.{parent as parent_of};
 ghost use Rattle.zk_model.specs.declared.request.Request.TheVariants as req;
 ghost use Rattle.zn_layout.specs.Keys.{CountsKey, DataKey};
@@ -275,7 +274,7 @@ pub(crate) fn decide_delete(
     view: &View,
 ) -> Result<Decision, Memory>
     requires real { pos 1 ≤ℤ who.session }
-    requires moment { now ≤ max_moment }
+    requires moment { now < 2 ^ 62 }
     requires whole { IsWhole (req.Delete path.now version) who view.now }
     ensures form { IfOk result (IsToldByForm (req.Delete path.now version)) }
     ensures sound { IfOk result (IsBySound (req.Delete path.now version) who view.now) }

@@ -1,7 +1,7 @@
 //! The three requests that are updates.
 
-ghost use Rattle.std.specs.Prelude.{◌≡◌, ◌≤◌, ◌≤ℤ◌, pos, length, true, IfOk, IsTrue};
-ghost use Rattle.zk_model.specs.Limits.{max_frame, max_moment};
+ghost use Rattle.std.specs.Prelude.{◌^◌, ◌<◌, ◌≡◌, ◌≤◌, ◌≤ℤ◌, pos, length, true, IfOk, IsTrue};
+ghost use Rattle.zk_model.specs.Limits.{max_frame};
 ghost use Rattle.zn_view.specs.Needs.{AreNeeds, IsWhole};
 ghost use Rattle.zn_view.specs.Deciding.{IfPlanned, IsToldByForm, is_by_tree};
 ghost use Rattle.zn_updates.specs.Deciding.{content_in, is_update, IsBySound, IsGuarded};
@@ -40,7 +40,8 @@ pub fn update_needs(
 }
 
 /// Decides a create, a delete or a setData of a session that is open, on a view that lacks nothing which the request reads.
-/// The session is not tested: that is the caller's. `now` is in milliseconds since 1970; the session's number is at least 1.
+/// The session is not tested: that is the caller's. `now` is in milliseconds since 1970, below 2^62; the session's number is at
+/// least 1.
 pub fn decide_update(
     alloc: Global,
     request: &Request,
@@ -50,7 +51,7 @@ pub fn decide_update(
 ) -> Result<Decision, Memory>
     requires update { IsTrue (is_update request.now) }
     requires real { pos 1 ≤ℤ who.session }
-    requires moment { now ≤ max_moment }
+    requires moment { now < 2 ^ 62 }
     requires short { length (content_in request.now) ≤ max_frame }
     requires whole { IsWhole request.now who view.now }
     ensures form { IfOk result (IsToldByForm request.now) }
