@@ -1,42 +1,13 @@
 //! What a view takes.
 
-ghost use Rattle.std.specs.Prelude.{All, IsTrue};
-ghost use Rattle.zn_view.specs.Seen.{AreCounts, IsCount};
-
 use crate::replies::word_of;
 use crate::values::value;
 use ev_types::{ActAns, Kv, RangeAns};
 use row_files::{Words, hex_of};
 use std::alloc::Global;
 use zk_model::Path;
-use zn_view::{View, ViewFault, Want};
+use zn_view::{View, ViewFault, Want, are_numbers, is_count};
 use zx_base::{Bytes, Memory, Seq};
-
-/// The greatest revision, version or count of an etcd.
-const MAX_COUNT: i64 = 4_611_686_018_427_387_903;
-
-fn is_count(number: i64) -> bool
-    ensures { IsTrue result → IsCount number }
-{
-    0 <= number && number <= MAX_COUNT
-}
-
-fn has_counts(kv: &Kv) -> bool
-    ensures { IsTrue result → AreCounts kv.now }
-{
-    is_count(kv.mod_revision) && is_count(kv.version)
-}
-
-fn are_counts(kvs: &[Kv]) -> bool
-    ensures { IsTrue result → All AreCounts kvs.now }
-{
-    for kv in kvs {
-        if !has_counts(kv) {
-            return false;
-        }
-    }
-    true
-}
 
 fn kept(
     alloc: Global,
@@ -63,15 +34,15 @@ fn add(
     revision: i64,
     kvs: Seq<Kv>,
 ) -> Result<Option<String>, Memory> {
-    if !is_count(revision) || !are_counts(kvs.as_slice()) {
-        return Ok(None);
-    }
     let wants = [want];
     let parts = [ActAns::Range(RangeAns {
         kvs,
         more: false,
         count: 0,
     })];
+    if !is_count(revision) || !are_numbers(&parts) {
+        return Ok(None);
+    }
     match view.add(&wants, revision, &parts) {
         Ok(()) => Ok(Some(String::from_str(alloc, "added")?)),
         Err(fault) => fault_text(alloc, fault),

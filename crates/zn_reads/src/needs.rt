@@ -27,6 +27,13 @@ fn lacking(keys: Vec<Bytes>, view: &View) -> Result<Vec<Want>, Memory>
     Ok(view.lacking(Seq::from_vec(keys))?.into_vec())
 }
 
+/// The same of many keys.
+fn lacking_many(keys: &[Bytes], view: &View) -> Result<Vec<Want>, Memory>
+    ensures { IfOk result (λ ws. ws.items ≡ lacking view.now keys.now) }
+{
+    Ok(view.lacking_many(keys)?.into_vec())
+}
+
 /// The keys that each request reads: the head's and that of the session's life.
 fn first_keys(alloc: Global, who: Who) -> Result<Vec<Bytes>, Memory>
     requires { pos 1 ≤ℤ who.session }
@@ -237,7 +244,7 @@ fn set_watches_needs(
     ensures { IfOk result (λ ws. (since : ℤ) → AreNeeds (req.SetWatches since exists.now datas.now children.now) who view.now ws.items) }
 {
     let keys = set_watches_keys(alloc, datas, exists, children, who)?;
-    lacking(keys, view)
+    lacking_many(&keys, view)
 }
 
 /// What a request that reads still has to look up; nothing where the view lacks nothing, and where the request's path is not

@@ -18,3 +18,6 @@ pub mod Wanted
 pub mod Sizes
 pub mod PlanSizes
 pub mod TakenPlans
+pub mod NumberTests
+pub mod Names
+pub mod Unknown

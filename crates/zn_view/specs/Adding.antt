@@ -1,8 +1,10 @@
 -- What a view takes, and why it takes no more.
-use Rattle.std.specs.Prelude.{◌≡◌, ℕ, ℤ, pos, ◌⊎◌, ◌++◌, List, [], ◌∷◌, take, Option, Some, None, All, IfSome, if◌then◌else◌}
+use Rattle.std.specs.Prelude.{◌≡◌, ℕ, ℤ, pos, ◌⊎◌, Bool, ◌&&◌, int_le, ◌++◌, List, [], ◌∷◌, take, Option, Some, None, All, IfSome, if◌then◌else◌}
+use Rattle.std.specs.List.{list_all}
 use Rattle.std.specs.Ordering.{int_eq}
 use Rattle.ev_types.specs.declared.answer.ActAns.{ActAns}
 use Rattle.ev_types.specs.declared.answer.Kv.{Kv}
+use Rattle.ev_types.specs.Store.{last_revision}
 use Rattle.zx_base.specs.Maps.{Bytes}
 use Rattle.zn_view.specs.declared.fault.ViewFault.{ViewFault}
 use Rattle.zn_view.specs.declared.fault.ViewFault.TheVariants.{OtherRevision, Damaged, Memory}
@@ -20,6 +22,20 @@ at_revision v r = if int_eq v.revision (pos 0) then record v { revision = r } el
 -- the view has a round, at another revision
 abbrev pub IsOtherRevision : View → ℤ → Type 0
 IsOtherRevision v r = (v.revision ≡ pos 0 → ⊥) × (v.revision ≡ r → ⊥)
+
+-- ---- numbers in an etcd's range
+
+abbrev pub is_count : ℤ → Bool
+is_count n = int_le (pos 0) n && int_le n last_revision
+
+abbrev pub has_counts : Kv → Bool
+has_counts kv = is_count kv.mod_revision && is_count kv.version
+
+abbrev pub are_counts : ActAns → Bool
+are_counts a = list_all has_counts (found_in a)
+
+abbrev pub are_numbers : List ActAns → Bool
+are_numbers parts = list_all are_counts parts
 
 -- the numbers of what was found are in an etcd's range
 abbrev pub AreNumbersIn : ActAns → Type 0

@@ -2,6 +2,7 @@
 use Rattle.std.specs.Prelude.{Bool, false, ◌||◌, cond, List, [], ◌∷◌, ◌++◌, fold, is_some}
 use Rattle.std.specs.List.{list_any}
 use Rattle.zx_base.specs.Maps.{Bytes, same}
+use Rattle.zn_view.specs.declared.snapshot.SeenKey.{SeenKey}
 use Rattle.zn_view.specs.declared.want.Want.{Want}
 use Rattle.zn_view.specs.declared.want.Want.TheVariants as want
 use Rattle.zn_view.specs.Seen.{View, seen}
@@ -16,3 +17,8 @@ with_want v ws k = cond (is_some (seen v k) || list_any (is_want_of k) ws) ws (w
 
 abbrev pub lacking : View → List Bytes → List Want
 lacking v ks = fold (with_want v) [] ks
+
+-- whether a key was known, or is one of these
+abbrev pub known_from : Bytes → Bool → List SeenKey → Bool
+known_from k known [] = known
+known_from k known (x ∷ xs) = known_from k (known || same x.key k) xs

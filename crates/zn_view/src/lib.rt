@@ -7,7 +7,7 @@
 //!
 //! In `specs/`, in reading order: `Seen` (a view, and what it saw), `Asks` (the ranges that are read, and what their
 //! answers show), `Adding` (what a view takes), `Views` (which states a view is of, and what a decision and a plan are
-//! worth), `Needs` (what a request looks up), `Lacking`, `Lookups`, `Laws`. The laws are the functions of `laws`, and stand
+//! worth), `Needs` (what a request looks up), `Deciding` (what is asked of each decision), `Lacking`, `Lookups`, `Laws`. The laws are the functions of `laws`, and stand
 //! in `proofs/` by topic: `SeenAfter`, `Showing`, `AsSeen`, `Narrowing`, `Tested`, `Committing`, `Asked`. Who shows that a request's
 //! changes are those of its update, in each state whose keys have what the view saw, has shown that its plan carries it
 //! out ([`a_plan_commits`]).
@@ -24,7 +24,9 @@ mod kind;
 mod lacking;
 mod laws;
 mod lookup;
+mod name;
 mod narrow;
+mod numbers;
 mod plan;
 mod round;
 mod snapshot;
@@ -38,6 +40,7 @@ pub use laws::{
     children_are_listed, guarded_keys_are_as_seen, some_keys_are_enough, the_last_update_is_told,
     what_was_wanted_is_seen,
 };
+pub use numbers::{are_numbers, is_count};
 pub use plan::{Arm, Decision, Plan, Who};
 pub use round::{ranges, reading};
 pub use snapshot::{SeenChildren, SeenKey, Snapshot};

@@ -1,0 +1,263 @@
+//! How fast requests are decided: `ops_bench COUNT` decides a getChildren of a node with so many children, and a setData of
+//! 1,048,575 bytes, each on a view that has what it reads, and prints how many names and bytes came of it. `ops_bench COUNT time`
+//! prints the microseconds too. `bench/listing.sh` runs it.
+#![tactic(auto)]
+
+ghost use Rattle.std.specs.Prelude.{◌≤◌, length, IsTrue};
+ghost use Rattle.zk_model.specs.Limits.{max_frame};
+ghost use Rattle.zn_updates.specs.Deciding.{content_in};
+
+use ev_types::{Act, ActAns, Kv, RangeAns};
+use std::alloc::Global;
+use std::time::Instant;
+use std::{env, io};
+use zk_model::limit::MAX_FRAME;
+use zk_model::{Body, Path, Reply, Request};
+use zn_layout::{
+    CountRec, HeadRec, LeaseRec, NodeRec, counts_key, data_key, head_key, lease_key, write_counts,
+    write_head, write_lease, write_node,
+};
+use zn_ops::{decide, is_single, needs};
+use zn_view::{Decision, Plan, View, ViewFault, Want, Who, are_numbers};
+use zx_base::{Bytes, Memory, Seq, Text};
+
+/// The session that asks, as it was attached at revision 3.
+const WHO: Who = Who {
+    session: 1,
+    mine: 3,
+};
+
+/// The bytes of data of the largest node.
+const LARGEST: usize = 1_048_575;
+
+/// `/c` and ten digits.
+fn name_of(number: u32) -> [u8; 12] {
+    let mut name = *b"/c0000000000";
+    let mut left = number;
+    let mut place = 11;
+    while left > 0 && place > 1 {
+        name[place] = b'0' + (left % 10) as u8;
+        left /= 10;
+        place -= 1;
+    }
+    name
+}
+
+fn kept(key: Bytes, value: Vec<u8>) -> Kv {
+    Kv {
+        key,
+        value: Bytes::from_vec(value),
+        create_revision: 3,
+        mod_revision: 3,
+        version: 1,
+        lease: 0,
+    }
+}
+
+fn shown(kvs: Seq<Kv>) -> ActAns {
+    ActAns::Range(RangeAns {
+        kvs,
+        more: false,
+        count: 0,
+    })
+}
+
+fn one(alloc: Global, kv: Kv) -> Result<ActAns, Memory> {
+    let mut kvs = Seq::new(alloc);
+    kvs.push(kv)?;
+    Ok(shown(kvs))
+}
+
+/// The keys of so many children of the root, as a range with keys alone shows them.
+fn children(alloc: Global, count: u32) -> Result<ActAns, Memory> {
+    let mut kvs = Seq::new(alloc);
+    for number in 0..count {
+        kvs.push(kept(data_key(alloc, &name_of(number))?, Vec::new(alloc)))?;
+    }
+    Ok(shown(kvs))
+}
+
+/// What is read of the root by a session that is attached here.
+fn root_parts(alloc: Global, count: u32) -> Result<Vec<ActAns>, Memory> {
+    let head = HeadRec {
+        triggers: Seq::new(alloc),
+    };
+    let life = LeaseRec {
+        timeout: 10_000,
+        attaches: 1,
+        passwd: [0; 16],
+    };
+    let root = NodeRec {
+        czxid: 2,
+        version: 0,
+        ctime: 1_000,
+        mtime: 1_000,
+        owner: 0,
+        content: Bytes::new(alloc),
+    };
+    let counts = CountRec {
+        creates: 0,
+        children: 0,
+    };
+    let mut parts = Vec::new(alloc);
+    parts.push(one(alloc, kept(head_key(alloc)?, write_head(alloc, &head)?))?)?;
+    parts.push(one(
+        alloc,
+        kept(lease_key(alloc, WHO.session)?, write_lease(alloc, &life)?),
+    )?)?;
+    parts.push(one(
+        alloc,
+        kept(data_key(alloc, b"/")?, write_node(alloc, &root)?),
+    )?)?;
+    parts.push(one(
+        alloc,
+        kept(counts_key(alloc, b"/")?, write_counts(alloc, &counts)?),
+    )?)?;
+    parts.push(children(alloc, count)?)?;
+    Ok(parts)
+}
+
+fn root_wants(alloc: Global) -> Result<Vec<Want>, Memory> {
+    let mut wants = Vec::new(alloc);
+    wants.push(Want::Key(head_key(alloc)?))?;
+    wants.push(Want::Key(lease_key(alloc, WHO.session)?))?;
+    wants.push(Want::Key(data_key(alloc, b"/")?))?;
+    wants.push(Want::Key(counts_key(alloc, b"/")?))?;
+    if let Ok(root) = Path::read(alloc, b"/", false) {
+        wants.push(Want::Children(root))?;
+    }
+    Ok(wants)
+}
+
+/// A view with all that requests read of the root.
+fn root_view(alloc: Global, count: u32) -> Result<View, Memory> {
+    let mut view = View::empty(alloc);
+    let wants = root_wants(alloc)?;
+    let parts = root_parts(alloc, count)?;
+    if !are_numbers(&parts) {
+        return Ok(view);
+    }
+    match view.add(&wants, 3, &parts) {
+        Err(ViewFault::Memory) => Err(Memory),
+        Ok(()) | Err(_) => Ok(view),
+    }
+}
+
+fn is_short(request: &Request) -> bool
+    ensures { IsTrue result → length (content_in request.now) ≤ max_frame }
+{
+    match request {
+        Request::Create { content, .. } | Request::SetData { content, .. } => {
+            content.len() <= MAX_FRAME
+        }
+        Request::Delete { .. }
+        | Request::Exists { .. }
+        | Request::GetData { .. }
+        | Request::GetAcl { .. }
+        | Request::GetChildren { .. }
+        | Request::GetChildren2 { .. }
+        | Request::Sync { .. }
+        | Request::Ping
+        | Request::Check { .. }
+        | Request::Multi { .. }
+        | Request::Auth { .. }
+        | Request::SetWatches { .. }
+        | Request::Close => true,
+    }
+}
+
+/// The decision, where the view lacks nothing.
+fn decision(alloc: Global, request: &Request, view: &View) -> Result<Option<Decision>, Memory> {
+    if !is_single(request) || !is_short(request) {
+        return Ok(None);
+    }
+    let wants = needs(alloc, request, WHO, view)?;
+    if !wants.as_slice().is_empty() {
+        return Ok(None);
+    }
+    Ok(Some(decide(alloc, request, WHO, 1_000, view)?))
+}
+
+/// How many names a reply lists.
+fn names_in(decision: &Option<Decision>) -> usize {
+    match decision {
+        Some(
+            Decision::Answered {
+                reply: Reply::Good(Body::Names(names)),
+                ..
+            },
+        ) => names.len(),
+        _ => 0,
+    }
+}
+
+/// How many bytes the first put of a plan has in its value.
+fn bytes_in(decision: &Option<Decision>) -> usize {
+    match decision {
+        Some(Decision::Planned(plan)) => first_put(plan),
+        _ => 0,
+    }
+}
+
+fn first_put(plan: &Plan) -> usize {
+    match plan.success.as_slice().first() {
+        Some(Act::Put { value, .. }) => value.len(),
+        _ => 0,
+    }
+}
+
+fn list_root(alloc: Global) -> Result<Request, Memory> {
+    Ok(Request::GetChildren {
+        path: Text::copy_of(alloc, b"/")?,
+        watch: false,
+    })
+}
+
+fn set_root(alloc: Global) -> Result<Request, Memory> {
+    let mut content = Vec::with_capacity(alloc, LARGEST)?;
+    content.resize(LARGEST, 120)?;
+    Ok(Request::SetData {
+        path: Text::copy_of(alloc, b"/")?,
+        content: Bytes::from_vec(content),
+        version: -1,
+    })
+}
+
+/// Out of memory.
+fn no_memory() -> io::Error {
+    io::Error::from(io::ErrorKind::OutOfMemory)
+}
+
+fn run(rt: &HostRuntime, count: u32, timed: bool) -> io::Result<()> {
+    let alloc = rt.alloc();
+    let (Ok(view), Ok(list), Ok(set)) = (root_view(alloc, count), list_root(alloc), set_root(alloc))
+    else {
+        return Err(no_memory());
+    };
+    let start = Instant::now(rt)?;
+    let Ok(listed) = decision(alloc, &list, &view) else {
+        return Err(no_memory());
+    };
+    let listing = start.elapsed(rt)?.as_micros();
+    let start = Instant::now(rt)?;
+    let Ok(planned) = decision(alloc, &set, &view) else {
+        return Err(no_memory());
+    };
+    let planning = start.elapsed(rt)?.as_micros();
+    println!(rt; "{} names", names_in(&listed))?;
+    println!(rt; "{} bytes put", bytes_in(&planned))?;
+    if timed {
+        println!(rt; "{} {}", listing, planning)?;
+    }
+    Ok(())
+}
+
+fn main(rt: HostRuntime) -> io::Result<()> {
+    let mut words = env::args(&rt)?;
+    let _program = words.next();
+    let count = match words.next() {
+        Some(word) => word.as_str().parse::<u32>().unwrap_or(0),
+        None => 0,
+    };
+    run(&rt, count, words.next().is_some())
+}
