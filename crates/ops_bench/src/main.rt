@@ -30,17 +30,23 @@ const WHO: Who = Who {
 /// The bytes of data of the largest node.
 const LARGEST: usize = 1_048_575;
 
-/// `/c` and ten digits.
-fn name_of(number: u32) -> [u8; 12] {
-    let mut name = *b"/c0000000000";
-    let mut left = number;
-    let mut place = 11;
-    while left > 0 && place > 1 {
-        name[place] = b'0' + (left % 10) as u8;
-        left /= 10;
-        place -= 1;
-    }
-    name
+/// The last digit of a number.
+fn digit(number: u32) -> u8 {
+    b'0' + (number % 10) as u8
+}
+
+/// `/c` and six digits.
+fn name_of(number: u32) -> [u8; 8] {
+    [
+        b'/',
+        b'c',
+        digit(number / 100_000),
+        digit(number / 10_000),
+        digit(number / 1_000),
+        digit(number / 100),
+        digit(number / 10),
+        digit(number),
+    ]
 }
 
 fn kept(key: Bytes, value: Vec<u8>) -> Kv {
@@ -178,15 +184,24 @@ fn decision(alloc: Global, request: &Request, view: &View) -> Result<Option<Deci
     Ok(Some(decide(alloc, request, WHO, 1_000, view)?))
 }
 
+fn names_in_body(body: &Body) -> usize {
+    match body {
+        Body::Names(names) => names.len(),
+        _ => 0,
+    }
+}
+
+fn names_in_reply(reply: &Reply) -> usize {
+    match reply {
+        Reply::Good(body) => names_in_body(body),
+        Reply::Refused(_) => 0,
+    }
+}
+
 /// How many names a reply lists.
 fn names_in(decision: &Option<Decision>) -> usize {
     match decision {
-        Some(
-            Decision::Answered {
-                reply: Reply::Good(Body::Names(names)),
-                ..
-            },
-        ) => names.len(),
+        Some(Decision::Answered { reply, .. }) => names_in_reply(reply),
         _ => 0,
     }
 }
