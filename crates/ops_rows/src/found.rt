@@ -5,7 +5,7 @@ use crate::values::value;
 use ev_types::{ActAns, Kv, RangeAns};
 use row_files::{Words, hex_of};
 use std::alloc::Global;
-use zk_model::Path;
+use zk_model::{Path, PathFault};
 use zn_view::{View, ViewFault, Want, are_numbers, is_count};
 use zx_base::{Bytes, Memory, Seq};
 
@@ -125,8 +125,10 @@ pub fn listed(
     let Some(text) = words.word() else {
         return Ok(None);
     };
-    let Ok(path) = Path::read(alloc, text.as_bytes(), false) else {
-        return Ok(None);
+    let path = match Path::read(alloc, text.as_bytes(), false) {
+        Ok(path) => path,
+        Err(PathFault::Memory) => return Err(Memory),
+        Err(_) => return Ok(None),
     };
     let mut kvs = Seq::new(alloc);
     for _ in 0..9 {

@@ -4,7 +4,7 @@ use crate::replies::{data_word, push_reply, push_word, word_of};
 use ev_types::{Act, Guard};
 use std::alloc::Global;
 use zk_model::{Path, Trigger};
-use zn_layout::{read_counts, read_node, read_session};
+use zn_layout::{RecordFault, read_counts, read_node, read_session};
 use zn_view::{Plan, Want};
 use zx_base::Memory;
 
@@ -93,8 +93,10 @@ fn push_record(alloc: Global, text: &mut String, key: &[u8], value: &[u8]) -> Re
 
 /// ` CZXID/VERSION/CTIME/MTIME/OWNER/DATA`
 fn push_node(alloc: Global, text: &mut String, key: &[u8], value: &[u8]) -> Result<(), Memory> {
-    let Ok(node) = read_node(alloc, key, value) else {
-        return push_word(text, "damaged");
+    let node = match read_node(alloc, key, value) {
+        Ok(node) => node,
+        Err(RecordFault::Damaged { .. }) => return push_word(text, "damaged"),
+        Err(RecordFault::Memory) => return Err(Memory),
     };
     let (czxid, version, ctime, mtime, owner) = (
         node.czxid,
@@ -111,8 +113,10 @@ fn push_node(alloc: Global, text: &mut String, key: &[u8], value: &[u8]) -> Resu
 
 /// ` CREATES/CHILDREN`
 fn push_counts(alloc: Global, text: &mut String, key: &[u8], value: &[u8]) -> Result<(), Memory> {
-    let Ok(counts) = read_counts(alloc, key, value) else {
-        return push_word(text, "damaged");
+    let counts = match read_counts(alloc, key, value) {
+        Ok(counts) => counts,
+        Err(RecordFault::Damaged { .. }) => return push_word(text, "damaged"),
+        Err(RecordFault::Memory) => return Err(Memory),
     };
     let (creates, children) = (counts.creates, counts.children);
     let word = format!(in alloc; " {creates}/{children}")?;
@@ -122,8 +126,10 @@ fn push_counts(alloc: Global, text: &mut String, key: &[u8], value: &[u8]) -> Re
 
 /// ` [ PATH.. ]`
 fn push_nodes(alloc: Global, text: &mut String, key: &[u8], value: &[u8]) -> Result<(), Memory> {
-    let Ok(session) = read_session(alloc, key, value) else {
-        return push_word(text, "damaged");
+    let session = match read_session(alloc, key, value) {
+        Ok(session) => session,
+        Err(RecordFault::Damaged { .. }) => return push_word(text, "damaged"),
+        Err(RecordFault::Memory) => return Err(Memory),
     };
     push_word(text, "[")?;
     for path in session.paths.as_slice() {
