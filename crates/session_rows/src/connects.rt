@@ -10,7 +10,7 @@ use ev_types::{Answer, Ask};
 use row_files::{Words, bytes_of, hex_of};
 use std::alloc::Global;
 use zk_model::ConnectRequest;
-use zs_session::{ConnectStep, Connecting, Fresh, StepFault};
+use zs_session::{ConnectStep, Connecting, Fresh, StepFault, alive_due};
 use zx_base::{Bytes, Memory};
 
 /// A connect that waits for the answer to an ask.
@@ -111,6 +111,23 @@ fn end_text(alloc: Global, end: &ConnectStep) -> Result<String, Memory> {
         ConnectStep::Unknown => Ok(String::from_str(alloc, "unknown")?),
         ConnectStep::Taken { rev } => Ok(format!(in alloc; "taken {rev}")?),
     }
+}
+
+/// `LAST NOW TIMEOUT`: whether a keepalive is due
+pub fn alive(alloc: Global, words: Words) -> Result<Option<String>, Memory> {
+    let mut words = words;
+    let (Some(last), Some(now)) = (words.number(), words.number()) else {
+        return Ok(None);
+    };
+    let Some(timeout) = words.int() else {
+        return Ok(None);
+    };
+    let word = if alive_due(u64::from(last), u64::from(now), timeout) {
+        "due"
+    } else {
+        "not due"
+    };
+    Ok(Some(String::from_str(alloc, word)?))
 }
 
 impl Begun {

@@ -14,7 +14,7 @@ mod words;
 
 use crate::changes::{delete, grant, lapse, put};
 use crate::closing::close;
-use crate::connects::{Begun, begin};
+use crate::connects::{Begun, alive, begin};
 use crate::reaps::{BegunReap, begin_reap};
 use anyhow::{Result, bail};
 use ev_store::Store;
@@ -51,6 +51,7 @@ impl Rows for Sessions {
             "delete" => delete(alloc, &mut self.store, words),
             "grant" => grant(alloc, &mut self.store, words),
             "lapse" => lapse(alloc, &mut self.store, words),
+            "alive" => alive(alloc, words),
             "connect" => self.connect(alloc, words),
             "reap" => self.reap(alloc, words),
             "step" => self.step(alloc),
