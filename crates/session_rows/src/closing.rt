@@ -8,6 +8,7 @@ use ev_store::Store;
 use ev_types::{ActAns, Answer, Ask, TxnReq};
 use row_files::Words;
 use std::alloc::Global;
+use zk_model::Reply;
 use zn_view::{Decision, Plan, View, ViewFault, Want, Who, ranges, reading};
 use zs_close::{needs_close, plan_close};
 use zx_base::Memory;
@@ -110,9 +111,17 @@ fn decided(
     }
     match plan_close(alloc, who, view)? {
         Decision::Planned(plan) => planned(alloc, store, plan, rounds),
-        Decision::Answered { .. } => Ok(String::from_str(alloc, "refused")?),
+        Decision::Answered { reply, .. } => answered(alloc, &reply),
         Decision::Expired => Ok(String::from_str(alloc, "expired")?),
         Decision::Moved { found } => Ok(format!(in alloc; "moved {found}")?),
+    }
+}
+
+/// `refused CODE`; a close has no good reply without a plan
+fn answered(alloc: Global, reply: &Reply) -> Result<String, Memory> {
+    match reply {
+        Reply::Refused(code) => Ok(format!(in alloc; "refused {code}")?),
+        Reply::Good(_) => Ok(String::from_str(alloc, "answered")?),
     }
 }
 
