@@ -1,13 +1,15 @@
 -- What is kept of each line of a transcript.
-use Rattle.std.proofs.Common.{◌≡◌, ℕ, zero, suc, ◌+◌, ◌<◌, ◌⊎◌, List, [], ◌∷◌, ◌++◌, length, get_or, take, refl, sym, ap, ◌∙◌, subst, inl, inr}
-use Rattle.std.specs.Prelude.{Some, slice_get}
+use Rattle.std.proofs.Common.{◌≡◌, ℕ, zero, suc, ◌+◌, ◌-◌, ◌<◌, ◌≤◌, ◌⊎◌, List, [], ◌∷◌, ◌++◌, length, get_or, take, refl, sym, ap, ◌∙◌, subst, inl, inr, arith}
+use Rattle.std.specs.Prelude.{false, is_some, Some, slice_get}
+use Rattle.std.proofs.Math.Nat.{eq-or-lt_of_le}
 use Rattle.std.proofs.lemmas.Option.{same_Some, slice_get_read}
 use Rattle.zk_transcript.specs.declared.transcript.UpdateRec.{UpdateRec}
 use Rattle.zk_transcript.specs.declared.transcript.TranscriptLine.{TranscriptLine}
 use Rattle.zk_transcript.specs.declared.transcript.TranscriptLine.TheVariants.{Update}
 use Rattle.zk_transcript.specs.History.{state_at}
 use Rattle.zk_history.specs.Commits.{response_to}
-use Rattle.zk_history.specs.Effects.{AreKept, IsKept}
+use Rattle.zk_history.specs.Effects.{AreKept, AreNexts, IsKept, IsNext}
+use Rattle.zk_history.specs.Shown.{update_zxid}
 use Rattle.zk_history.specs.declared.effects.Effect.{Effect}
 
 -- an element of a list with one more behind is one of the list, or the last
@@ -35,3 +37,36 @@ kept-more all kept more k line x len shown is each next = λ j l e there here.
 pub kept-at : (all : List TranscriptLine) (kept : List Effect) (place : ℕ) (e : Effect) (u : UpdateRec) → AreKept all kept → length kept ≡ length all → place < length all → e ≡ get_or kept place e
     → slice_get all place ≡ Some (Update u) → (e.triggers ≡ (state_at all (place + 1)).triggers) × (e.response ≡ response_to (take place all) (state_at all place) (Update u))
 kept-at all kept place e u each len within is shown = each place (Update u) e shown (slice_get_read kept (length all) place e (sym len) within is) u refl
+
+-- ---- the first update from a place on
+
+pub next-here : (all : List TranscriptLine) (place : ℕ) → place < length all → IsNext all place place
+next-here all place within = (omega arith, omega (arith, within), λ j u from before. absurd (omega (arith, from, before)))
+
+pub next-end : (all : List TranscriptLine) → IsNext all (length all - 0) (length all)
+next-end all = (omega arith, omega arith, λ j u from before. absurd (omega (arith, from, before)))
+
+no_update : (l : TranscriptLine) (u : UpdateRec) → is_some (update_zxid l) ≡ false → l ≡ Update u → ⊥
+no_update l u lacks is =
+    let yes = ap (λ (m : TranscriptLine). is_some (update_zxid m)) is in
+    cc
+
+pub next-kept : (all : List TranscriptLine) (place n : ℕ) (l : TranscriptLine) → slice_get all place ≡ Some l → is_some (update_zxid l) ≡ false → IsNext all (place + 1) n → IsNext all place n
+next-kept all place n l shown lacks next = (
+  omega (arith, next.0),
+  next.1,
+  λ j u from before there. elim (split j from) [
+    | inl at ↦ no_update l u lacks (same_Some l (Update u) (sym shown ∙ ap (λ k. slice_get all k) at ∙ there))
+    | inr later ↦ next.2 j u later before there
+  ],
+)
+  where
+    split : (j : ℕ) → place ≤ j → (place ≡ j) ⊎ (place + 1 ≤ j)
+    split j from = elim (eq-or-lt_of_le from) [ inl at ↦ inl at | inr less ↦ inr (omega (arith, less)) ]
+
+pub nexts-more : (all : List TranscriptLine) (nexts more : List ℕ) (n : ℕ) → more ≡ nexts ++ n ∷ [] → AreNexts all nexts → IsNext all (length all - length nexts) n → AreNexts all more
+nexts-more all nexts more n is stand next = λ j m here.
+    elim (of_more nexts n j m (ap (λ (ns : List ℕ). slice_get ns j) (sym is) ∙ here)) [
+      | inl old ↦ stand j m old
+      | inr last ↦ subst (λ (i : ℕ). IsNext all (length all - i) m) (sym last.0) (subst (λ (k : ℕ). IsNext all (length all - length nexts) k) last.1 next)
+    ]

@@ -3,3 +3,4 @@ pub mod Counts
 pub mod Marks
 pub mod Looking
 pub mod Kept
+pub mod Updates

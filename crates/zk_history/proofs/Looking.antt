@@ -10,8 +10,10 @@ use Rattle.zk_transcript.specs.declared.transcript.TranscriptLine.TheVariants.{U
 use Rattle.zk_transcript.specs.History.{first_place, first_shown, frame_shown, open_shown, when}
 use Rattle.zk_transcript.specs.Conversations.{close_shown}
 use Rattle.zk_transcript.specs.Legal.{attach_in, attach_shown}
+use Rattle.zk_transcript.specs.Walks.{own_update_in, own_update_shown}
+use Rattle.zk_transcript.specs.declared.transcript.UpdateRec.{UpdateRec}
 use Rattle.zk_transcript.proofs.Lookups.{slice_get-front}
-use Rattle.zk_history.specs.Shown.{Mark, is_mark, kept, place_in, first_marked, AreFirsts, attach_mark, attach_mark_in, close_mark, frame_mark, open_mark}
+use Rattle.zk_history.specs.Shown.{Mark, is_mark, kept, place_in, first_marked, AreFirsts, attach_mark, attach_mark_in, close_mark, frame_mark, open_mark, own_mark, own_mark_in}
 use Rattle.zk_history.specs.declared.firsts.Firsts.{Firsts}
 use Rattle.zk_history.proofs.Marks.{IsAt, firsts-more, first_place-marked, first_shown-placed, marked-at, shown_at}
 
@@ -48,6 +50,12 @@ module _ (mark : TranscriptLine → Option Mark) (all : List TranscriptLine) (k 
       let len : length (take k all) ≤ length all = grind (arith, length-take) in
       omega (arith, found.2.place, found.2.before, len)
 
+  pub found-within : AreFirsts mark (take k all) f → Some place ≡ place_in f c i → place < k
+  found-within firsts is =
+      let found = at firsts is in
+      let len : length (take k all) ≤ k = grind (arith, length-take) in
+      omega (arith, found.2.place, found.2.before, len)
+
   pub found-line : AreFirsts mark (take k all) f → Some place ≡ place_in f c i → (l : TranscriptLine) → l ≡ get_or all place l → first_marked mark c i (take k all) ≡ Some (place, l)
   found-line firsts is l line =
       let found = at firsts is in
@@ -82,6 +90,19 @@ module _ {A : Type 0} (show : TranscriptLine → Option A) (test : TranscriptLin
 
   pub shown-none : first_place (λ x. when (test x) x) 0 lines ≡ None → first_shown show lines ≡ None
   shown-none e = first_shown-placed show 0 lines ∙ ap (λ o. option_map (λ (x : ℕ × A). x.1) o) (place-none e)
+
+-- where something is shown stands before the end
+pub place-within : {A : Type 0} (show : TranscriptLine → Option A) (k : ℕ) (ls : List TranscriptLine) (x : ℕ × A) → first_place show k ls ≡ Some x → x.0 < k + length ls
+place-within show k [] x h = absurd (cc)
+place-within {A} show k (l ∷ ls) x h =
+    elim (show l) as (λ o. ◌≡◌ {A = Option (ℕ × A)} (elim o [ Some y ↦ Some (k, y) | None ↦ first_place show (k + 1) ls ]) (Some x) → x.0 < k + suc (length ls)) [
+      | Some y ↦ λ e.
+          let at : k ≡ x.0 = cc in
+          omega (arith, at)
+      | None ↦ λ e.
+          let rest = place-within show (k + 1) ls x e in
+          omega (arith, rest)
+    ] h
 
 -- ---- whether something is shown
 
@@ -173,6 +194,38 @@ attach_in-marked c zxid (Begin now) = refl
 attach_in-marked c zxid (Asked d i now) = refl
 attach_in-marked c zxid (Closed id d i) = refl
 attach_in-marked c zxid (Reaped id) = refl
+
+own_update_in-marked : (c i : ℕ) (u : UpdateRec) (kind : UpdateKind) → is_some (own_update_in c i u kind) ≡ is_mark (own_mark_in kind) c i
+own_update_in-marked c i u (Asked d j now) = is_some-when ((c == d) && (i == j)) u ∙ ap (λ b. b && (i == j)) (eq-sym c d) ∙ ap (λ b. (d == c) && b) (eq-sym i j)
+own_update_in-marked c i u (Closed id d j) = is_some-when ((c == d) && (i == j)) u ∙ ap (λ b. b && (i == j)) (eq-sym c d) ∙ ap (λ b. (d == c) && b) (eq-sym i j)
+own_update_in-marked c i u (Begin now) = refl
+own_update_in-marked c i u (NewSession id d) = refl
+own_update_in-marked c i u (Attach id d) = refl
+own_update_in-marked c i u (Reaped id) = refl
+
+pub own-marked : (c i : ℕ) (l : TranscriptLine) → is_some (own_update_shown c i l) ≡ is_mark (own_mark l) c i
+own-marked c i (Update u) = own_update_in-marked c i u u.kind
+own-marked c i (Open d p id pw) = refl
+own-marked c i (Frame d j zxid bytes) = refl
+own-marked c i (Send d bytes) = refl
+own-marked c i (Lapse r id) = refl
+own-marked c i (Close d e) = refl
+
+-- a close shows its own connection
+pub close-own : (c : ℕ) (l : TranscriptLine) (d : ℕ) → close_shown c l ≡ Some d → c ≡ d
+close-own c (Close e end) d h =
+    elim (c == e) as (λ b. (c == e) ≡ b → when b e ≡ Some d → c ≡ d) [
+      | true ↦ λ is k.
+          let first : c ≡ e = eqb-true c e is in
+          let second : e ≡ d = cc in
+          first ∙ second
+      | false ↦ λ is k. absurd (cc)
+    ] refl h
+close-own c (Open e p id pw) d h = absurd (cc)
+close-own c (Frame e j zxid bytes) d h = absurd (cc)
+close-own c (Update u) d h = absurd (cc)
+close-own c (Send e bytes) d h = absurd (cc)
+close-own c (Lapse r id) d h = absurd (cc)
 
 pub attach-marked : (c : ℕ) (l : TranscriptLine) → is_some (attach_shown c l) ≡ is_mark (attach_mark l) c 0
 attach-marked c (Update u) = attach_in-marked c u.zxid u.kind

@@ -38,25 +38,35 @@ kept_out : (o : Option ℕ) (place : ℕ) → o ≡ kept o false place
 kept_out None place = refl
 kept_out (Some k) place = refl
 
--- ---- a table of places, as what it has at each mark
+-- ---- a table of places, as what it has at each key
+
+module _ {K : Type 0} (is : K → K → Bool) (same_key : (m q : K) → is m q ≡ true → m ≡ q) where
+  pub new-kept : (f g : K → Option ℕ) (m : K) (place : ℕ) → is_some (f m) ≡ false → ((q : K) → g q ≡ cond (is m q) (Some place) (f q)) → (q : K) → g q ≡ kept (f q) (is m q) place
+  new-kept f g m place free updates q =
+      elim (is m q) as (λ b. is m q ≡ b → g q ≡ kept (f q) b place) [
+        | true ↦ λ at. updates q ∙ ap (λ b. cond b (Some place) (f q)) at ∙ sym (ap (λ o. kept o true place) (ap f (sym (same_key m q at)) ∙ none_of (f m) free))
+        | false ↦ λ at. updates q ∙ ap (λ b. cond b (Some place) (f q)) at ∙ kept_out (f q) place
+      ] refl
+
+  pub old-kept : (f : K → Option ℕ) (m : K) (place : ℕ) → is_some (f m) ≡ true → (q : K) → f q ≡ kept (f q) (is m q) place
+  old-kept f m place there q =
+      elim (is m q) as (λ b. is m q ≡ b → f q ≡ kept (f q) b place) [
+        | true ↦ λ at.
+            let found : is_some (f q) ≡ true = ap (λ (k : K). is_some (f k)) (sym (same_key m q at)) ∙ there in
+            elim (f q) as (λ o. is_some o ≡ true → o ≡ kept o true place) [ Some k ↦ λ h. refl | None ↦ λ h. absurd (cc) ] found
+        | false ↦ λ at. kept_out (f q) place
+      ] refl
+
+abbrev is_same : Mark → Mark → Bool
+is_same m q = is_mark (Some m) q.0 q.1
 
 pub noted-new : (f g : Mark → Option ℕ) (m : Mark) (place : ℕ) → is_some (f m) ≡ false → ((q : Mark) → g q ≡ cond (is_eq (mark_order m q)) (Some place) (f q))
     → (c i : ℕ) → g (c, i) ≡ kept (f (c, i)) (is_mark (Some m) c i) place
 noted-new f g m place free updates c i =
-    elim (is_mark (Some m) c i) as (λ b. is_mark (Some m) c i ≡ b → g (c, i) ≡ kept (f (c, i)) b place) [
-      | true ↦ λ is. updates (c, i) ∙ ap (λ b. cond b (Some place) (f (c, i))) (tied m c i ∙ is)
-          ∙ sym (ap (λ o. kept o true place) (ap f (sym (same m c i is)) ∙ none_of (f m) free))
-      | false ↦ λ is. updates (c, i) ∙ ap (λ b. cond b (Some place) (f (c, i))) (tied m c i ∙ is) ∙ kept_out (f (c, i)) place
-    ] refl
+    new-kept is_same (λ n q h. same n q.0 q.1 h) f g m place free (λ q. updates q ∙ ap (λ b. cond b (Some place) (f q)) (tied m q.0 q.1)) (c, i)
 
 pub noted-old : (f : Mark → Option ℕ) (m : Mark) (place : ℕ) → is_some (f m) ≡ true → (c i : ℕ) → f (c, i) ≡ kept (f (c, i)) (is_mark (Some m) c i) place
-noted-old f m place there c i =
-    elim (is_mark (Some m) c i) as (λ b. is_mark (Some m) c i ≡ b → f (c, i) ≡ kept (f (c, i)) b place) [
-      | true ↦ λ is.
-          let found : is_some (f (c, i)) ≡ true = ap (λ (q : Mark). is_some (f q)) (sym (same m c i is)) ∙ there in
-          elim (f (c, i)) as (λ o. is_some o ≡ true → o ≡ kept o true place) [ Some k ↦ λ h. refl | None ↦ λ h. absurd (cc) ] found
-      | false ↦ λ is. kept_out (f (c, i)) place
-    ] refl
+noted-old f m place there c i = old-kept is_same (λ n q h. same n q.0 q.1 h) f m place there (c, i)
 
 -- ---- the tables of one line more
 

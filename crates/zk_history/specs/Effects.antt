@@ -1,5 +1,5 @@
 -- What is kept of the lines of a transcript: what each update did.
-use Rattle.std.specs.Prelude.{◌≡◌, ℕ, ◌+◌, List, take, Option, Some, slice_get}
+use Rattle.std.specs.Prelude.{◌≡◌, ℕ, ◌+◌, ◌-◌, ◌<◌, ◌≤◌, List, length, take, Option, Some, slice_get}
 use Rattle.zk_model.specs.declared.node.Trigger.{Trigger}
 use Rattle.zk_model.specs.declared.reply.Body.{Body}
 use Rattle.zk_transcript.specs.declared.transcript.UpdateRec.{UpdateRec}
@@ -16,3 +16,11 @@ IsKept l e triggers response = (u : UpdateRec) → l ≡ Update u → (e.trigger
 -- of each of the first lines of a transcript, one behind the other
 abbrev pub AreKept : List TranscriptLine → List Effect → Type 0
 AreKept all kept = (k : ℕ) (l : TranscriptLine) (e : Effect) → slice_get all k ≡ Some l → slice_get kept k ≡ Some e → IsKept l e (state_at all (k + 1)).triggers (response_to (take k all) (state_at all k) l)
+
+-- n is the place of the first update from place k on, or the end
+abbrev pub IsNext : List TranscriptLine → ℕ → ℕ → Type 0
+IsNext all k n = (k ≤ n) × (n ≤ length all) × ((j : ℕ) (u : UpdateRec) → k ≤ j → j < n → slice_get all j ≡ Some (Update u) → ⊥)
+
+-- of the last places, from the end on
+abbrev pub AreNexts : List TranscriptLine → List ℕ → Type 0
+AreNexts all nexts = (j n : ℕ) → slice_get nexts j ≡ Some n → IsNext all (length all - j) n

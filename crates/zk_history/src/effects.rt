@@ -1,16 +1,18 @@
 //! What each update of a transcript did, worked out once.
 
-ghost use Rattle.std.specs.Prelude.{◌≡◌, ◌+◌, ◌<◌, ◌++◌, ◌∷◌, [], Some, length, option_map, slice_get, take, IfErr, IfOk, OnOk};
+ghost use Rattle.std.specs.Prelude.{◌≡◌, ◌+◌, ◌<◌, ◌≤◌, ◌++◌, ◌∷◌, [], ℕ, List, Some, length, option_map, slice_get, take, IfErr, IfOk, OnOk};
 ghost use Rattle.zk_history.specs.declared.effects.Effect.{Effect as SomeEffect};
 ghost use Rattle.zk_transcript.specs.declared.transcript.UpdateRec.{UpdateRec as Updated};
+ghost use Rattle.zk_transcript.specs.declared.transcript.TranscriptLine.{TranscriptLine as Line};
 ghost use Rattle.zk_transcript.specs.declared.transcript.TranscriptLine.TheVariants.{Update};
 ghost use Rattle.zk_transcript.specs.History.{state_at};
 ghost use Rattle.zk_plain.specs.Faults.{BeyondUnless};
 ghost use Rattle.zk_history.specs.Commits.{response_in};
-ghost use Rattle.zk_history.specs.Effects.{AreKept, IsKept};
+ghost use Rattle.zk_history.specs.Effects.{AreKept, AreNexts, IsKept, IsNext};
 ghost use Rattle.zk_history.specs.Fits.{AllFit};
 
 use crate::cursor::Cursor;
+use crate::past::update_zxid;
 use std::alloc::Global;
 use zk_model::{Body, Trigger};
 use zk_plain::Fault;
@@ -81,14 +83,45 @@ fn keep(
     Ok(())
 }
 
+/// The first update from a place on, by the first one behind that place.
+fn next_at(line: &TranscriptLine, place: usize, next: usize) -> usize
+    ensures { (all : List Line) → slice_get all place ≡ Some line.now → place < length all → IsNext all (place + 1) next → IsNext all place result }
+{
+    if update_zxid(line).is_some() {
+        place
+    } else {
+        next
+    }
+}
+
+/// The first update from each place on, from the end to the first line.
+fn nexts(alloc: Global, all: &[TranscriptLine]) -> Result<Vec<usize>, Memory>
+    ensures stand { IfOk result (λ v. AreNexts all.now v.items) }
+    ensures len { IfOk result (λ v. length v.items ≡ length all.now + 1) }
+{
+    let mut next = all.len();
+    let mut nexts = Vec::new(alloc);
+    nexts.push(next)?;
+    for back in 0..all.len() {
+        let place = all.len() - 1 - back;
+        next = next_at(&all[place], place, next);
+        nexts.push(next)?;
+    }
+    Ok(nexts)
+}
+
 /// What each update of a transcript did.
 #[derive(Drop)]
 pub struct Effects<'a> {
     pub all: &'a [TranscriptLine],
     /// One for each line.
     kept: Vec<Effect>,
+    /// The first update from each place on, from the end to the first line.
+    nexts: Vec<usize>,
     ghost each: { AreKept all.now kept.items },
     ghost len: { length kept.items ≡ length all.now },
+    ghost nexts_stand: { AreNexts all.now nexts.items },
+    ghost nexts_len: { length nexts.items ≡ length all.now + 1 },
 }
 
 impl<'a> Effects<'a> {
@@ -104,7 +137,8 @@ impl<'a> Effects<'a> {
             keep(alloc, &mut kept, line, next.state().triggers(), response)?;
             cursor = next;
         }
-        Ok(Effects { all, kept })
+        let nexts = nexts(alloc, all)?;
+        Ok(Effects { all, kept, nexts })
     }
 
     /// What watches see of the update at a place.
@@ -121,5 +155,15 @@ impl<'a> Effects<'a> {
         ensures { (u : Updated) → slice_get self.now.all.now place ≡ Some (Update u) → option_map (λ b. b.now) result ≡ response_in (take place self.now.all.now) (state_at self.now.all.now place) u.zxid u.kind }
     {
         self.kept[place].response.as_ref()
+    }
+
+    /// The place of the first update from a place on, or the number of lines.
+    pub fn next_update(&self, from: usize) -> usize
+        requires { from ≤ length self.now.all.now }
+        ensures from { from ≤ result }
+        ensures within { result ≤ length self.now.all.now }
+        ensures none { (k : ℕ) (u : Updated) → from ≤ k → k < result → slice_get self.now.all.now k ≡ Some (Update u) → ⊥ }
+    {
+        self.nexts[self.all.len() - from]
     }
 }

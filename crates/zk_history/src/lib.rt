@@ -18,6 +18,7 @@ mod session;
 mod sessions;
 mod shown;
 mod state;
+mod zxids;
 
 pub use cursor::Cursor;
 pub use effects::Effects;

@@ -1,15 +1,17 @@
 //! The lines of a transcript before a place, with tables of what they show.
 
-ghost use Rattle.std.specs.Prelude.{◌≡◌, ◌≤◌, ◌<◌, ◌+◌, length, take, get_or, is_none, is_some, option_map, IfOk};
-ghost use Rattle.zk_transcript.specs.History.{first_shown, frame, opening};
+ghost use Rattle.std.specs.Prelude.{◌≡◌, ◌≤◌, ◌<◌, ◌+◌, length, take, get_or, is_none, is_some, option_map, IfOk, IfSome};
+ghost use Rattle.zk_transcript.specs.History.{first_place, first_shown, frame, opening};
 ghost use Rattle.zk_transcript.specs.Conversations.{close_shown};
 ghost use Rattle.zk_transcript.specs.Legal.{attach_of};
-ghost use Rattle.zk_history.specs.Shown.{AreFirsts, attach_mark, close_mark, frame_mark, open_mark};
+ghost use Rattle.zk_transcript.specs.Walks.{own_update, placed_frame, update_shown};
+ghost use Rattle.zk_history.specs.Shown.{AreFirsts, AreUpdates, attach_mark, close_mark, frame_mark, open_mark, own_mark, placed_attachment, placed_bytes, update_zxid};
 
 use crate::firsts::{Firsts, Mark};
-use crate::shown::{frame_shown, open_shown};
+use crate::shown::{attach_shown, close_shown, frame_shown, open_shown, own_update_shown};
+use crate::zxids::Zxids;
 use std::alloc::Global;
-use zk_transcript::{TranscriptLine, UpdateKind};
+use zk_transcript::{TranscriptLine, UpdateKind, UpdateRec};
 use zx_base::Memory;
 
 fn open_mark(line: &TranscriptLine) -> Option<Mark>
@@ -56,6 +58,37 @@ fn attach_mark(line: &TranscriptLine) -> Option<Mark>
     }
 }
 
+fn own_mark(line: &TranscriptLine) -> Option<Mark>
+    ensures { result ≡ own_mark line.now }
+{
+    let TranscriptLine::Update(update) = line else {
+        return None;
+    };
+    match update.kind {
+        UpdateKind::Asked {
+            connection,
+            index,
+            ..
+        } => Some((connection, index)),
+        UpdateKind::Closed {
+            connection,
+            index,
+            ..
+        } => Some((connection, index)),
+        _ => None,
+    }
+}
+
+/// The zxid of a line that is an update.
+pub fn update_zxid(line: &TranscriptLine) -> Option<i64>
+    ensures { result ≡ update_zxid line.now }
+{
+    match line {
+        TranscriptLine::Update(update) => Some(update.zxid),
+        _ => None,
+    }
+}
+
 pub fn line_at(lines: &[TranscriptLine], place: usize) -> &TranscriptLine
     requires { place < length lines.now }
     ensures { result.now ≡ get_or lines.now place result.now }
@@ -74,11 +107,15 @@ pub struct Past<'a> {
     frames: Firsts,
     closes: Firsts,
     attachments: Firsts,
+    owns: Firsts,
+    updates: Zxids,
     ghost within: { len ≤ length all.now },
     ghost opens_stand: { AreFirsts open_mark (take len all.now) opens },
     ghost frames_stand: { AreFirsts frame_mark (take len all.now) frames },
     ghost closes_stand: { AreFirsts close_mark (take len all.now) closes },
     ghost attachments_stand: { AreFirsts attach_mark (take len all.now) attachments },
+    ghost owns_stand: { AreFirsts own_mark (take len all.now) owns },
+    ghost updates_stand: { AreUpdates (take len all.now) updates },
 }
 
 impl<'a> Past<'a> {
@@ -96,6 +133,8 @@ impl<'a> Past<'a> {
             frames: Firsts::new(alloc),
             closes: Firsts::new(alloc),
             attachments: Firsts::new(alloc),
+            owns: Firsts::new(alloc),
+            updates: Zxids::new(alloc),
         }
     }
 
@@ -113,6 +152,8 @@ impl<'a> Past<'a> {
             frames: self.frames.noted(frame_mark(line), self.len)?,
             closes: self.closes.noted(close_mark(line), self.len)?,
             attachments: self.attachments.noted(attach_mark(line), self.len)?,
+            owns: self.owns.noted(own_mark(line), self.len)?,
+            updates: self.updates.noted(update_zxid(line), self.len)?,
         })
     }
 
@@ -172,5 +213,67 @@ impl<'a> Past<'a> {
         ensures { result ≡ is_none (attach_of connection (lines_of self.now)) }
     {
         !self.attachments.place(connection, 0).is_some()
+    }
+
+    /// A frame of a connection: its line's place and its bytes.
+    pub fn placed_frame(&self, connection: u32, index: u64) -> Option<(usize, &'a [u8])>
+        ensures placed { option_map placed_bytes result ≡ placed_frame connection index (lines_of self.now) }
+        ensures within { IfSome result (λ x. x.0 < self.now.len) }
+    {
+        match self.frames.place(connection, index) {
+            Some(place) => match frame_shown(line_at(self.all, place), connection, index) {
+                Some(bytes) => Some((place, bytes)),
+                None => None,
+            },
+            None => None,
+        }
+    }
+
+    /// The line that carries out a request of a connection: its place, and the update.
+    pub fn own_update(&self, connection: u32, index: u64) -> Option<(usize, UpdateRec)>
+        ensures shown { result ≡ own_update connection index (lines_of self.now) }
+        ensures within { IfSome result (λ x. x.0 < self.now.len) }
+    {
+        match self.owns.place(connection, index) {
+            Some(place) => match own_update_shown(line_at(self.all, place), connection, index) {
+                Some(update) => Some((place, update)),
+                None => None,
+            },
+            None => None,
+        }
+    }
+
+    /// A connection's own line, which attaches a session to it: its place, its zxid, and the session.
+    pub fn attach_of(&self, connection: u32) -> Option<(usize, (i64, i64))>
+        ensures { option_map placed_attachment result ≡ attach_of connection (lines_of self.now) }
+    {
+        match self.attachments.place(connection, 0) {
+            Some(place) => match attach_shown(line_at(self.all, place), connection) {
+                Some(attachment) => Some((place, attachment)),
+                None => None,
+            },
+            None => None,
+        }
+    }
+
+    /// The place of a connection's close.
+    pub fn close_place(&self, connection: u32) -> Option<usize>
+        ensures { option_map (λ k. (k, connection)) result ≡ first_place (close_shown connection) 0 (lines_of self.now) }
+    {
+        match self.closes.place(connection, 0) {
+            Some(place) => match close_shown(line_at(self.all, place), connection) {
+                Some(_) => Some(place),
+                None => None,
+            },
+            None => None,
+        }
+    }
+
+    /// The place of the update of a zxid.
+    pub fn update_place(&self, zxid: i64) -> Option<usize>
+        ensures placed { option_map (λ k. (k, zxid)) result ≡ first_place (update_shown zxid) 0 (lines_of self.now) }
+        ensures within { IfSome result (λ k. k < self.now.len) }
+    {
+        self.updates.place(zxid)
     }
 }

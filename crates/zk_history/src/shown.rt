@@ -2,13 +2,17 @@
 
 ghost use Rattle.std.specs.Prelude.{◌≡◌, option_map, IfOk};
 ghost use Rattle.zk_transcript.specs.History.{open_shown, frame_shown, frame, connect, request, asked_in};
+ghost use Rattle.zk_transcript.specs.Conversations.{close_shown};
+ghost use Rattle.zk_transcript.specs.Legal.{attach_in, attach_shown};
+ghost use Rattle.zk_transcript.specs.Walks.{own_update_shown};
+ghost use Rattle.zk_history.specs.Shown.{attachment_of};
 ghost use Rattle.zk_jute.specs.Connects.{read_connect};
 ghost use Rattle.zk_jute.specs.Requests.{read_request};
 
 use crate::past::Past;
 use std::alloc::Global;
 use zk_model::{ConnectRequest, Request};
-use zk_transcript::TranscriptLine;
+use zk_transcript::{TranscriptLine, UpdateKind, UpdateRec};
 use zk_wire::{WireFault, read_connect, read_request};
 use zx_base::Memory;
 
@@ -38,6 +42,68 @@ pub fn frame_shown(line: &TranscriptLine, connection: u32, index: u64) -> Option
             bytes,
             ..
         } if connection == *sender && index == *place => Some(bytes.as_slice()),
+        _ => None,
+    }
+}
+
+/// The connection that is closed, where this is its line.
+pub fn close_shown(line: &TranscriptLine, connection: u32) -> Option<u32>
+    ensures { result ≡ close_shown connection line.now }
+{
+    match line {
+        TranscriptLine::Close {
+            connection: closed,
+            ..
+        } if connection == *closed => Some(connection),
+        _ => None,
+    }
+}
+
+/// The zxid and the session of an attachment to a connection, where an update of this kind is one.
+fn attach_in(zxid: i64, kind: UpdateKind, connection: u32) -> Option<(i64, i64)>
+    ensures { option_map attachment_of result ≡ attach_in connection zxid kind }
+{
+    match kind {
+        UpdateKind::Session {
+            id,
+            connection: opened,
+        } if connection == opened => Some((zxid, id)),
+        UpdateKind::Attach {
+            id,
+            connection: opened,
+        } if connection == opened => Some((zxid, id)),
+        _ => None,
+    }
+}
+
+/// The zxid and the session of an attachment to a connection, where this is its line.
+pub fn attach_shown(line: &TranscriptLine, connection: u32) -> Option<(i64, i64)>
+    ensures { option_map attachment_of result ≡ attach_shown connection line.now }
+{
+    match line {
+        TranscriptLine::Update(update) => attach_in(update.zxid, update.kind, connection),
+        _ => None,
+    }
+}
+
+/// The update that carries out a request of a connection, where this is its line.
+pub fn own_update_shown(line: &TranscriptLine, connection: u32, index: u64) -> Option<UpdateRec>
+    ensures { result ≡ own_update_shown connection index line.now }
+{
+    let TranscriptLine::Update(update) = line else {
+        return None;
+    };
+    match update.kind {
+        UpdateKind::Asked {
+            connection: asker,
+            index: asked,
+            ..
+        } if connection == asker && index == asked => Some(*update),
+        UpdateKind::Closed {
+            connection: asker,
+            index: asked,
+            ..
+        } if connection == asker && index == asked => Some(*update),
         _ => None,
     }
 }
