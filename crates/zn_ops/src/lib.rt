@@ -15,6 +15,7 @@ mod laws;
 mod wanting;
 
 pub use deciding::decide;
+pub use form::plain_reply;
 pub use kinds::is_single;
 pub use laws::planned_where_not_refused;
 pub use wanting::needs;

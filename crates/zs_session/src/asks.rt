@@ -44,8 +44,8 @@ pub(crate) fn session_wants(alloc: Global, id: i64) -> Result<Seq<Want>, Memory>
     Ok(wants)
 }
 
-/// The life of a session, and the head.
-pub(crate) fn attach_wants(alloc: Global, id: i64) -> Result<Seq<Want>, Memory>
+/// The life of a session, whose number is at least 1, and the head.
+pub fn attach_wants(alloc: Global, id: i64) -> Result<Seq<Want>, Memory>
     requires { pos 1 ≤ℤ id }
     ensures { IfOk result (λ wants. wants ≡ wants_of_attach id) }
 {

@@ -29,6 +29,7 @@ mod moves;
 mod txns;
 
 pub use alive::alive_due;
+pub use asks::attach_wants;
 pub use attached::number_in;
 pub use connect::{Connect, ConnectStep, Fresh, Phase};
 pub use connecting::Connecting;
