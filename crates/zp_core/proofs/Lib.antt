@@ -1,0 +1,13 @@
+pub mod Restaged
+pub mod HeldAfter
+pub mod GoingOn
+pub mod Firing
+pub mod Waiting
+pub mod Outcomes
+pub mod Replying
+pub mod Nothing
+pub mod Headers
+pub mod Closing
+pub mod Coming
+pub mod Answered
+pub mod Lives

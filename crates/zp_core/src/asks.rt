@@ -1,0 +1,118 @@
+//! What a request still has to look up, and the asks of a look and of a plan.
+
+ghost use Rattle.std.specs.Prelude.{◌≡◌, ◌≤ℤ◌, ◌∷◌, [], pos, false, IfOk, take};
+ghost use Rattle.zn_view.specs.Asks.{reading as reading_of, transaction as transaction_of};
+ghost use Rattle.zn_view.specs.Needs.{AreNeeds, is_multi};
+ghost use Rattle.zp_step.specs.Looking.{asks_for, decided, max_ranges};
+ghost use Rattle.zp_step.specs.Replies.{Is};
+ghost use Rattle.zp_step.specs.declared.action.Action.TheVariants as action;
+ghost use Rattle.zp_core.specs.Meanings.{Leads, ready};
+ghost use Rattle.zn_view.specs.declared.plan.Decision.TheVariants as decision;
+
+use crate::client::Client;
+use crate::moves::{Move, only};
+use crate::stage::{Commit, Stage};
+use ev_types::{Ask, TxnReq};
+use std::alloc::Global;
+use zk_model::Request;
+use zn_ops::needs as single_needs;
+use zn_view::{Plan, View, Want, Who, ranges, reading};
+use zp_step::Action;
+use zs_close::needs_close;
+use zx_base::{Memory, Seq};
+use zx_history::GhostHistory;
+
+/// The most ranges of an ask that reads.
+const MAX_RANGES: usize = 100;
+
+/// What a request still has to look up.
+pub(crate) fn needs(
+    alloc: Global,
+    request: &Request,
+    who: Who,
+    view: &View,
+) -> Result<Seq<Want>, Memory>
+    requires built { is_multi request.now ≡ false }
+    requires real { pos 1 ≤ℤ who.session }
+    ensures { IfOk result (AreNeeds request.now who view.now) }
+{
+    match request {
+        Request::Close => needs_close(alloc, who, view),
+        _ => single_needs(alloc, request, who, view),
+    }
+}
+
+fn front(wants: Seq<Want>) -> Seq<Want>
+    ensures { result ≡ take max_ranges wants }
+{
+    let mut wants = wants.into_vec();
+    wants.truncate(MAX_RANGES);
+    Seq::from_vec(wants)
+}
+
+/// Asks for what is lacking, at the view's revision.
+pub(crate) fn ask_for(
+    alloc: Global,
+    client: &Client,
+    xid: i32,
+    request: Request,
+    view: View,
+    lacking: Seq<Want>,
+) -> Result<Move, Memory>
+    ensures { IfOk result (Leads (Is (asks_for (ready client.now) xid request view (take max_ranges lacking))) client.now) }
+{
+    let asked = front(lacking);
+    let ask = reading(alloc, view.revision(), asked.as_slice())?;
+    Ok(Move {
+        stage: Stage::Reading {
+            xid,
+            request,
+            view,
+            asked,
+        },
+        actions: only(alloc, Action::Ask(ask))?,
+    })
+}
+
+/// Asks for the transaction of a plan.
+pub(crate) fn ask_plan(
+    alloc: Global,
+    client: &Client,
+    xid: i32,
+    request: Request,
+    view: View,
+    now: u64,
+    plan: Plan,
+) -> Result<Move, Memory>
+    ensures { IfOk result (Leads (Is (decided (ready client.now) xid request view now (decision.Planned plan))) client.now) }
+{
+    let Plan {
+        guards,
+        success,
+        again,
+        draft,
+        triggers,
+    } = plan;
+    let failure = ranges(alloc, 0, again.as_slice())?;
+    let txn = TxnReq {
+        guards,
+        success,
+        failure,
+    };
+    let commit = Commit {
+        asked: GhostHistory::new().and(&txn),
+        again,
+        draft,
+        triggers,
+        view: GhostHistory::new().and(&view),
+        moment: now,
+    };
+    Ok(Move {
+        stage: Stage::Committing {
+            xid,
+            request,
+            commit,
+        },
+        actions: only(alloc, Action::Ask(Ask::Txn(txn)))?,
+    })
+}

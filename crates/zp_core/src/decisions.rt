@@ -1,0 +1,159 @@
+//! What is decided on a view that lacks nothing.
+
+ghost use Rattle.std.specs.Prelude.{◌≡◌, ◌≤◌, ◌≤ℤ◌, [], length, pos, false, None, IfOk, ◌<◌, ◌^◌};
+ghost use Rattle.zk_model.specs.Limits.{max_frame};
+ghost use Rattle.zn_updates.specs.Deciding.{content_in};
+ghost use Rattle.zn_view.specs.Needs.{AreNeeds, is_multi};
+ghost use Rattle.zn_view.specs.Views.{IsDecision};
+ghost use Rattle.zn_view.specs.Deciding.{IsTested};
+ghost use Rattle.zp_step.specs.Looking.{IsBacked, change_by, decided, expired, moved, pending};
+ghost use Rattle.zp_step.specs.Replies.{Is};
+ghost use Rattle.zp_core.specs.Meanings.{Leads, change_of, pending_of, ready};
+
+use crate::asks::ask_plan;
+use crate::client::Client;
+use crate::moves::Move;
+use crate::replies::reply_in_turn;
+use crate::stage::{Pending, WatchChange};
+use std::alloc::Global;
+use zk_model::code::{SESSION_EXPIRED, SESSION_MOVED};
+use zk_model::{Reply, Request};
+use zk_transcript::Cause;
+use zn_ops::decide as decide_single;
+use zn_reads::seen_paths;
+use zn_view::{Arm, Decision, View, Who};
+use zs_close::plan_close;
+use zx_base::{Memory, Seq};
+
+/// The decision on a request, on a view that lacks nothing which it reads.
+pub(crate) fn decide(
+    alloc: Global,
+    request: &Request,
+    who: Who,
+    now: u64,
+    view: &View,
+) -> Result<Decision, Memory>
+    requires built { is_multi request.now ≡ false }
+    requires real { pos 1 ≤ℤ who.session }
+    requires moment { now < 2 ^ 62 }
+    requires short { length (content_in request.now) ≤ max_frame }
+    requires whole { AreNeeds request.now who view.now [] }
+    ensures tested { IfOk result (IsTested request.now who view.now) }
+    ensures right { IfOk result (IsDecision request.now who view.now) }
+    ensures backed { IfOk result (IsBacked request.now who now view.now) }
+{
+    match request {
+        Request::Close => plan_close(alloc, who, view),
+        _ => decide_single(alloc, request, who, now, view),
+    }
+}
+
+/// What the reply to a request tells of watches, and what it leaves armed.
+fn change(
+    alloc: Global,
+    request: &Request,
+    view: &View,
+    arm: Option<Arm>,
+) -> Result<WatchChange, Memory>
+    ensures { IfOk result (λ c. change_of c ≡ change_by request.now view.now arm) }
+{
+    match request {
+        Request::SetWatches {
+            relative,
+            exists,
+            datas,
+            children,
+        } => {
+            let seen = seen_paths(
+                alloc,
+                datas.as_slice(),
+                exists.as_slice(),
+                children.as_slice(),
+                view,
+            )?;
+            Ok(WatchChange::Sets {
+                since: *relative,
+                seen: Seq::from_vec(seen),
+            })
+        }
+        _ => Ok(WatchChange::Adds(arm)),
+    }
+}
+
+/// A reply by the state of a view.
+fn pending(
+    view: &View,
+    xid: i32,
+    answer: Reply,
+    change: WatchChange,
+    ends: Option<Cause>,
+) -> Pending
+    ensures { pending_of result ≡ pending view.now xid answer (change_of change) ends }
+{
+    Pending {
+        number: view.number(),
+        zxid: view.zxid(),
+        xid,
+        answer,
+        change,
+        ends,
+    }
+}
+
+/// The refusal of a session that is closed or has lapsed.
+pub(crate) fn expired(view: &View, xid: i32) -> Pending
+    ensures { pending_of result ≡ expired view.now xid }
+{
+    pending(
+        view,
+        xid,
+        Reply::Refused(SESSION_EXPIRED),
+        WatchChange::Adds(None),
+        Some(Cause::Expired {
+            rev: view.revision(),
+        }),
+    )
+}
+
+/// The refusal of a session that is attached to another connection, since this revision.
+pub(crate) fn moved(who: Who, view: &View, found: i64, xid: i32) -> Pending
+    ensures { pending_of result ≡ moved who view.now found xid }
+{
+    pending(
+        view,
+        xid,
+        Reply::Refused(SESSION_MOVED),
+        WatchChange::Adds(None),
+        Some(Cause::Moved {
+            mine: who.mine,
+            found,
+        }),
+    )
+}
+
+/// Answers a request by its decision, or asks for its plan.
+pub(crate) fn carry(
+    alloc: Global,
+    client: &mut Client,
+    xid: i32,
+    request: Request,
+    view: View,
+    now: u64,
+    decision: Decision,
+) -> Result<Move, Memory>
+    ensures { IfOk result (Leads (Is (decided (ready client.old) xid request view now decision)) client.new) }
+{
+    match decision {
+        Decision::Answered { reply, arm } => {
+            let change = change(alloc, &request, &view, arm)?;
+            let pending = pending(&view, xid, reply, change, None);
+            reply_in_turn(alloc, client, pending)
+        }
+        Decision::Planned(plan) => ask_plan(alloc, client, xid, request, view, now, plan),
+        Decision::Expired => reply_in_turn(alloc, client, expired(&view, xid)),
+        Decision::Moved { found } => {
+            let pending = moved(client.who, &view, found, xid);
+            reply_in_turn(alloc, client, pending)
+        }
+    }
+}

@@ -1,0 +1,104 @@
+//! How a frame is taken up: what needs no tree is answered at once, and anything else begins to look.
+
+ghost use Rattle.std.specs.Prelude.{◌≡◌, ◌≤ℤ◌, pos, IfOk, ◌<◌, ◌^◌};
+ghost use Rattle.zk_jute.specs.Requests.{Asks, read_request as read_as};
+ghost use Rattle.zk_model.specs.Watches.{no_watches};
+ghost use Rattle.zk_transcript.specs.Answers.{plain_request, xid_of as xid_in};
+ghost use Rattle.zk_transcript.specs.Walks.{is_auth_refusal};
+ghost use Rattle.zp_step.specs.Replies.{Is};
+ghost use Rattle.zp_step.specs.Taking.{Takes, TakesReadable, plainly, end_of_plain};
+ghost use Rattle.zp_core.specs.Held.{IsFrame, IsRequest};
+ghost use Rattle.zp_core.specs.Meanings.{Leads, ready};
+
+use crate::client::Client;
+use crate::looks::look;
+use crate::moves::{Move, end_behind, only};
+use crate::packets::send_reply;
+use std::alloc::Global;
+use zk_model::code::{AUTH_FAILED, MARSHALLING_ERROR, UNIMPLEMENTED};
+use zk_model::{Reply, Request};
+use zk_transcript::Cause;
+use zk_wire::{WireFault, read_request};
+use zn_ops::plain_reply;
+use zn_view::View;
+use zx_base::Memory;
+
+/// Behind the refusal of an authentication no request is answered.
+fn end_of(reply: &Reply) -> Option<Cause>
+    ensures { result ≡ end_of_plain (is_auth_refusal reply.now) }
+{
+    match reply {
+        Reply::Refused(AUTH_FAILED) => Some(Cause::AuthRefused),
+        Reply::Refused(_) | Reply::Good(_) => None,
+    }
+}
+
+/// Sends a reply that needs no tree.
+fn answer_plainly(
+    alloc: Global,
+    client: &mut Client,
+    xid: i32,
+    reply: &Reply,
+) -> Result<Move, Memory>
+    ensures { IfOk result (Leads (Is (plainly (ready client.old) xid reply.now)) client.new) }
+{
+    let actions = only(alloc, send_reply(alloc, xid, client.zxid, reply)?)?;
+    client.next = client.next.saturating_add(1);
+    end_behind(actions, end_of(reply))
+}
+
+fn take_request(
+    alloc: Global,
+    client: &mut Client,
+    xid: i32,
+    request: Request,
+    now: u64,
+) -> Result<Move, Memory>
+    requires asked { IsRequest request }
+    requires real { pos 1 ≤ℤ client.old.who.session }
+    requires moment { now < 2 ^ 62 }
+    ensures { IfOk result (Leads (λ c out. TakesReadable (ready client.old) now c out (Asks xid request) (plain_request no_watches request)) client.new) }
+{
+    match plain_reply(alloc, &request)? {
+        Some(reply) => answer_plainly(alloc, client, xid, &reply),
+        None => look(alloc, client, xid, request, View::empty(alloc), now),
+    }
+}
+
+/// Takes up a frame.
+pub(crate) fn take(
+    alloc: Global,
+    client: &mut Client,
+    frame: &[u8],
+    now: u64,
+) -> Result<Move, Memory>
+    requires frame { IsFrame frame.now }
+    requires real { pos 1 ≤ℤ client.old.who.session }
+    requires moment { now < 2 ^ 62 }
+    ensures { IfOk result (Leads (Takes (ready client.old) frame.now now) client.new) }
+{
+    match read_request(alloc, frame) {
+        Ok((xid, request)) => take_request(alloc, client, xid, request, now),
+        Err(WireFault::Unreadable { xid, .. }) => {
+            answer_plainly(alloc, client, xid, &Reply::Refused(MARSHALLING_ERROR))
+        }
+        Err(WireFault::Unknown { xid, .. }) => {
+            answer_plainly(alloc, client, xid, &Reply::Refused(UNIMPLEMENTED))
+        }
+        Err(WireFault::NoHeader) => unreachable!(),
+        Err(WireFault::Memory) => Err(Memory),
+    }
+}
+
+/// The xid of a frame.
+pub(crate) fn xid_of(alloc: Global, frame: &[u8]) -> Result<i32, Memory>
+    ensures { IfOk result (λ xid. xid ≡ xid_in (read_as frame.now)) }
+{
+    match read_request(alloc, frame) {
+        Ok((xid, _)) => Ok(xid),
+        Err(WireFault::Unreadable { xid, .. }) => Ok(xid),
+        Err(WireFault::Unknown { xid, .. }) => Ok(xid),
+        Err(WireFault::NoHeader) => Ok(0),
+        Err(WireFault::Memory) => Err(Memory),
+    }
+}
