@@ -1,5 +1,5 @@
 -- Packets that come first.
-use Rattle.std.proofs.Common.{◌≡◌, ◌<◌, Bool, true, false, ◌&&◌, List, [], ◌∷◌, length, Option, Some, None, refl, arith}
+use Rattle.std.proofs.Common.{◌≡◌, ℕ, zero, suc, ◌+◌, ◌<◌, ap, sym, ◌∙◌, drop, Bool, true, false, ◌&&◌, List, [], ◌∷◌, length, Option, Some, None, refl, arith}
 use Rattle.std.specs.Prelude.{nat_le, bytes_eq, if◌then◌else◌}
 use Rattle.zk_transcript.specs.Walks.{Due}
 use Rattle.zk_least.specs.LeastWalk.{behind}
@@ -13,3 +13,22 @@ pub behind-short : (ds ps : List Due) → length ps < length ds → behind ds ps
 behind-short [] ps less = absurd (omega arith)
 behind-short (d ∷ ds) [] less = refl
 behind-short (d ∷ ds) (p ∷ ps) less = either-none (nat_le d.0 p.0 && bytes_eq d.1 p.1) (behind ds ps) (behind-short ds ps (omega arith))
+
+-- what is left of the packets
+pub behind-length : (ds ps rest : List Due) → behind ds ps ≡ Some rest → length ds + length rest ≡ length ps
+behind-length [] ps rest h = (let e : ps ≡ rest = cc in omega (arith, ap (λ (l : List Due). length l) e))
+behind-length (d ∷ ds) [] rest h = absurd (cc)
+behind-length (d ∷ ds) (p ∷ ps) rest h = by (nat_le d.0 p.0 && bytes_eq d.1 p.1) (behind-length ds ps rest) h
+  where
+    by : (b : Bool) → (behind ds ps ≡ Some rest → length ds + length rest ≡ length ps) → (if b then behind ds ps else None) ≡ Some rest → length (d ∷ ds) + length rest ≡ length (p ∷ ps)
+    by true later e = omega (arith, later e)
+    by false later e = absurd (cc)
+
+drop-nil : (k : ℕ) → drop {A = Due} k [] ≡ []
+drop-nil zero = refl
+drop-nil (suc k) = refl
+
+pub drop-both : (a b : ℕ) (ps : List Due) → drop b (drop a ps) ≡ drop (a + b) ps
+drop-both zero b ps = let e : b ≡ 0 + b = omega arith in ap (λ k. drop k ps) e
+drop-both (suc a) b [] = drop-nil b ∙ sym (drop-nil (suc a + b))
+drop-both (suc a) b (p ∷ ps) = let e : suc (a + b) ≡ suc a + b = omega arith in drop-both a b ps ∙ ap (λ k. drop k (p ∷ ps)) e

@@ -1,6 +1,6 @@
 -- Each transcript has a verdict: its conversations are decided one by one.
 use Rattle.std.proofs.Common.{◌≡◌, ℕ, zero, suc, ℤ, ◌+◌, ◌<◌, ◌≤◌, Bool, true, false, List, [], ◌∷◌, ◌++◌, Option, Some, None, inl, inr, refl, ap, sym, ◌∙◌, subst, append_assoc, append-nil, arith}
-use Rattle.std.specs.Prelude.{◌⊎◌, ⊤, is_some, bytes_eq, IsTrue}
+use Rattle.std.specs.Prelude.{◌⊎◌, is_some, bytes_eq, IsTrue}
 use Rattle.std.proofs.lemmas.Bool.{cases_Bool, cases_lt}
 use Rattle.std.proofs.lemmas.Slice.Eq.{bytes_eq-Decides}
 use Rattle.zk_jute.specs.Packets.{connect_packet}
@@ -15,9 +15,9 @@ use Rattle.zk_least.specs.LeastWalk.{least_walk}
 use Rattle.zk_legal.specs.Faults.{history_fault, order_fault}
 use Rattle.zk_judge.specs.declared.verdict.Verdict.{Verdict}
 use Rattle.zk_judge.specs.declared.verdict.Verdict.TheVariants.{Lawful, History, Order, Conversation}
-use Rattle.zk_judge.specs.Faults.{IsBelow, IsFault, IsLeastFault, IsLeastOpened, IsLesser}
+use Rattle.zk_judge.specs.Faults.{IsLeastFault, IsLeastOpened, IsLesser}
 use Rattle.zk_judge.specs.Verdicts.{IsRun, IsVerdict}
-use Rattle.zk_judge.proofs.Lawful.{IsJudged, judged-when, lawful-when}
+use Rattle.zk_judge.proofs.Lawful.{judged-when, lawful-when}
 use Rattle.zk_judge.proofs.LeastFaults.{least-fault, opened-more, opened-skip}
 
 both : {P Q : Type 0} → P ⊎ (P → ⊥) → Q ⊎ (Q → ⊥) → (P × Q) ⊎ (P × Q → ⊥)

@@ -1,12 +1,12 @@
 -- Conversations by their least walk, where the history has no fault.
-use Rattle.std.proofs.Common.{◌≡◌, ℕ, ◌+◌, true, List, [], Option, Some, None, refl, ap, sym, subst, drop}
-use Rattle.std.specs.Prelude.{is_some, IsTrue, length}
+use Rattle.std.proofs.Common.{◌≡◌, ℕ, ◌+◌, List, [], Option, Some, None, refl, drop}
+use Rattle.std.specs.Prelude.{is_some, IsTrue}
 use Rattle.zk_transcript.specs.declared.transcript.TranscriptLine.{TranscriptLine}
 use Rattle.zk_transcript.specs.History.{opening}
 use Rattle.zk_transcript.specs.Legal.{Attachment, attach_of, is_legal}
 use Rattle.zk_transcript.specs.Walks.{Due, packets}
-use Rattle.zk_transcript.specs.Conversations.{IsConnectAnswered, IsInConnection, IsLawfulAndFresh, are_before_close, later_packets}
-use Rattle.zk_least.specs.LeastWalk.{HasZxids, IsLeastLawful, least_walk, least_from}
+use Rattle.zk_transcript.specs.Conversations.{IsConnectAnswered, IsLawfulAndFresh, are_before_close, later_packets}
+use Rattle.zk_least.specs.LeastWalk.{HasZxids, least_walk, least_from}
 use Rattle.zk_least.proofs.LeastWalkLaw.{conversation-law}
 use Rattle.zk_legal.specs.Faults.{history_fault}
 use Rattle.zk_legal.proofs.NoFault.{history_fault-none}
@@ -33,7 +33,7 @@ judged-when lines c none lawful =
     let least = (conversation-law lines c (legal-when lines none) (zxids-when lines none)).complete lawful in
     record { in_time = least.within.in_time; connected = least.within.connected; walks = least.walks }
 
--- a connection that was not opened was sent nothing
+-- a connection that was sent nothing
 
 nothing-walked : (lines : List TranscriptLine) (c : ℕ) (a : ℕ × Attachment) (ps : List Due) → ps ≡ [] → IsTrue (is_some (least_walk lines c a.1.session a.1.zxid (a.0 + 1) (drop 1 ps)))
 unfolding least_from
@@ -42,11 +42,13 @@ nothing-walked lines c a ps none = rw none refl
 nothing-answered : (lines : List TranscriptLine) (c : ℕ) (ps : List Due) (o : Option (ℕ × Attachment)) → ps ≡ [] → IsConnectAnswered lines c ps o
 nothing-answered lines c ps o none = rw none tt
 
-pub unopened-lawful : (lines : List TranscriptLine) (c : ℕ) → history_fault lines ≡ None → opening c lines ≡ None → IsLawfulAndFresh lines c
-unopened-lawful lines c none unopened =
-    let silent : packets c lines ≡ [] = unopened-silent lines c none unopened in
+pub silent-lawful : (lines : List TranscriptLine) (c : ℕ) → history_fault lines ≡ None → packets c lines ≡ [] → IsLawfulAndFresh lines c
+silent-lawful lines c none silent =
     lawful-when lines c none (record {
       in_time = rw silent refl;
       connected = nothing-answered lines c (packets c lines) (attach_of c lines) silent;
       walks = λ a at. nothing-walked lines c a (packets c lines) silent;
     })
+
+pub unopened-lawful : (lines : List TranscriptLine) (c : ℕ) → history_fault lines ≡ None → opening c lines ≡ None → IsLawfulAndFresh lines c
+unopened-lawful lines c none unopened = silent-lawful lines c none (unopened-silent lines c none unopened)

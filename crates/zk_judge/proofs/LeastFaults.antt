@@ -1,13 +1,13 @@
 -- The least connection that fails, one opening more.
-use Rattle.std.proofs.Common.{◌≡◌, ℕ, ◌<◌, Bool, true, false, ◌==◌, List, [], ◌∷◌, ◌++◌, Option, Some, None, inl, inr, refl, ap, sym, subst, ◌∙◌, eqb-true}
-use Rattle.std.specs.Prelude.{is_some, ◌⊎◌, ⊤, ℤ}
+use Rattle.std.proofs.Common.{◌≡◌, ℕ, Bool, true, false, ◌==◌, List, [], ◌∷◌, ◌++◌, Option, Some, None, inl, inr, refl, ap, sym, subst, ◌∙◌, eqb-true}
+use Rattle.std.specs.Prelude.{is_some, ◌⊎◌, ℤ}
 use Rattle.zk_transcript.specs.declared.transcript.TranscriptLine.{TranscriptLine}
 use Rattle.zk_transcript.specs.declared.transcript.TranscriptLine.TheVariants.{Open}
 use Rattle.zk_transcript.specs.Conversations.{IsLawfulAndFresh}
 use Rattle.zk_transcript.specs.History.{open_shown, opening, when}
 use Rattle.zk_transcript.proofs.Lookups.{first_shown-skip, first_shown-new}
 use Rattle.zk_legal.specs.Faults.{history_fault}
-use Rattle.zk_judge.specs.Faults.{IsBelow, IsFault, IsLeastFault, IsLeastOpened, IsLesser}
+use Rattle.zk_judge.specs.Faults.{IsBelow, IsLeastFault, IsLeastOpened, IsLesser}
 use Rattle.zk_judge.proofs.Lawful.{unopened-lawful}
 
 -- a line that opens nothing
@@ -22,7 +22,7 @@ when-other true x h = refl
 when-other false x h = absurd (cc)
 
 -- a number was opened before, or it is the one that this line opens
-opened-by : (d c p : ℕ) (id : ℤ) (pw : List ℕ) (before : List TranscriptLine) → is_some (opening d (before ++ Open c p id pw ∷ [])) ≡ true → (is_some (opening d before) ≡ true) ⊎ (d ≡ c)
+pub opened-by : (d c p : ℕ) (id : ℤ) (pw : List ℕ) (before : List TranscriptLine) → is_some (opening d (before ++ Open c p id pw ∷ [])) ≡ true → (is_some (opening d before) ≡ true) ⊎ (d ≡ c)
 opened-by d c p id pw before opened = by (opening d before) refl
   where
     by : (o : Option (ℤ × List ℕ)) → opening d before ≡ o → (is_some (opening d before) ≡ true) ⊎ (d ≡ c)

@@ -1,9 +1,13 @@
 pub mod AnswersAsOf
 pub mod Behind
 pub mod EachVerdict
+pub mod Fronts
 pub mod HeaderBytes
 pub mod Lawful
 pub mod LeastFaults
 pub mod OneVerdict
+pub mod Opened
 pub mod Sent
 pub mod Tries
+pub mod Replied
+pub mod Stages

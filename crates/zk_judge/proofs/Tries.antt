@@ -1,18 +1,15 @@
 -- The moments that are tried for a reply.
-use Rattle.std.proofs.Common.{◌≡◌, ℕ, ℤ, ◌+◌, ◌<◌, ◌≤◌, Bool, true, false, ◌&&◌, List, [], ◌∷◌, Option, Some, None, refl, ap, sym, ◌∙◌, arith}
-use Rattle.std.specs.Prelude.{is_some, nat_lt, option_to_list, if◌then◌else◌}
+use Rattle.std.proofs.Common.{◌≡◌, ℕ, ℤ, ◌+◌, ◌<◌, ◌≤◌, Bool, true, false, ◌&&◌, List, [], ◌∷◌, Option, Some, None, refl, arith}
+use Rattle.std.specs.Prelude.{is_some, nat_lt, if◌then◌else◌}
 use Rattle.std.specs.Ordering.{int_eq}
 use Rattle.std.proofs.lemmas.Bool.Decides.{nat_tests}
 use Rattle.zk_transcript.specs.declared.transcript.TranscriptLine.{TranscriptLine}
 use Rattle.zk_model.specs.Codes.{session_expired}
-use Rattle.zk_transcript.specs.Walks.{Walker, Answer, Due, after_update, is_fresh, later_of, move, own_update, placed_frame}
+use Rattle.zk_transcript.specs.Walks.{Walker, Answer, Due, after_update, is_fresh, later_of, move, placed_frame}
 use Rattle.zk_least.specs.LeastWalk.{given, is_allowed, zxid_in}
-use Rattle.zk_least.specs.LeastMoments.{code_in, first_of, lapsed_from, moments_for, moments_to_try}
+use Rattle.zk_least.specs.LeastMoments.{code_in, first_of, lapsed_from, moments_to_try}
 use Rattle.zk_least.specs.LeastReplies.{given_at}
-
--- what an answer as of a moment gives, where it is allowed
-abbrev pub tried : List TranscriptLine → ℕ → ℤ → Walker → List Due → ℕ → Option (Walker × List Due)
-tried lines c id w ps m = if is_allowed lines c id w ps m then given ps (move lines c id w (Answer m)) else None
+use Rattle.zk_judge.specs.Waiting.{tried}
 
 -- ---- one moment
 
@@ -45,7 +42,7 @@ tried-unframed lines c id w ps m none = rw none refl
 
 -- ---- one after the other
 
-first-passes : (lines : List TranscriptLine) (c : ℕ) (id : ℤ) (w : Walker) (ps : List Due) (m : ℕ) (ms : List ℕ) (x : Walker × List Due)
+pub first-passes : (lines : List TranscriptLine) (c : ℕ) (id : ℤ) (w : Walker) (ps : List Due) (m : ℕ) (ms : List ℕ) (x : Walker × List Due)
     → tried lines c id w ps m ≡ Some x → given_at lines c id w ps (first_of (is_allowed lines c id w ps) (m ∷ ms)) ≡ Some x
 first-passes lines c id w ps m ms x is = by (is_allowed lines c id w ps m) is
   where
@@ -60,7 +57,7 @@ no-both true true (Some x) is both none = absurd (cc)
 no-both true false o is both none = absurd (cc)
 no-both false b o is both none = absurd (cc)
 
-first-fails : (lines : List TranscriptLine) (c : ℕ) (id : ℤ) (w : Walker) (ps : List Due) (m : ℕ) (ms : List ℕ)
+pub first-fails : (lines : List TranscriptLine) (c : ℕ) (id : ℤ) (w : Walker) (ps : List Due) (m : ℕ) (ms : List ℕ)
     → tried lines c id w ps m ≡ None → given_at lines c id w ps (first_of (is_allowed lines c id w ps) (m ∷ ms)) ≡ given_at lines c id w ps (first_of (is_allowed lines c id w ps) ms)
 first-fails lines c id w ps m ms is = by (is_allowed lines c id w ps m) refl is
   where
@@ -68,41 +65,6 @@ first-fails lines c id w ps m ms is = by (is_allowed lines c id w ps m) refl is
         → given_at lines c id w ps (if b then Some m else first_of (is_allowed lines c id w ps) ms) ≡ given_at lines c id w ps (first_of (is_allowed lines c id w ps) ms)
     by true e none = absurd (no-both (is_fresh lines c w.next (Answer m)) (is_some (given ps (move lines c id w (Answer m)))) (given ps (move lines c id w (Answer m))) refl e none)
     by false e none = refl
-
-last-is : (lines : List TranscriptLine) (c : ℕ) (id : ℤ) (w : Walker) (ps : List Due) (m : ℕ) → given_at lines c id w ps (first_of (is_allowed lines c id w ps) (m ∷ [])) ≡ tried lines c id w ps m
-last-is lines c id w ps m = by (is_allowed lines c id w ps m)
-  where
-    by : (b : Bool) → ◌≡◌ {A = Option (Walker × List Due)} (given_at lines c id w ps (if b then Some m else None)) (if b then given ps (move lines c id w (Answer m)) else None)
-    by true = refl
-    by false = refl
-
--- ---- the moments of a reply
-
-pub answer-first : (lines : List TranscriptLine) (c : ℕ) (id : ℤ) (w : Walker) (ps : List Due) (bytes : List ℕ) (f : ℕ × List ℕ) (m : ℕ) (o : Option ℕ) (x : Walker × List Due)
-    → placed_frame c w.next lines ≡ Some f → (m ∷ option_to_list o) ≡ moments_to_try lines id w f.0 bytes (own_update c w.next lines) → tried lines c id w ps m ≡ Some x
-    → Some x ≡ given_at lines c id w ps (first_of (is_allowed lines c id w ps) (moments_for lines c id w bytes (placed_frame c w.next lines)))
-answer-first lines c id w ps bytes f m o x framed moments is =
-    sym (first-passes lines c id w ps m (option_to_list o) x is)
-    ∙ ap (λ ms. given_at lines c id w ps (first_of (is_allowed lines c id w ps) ms)) (moments ∙ ap (moments_for lines c id w bytes) (sym framed))
-
-pub answer-second : (lines : List TranscriptLine) (c : ℕ) (id : ℤ) (w : Walker) (ps : List Due) (bytes : List ℕ) (f : ℕ × List ℕ) (m n : ℕ)
-    → placed_frame c w.next lines ≡ Some f → (m ∷ n ∷ []) ≡ moments_to_try lines id w f.0 bytes (own_update c w.next lines) → tried lines c id w ps m ≡ None
-    → tried lines c id w ps n ≡ given_at lines c id w ps (first_of (is_allowed lines c id w ps) (moments_for lines c id w bytes (placed_frame c w.next lines)))
-answer-second lines c id w ps bytes f m n framed moments none =
-    sym (last-is lines c id w ps n)
-    ∙ sym (first-fails lines c id w ps m (n ∷ []) none)
-    ∙ ap (λ ms. given_at lines c id w ps (first_of (is_allowed lines c id w ps) ms)) (moments ∙ ap (moments_for lines c id w bytes) (sym framed))
-
-pub answer-none : (lines : List TranscriptLine) (c : ℕ) (id : ℤ) (w : Walker) (ps : List Due) (bytes : List ℕ) (f : ℕ × List ℕ) (m : ℕ)
-    → placed_frame c w.next lines ≡ Some f → (m ∷ []) ≡ moments_to_try lines id w f.0 bytes (own_update c w.next lines) → tried lines c id w ps m ≡ None
-    → None ≡ given_at lines c id w ps (first_of (is_allowed lines c id w ps) (moments_for lines c id w bytes (placed_frame c w.next lines)))
-answer-none lines c id w ps bytes f m framed moments none =
-    sym (first-fails lines c id w ps m [] none)
-    ∙ ap (λ ms. given_at lines c id w ps (first_of (is_allowed lines c id w ps) ms)) (moments ∙ ap (moments_for lines c id w bytes) (sym framed))
-
-pub answer-unframed : (lines : List TranscriptLine) (c : ℕ) (id : ℤ) (w : Walker) (ps : List Due) (bytes : List ℕ) → placed_frame c w.next lines ≡ None
-    → None ≡ given_at lines c id w ps (first_of (is_allowed lines c id w ps) (moments_for lines c id w bytes (placed_frame c w.next lines)))
-answer-unframed lines c id w ps bytes none = rw none refl
 
 -- of a request that has no line of its own
 pub open-moments : (lines : List TranscriptLine) (id : ℤ) (w : Walker) (place : ℕ) (bytes : List ℕ) (m u a : ℕ) (ms : List ℕ)

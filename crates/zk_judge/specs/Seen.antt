@@ -12,6 +12,7 @@ use Rattle.zk_judge.specs.declared.frames.FrameRead.TheVariants as read
 use Rattle.zk_judge.specs.declared.walker.Walker.{Walker as Walking}
 use Rattle.zk_judge.specs.declared.walker.Step.{Step}
 use Rattle.zk_judge.specs.declared.walker.Fired.{Fired}
+use Rattle.zk_judge.specs.declared.queues.Taken.{Taken}
 use Rattle.zk_judge.specs.declared.answers.Ending.{Ending}
 use denote.Ref.{Bor}
 
@@ -42,6 +43,10 @@ ending_of e = (e.is_over, told_of e.told)
 -- a step with the packets that it leaves
 abbrev pub left_by : List Due → Step → Walker × List Due
 left_by ps s = (walker_of s.walker, drop (length s.due.items) ps)
+
+-- the same, by how many packets it took
+abbrev pub taken_by : List Due → Taken → Walker × List Due
+taken_by ps t = (walker_of t.walker, drop t.count ps)
 
 -- the answer to a frame at a place that may be answered as of the moment behind these lines
 abbrev pub answer_behind : List TranscriptLine → ℕ → ℤ → Walker → Option (ℕ × UpdateRec) → ℕ → Frame → Option (Walker × List Due)

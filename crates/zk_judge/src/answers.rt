@@ -6,14 +6,15 @@ ghost use Rattle.zk_transcript.specs.History.{after};
 ghost use Rattle.zk_transcript.specs.Answers.{limit_in, plain_reply as plain_reply_of, session_refusal as session_refusal_of, session_seen};
 ghost use Rattle.zk_transcript.specs.Walks.{closes_session as closes_session_of, looked as looked_of, response_at as response_at_of, told_as_of as told_as_of_of, told_by_state as told_by_state_of};
 ghost use Rattle.zk_answers.specs.Outcomes.{told_of};
+ghost use Rattle.zk_judge.specs.Fronts.{IsFront};
 ghost use Rattle.zk_judge.specs.Seen.{ending_of, frame_as};
 
-use crate::firing::state_of;
 use crate::frames::{FrameRead, plain_reply, refused};
+use crate::index::Index;
 use crate::walker::Party;
 use std::alloc::Global;
 use zk_answers::{Told, Watches, tree_reply};
-use zk_history::{State, asked_commit};
+use zk_history::{State, asked_commit, state_at};
 use zk_model::code::{SESSION_EXPIRED, SESSION_MOVED};
 use zk_model::{Body, Reply};
 use zk_transcript::{TranscriptLine, UpdateKind, UpdateRec};
@@ -109,22 +110,24 @@ fn told_by_state(
 /// The response to a request that an update carried out, by what that did.
 fn response_at(
     alloc: Global,
-    past: &[TranscriptLine],
+    index: &Index,
     place: usize,
     update: UpdateRec,
 ) -> Result<Option<Body>, Memory>
-    requires { place < length past.now }
-    ensures { IfOk result (λ o. o ≡ response_at_of past.now place update.zxid update.kind) }
+    requires within { place < length index.now.lines.now }
+    ensures { IfOk result (λ o. o ≡ response_at_of index.now.lines.now place update.zxid update.kind) }
 {
     match update.kind {
         UpdateKind::Asked {
             connection,
-            index,
+            index: asked,
             now,
         } => {
-            let before = &past[..place];
-            let state = state_of(alloc, past, place)?;
-            match asked_commit(alloc, before, &state, update.zxid, connection, index, now) {
+            let before = &index.lines[..place];
+            let Ok(state) = state_at(alloc, index.lines, place) else {
+                return Err(Memory);
+            };
+            match asked_commit(alloc, before, &state, update.zxid, connection, asked, now) {
                 Ok(Some(commit)) => Ok(Some(commit.response)),
                 Ok(None) => Ok(None),
                 Err(_) => Err(Memory),
@@ -148,6 +151,7 @@ fn closes_session(kind: UpdateKind) -> bool
 #[tactic(auto, unfolding(zk_transcript::specs::Walks::told_as_of))]
 fn told_of_own(
     alloc: Global,
+    index: &Index,
     past: &[TranscriptLine],
     party: Party,
     frame: &FrameRead,
@@ -155,12 +159,13 @@ fn told_of_own(
     place: usize,
     update: UpdateRec,
 ) -> Result<Option<Ending>, Memory>
+    requires front { IsFront past.now index.now.lines.now }
     ensures { IfOk result (λ o. option_map ending_of o ≡ told_as_of_of past.now party.connection party.session (frame_as frame.now) watches.now (Some (place, update))) }
 {
     if past.len() == 0 || past.len() - 1 != place {
         return Ok(None);
     }
-    match response_at(alloc, past, place, update)? {
+    match response_at(alloc, index, place, update)? {
         Some(response) => Ok(Some(Ending {
             told: Told {
                 reply: Reply::Good(response),
@@ -177,6 +182,7 @@ fn told_of_own(
 #[tactic(auto, unfolding(zk_transcript::specs::Walks::told_as_of))]
 pub fn told_as_of(
     alloc: Global,
+    index: &Index,
     past: &[TranscriptLine],
     state: &State,
     party: Party,
@@ -184,11 +190,14 @@ pub fn told_as_of(
     watches: &Watches,
     own: Option<(usize, UpdateRec)>,
 ) -> Result<Option<Ending>, Memory>
-    requires { state.now ≡ after past.now }
+    requires front { IsFront past.now index.now.lines.now }
+    requires state { state.now ≡ after past.now }
     ensures { IfOk result (λ o. option_map ending_of o ≡ told_as_of_of past.now party.connection party.session (frame_as frame.now) watches.now own) }
 {
     match own {
-        Some((place, update)) => told_of_own(alloc, past, party, frame, watches, place, update),
+        Some((place, update)) => told_of_own(
+            alloc, index, past, party, frame, watches, place, update,
+        ),
         None => told_by_state(alloc, state, party, frame, watches),
     }
 }

@@ -1,39 +1,27 @@
 //! The updates that a client has not been told of fire its watches.
 
-ghost use Rattle.std.specs.Prelude.{◌≡◌, ◌<◌, true, length, option_map, IfOk};
-ghost use Rattle.zk_transcript.specs.History.{state_at as state_at_of};
-ghost use Rattle.zk_transcript.specs.Walks.{entry_step, fired_above as fired_above_of, is_above as is_above_of, then_fired};
-ghost use Rattle.zk_judge.specs.Seen.{fired_of, step_of, walker_of};
+ghost use Rattle.std.specs.Prelude.{◌≡◌, ◌<◌, Some, true, length, slice_get, IfOk};
+ghost use Rattle.zk_transcript.specs.declared.transcript.TranscriptLine.{TranscriptLine as Line};
+ghost use Rattle.zk_transcript.specs.Walks.{fired_above as fired_above_of, is_above as is_above_of, then_fired};
+ghost use Rattle.zk_judge.specs.Seen.{fired_of, walker_of};
+ghost use Rattle.zk_judge.specs.Fronts.{IsFront, IsTold};
 
+use crate::index::Index;
 use crate::packets::add_notices;
-use crate::places::next_update;
-use crate::walker::{Fired, Step, Walker};
+use crate::walker::{Fired, Walker};
 use std::alloc::Global;
-use zk_history::{State, state_at};
+use zk_history::state_at;
 use zk_transcript::TranscriptLine;
 use zx_base::Memory;
 
-/// The state at a moment. A count beyond its field is as if memory were refused.
-pub fn state_of(alloc: Global, lines: &[TranscriptLine], moment: usize) -> Result<State, Memory>
-    ensures { IfOk result (λ s. s ≡ state_at_of lines.now moment) }
+/// The update at a place fires its triggers. A count beyond its field is as if memory were refused.
+fn fire_at(alloc: Global, index: &Index, place: usize, fired: Fired) -> Result<Fired, Memory>
+    requires within { place < length index.now.lines.now }
+    ensures { IfOk result (λ f. fired_of f ≡ then_fired index.now.lines.now place true (fired_of fired)) }
 {
-    match state_at(alloc, lines, moment) {
-        Ok(state) => Ok(state),
-        Err(_) => Err(Memory),
-    }
-}
-
-/// The update at a place fires its triggers.
-fn fire_at(
-    alloc: Global,
-    lines: &[TranscriptLine],
-    place: usize,
-    fired: Fired,
-) -> Result<Fired, Memory>
-    requires { place < length lines.now }
-    ensures { IfOk result (λ f. fired_of f ≡ then_fired lines.now place true (fired_of fired)) }
-{
-    let state = state_of(alloc, lines, place + 1)?;
+    let Ok(state) = state_at(alloc, index.lines, place + 1) else {
+        return Err(Memory);
+    };
     let Fired { watches, due } = fired;
     let seen = watches.fire_all(alloc, state.triggers())?;
     let mut due = due;
@@ -53,67 +41,48 @@ fn is_above(line: &TranscriptLine, zxid: i64) -> bool
     }
 }
 
-/// A line that is an update above a zxid fires its triggers.
+/// A line that is an update above the place of a walker fires its triggers.
 fn then_fire(
     alloc: Global,
-    lines: &[TranscriptLine],
+    index: &Index,
     place: usize,
-    is_fired: bool,
+    walker: &Walker,
     fired: Fired,
 ) -> Result<Fired, Memory>
-    requires { place < length lines.now }
-    ensures { IfOk result (λ f. fired_of f ≡ then_fired lines.now place is_fired (fired_of fired)) }
+    requires { place < length index.now.lines.now }
+    ensures { IfOk result (λ f. (l : Line) → slice_get index.now.lines.now place ≡ Some l → fired_of f ≡ then_fired index.now.lines.now place (is_above_of walker.now.zxid l) (fired_of fired)) }
 {
-    if is_fired {
-        fire_at(alloc, lines, place, fired)
+    if is_above(&index.lines[place], walker.zxid) {
+        fire_at(alloc, index, place, fired)
     } else {
         Ok(fired)
     }
 }
 
-/// The updates above a zxid fire in order.
-#[tactic(auto, unfolding(zk_transcript::specs::Walks::fired_above))]
-pub fn fire_above(alloc: Global, past: &[TranscriptLine], walker: &Walker) -> Result<Fired, Memory>
+/// The updates among these first lines that stand above the place of a walker fire in order. Those before its last update are
+/// passed over, and so are lines without an update.
+pub fn fire_above(
+    alloc: Global,
+    index: &Index,
+    past: &[TranscriptLine],
+    walker: &Walker,
+) -> Result<Fired, Memory>
+    requires front { IsFront past.now index.now.lines.now }
+    requires told { IsTold index.now.lines.now (walker_of walker.now) }
     ensures { IfOk result (λ f. fired_of f ≡ fired_above_of past.now walker.now.zxid walker.now.watches) }
 {
     let mut fired = Fired {
         watches: walker.watches.copy(alloc)?,
         due: Vec::new(alloc),
     };
-    for (place, line) in past.iter().enumerate() {
-        fired = then_fire(alloc, past, place, is_above(line, walker.zxid), fired)?;
+    let mut at = walker.since;
+    'updates: while at < past.len() {
+        let place = index.next_update(at);
+        if past.len() <= place {
+            return Ok(fired);
+        }
+        fired = then_fire(alloc, index, place, walker, fired)?;
+        at = place + 1;
     }
     Ok(fired)
-}
-
-/// The next update is told, where something is armed.
-pub fn tell(
-    alloc: Global,
-    lines: &[TranscriptLine],
-    walker: &Walker,
-) -> Result<Option<Step>, Memory>
-    ensures { IfOk result (λ o. option_map step_of o ≡ entry_step lines.now (walker_of walker.now)) }
-{
-    if walker.watches.is_unarmed() {
-        return Ok(None);
-    }
-    let Some((place, zxid)) = next_update(lines, walker.zxid) else {
-        return Ok(None);
-    };
-    let untold = Fired {
-        watches: walker.watches.copy(alloc)?,
-        due: Vec::new(alloc),
-    };
-    let fired = fire_at(alloc, lines, place, untold)?;
-    Ok(Some(Step {
-        walker: Walker {
-            zxid,
-            since: place + 1,
-            watches: fired.watches,
-            next: walker.next,
-            moment: walker.moment,
-            is_over: walker.is_over,
-        },
-        due: fired.due,
-    }))
 }

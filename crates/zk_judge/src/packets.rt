@@ -1,11 +1,12 @@
 //! The packets that a connection was sent, and those that are due.
 
-ghost use Rattle.std.specs.Prelude.{◌≡◌, ◌&&◌, ◌++◌, ◌∷◌, [], ℕ, List, bytes_eq, drop, length, nat_le, take, if◌then◌else◌, slice_index, Some, None, option_map, IfOk, IsTrue, OnOk, ◌≤◌};
+ghost use Rattle.std.specs.Prelude.{◌≡◌, ◌&&◌, ◌++◌, ◌∷◌, [], ℕ, List, bytes_eq, drop, length, nat_le, take, if◌then◌else◌, slice_get, slice_index, Some, None, option_map, IfOk, IsTrue, OnOk, ◌≤◌};
 ghost use Rattle.std.specs.Int.{from_be_bytes, w32, w64};
 ghost use Rattle.zk_jute.specs.Packets.{notice_packet as notice_packet_of, reply_packet as reply_packet_of};
 ghost use Rattle.zk_transcript.specs.Walks.{due_notices, packets, packets_from};
 ghost use Rattle.zk_least.specs.LeastWalk.{behind, next_reply as next_reply_of, zxid_in as zxid_in_of};
 ghost use Rattle.zk_least.specs.LeastMoments.{code_in as code_in_of};
+ghost use Rattle.zk_judge.specs.Seen.{placed_bytes};
 ghost use Rattle.zk_least.specs.LeastQueues.{is_apart as is_apart_of, is_front as is_front_of};
 
 use std::alloc::Global;
@@ -52,6 +53,25 @@ pub fn packets_of(
         push_sent(alloc, &mut sent, connection, place, line)?;
     }
     Ok(sent)
+}
+
+/// The first packet, with its place.
+pub fn first_packet(packets: &[Due]) -> Option<(usize, &[u8])>
+    ensures { option_map placed_bytes result ≡ slice_get packets.now 0 }
+{
+    if packets.len() == 0 {
+        return None;
+    }
+    let (place, bytes) = &packets[0];
+    Some((*place, bytes.as_slice()))
+}
+
+/// The packets behind the first ones, of which there are so many.
+pub fn packets_behind(packets: &Vec<Due>, taken: usize) -> &[Due]
+    requires { taken ≤ length packets.now.items }
+    ensures { result.now ≡ drop taken packets.now.items }
+{
+    &packets[taken..]
 }
 
 /// The packet of a reply. One whose length is no int is as if memory were refused.

@@ -1,9 +1,11 @@
 //! The first lines that show something, with their places.
 
-ghost use Rattle.std.specs.Prelude.{◌≡◌, ◌<◌, length, option_map, IfSome};
+ghost use Rattle.std.specs.Prelude.{◌≡◌, ◌<◌, ◌≤◌, ℕ, Some, true, length, option_map, slice_get, IfSome};
+ghost use Rattle.zk_transcript.specs.declared.transcript.UpdateRec.{UpdateRec as Updated};
+ghost use Rattle.zk_transcript.specs.declared.transcript.TranscriptLine.TheVariants.{Update};
 ghost use Rattle.zk_transcript.specs.Conversations.{close_shown as close_shown_of};
 ghost use Rattle.zk_transcript.specs.History.{first_place, when};
-ghost use Rattle.zk_transcript.specs.Walks.{above_shown as above_shown_of, after_update as after_update_of, next_update as next_update_of, own_update as own_update_of, own_update_shown as own_update_shown_of, placed_frame as placed_frame_of, update_shown as update_shown_of};
+ghost use Rattle.zk_transcript.specs.Walks.{own_update as own_update_of, own_update_shown as own_update_shown_of, placed_frame as placed_frame_of, update_shown as update_shown_of};
 ghost use Rattle.zk_least.specs.LeastMoments.{lapse_shown as lapse_shown_of, lapsed_from as lapsed_from_of};
 ghost use Rattle.zk_judge.specs.Seen.{placed_bytes};
 
@@ -61,28 +63,6 @@ pub fn own_update(
     None
 }
 
-fn above_shown(line: &TranscriptLine, zxid: i64) -> Option<i64>
-    ensures { result ≡ above_shown_of zxid line.now }
-{
-    match line {
-        TranscriptLine::Update(update) if zxid < update.zxid => Some(update.zxid),
-        _ => None,
-    }
-}
-
-/// The first update above a zxid.
-pub fn next_update(lines: &[TranscriptLine], zxid: i64) -> Option<(usize, i64)>
-    ensures shown { result ≡ next_update_of zxid lines.now }
-    ensures within { IfSome result (λ x. x.0 < length lines.now) }
-{
-    for (place, line) in lines.iter().enumerate() {
-        if let Some(next) = above_shown(line, zxid) {
-            return Some((place, next));
-        }
-    }
-    None
-}
-
 fn is_update_of(line: &TranscriptLine, zxid: i64) -> bool
     ensures { update_shown_of zxid line.now ≡ when result zxid }
 {
@@ -92,16 +72,17 @@ fn is_update_of(line: &TranscriptLine, zxid: i64) -> bool
     }
 }
 
-/// The moment right behind the update of a zxid, or 0.
-pub fn after_update(lines: &[TranscriptLine], zxid: i64) -> usize
-    ensures { result ≡ after_update_of zxid lines.now }
+/// The place of the update of a zxid.
+pub fn update_place(lines: &[TranscriptLine], zxid: i64) -> Option<usize>
+    ensures placed { option_map (λ k. (k, zxid)) result ≡ first_place (update_shown_of zxid) 0 lines.now }
+    ensures within { IfSome result (λ k. k < length lines.now) }
 {
     for (place, line) in lines.iter().enumerate() {
         if is_update_of(line, zxid) {
-            return place + 1;
+            return Some(place);
         }
     }
-    0
+    None
 }
 
 fn is_close_of(line: &TranscriptLine, connection: u32) -> bool
@@ -150,4 +131,28 @@ pub fn lapsed_from(lines: &[TranscriptLine], session: i64, moment: usize) -> usi
         }
     }
     0
+}
+
+fn is_update(line: &TranscriptLine) -> bool
+    ensures { (u : Updated) → line.now ≡ Update u → result ≡ true }
+{
+    match line {
+        TranscriptLine::Update(_) => true,
+        _ => false,
+    }
+}
+
+/// The place of the first update from a place on, or the number of lines.
+pub fn next_update(lines: &[TranscriptLine], from: usize) -> usize
+    requires { from ≤ length lines.now }
+    ensures from { from ≤ result }
+    ensures within { result ≤ length lines.now }
+    ensures none { (k : ℕ) (u : Updated) → from ≤ k → k < result → slice_get lines.now k ≡ Some (Update u) → ⊥ }
+{
+    for place in from..lines.len() {
+        if is_update(&lines[place]) {
+            return place;
+        }
+    }
+    lines.len()
 }

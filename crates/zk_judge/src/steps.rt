@@ -2,16 +2,17 @@
 
 ghost use Rattle.std.specs.Prelude.{◌≡◌, ◌&&◌, ◌+◌, ◌<◌, ◌++◌, ◌∷◌, ◌^◌, [], Some, length, option_map, IfOk};
 ghost use Rattle.zk_transcript.specs.Answers.{xid_of as xid_of_of};
-ghost use Rattle.zk_transcript.specs.History.{after};
-ghost use Rattle.zk_transcript.specs.Walks.{Answer, Plain, answer_as_of as answer_as_of_of, answer_plainly as answer_plainly_of, due_notices, is_auth_refusal as is_auth_refusal_of, has_header as has_header_of, later_of as later_of_of, may_answer_at, move, plain_answer as plain_answer_of, reply_step as reply_step_of, reply_step_if as reply_step_if_of, told_as_of as told_as_of_of};
+ghost use Rattle.zk_transcript.specs.History.{after, state_at};
+ghost use Rattle.zk_transcript.specs.Walks.{Answer, Plain, after_update as after_update_of, answer_as_of as answer_as_of_of, answer_plainly as answer_plainly_of, due_notices, is_auth_refusal as is_auth_refusal_of, has_header as has_header_of, later_of as later_of_of, may_answer_at, move, plain_answer as plain_answer_of, reply_step as reply_step_of, reply_step_if as reply_step_if_of, told_as_of as told_as_of_of};
+ghost use Rattle.zk_judge.specs.Fronts.{IsFront, IsTold};
 ghost use Rattle.zk_judge.specs.Seen.{answer_behind as answer_behind_of, ending_of, frame_as, step_of, walker_of};
 ghost use Rattle.zk_answers.specs.Outcomes.{told_of};
 
 use crate::answers::{Ending, told_as_of};
-use crate::firing::{fire_above, state_of};
+use crate::firing::fire_above;
 use crate::frames::{FrameRead, frame_of, has_header, plain_reply, xid_of};
+use crate::index::Index;
 use crate::packets::{Due, add_notices, reply_packet};
-use crate::places::{after_update, own_update, placed_frame};
 use crate::walker::{Fired, Party, Step, Walker};
 use std::alloc::Global;
 use zk_answers::Told;
@@ -100,16 +101,16 @@ fn answer_frame_plainly(
 /// The next frame is answered without the tree, which repeats the place.
 pub fn answer_plainly(
     alloc: Global,
-    lines: &[TranscriptLine],
+    index: &Index,
     party: Party,
     walker: &Walker,
 ) -> Result<Option<Step>, Memory>
-    ensures { IfOk result (λ o. option_map step_of o ≡ move lines.now party.connection party.session (walker_of walker.now) Plain) }
+    ensures { IfOk result (λ o. option_map step_of o ≡ move index.now.lines.now party.connection party.session (walker_of walker.now) Plain) }
 {
     if walker.is_over {
         return Ok(None);
     }
-    match placed_frame(lines, party.connection, walker.next) {
+    match index.placed_frame(party.connection, walker.next) {
         Some((place, bytes)) => answer_frame_plainly(alloc, walker, place, bytes),
         None => Ok(None),
     }
@@ -133,9 +134,21 @@ fn reply_due(
     Ok(due)
 }
 
+/// The moment right behind the update of a zxid among these first lines, or 0.
+fn since_of(index: &Index, past: &[TranscriptLine], zxid: i64) -> usize
+    requires { IsFront past.now index.now.lines.now }
+    ensures { result ≡ after_update_of zxid past.now }
+{
+    match index.update_place(zxid) {
+        Some(place) if place < past.len() => place + 1,
+        _ => 0,
+    }
+}
+
 /// An answer as of the moment behind these lines, which lead to a state with this zxid.
 fn reply_step(
     alloc: Global,
+    index: &Index,
     past: &[TranscriptLine],
     zxid: i64,
     walker: &Walker,
@@ -144,6 +157,7 @@ fn reply_step(
     fired: Vec<Due>,
     ending: Ending,
 ) -> Result<Step, Memory>
+    requires front { IsFront past.now index.now.lines.now }
     requires zxid { zxid ≡ (after past.now).zxid }
     requires place { place + 1 < 2 ^ 64 }
     ensures { IfOk result (λ s. step_of s ≡ reply_step_of past.now (walker_of walker.now) place xid fired.items (ending_of ending)) }
@@ -154,7 +168,7 @@ fn reply_step(
         notices,
         watches,
     } = told;
-    let since = after_update(past, zxid);
+    let since = since_of(index, past, zxid);
     let first = later_of(past.len(), place + 1);
     let packet = reply_packet(alloc, xid, zxid, &answer)?;
     let due = reply_due(alloc, fired, since, first, notices.as_slice(), packet)?;
@@ -182,6 +196,7 @@ fn may_answer(past: &[TranscriptLine], state: &State, walker: &Walker, frame: &F
 /// The answer, where something is told.
 fn reply_step_if(
     alloc: Global,
+    index: &Index,
     past: &[TranscriptLine],
     zxid: i64,
     walker: &Walker,
@@ -190,12 +205,15 @@ fn reply_step_if(
     fired: Vec<Due>,
     ending: Option<Ending>,
 ) -> Result<Option<Step>, Memory>
+    requires front { IsFront past.now index.now.lines.now }
     requires zxid { zxid ≡ (after past.now).zxid }
     requires place { place + 1 < 2 ^ 64 }
     ensures { IfOk result (λ o. option_map step_of o ≡ reply_step_if_of past.now (walker_of walker.now) place xid fired.items (option_map ending_of ending)) }
 {
     match ending {
-        Some(ending) => Ok(Some(reply_step(alloc, past, zxid, walker, place, xid, fired, ending)?)),
+        Some(ending) => Ok(Some(reply_step(
+            alloc, index, past, zxid, walker, place, xid, fired, ending,
+        )?)),
         None => Ok(None),
     }
 }
@@ -203,6 +221,7 @@ fn reply_step_if(
 /// A frame that may be answered as of the moment behind these lines, which lead to this state, is answered after what fired.
 fn answer_fired(
     alloc: Global,
+    index: &Index,
     past: &[TranscriptLine],
     state: &State,
     party: Party,
@@ -212,14 +231,16 @@ fn answer_fired(
     frame: &FrameRead,
     fired: Fired,
 ) -> Result<Option<Step>, Memory>
+    requires front { IsFront past.now index.now.lines.now }
     requires state { state.now ≡ after past.now }
     requires place { place + 1 < 2 ^ 64 }
     ensures { IfOk result (λ o. option_map step_of o ≡ reply_step_if_of past.now (walker_of walker.now) place (xid_of_of (frame_as frame.now)) fired.due.items (told_as_of_of past.now party.connection party.session (frame_as frame.now) fired.watches own)) }
 {
     let Fired { watches, due } = fired;
-    let ending = told_as_of(alloc, past, state, party, frame, &watches, own)?;
+    let ending = told_as_of(alloc, index, past, state, party, frame, &watches, own)?;
     reply_step_if(
         alloc,
+        index,
         past,
         state.zxid(),
         walker,
@@ -233,6 +254,7 @@ fn answer_fired(
 /// The same, behind what the updates above the place fire.
 fn answer_behind(
     alloc: Global,
+    index: &Index,
     past: &[TranscriptLine],
     state: &State,
     party: Party,
@@ -241,55 +263,76 @@ fn answer_behind(
     place: usize,
     frame: &FrameRead,
 ) -> Result<Option<Step>, Memory>
+    requires told { IsTold index.now.lines.now (walker_of walker.now) }
+    requires front { IsFront past.now index.now.lines.now }
     requires state { state.now ≡ after past.now }
     requires place { place + 1 < 2 ^ 64 }
     ensures { IfOk result (λ o. option_map step_of o ≡ answer_behind_of past.now party.connection party.session (walker_of walker.now) own place (frame_as frame.now)) }
 {
-    let fired = fire_above(alloc, past, walker)?;
-    answer_fired(alloc, past, state, party, walker, own, place, frame, fired)
+    let fired = fire_above(alloc, index, past, walker)?;
+    answer_fired(
+        alloc, index, past, state, party, walker, own, place, frame, fired,
+    )
 }
 
-/// A frame is answered as of the moment behind these lines.
+/// A frame is answered as of the moment behind these lines, which lead to this state.
 fn answer_frame_as_of(
     alloc: Global,
+    index: &Index,
     past: &[TranscriptLine],
+    state: &State,
     party: Party,
     walker: &Walker,
     own: Option<(usize, UpdateRec)>,
     place: usize,
     bytes: &[u8],
 ) -> Result<Option<Step>, Memory>
-    requires { place + 1 < 2 ^ 64 }
+    requires told { IsTold index.now.lines.now (walker_of walker.now) }
+    requires front { IsFront past.now index.now.lines.now }
+    requires state { state.now ≡ after past.now }
+    requires place { place + 1 < 2 ^ 64 }
     ensures { IfOk result (λ o. option_map step_of o ≡ answer_as_of_of past.now party.connection party.session (walker_of walker.now) own (Some (place, bytes.now))) }
 {
-    let state = state_of(alloc, past, past.len())?;
     let frame = frame_of(alloc, bytes)?;
-    if !may_answer(past, &state, walker, &frame) {
+    if !may_answer(past, state, walker, &frame) {
         return Ok(None);
     }
-    answer_behind(alloc, past, &state, party, walker, own, place, &frame)
+    answer_behind(alloc, index, past, state, party, walker, own, place, &frame)
 }
 
-/// The next frame is answered as of a moment.
+/// The next frame is answered as of a moment, whose state this is.
 pub fn answer_as_of(
     alloc: Global,
-    lines: &[TranscriptLine],
+    index: &Index,
+    state: &State,
     party: Party,
     walker: &Walker,
     moment: usize,
 ) -> Result<Option<Step>, Memory>
-    ensures { IfOk result (λ o. option_map step_of o ≡ move lines.now party.connection party.session (walker_of walker.now) (Answer moment)) }
+    requires told { IsTold index.now.lines.now (walker_of walker.now) }
+    requires state { state.now ≡ state_at index.now.lines.now moment }
+    ensures { IfOk result (λ o. option_map step_of o ≡ move index.now.lines.now party.connection party.session (walker_of walker.now) (Answer moment)) }
 {
     if walker.is_over {
         return Ok(None);
     }
-    if lines.len() < moment {
+    if index.lines.len() < moment {
         return Ok(None);
     }
-    match placed_frame(lines, party.connection, walker.next) {
+    match index.placed_frame(party.connection, walker.next) {
         Some((place, bytes)) => {
-            let own = own_update(lines, party.connection, walker.next);
-            answer_frame_as_of(alloc, &lines[..moment], party, walker, own, place, bytes)
+            let own = index.own_update(party.connection, walker.next);
+            answer_frame_as_of(
+                alloc,
+                index,
+                &index.lines[..moment],
+                state,
+                party,
+                walker,
+                own,
+                place,
+                bytes,
+            )
         }
         None => Ok(None),
     }

@@ -1,6 +1,11 @@
 //! How far a connection has come.
 
+ghost use Rattle.std.specs.Prelude.{◌≡◌};
+ghost use Rattle.zk_transcript.specs.Walks.{at_start};
+ghost use Rattle.zk_judge.specs.Seen.{walker_of};
+
 use crate::packets::Due;
+use std::alloc::Global;
 use zk_answers::Watches;
 
 /// The connection whose conversation is judged: its number and its session.
@@ -23,6 +28,22 @@ pub struct Walker {
     pub moment: usize,
     /// No request is answered any more.
     pub is_over: bool,
+}
+
+impl Walker {
+    /// A connection whose session was attached at this zxid, by the update before this moment.
+    pub fn new(alloc: Global, zxid: i64, since: usize) -> Walker
+        ensures { walker_of result ≡ at_start zxid since }
+    {
+        Walker {
+            zxid,
+            since,
+            watches: Watches::new(alloc),
+            next: 1,
+            moment: 0,
+            is_over: false,
+        }
+    }
 }
 
 /// A step: how far the connection has come with it, and the packets that are due with it.

@@ -1,7 +1,10 @@
-use Rattle.std.proofs.Common.{◌≡◌, drop}
-use Rattle.zk_transcript.specs.Walks.{fired_above, fired_from}
+use Rattle.std.proofs.Common.{◌≡◌, ◌-◌, length, take}
+use Rattle.zk_transcript.specs.Walks.{fired_above}
 use Rattle.zk_judge.specs.Seen.{fired_of}
 use Rattle.zk_judge.proofs.firing.fire_above.Given as goal
 
-abbrev pub invariant-loop-place : goal.invariant-loop-place
-invariant-loop-place l = fired_above l.past l.walker.zxid l.walker.watches ≡ fired_from l.past l.walker.zxid l.place (drop l.place l.past) (fired_of l.fired)
+abbrev pub invariant-updates : goal.invariant-updates
+invariant-updates l = fired_of l.fired ≡ fired_above (take l.at l.past) l.walker.zxid l.walker.watches
+
+abbrev pub decreases-updates : goal.decreases-updates
+decreases-updates l = length l.past - l.at

@@ -1,7 +1,8 @@
-use Rattle.std.proofs.Common.{◌≡◌, drop}
-use Rattle.zk_transcript.specs.History.{first_place}
-use Rattle.zk_transcript.specs.Walks.{above_shown}
+use Rattle.std.proofs.Common.{◌≡◌, ℕ, ◌≤◌, ◌<◌}
+use Rattle.std.specs.Prelude.{Some, slice_get}
+use Rattle.zk_transcript.specs.declared.transcript.UpdateRec.{UpdateRec}
+use Rattle.zk_transcript.specs.declared.transcript.TranscriptLine.TheVariants.{Update}
 use Rattle.zk_judge.proofs.places.next_update.Given as goal
 
 abbrev pub invariant-loop-place : goal.invariant-loop-place
-invariant-loop-place l = first_place (above_shown l.zxid) 0 l.lines ≡ first_place (above_shown l.zxid) l.place (drop l.place l.lines)
+invariant-loop-place l = (k : ℕ) (u : UpdateRec) → l.from ≤ k → k < l.place → slice_get l.lines k ≡ Some (Update u) → ⊥

@@ -1,4 +1,4 @@
-use Rattle.std.proofs.Common.{◌≡◌, List, Option, Some, true, false, ◌&&◌, subst, IfOk}
+use Rattle.std.proofs.Common.{◌≡◌, List, Option, true, false, ◌&&◌, subst, IfOk}
 use Rattle.std.specs.Prelude.{option_map}
 use Rattle.zk_transcript.specs.Walks.{Walker, Due, has_header, may_answer_at}
 use Rattle.zk_judge.specs.Seen.{frame_as, step_of, walker_of}

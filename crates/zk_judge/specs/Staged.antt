@@ -1,0 +1,53 @@
+-- What is known of a conversation at a moment, before its state is looked at.
+use Rattle.std.specs.Prelude.{◌≡◌, ℕ, ◌+◌, ◌≤◌, ◌↔◌, true, List, Option, None, Some, if◌then◌else◌, is_some, length, map, nat_le, IsTrue}
+use Rattle.std.specs.List.{Contains}
+use Rattle.zk_model.specs.declared.connect.ConnectRequest.{ConnectRequest}
+use Rattle.zk_transcript.specs.declared.transcript.TranscriptLine.{TranscriptLine}
+use Rattle.zk_transcript.specs.declared.transcript.TranscriptLine.TheVariants.{Open}
+use Rattle.zk_transcript.specs.History.{opening, state_at}
+use Rattle.zk_transcript.specs.Legal.{attach_of}
+use Rattle.zk_transcript.specs.Conversations.{IsLawfulAndFresh, may_refuse}
+use Rattle.zk_judge.specs.Faults.{IsBelow, IsFault}
+use Rattle.zk_judge.specs.Waiting.{IsWaiting, is_walked}
+use Rattle.zk_judge.specs.declared.conversations.Conversation.{Conversation}
+use Rattle.zk_judge.specs.declared.conversations.Stage.{Stage}
+use Rattle.zk_judge.specs.declared.conversations.Stage.TheVariants as stage
+
+-- some moment between two lets the connect be refused
+abbrev pub MayBeRefused : List TranscriptLine → ℕ → ℕ → ConnectRequest → Type 0
+MayBeRefused lines first last r = (m : ℕ) × (first ≤ m) × (m ≤ last) × IsTrue (may_refuse r (state_at lines m))
+
+-- what is found out at moments that are still to come decides this
+abbrev pub IsDeciding : List TranscriptLine → ℕ → Type 0 → Stage → Type 0
+IsDeciding lines from P (stage.Attached place zxid session) = ⊥
+IsDeciding lines from P (stage.Refused first last r) = (MayBeRefused lines first last r ↔ P) × (from ≤ first) × (first ≤ last) × (last ≤ length lines)
+IsDeciding lines from P (stage.Walks w) = (IsTrue (is_walked lines w) ↔ P) × IsWaiting lines from w
+
+abbrev pub IsStaged : List TranscriptLine → ℕ → ℕ → Stage → Type 0
+IsStaged lines from c (stage.Attached place zxid session) = (attach_of c lines ≡ Some (place, record { zxid = zxid; session = session })) × (from ≤ place + 1)
+IsStaged lines from c (stage.Refused first last r) = IsDeciding lines from (IsLawfulAndFresh lines c) (stage.Refused first last r)
+IsStaged lines from c (stage.Walks w) = IsDeciding lines from (IsLawfulAndFresh lines c) (stage.Walks w)
+
+abbrev pub IsStanding : List TranscriptLine → ℕ → Conversation → Type 0
+IsStanding lines from x = IsStaged lines from x.connection x.stage
+
+abbrev pub connections : List Conversation → List ℕ
+connections xs = map (λ (x : Conversation). x.connection) xs
+
+-- the connection that a line opens
+abbrev pub opened_by : TranscriptLine → Option ℕ
+opened_by (Open c proxy id passwd) = Some c
+opened_by _ = None
+
+-- each connection that these lines open is among them
+abbrev pub AreOpened : List TranscriptLine → List Conversation → Type 0
+AreOpened lines xs = (d : ℕ) → is_some (opening d lines) ≡ true → Contains (connections xs) d
+
+abbrev pub lesser_of : Option ℕ → ℕ → Option ℕ
+lesser_of None c = Some c
+lesser_of (Some n) c = if nat_le n c then Some n else Some c
+
+-- no number of a list fails, or this is the least of it that does
+pub record IsLeastOf (P : ℕ → Type 0) (cs : List ℕ) (found : Option ℕ) : Type 0 where
+  pub fails : IsFault P found
+  pub passes : (d : ℕ) → Contains cs d → IsBelow d found → P d

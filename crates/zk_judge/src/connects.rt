@@ -1,0 +1,109 @@
+//! The answers to a connect.
+
+ghost use Rattle.std.specs.Prelude.{◌≡◌, ◌<◌, ◌↔◌, length, option_map, IfOk, IsTrue};
+ghost use Rattle.zk_jute.specs.Packets.{connect_packet};
+ghost use Rattle.zk_transcript.specs.History.{connect as connect_of, session_at};
+ghost use Rattle.zk_transcript.specs.Conversations.{IsWelcomed, answered_read_only as answered_read_only_of, is_other_session as is_other_session_of, may_refuse as may_refuse_of, refusal, welcome};
+
+use crate::index::Index;
+use crate::walker::Party;
+use std::alloc::Global;
+use zk_history::{Session, State, connect};
+use zk_model::{ConnectRequest, ConnectResponse};
+use zk_wire::write_connect;
+use zx_base::{Bytes, Memory};
+
+/// The bytes of a password.
+const PASSWORD_LEN: usize = 16;
+
+fn answered_read_only(request: &ConnectRequest) -> Option<bool>
+    ensures { result ≡ answered_read_only_of request.now }
+{
+    match request.read_only {
+        Some(_) => Some(false),
+        None => None,
+    }
+}
+
+/// A password as an array. One of another length, as in no run, is as if memory were refused.
+fn password(bytes: &[u8]) -> Result<[u8; 16], Memory>
+    ensures { IfOk result (λ p. p ≡ bytes.now) }
+{
+    if bytes.len() != PASSWORD_LEN {
+        return Err(Memory);
+    }
+    let mut passwd = [0; 16];
+    passwd.as_mut_slice().copy_from_slice(bytes);
+    Ok(passwd)
+}
+
+/// The packet that welcomes a connect to its session.
+fn welcome_packet(
+    alloc: Global,
+    request: &ConnectRequest,
+    id: i64,
+    session: &Session,
+) -> Result<Bytes, Memory>
+    ensures { IfOk result (λ b. b ≡ connect_packet (welcome request.now id session.now)) }
+{
+    let response = ConnectResponse {
+        timeout: session.timeout(),
+        session: id,
+        passwd: password(session.passwd())?,
+        read_only: answered_read_only(request),
+    };
+    Ok(Bytes::from_vec(write_connect(alloc, &response)?))
+}
+
+/// The packet that refuses a connect.
+pub fn refusal_packet(alloc: Global, request: &ConnectRequest) -> Result<Bytes, Memory>
+    ensures { IfOk result (λ b. b ≡ connect_packet (refusal request.now)) }
+{
+    let response = ConnectResponse {
+        timeout: 0,
+        session: 0,
+        passwd: [0; 16],
+        read_only: answered_read_only(request),
+    };
+    Ok(Bytes::from_vec(write_connect(alloc, &response)?))
+}
+
+fn is_other_session(request: &ConnectRequest, session: Option<&Session>) -> bool
+    ensures { result ≡ is_other_session_of request.now (option_map (λ s. s.now) session.entry) }
+{
+    match session {
+        None => true,
+        Some(session) => session.is_lapsed() || !request.passwd.is(session.passwd()),
+    }
+}
+
+/// Whether a state lets this resume be refused.
+pub fn may_refuse(request: &ConnectRequest, state: &State) -> bool
+    ensures { result ≡ may_refuse_of request.now state.now }
+{
+    request.session != 0
+        && request.last_zxid <= state.zxid()
+        && is_other_session(request, state.session(request.session))
+}
+
+/// Whether the first packet is the welcome to the session, behind the line at this place, which attached it.
+pub fn is_welcomed(
+    alloc: Global,
+    index: &Index,
+    state: &State,
+    party: Party,
+    place: usize,
+    first: usize,
+    bytes: &[u8],
+) -> Result<bool, Memory>
+    ensures { IfOk result (λ b. IsTrue b ↔ IsWelcomed index.now.lines.now party.connection place party.session (first, bytes.now) (connect_of party.connection index.now.lines.now) (session_at party.session state.now)) }
+{
+    let Some(request) = connect(alloc, index.lines, party.connection)? else {
+        return Ok(false);
+    };
+    let Some(session) = state.session(party.session) else {
+        return Ok(false);
+    };
+    let packet = welcome_packet(alloc, &request, party.session, session)?;
+    Ok(place < first && packet.is(bytes))
+}

@@ -1,0 +1,182 @@
+//! The verdict on a transcript, in two passes over its lines.
+
+ghost use Rattle.std.specs.Prelude.{◌≡◌, ◌+◌, ◌++◌, ◌∷◌, [], ℕ, List, None, length, IfOk};
+ghost use Rattle.std.specs.List.{All, Contains};
+ghost use Rattle.zk_transcript.specs.declared.transcript.TranscriptLine.{TranscriptLine as AnyLine};
+ghost use Rattle.zk_transcript.specs.History.{change as change_of, state_at};
+ghost use Rattle.zk_transcript.specs.Conversations.{IsLawfulAndFresh};
+ghost use Rattle.zk_history.specs.Pasts.{lines_of};
+ghost use Rattle.zk_legal.specs.Faults.{history_fault as history_fault_of};
+ghost use Rattle.zk_judge.specs.Faults.{IsLeastFault};
+ghost use Rattle.zk_judge.specs.Staged.{AreOpened, IsLeastOf, IsStanding, connections, lesser_of, opened_by as opened_by_of};
+ghost use Rattle.zk_judge.specs.Verdicts.{IsVerdict};
+
+use crate::conversations::Conversation;
+use crate::index::Index;
+use crate::verdict::Verdict;
+use std::alloc::Global;
+use zk_history::{Past, State, change};
+use zk_legal::{history_fault, order_fault};
+use zk_transcript::TranscriptLine;
+use zx_base::Memory;
+
+/// The connection that a line opens.
+fn opened_by(line: &TranscriptLine) -> Option<u32>
+    ensures { result ≡ opened_by_of line.now }
+{
+    match line {
+        TranscriptLine::Open { connection, .. } => Some(*connection),
+        _ => None,
+    }
+}
+
+/// These conversations, and that of the connection which a line opens.
+fn with_opened(
+    alloc: Global,
+    index: &Index,
+    conversations: Vec<Conversation>,
+    line: &TranscriptLine,
+) -> Result<Vec<Conversation>, Memory>
+    requires run { history_fault_of index.now.lines.now ≡ None }
+    requires stand { All (IsStanding index.now.lines.now 0) conversations.items }
+    ensures stand { IfOk result (λ v. All (IsStanding index.now.lines.now 0) v.items) }
+    ensures opened { IfOk result (λ v. (before : List AnyLine) → AreOpened before conversations.items → AreOpened (before ++ line.now ∷ []) v.items) }
+{
+    match opened_by(line) {
+        Some(connection) => {
+            let mut more = conversations;
+            more.push(Conversation::new(alloc, index, connection)?)?;
+            Ok(more)
+        }
+        None => Ok(conversations),
+    }
+}
+
+/// The conversations of all connections that are opened, before the first line.
+fn opened(alloc: Global, index: &Index) -> Result<Vec<Conversation>, Memory>
+    requires run { history_fault_of index.now.lines.now ≡ None }
+    ensures stand { IfOk result (λ v. All (IsStanding index.now.lines.now 0) v.items) }
+    ensures opened { IfOk result (λ v. AreOpened index.now.lines.now v.items) }
+{
+    let mut conversations = Vec::new(alloc);
+    for line in index.lines {
+        conversations = with_opened(alloc, index, conversations, line)?;
+    }
+    Ok(conversations)
+}
+
+/// The conversations with what the state at a moment shows.
+fn advanced(
+    alloc: Global,
+    index: &Index,
+    state: &State,
+    moment: usize,
+    conversations: Vec<Conversation>,
+) -> Result<Vec<Conversation>, Memory>
+    requires run { history_fault_of index.now.lines.now ≡ None }
+    requires stand { All (IsStanding index.now.lines.now moment) conversations.items }
+    requires state { state.now ≡ state_at index.now.lines.now moment }
+    ensures stand { IfOk result (λ v. All (IsStanding index.now.lines.now (moment + 1)) v.items) }
+    ensures kept { IfOk result (λ v. (c : ℕ) → Contains (connections conversations.items) c → Contains (connections v.items) c) }
+{
+    let mut left = conversations;
+    let mut later = Vec::new(alloc);
+    'conversations: while let Some(conversation) = left.pop() {
+        later.push(conversation.advanced(alloc, index, state, moment)?)?;
+    }
+    Ok(later)
+}
+
+/// The state after a line. Without memory, and where a number is beyond its field, there is no answer.
+fn changed(
+    alloc: Global,
+    before: &Past,
+    state: State,
+    line: &TranscriptLine,
+) -> Result<State, Memory>
+    ensures { IfOk result (λ s. s ≡ change_of (lines_of before.now) state line.now) }
+{
+    match change(alloc, before, state, line) {
+        Ok(state) => Ok(state),
+        Err(_) => Err(Memory),
+    }
+}
+
+/// The conversations of all connections that are opened, with what each moment shows.
+fn judged(alloc: Global, index: &Index) -> Result<Vec<Conversation>, Memory>
+    requires run { history_fault_of index.now.lines.now ≡ None }
+    ensures stand { IfOk result (λ v. All (IsStanding index.now.lines.now (length index.now.lines.now + 1)) v.items) }
+    ensures opened { IfOk result (λ v. AreOpened index.now.lines.now v.items) }
+{
+    let mut conversations = opened(alloc, index)?;
+    let mut past = Past::new(alloc, index.lines);
+    let mut state = State::new(alloc);
+    for (moment, line) in index.lines.iter().enumerate() {
+        conversations = advanced(alloc, index, &state, moment, conversations)?;
+        state = changed(alloc, &past, state, line)?;
+        past = past.advanced()?;
+    }
+    advanced(alloc, index, &state, index.lines.len(), conversations)
+}
+
+fn lesser(found: Option<u32>, connection: u32) -> Option<u32>
+    ensures { result ≡ lesser_of found connection }
+{
+    match found {
+        Some(least) => {
+            if least <= connection {
+                Some(least)
+            } else {
+                Some(connection)
+            }
+        }
+        None => Some(connection),
+    }
+}
+
+/// The least connection found so far, with a conversation more.
+fn with_verdict(found: Option<u32>, conversation: &Conversation) -> Option<u32>
+    ensures { (lines : List AnyLine) (cs : List ℕ) → IsStanding lines (length lines + 1) conversation.now → IsLeastOf (IsLawfulAndFresh lines) cs found → IsLeastOf (IsLawfulAndFresh lines) (cs ++ conversation.now.connection ∷ []) result }
+{
+    if conversation.is_lawful() {
+        found
+    } else {
+        lesser(found, conversation.connection)
+    }
+}
+
+/// The least connection whose conversation is not lawful and fresh, once every moment was looked at.
+fn least_unlawful(conversations: &[Conversation]) -> Option<u32>
+    ensures { (lines : List AnyLine) → All (IsStanding lines (length lines + 1)) conversations.now → IsLeastOf (IsLawfulAndFresh lines) (connections conversations.now) result }
+{
+    let mut found = None;
+    for conversation in conversations {
+        found = with_verdict(found, conversation);
+    }
+    found
+}
+
+/// The least connection whose conversation is not lawful and fresh, in a transcript whose history has no fault.
+fn conversation_fault(alloc: Global, lines: &[TranscriptLine]) -> Result<Option<u32>, Memory>
+    requires { history_fault_of lines.now ≡ None }
+    ensures { IfOk result (λ o. IsLeastFault (IsLawfulAndFresh lines.now) o) }
+{
+    let conversations = judged(alloc, &Index::new(lines))?;
+    Ok(least_unlawful(&conversations))
+}
+
+/// The verdict on a transcript. Without memory there is none.
+pub fn judge(alloc: Global, lines: &[TranscriptLine]) -> Result<Verdict, Memory>
+    ensures { IfOk result (λ v. IsVerdict lines.now v) }
+{
+    if let Some(line) = history_fault(alloc, lines)? {
+        return Ok(Verdict::History { line });
+    }
+    if let Some(line) = order_fault(alloc, lines)? {
+        return Ok(Verdict::Order { line });
+    }
+    match conversation_fault(alloc, lines)? {
+        Some(connection) => Ok(Verdict::Conversation { connection }),
+        None => Ok(Verdict::Lawful),
+    }
+}

@@ -1,0 +1,137 @@
+//! The updates that a client is told of before a reply that repeats its place.
+
+ghost use Rattle.std.specs.Prelude.{◌≡◌, ◌<◌, ◌≤◌, Some, drop, length, option_map, IfOk, IfSome};
+ghost use Rattle.zk_least.specs.LeastQueues.{told_through as told_through_of, told_up_to as told_up_to_of, then_plainly};
+ghost use Rattle.zk_transcript.specs.Walks.{Plain, move};
+ghost use Rattle.zk_least.specs.LeastWalk.{given as given_of, zxid_in as zxid_in_of};
+ghost use Rattle.zk_judge.specs.Fronts.{IsTold};
+ghost use Rattle.zk_judge.specs.Seen.{left_by, step_of, taken_by, walker_of};
+
+use crate::firing::fire_above;
+use crate::index::Index;
+use crate::packets::{Due, zxid_in};
+use crate::steps::answer_plainly;
+use crate::walker::{Party, Step, Walker};
+use crate::walks::given;
+use std::alloc::Global;
+use zx_base::Memory;
+
+/// A client that is told up to an update, where something is armed before it.
+fn told_through(
+    alloc: Global,
+    index: &Index,
+    walker: Walker,
+    place: usize,
+    zxid: i64,
+) -> Result<Option<Step>, Memory>
+    requires told { IsTold index.now.lines.now (walker_of walker) }
+    requires place { place < length index.now.lines.now }
+    ensures { IfOk result (λ o. option_map step_of o ≡ told_through_of index.now.lines.now (walker_of walker) (Some (place, zxid))) }
+{
+    if fire_above(alloc, index, &index.lines[..place], &walker)?
+        .watches
+        .is_unarmed()
+    {
+        return Ok(None);
+    }
+    let fired = fire_above(alloc, index, &index.lines[..place + 1], &walker)?;
+    Ok(Some(Step {
+        walker: Walker {
+            zxid,
+            since: place + 1,
+            watches: fired.watches,
+            next: walker.next,
+            moment: walker.moment,
+            is_over: walker.is_over,
+        },
+        due: fired.due,
+    }))
+}
+
+/// A client that is told up to the zxid of a reply, unless its place is not below it.
+fn told_up_to(
+    alloc: Global,
+    index: &Index,
+    walker: Walker,
+    reply: &[u8],
+) -> Result<Option<Step>, Memory>
+    requires told { IsTold index.now.lines.now (walker_of walker) }
+    ensures { IfOk result (λ o. option_map step_of o ≡ told_up_to_of index.now.lines.now (walker_of walker) (zxid_in_of reply.now)) }
+{
+    let zxid = zxid_in(reply);
+    if zxid <= walker.zxid {
+        return Ok(Some(Step {
+            walker,
+            due: Vec::new(alloc),
+        }));
+    }
+    match index.update_place(zxid) {
+        Some(place) => told_through(alloc, index, walker, place, zxid),
+        None => Ok(None),
+    }
+}
+
+/// How far a connection has come, and how many packets brought it there.
+#[derive(Drop)]
+pub struct Taken {
+    pub walker: Walker,
+    pub count: usize,
+}
+
+/// What a client is told up to the zxid of a reply, where these packets come next.
+fn told_given(
+    alloc: Global,
+    index: &Index,
+    walker: Walker,
+    packets: &[Due],
+    reply: &[u8],
+) -> Result<Option<Step>, Memory>
+    requires told { IsTold index.now.lines.now (walker_of walker) }
+    ensures within { IfOk result (λ o. IfSome o (λ s. length s.due.items ≤ length packets.now)) }
+    ensures step { IfOk result (λ o. option_map (left_by packets.now) o ≡ given_of packets.now (told_up_to_of index.now.lines.now (walker_of walker) (zxid_in_of reply.now))) }
+{
+    let told = told_up_to(alloc, index, walker, reply)?;
+    Ok(given(told, packets))
+}
+
+/// The next frame's answer without the tree, where it comes next behind what a client was told.
+fn answered_plainly(
+    alloc: Global,
+    index: &Index,
+    party: Party,
+    told: Step,
+    packets: &[Due],
+) -> Result<Option<Taken>, Memory>
+    requires within { length told.due.items ≤ length packets.now }
+    ensures within { IfOk result (λ o. IfSome o (λ t. t.count ≤ length packets.now)) }
+    ensures taken { IfOk result (λ o. option_map (taken_by packets.now) o ≡ given_of (drop (length told.due.items) packets.now) (move index.now.lines.now party.connection party.session (walker_of told.walker) Plain)) }
+{
+    let count = told.due.len();
+    let answer = answer_plainly(alloc, index, party, &told.walker)?;
+    match given(answer, &packets[count..]) {
+        Some(step) => Ok(Some(Taken {
+            count: count + step.due.len(),
+            walker: step.walker,
+        })),
+        None => Ok(None),
+    }
+}
+
+/// The next reply, which repeats its place, behind what is told before it.
+pub fn plain_reply_given(
+    alloc: Global,
+    index: &Index,
+    party: Party,
+    walker: Walker,
+    packets: &[Due],
+    reply: &[u8],
+) -> Result<Option<Taken>, Memory>
+    requires told { IsTold index.now.lines.now (walker_of walker) }
+    ensures within { IfOk result (λ o. IfSome o (λ t. t.count ≤ length packets.now)) }
+    ensures taken { IfOk result (λ o. option_map (taken_by packets.now) o ≡ then_plainly index.now.lines.now party.connection party.session (given_of packets.now (told_up_to_of index.now.lines.now (walker_of walker) (zxid_in_of reply.now)))) }
+{
+    match told_given(alloc, index, walker, packets, reply)? {
+        Some(told) => answered_plainly(alloc, index, party, told, packets),
+        None => Ok(None),
+    }
+}

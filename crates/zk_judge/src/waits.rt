@@ -1,0 +1,260 @@
+//! A conversation as far as it is judged: the replies that need no state are behind it, and the next one waits for a moment.
+
+ghost use Rattle.std.specs.Prelude.{◌≡◌, ◌⊎◌, ◌+◌, ◌-◌, ◌<◌, ◌≤◌, ◌<ℤ◌, ◌∷◌, pos, None, drop, length, option_to_list, IfOk, IfSome};
+ghost use Rattle.zk_transcript.specs.History.{state_at};
+ghost use Rattle.zk_least.specs.LeastSteps.{is_least};
+ghost use Rattle.zk_legal.specs.Faults.{history_fault};
+ghost use Rattle.zk_judge.specs.Fronts.{IsTold};
+ghost use Rattle.zk_judge.specs.Seen.{walker_of};
+ghost use Rattle.zk_judge.specs.Waiting.{IsEarliest, IsNotBefore, IsWait, IsWaiting, goes_on, is_walked, left_of, tried as tried_of, tries_of};
+ghost use Rattle.zk_judge.specs.declared.waits.Walked.TheVariants as walk;
+
+use crate::firing::fire_above;
+use crate::index::Index;
+use crate::packets::{Due, is_front, next_reply, packets_behind};
+use crate::queues::plain_reply_given;
+use crate::walker::{Party, Step, Walker};
+use crate::walks::{allowed, moments, repeats};
+use std::alloc::Global;
+use zk_history::State;
+use zx_base::Memory;
+
+/// A connection whose next reply is tried as of a moment, and then as of a second one.
+#[derive(Drop)]
+pub struct Wait {
+    pub party: Party,
+    pub walker: Walker,
+    /// What it was sent behind the welcome, and how many of these packets it has taken.
+    pub packets: Vec<Due>,
+    pub taken: usize,
+    pub first: usize,
+    pub second: Option<usize>,
+}
+
+/// Whether the least walk gives the packets, or what has to be tried for it.
+#[derive(Drop)]
+pub enum Walked {
+    Ends(bool),
+    Waits(Wait),
+}
+
+/// Waits for the first of two moments that is allowed by its number.
+fn wait_between(
+    index: &Index,
+    from: usize,
+    party: Party,
+    walker: Walker,
+    packets: Vec<Due>,
+    taken: usize,
+    first: usize,
+    second: Option<usize>,
+) -> Walked
+    requires early { IsEarliest index.now.lines.now (walker_of walker) from }
+    requires above { pos 0 <ℤ walker.zxid }
+    requires told { IsTold index.now.lines.now (walker_of walker) }
+    requires within { taken ≤ length packets.items }
+    requires rises { IsNotBefore first second }
+    ensures walked { is_walked index.now.lines.now result ≡ goes_on index.now.lines.now party.connection party.session (walker_of walker) (drop taken packets.items) (first ∷ option_to_list second) }
+    ensures waits { IsWaiting index.now.lines.now from result }
+    ensures fewer { left_of result ≤ length packets.items - taken }
+{
+    if from <= first && first <= index.lines.len() {
+        return Walked::Waits(Wait {
+            party,
+            walker,
+            packets,
+            taken,
+            first,
+            second,
+        });
+    }
+    match second {
+        Some(second) if from <= second && second <= index.lines.len() => Walked::Waits(Wait {
+            party,
+            walker,
+            packets,
+            taken,
+            first: second,
+            second: None,
+        }),
+        _ => Walked::Ends(false),
+    }
+}
+
+/// Waits for the moments to try for the next reply, which does not repeat the place.
+fn wait_for_tries(
+    index: &Index,
+    from: usize,
+    party: Party,
+    walker: Walker,
+    packets: Vec<Due>,
+    taken: usize,
+    tries: Option<(usize, Option<usize>)>,
+) -> Walked
+    requires early { IsEarliest index.now.lines.now (walker_of walker) from }
+    requires above { pos 0 <ℤ walker.zxid }
+    requires told { IsTold index.now.lines.now (walker_of walker) }
+    requires within { taken ≤ length packets.items }
+    requires rises { IfSome tries (λ t. IsNotBefore t.0 t.1) }
+    ensures walked { is_walked index.now.lines.now result ≡ goes_on index.now.lines.now party.connection party.session (walker_of walker) (drop taken packets.items) (tries_of tries) }
+    ensures waits { IsWaiting index.now.lines.now from result }
+    ensures fewer { left_of result ≤ length packets.items - taken }
+{
+    match tries {
+        Some((first, second)) => wait_between(
+            index, from, party, walker, packets, taken, first, second,
+        ),
+        None => Walked::Ends(false),
+    }
+}
+
+/// Goes on over the replies that repeat their place, up to one that needs a state. No reply is answered as of a moment before
+/// `from`.
+pub fn settle(
+    alloc: Global,
+    index: &Index,
+    from: usize,
+    party: Party,
+    walker: Walker,
+    packets: Vec<Due>,
+    taken: usize,
+) -> Result<Walked, Memory>
+    requires run { history_fault index.now.lines.now ≡ None }
+    requires early { IsEarliest index.now.lines.now (walker_of walker) from }
+    requires above { pos 0 <ℤ walker.zxid }
+    requires told { IsTold index.now.lines.now (walker_of walker) }
+    requires within { taken ≤ length packets.items }
+    ensures walked { IfOk result (λ r. is_walked index.now.lines.now r ≡ is_least index.now.lines.now party.connection party.session (walker_of walker) (drop taken packets.items)) }
+    ensures waits { IfOk result (λ r. IsWaiting index.now.lines.now from r) }
+    ensures fewer { IfOk result (λ r. left_of r ≤ length packets.items - taken) }
+{
+    let mut walker = walker;
+    let mut taken = taken;
+    'replies: loop {
+        let left = packets_behind(&packets, taken);
+        let Some(reply) = next_reply(left) else {
+            let fired = fire_above(alloc, index, index.lines, &walker)?;
+            return Ok(Walked::Ends(is_front(left, &fired.due)));
+        };
+        if !repeats(alloc, index, party, &walker, reply)? {
+            let tries = moments(index, party, &walker, reply);
+            return Ok(wait_for_tries(index, from, party, walker, packets, taken, tries));
+        }
+        match plain_reply_given(alloc, index, party, walker, left, reply)? {
+            Some(step) => {
+                walker = step.walker;
+                taken += step.count;
+            }
+            None => return Ok(Walked::Ends(false)),
+        }
+    }
+}
+
+/// Waits for the second moment, where the first failed.
+fn retry(index: &Index, wait: Wait) -> Walked
+    requires stands { IsWait index.now.lines.now wait.first wait }
+    requires failed { None ≡ tried_of index.now.lines.now wait.party.connection wait.party.session (walker_of wait.walker) (drop wait.taken wait.packets.items) wait.first }
+    ensures walked { is_walked index.now.lines.now result ≡ is_walked index.now.lines.now (walk.Waits wait) }
+    ensures waits { IsWaiting index.now.lines.now (wait.first + 1) result }
+{
+    let moment = wait.first;
+    match wait.second {
+        Some(second) if moment < second && second <= index.lines.len() => Walked::Waits(Wait {
+            party: wait.party,
+            walker: wait.walker,
+            packets: wait.packets,
+            taken: wait.taken,
+            first: second,
+            second: None,
+        }),
+        _ => Walked::Ends(false),
+    }
+}
+
+/// Tries the next reply as of its first moment, whose state this is.
+fn try_first(alloc: Global, index: &Index, state: &State, wait: Wait) -> Result<Walked, Memory>
+    requires run { history_fault index.now.lines.now ≡ None }
+    requires stands { IsWait index.now.lines.now wait.first wait }
+    requires state { state.now ≡ state_at index.now.lines.now wait.first }
+    ensures walked { IfOk result (λ r. is_walked index.now.lines.now r ≡ is_walked index.now.lines.now (walk.Waits wait)) }
+    ensures waits { IfOk result (λ r. IsWaiting index.now.lines.now wait.first r) }
+    ensures fewer { IfOk result (λ r. IsWaiting index.now.lines.now (wait.first + 1) r ⊎ (left_of r < left_of (walk.Waits wait))) }
+{
+    let moment = wait.first;
+    let tried = allowed(
+        alloc,
+        index,
+        state,
+        wait.party,
+        &wait.walker,
+        packets_behind(&wait.packets, wait.taken),
+        moment,
+    )?;
+    match tried {
+        Some(Step { walker, due }) => settle(
+            alloc,
+            index,
+            moment,
+            wait.party,
+            walker,
+            wait.packets,
+            wait.taken + due.len(),
+        ),
+        None => Ok(retry(index, wait)),
+    }
+}
+
+/// Answers the replies of a moment, whose state this is.
+fn answer_all(
+    alloc: Global,
+    index: &Index,
+    state: &State,
+    moment: usize,
+    wait: Wait,
+) -> Result<Walked, Memory>
+    requires run { history_fault index.now.lines.now ≡ None }
+    requires stands { IsWait index.now.lines.now moment wait }
+    requires first { wait.first ≡ moment }
+    requires state { state.now ≡ state_at index.now.lines.now moment }
+    ensures walked { IfOk result (λ r. is_walked index.now.lines.now r ≡ is_walked index.now.lines.now (walk.Waits wait)) }
+    ensures waits { IfOk result (λ r. IsWaiting index.now.lines.now (moment + 1) r) }
+{
+    let mut wait = wait;
+    'replies: loop {
+        match try_first(alloc, index, state, wait)? {
+            Walked::Ends(is_least) => return Ok(Walked::Ends(is_least)),
+            Walked::Waits(next) => {
+                if next.first != moment {
+                    return Ok(Walked::Waits(next));
+                }
+                wait = next;
+            }
+        }
+    }
+}
+
+/// Answers the replies of a moment, whose state this is, where the next one waits for it.
+pub fn walk_on(
+    alloc: Global,
+    index: &Index,
+    state: &State,
+    moment: usize,
+    walked: Walked,
+) -> Result<Walked, Memory>
+    requires run { history_fault index.now.lines.now ≡ None }
+    requires waits { IsWaiting index.now.lines.now moment walked }
+    requires state { state.now ≡ state_at index.now.lines.now moment }
+    ensures walked { IfOk result (λ r. is_walked index.now.lines.now r ≡ is_walked index.now.lines.now walked) }
+    ensures waits { IfOk result (λ r. IsWaiting index.now.lines.now (moment + 1) r) }
+{
+    match walked {
+        Walked::Ends(is_least) => Ok(Walked::Ends(is_least)),
+        Walked::Waits(wait) => {
+            if wait.first == moment {
+                answer_all(alloc, index, state, moment, wait)
+            } else {
+                Ok(Walked::Waits(wait))
+            }
+        }
+    }
+}
