@@ -8,7 +8,7 @@ ghost use Rattle.std.specs.Prelude.{◌≡◌, [], ◌∷◌, codes, IfOk};
 ghost use Rattle.std.specs.Process.{exit_status};
 ghost use Rattle.std.specs.Vec.Iter.{into_iter_items};
 ghost use Rattle.zetcd.specs.Arguments.{arguments};
-ghost use Rattle.zetcd_cmd.specs.Outcomes.{number_of, Did, Refuses, Replays, Shows};
+ghost use Rattle.zetcd_cmd.specs.Outcomes.{number_of, Did, Judges, Refuses, Replays, Shows};
 
 mod words;
 
@@ -54,7 +54,8 @@ fn with_words<I: Source, O: Sink>(
 ) -> Result<Status, AllocError>
     ensures replay { IfOk result (λ s. arguments (into_iter_items args) ≡ codes "replay" ∷ [] → Did (Replays s (I.ended input.new) (I.left input.new)) (I.given input.old) (I.given input.new) (I.left input.old) (I.left input.new) (O.taken out.old) (O.taken out.new)) }
     ensures show { IfOk result (λ s. arguments (into_iter_items args) ≡ codes "show" ∷ [] → Did (Shows s (I.ended input.new) (I.left input.new)) (I.given input.old) (I.given input.new) (I.left input.old) (I.left input.new) (O.taken out.old) (O.taken out.new)) }
-    ensures usage { IfOk result (λ s. ¬ (arguments (into_iter_items args) ≡ codes "replay" ∷ []) → ¬ (arguments (into_iter_items args) ≡ codes "show" ∷ []) → Refuses s (O.taken out.old) (O.taken out.new)) }
+    ensures judge { IfOk result (λ s. arguments (into_iter_items args) ≡ codes "judge" ∷ [] → Did (Judges s (I.ended input.new) (I.left input.new)) (I.given input.old) (I.given input.new) (I.left input.old) (I.left input.new) (O.taken out.old) (O.taken out.new)) }
+    ensures usage { IfOk result (λ s. ¬ (arguments (into_iter_items args) ≡ codes "replay" ∷ []) → ¬ (arguments (into_iter_items args) ≡ codes "show" ∷ []) → ¬ (arguments (into_iter_items args) ≡ codes "judge" ∷ []) → Refuses s (O.taken out.old) (O.taken out.new)) }
 {
     let words = words_of(alloc, args)?;
     let behind_name = words.len().min(1);

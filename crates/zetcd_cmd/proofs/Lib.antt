@@ -1,6 +1,7 @@
 pub mod Endings
 pub mod Fronts
 pub mod Headlines
+pub mod Judgements
 pub mod Progress
 pub mod Reports
 pub mod ScriptLaws

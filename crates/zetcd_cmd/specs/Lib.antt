@@ -6,3 +6,5 @@ pub mod Reporting
 pub mod Ending
 pub mod Streaming
 pub mod Replayed
+pub mod Judged
+pub mod Judging

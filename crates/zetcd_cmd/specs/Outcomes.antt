@@ -2,6 +2,8 @@
 use Rattle.std.specs.Prelude.{◌≡◌, ◌⊎◌, ⊤, ℕ, ◌+◌, ◌-◌, ◌^◌, ◌<◌, ◌≤◌, min, Bool, true, List, [], ◌∷◌, ◌++◌, codes, Option}
 use denote.Ref.{Bor}
 use Rattle.std.specs.Io.KnownBytes.{IsAtEnd}
+use Rattle.zk_lines.specs.Transcripts.{transcript}
+use Rattle.zetcd_cmd.specs.Judged.{Finds}
 use Rattle.zetcd_cmd.specs.Replayed.{IsReplayed, IsStopped, IsCutShort, IsOver}
 use Rattle.zt_show.specs.declared.ending.Ending.{Ending}
 use Rattle.zt_show.specs.declared.ending.Ending.TheVariants as ending
@@ -25,8 +27,11 @@ IsReplay words = IsWord (codes "replay") words
 abbrev pub IsShow : List (Bor (List ℕ)) → Type 0
 IsShow words = IsWord (codes "show") words
 
+abbrev pub IsJudge : List (Bor (List ℕ)) → Type 0
+IsJudge words = IsWord (codes "judge") words
+
 abbrev pub usage_text : List ℕ
-usage_text = codes "usage: zetcd replay | show | stress NUMBER CONNECTIONS STEPS | serve LISTEN ENDPOINT LIMIT | etcd LISTEN LIMIT\n"
+usage_text = codes "usage: zetcd replay | show | stress NUMBER CONNECTIONS STEPS | serve LISTEN ENDPOINT LIMIT | etcd LISTEN LIMIT | judge\n"
 
 -- What one call did: the input gave it these bytes and the output took those, each as far as they are told, and this holds of
 -- the two. In each pair, what was told before the call comes first.
@@ -64,6 +69,7 @@ ReplayWrites status.Done ended left read output = IsAtItsEnd ended left × IsRep
 ReplayWrites (status.Script line) ended left read output = StopsAt line ended left read output
 ReplayWrites status.ReadFault ended left read output = IsCutShort read output
 ReplayWrites status.Usage ended left read output = ⊥
+ReplayWrites status.Unlawful ended left read output = ⊥
 ReplayWrites status.WriteFault ended left read output = ⊥
 ReplayWrites status.Memory ended left read output = ⊥
 
@@ -74,6 +80,7 @@ Replays status.Done ended left read output = ReplayWrites status.Done ended left
 Replays (status.Script line) ended left read output = ReplayWrites (status.Script line) ended left read output
 Replays status.ReadFault ended left read output = ReplayWrites status.ReadFault ended left read output
 Replays status.Usage ended left read output = ⊥
+Replays status.Unlawful ended left read output = ⊥
 Replays status.WriteFault ended left read output = IsFront (λ other whole. ReplayWrites other ended left read whole) output
 Replays status.Memory ended left read output = (output ≡ []) ⊎ IsFront (λ other whole. ReplayWrites other ended left read whole) output
 
@@ -118,6 +125,7 @@ ShowWrites status.Done ended left read output = IsAtItsEnd ended left × IsWhole
 ShowWrites (status.Script line) ended left read output = IsBroken line ended left read output
 ShowWrites status.ReadFault ended left read output = IsBegun read output
 ShowWrites status.Usage ended left read output = ⊥
+ShowWrites status.Unlawful ended left read output = ⊥
 ShowWrites status.WriteFault ended left read output = ⊥
 ShowWrites status.Memory ended left read output = ⊥
 
@@ -128,8 +136,34 @@ Shows status.Done ended left read output = ShowWrites status.Done ended left rea
 Shows (status.Script line) ended left read output = ShowWrites (status.Script line) ended left read output
 Shows status.ReadFault ended left read output = ShowWrites status.ReadFault ended left read output
 Shows status.Usage ended left read output = ⊥
+Shows status.Unlawful ended left read output = ⊥
 Shows status.WriteFault ended left read output = IsFront (λ other whole. ShowWrites other ended left read whole) output
 Shows status.Memory ended left read output = (front : List ℕ) × (later : List ℕ) × (read ≡ front ++ later) × IsBegun front output
+
+-- ---- judge
+
+-- What a judgement writes that is not disturbed: what is found of the whole input; or of what was read of it, where that settles
+-- which line can't be read.
+abbrev pub JudgeWrites : Status → Bool → Option (List ℕ) → List ℕ → List ℕ → Type 0
+JudgeWrites status.Done ended left read output = IsAtItsEnd ended left × Finds status.Done read output
+JudgeWrites status.Unlawful ended left read output = IsAtItsEnd ended left × Finds status.Unlawful read output
+JudgeWrites (status.Script line) ended left read output =
+    (IsAtItsEnd ended left ⊎ ((rest : List ℕ) → transcript (read ++ rest) ≡ transcript read)) × Finds (status.Script line) read output
+JudgeWrites status.ReadFault ended left read output = output ≡ []
+JudgeWrites status.Usage ended left read output = ⊥
+JudgeWrites status.WriteFault ended left read output = ⊥
+JudgeWrites status.Memory ended left read output = ⊥
+
+-- A judgement with this status read and wrote these bytes. With a fault of the output a front was written, and with want of memory
+-- nothing.
+abbrev pub Judges : Status → Bool → Option (List ℕ) → List ℕ → List ℕ → Type 0
+Judges status.Done ended left read output = JudgeWrites status.Done ended left read output
+Judges status.Unlawful ended left read output = JudgeWrites status.Unlawful ended left read output
+Judges (status.Script line) ended left read output = JudgeWrites (status.Script line) ended left read output
+Judges status.ReadFault ended left read output = JudgeWrites status.ReadFault ended left read output
+Judges status.Usage ended left read output = ⊥
+Judges status.WriteFault ended left read output = IsFront (λ other whole. JudgeWrites other ended left read whole) output
+Judges status.Memory ended left read output = output ≡ []
 
 -- ---- other words
 
@@ -177,3 +211,4 @@ number_of (status.Script line) = 3
 number_of status.ReadFault = 4
 number_of status.WriteFault = 5
 number_of status.Memory = 7
+number_of status.Unlawful = 8

@@ -3,9 +3,10 @@
 ghost use Rattle.std.specs.Prelude.{◌≡◌, ◌≢◌, ◌⊎◌};
 ghost use Rattle.zx_outside.specs.Writing.{counts_after_write};
 ghost use Rattle.zx_outside.specs.declared.sink.Took.TheVariants.{Failed as TookFailed};
-ghost use Rattle.zetcd_cmd.specs.Outcomes.{IsReplay, IsShow, Did, Replays, Shows, Refuses, Failed, IsUnharmed};
+ghost use Rattle.zetcd_cmd.specs.Outcomes.{IsJudge, IsReplay, IsShow, Did, Judges, Replays, Shows, Refuses, Failed, IsUnharmed};
 ghost use Rattle.zetcd_cmd.specs.Commands.{IsCommand};
 
+use crate::judge::judge;
 use crate::replay::replay;
 use crate::show::show;
 use crate::status::Status;
@@ -14,7 +15,7 @@ use std::alloc::Global;
 use zx_outside::{Sink, Source};
 
 const USAGE: &[u8] =
-    b"usage: zetcd replay | show | stress NUMBER CONNECTIONS STEPS | serve LISTEN ENDPOINT LIMIT | etcd LISTEN LIMIT\n";
+    b"usage: zetcd replay | show | stress NUMBER CONNECTIONS STEPS | serve LISTEN ENDPOINT LIMIT | etcd LISTEN LIMIT | judge\n";
 
 /// Runs a command: its words, its input and its output.
 pub fn zetcd<I: Source, O: Sink>(
@@ -28,16 +29,19 @@ pub fn zetcd<I: Source, O: Sink>(
     ensures replay { IsReplay words.now → Did (Replays result (I.ended input.new) (I.left input.new)) (I.given input.old) (I.given input.new) (I.left input.old) (I.left input.new) (O.taken out.old) (O.taken out.new) }
     // Of `show`, by the status: what is shown of the stream that was read.
     ensures show { IsShow words.now → Did (Shows result (I.ended input.new) (I.left input.new)) (I.given input.old) (I.given input.new) (I.left input.old) (I.left input.new) (O.taken out.old) (O.taken out.new) }
+    // Of `judge`, by the status: the verdict on the transcript that was read, or its first line that cannot be read.
+    ensures judge { IsJudge words.now → Did (Judges result (I.ended input.new) (I.left input.new)) (I.given input.old) (I.given input.new) (I.left input.old) (I.left input.new) (O.taken out.old) (O.taken out.new) }
     // Of other words: the usage,
-    ensures usage { ¬ IsReplay words.now → ¬ IsShow words.now → Refuses result (O.taken out.old) (O.taken out.new) }
+    ensures usage { ¬ IsReplay words.now → ¬ IsShow words.now → ¬ IsJudge words.now → Refuses result (O.taken out.old) (O.taken out.new) }
     // and nothing is read.
-    ensures unread { ¬ IsReplay words.now → ¬ IsShow words.now → input.new ≡ input.old }
+    ensures unread { ¬ IsReplay words.now → ¬ IsShow words.now → ¬ IsJudge words.now → input.new ≡ input.old }
     // Status 4 has its cause in the input: one fault, or 1,000 idle turns.
     ensures read { result ≡ Status.ReadFault → Failed (I.counts input.old) (I.counts input.new) }
-    // Statuses 0, 2 and 3 pass over no fault, and there were fewer idle turns;
+    // Statuses 0, 2, 3 and 8 pass over no fault, and there were fewer idle turns;
     ensures unless_fault { result ≢ Status.ReadFault → result ≢ Status.WriteFault → result ≢ Status.Memory → IsUnharmed (I.counts input.old) (I.counts input.new) }
-    // neither does want of memory in `show`. In `replay` it may be met when the lines before a fault are written.
+    // neither does want of memory in `show` and in `judge`. In `replay` it may be met when the lines before a fault are written.
     ensures show_memory { IsShow words.now → result ≡ Status.Memory → IsUnharmed (I.counts input.old) (I.counts input.new) }
+    ensures judge_memory { IsJudge words.now → result ≡ Status.Memory → IsUnharmed (I.counts input.old) (I.counts input.new) }
     // The input is not read on after that.
     ensures once { IsUnharmed (I.counts input.old) (I.counts input.new) ⊎ Failed (I.counts input.old) (I.counts input.new) }
     // Status 5 has its cause in the output: one fault, after which nothing is written.
@@ -48,6 +52,7 @@ pub fn zetcd<I: Source, O: Sink>(
     match command_of(words) {
         Some(Command::Replay) => replay(alloc, input, out),
         Some(Command::Show) => show(alloc, input, out),
+        Some(Command::Judge) => judge(alloc, input, out),
         None => {
             if write_all(out, USAGE) {
                 Status::Usage
@@ -63,6 +68,7 @@ pub fn zetcd<I: Source, O: Sink>(
 enum Command {
     Replay,
     Show,
+    Judge,
 }
 
 /// The command of these words.
@@ -77,6 +83,9 @@ fn command_of(words: &[&str]) -> Option<Command>
     }
     if word.as_bytes() == b"show".as_slice() {
         return Some(Command::Show);
+    }
+    if word.as_bytes() == b"judge".as_slice() {
+        return Some(Command::Judge);
     }
     None
 }

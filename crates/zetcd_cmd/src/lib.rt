@@ -5,6 +5,7 @@
 #![tactic(auto)]
 
 mod command;
+mod judge;
 mod replay;
 mod report;
 mod script;

@@ -10,7 +10,7 @@ pub enum Status {
     Done,
     /// The words name no command.
     Usage,
-    /// This line of a script, from 1, cannot be read or is not possible.
+    /// This line of the input, from 1, cannot be read, or what it says is not possible.
     Script { line: u64 },
     /// The input had a fault, or 1,000 idle turns.
     ReadFault,
@@ -18,6 +18,8 @@ pub enum Status {
     WriteFault,
     /// Memory was refused.
     Memory,
+    /// The transcript is none of a run of the service.
+    Unlawful,
 }
 
 impl Status {
@@ -32,6 +34,7 @@ impl Status {
             Status::ReadFault => 4,
             Status::WriteFault => 5,
             Status::Memory => 7,
+            Status::Unlawful => 8,
         }
     }
 }

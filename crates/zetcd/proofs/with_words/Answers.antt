@@ -18,5 +18,9 @@ returns-clause-replay g c = λ h. c.zetcd.ensures.replay (is_word-texts _ _ (han
 pub returns-clause-show : goal.returns-clause-show
 returns-clause-show g c = λ h. c.zetcd.ensures.show (is_word-texts _ _ (handed g c ∙ h))
 
+pub returns-clause-judge : goal.returns-clause-judge
+returns-clause-judge g c = λ h. c.zetcd.ensures.judge (is_word-texts _ _ (handed g c ∙ h))
+
 pub returns-clause-usage : goal.returns-clause-usage
-returns-clause-usage g c = λ h k. c.zetcd.ensures.usage (λ r. h (sym (handed g c) ∙ texts-is_word _ _ r)) (λ s. k (sym (handed g c) ∙ texts-is_word _ _ s))
+returns-clause-usage g c = λ h k l.
+    c.zetcd.ensures.usage (λ r. h (sym (handed g c) ∙ texts-is_word _ _ r)) (λ s. k (sym (handed g c) ∙ texts-is_word _ _ s)) (λ j. l (sym (handed g c) ∙ texts-is_word _ _ j))

@@ -1,0 +1,100 @@
+-- What was judged of a text, from the reads of its source and the writes to its sink.
+use Rattle.std.proofs.Common.{◌≡◌, ℕ, ◌+◌, ◌<◌, ◌⊎◌, List, [], ◌∷◌, ◌++◌, length, take, refl, sym, ap, ◌∙◌, subst, arith, inl, inr, length-append}
+use Rattle.std.specs.Prelude.{Option, Some, None, Bool, true, false, is_some, nat_lt, if◌then◌else◌}
+use Rattle.std.proofs.lemmas.Bool.{lt-ltb}
+use Rattle.std.proofs.lemmas.List.{take-append-le}
+use Rattle.zk_transcript.specs.declared.transcript.TranscriptLine.{TranscriptLine}
+use Rattle.zk_lines.specs.Lines.{line_read}
+use Rattle.zk_lines.specs.Transcripts.{Transcript, is_last_line, lines_from, nothing_behind, then_lines, transcript}
+use Rattle.zt_text.specs.Scripts.{max_script, pieces}
+use Rattle.zt_text.proofs.PieceLaws.{pieces-some}
+use Rattle.zx_outside.specs.Reading.{Gives}
+use Rattle.zx_outside.specs.Writing.{Takes}
+use Rattle.zx_outside.proofs.Streams.{append_known-nil}
+use Rattle.zetcd_cmd.specs.declared.status.Status.{Status}
+use Rattle.zetcd_cmd.specs.declared.status.Status.TheVariants as status
+use Rattle.zetcd_cmd.specs.Judged.{Finds, IsJudged}
+use Rattle.zetcd_cmd.specs.Judging.{Tells}
+use Rattle.zetcd_cmd.specs.Outcomes.{Did, IsAtItsEnd, IsFront, JudgeWrites, Judges}
+
+-- ---- a text that is too long
+
+then_lines-unread : (n : ℕ) (o : Option TranscriptLine) (later : Transcript) → is_some later.1 ≡ true → is_some (then_lines n o later).1 ≡ true
+then_lines-unread n None later h = refl
+then_lines-unread n (Some l) later h = h
+
+cut-unread : (n : ℕ) (p : List ℕ) (ps : List (List ℕ)) → is_some (lines_from true n (p ∷ ps)).1 ≡ true
+cut-unread n p [] = refl
+cut-unread n p (q ∷ ps) =
+    elim (is_last_line p) as (λ b. is_some (if b then nothing_behind true (n + 1) (q ∷ ps) else then_lines n (line_read p) (lines_from true (n + 1) (q ∷ ps))).1 ≡ true) [
+      | true ↦ refl
+      | false ↦ then_lines-unread n (line_read p) (lines_from true (n + 1) (q ∷ ps)) (cut-unread (n + 1) q ps)
+    ]
+
+-- one of its lines can't be read
+long-unread : (text : List ℕ) → max_script < length text → is_some (transcript text).1 ≡ true
+unfolding transcript
+long-unread text long =
+    let some = pieces-some 10 (take max_script text) in
+    ap (λ (b : Bool). is_some (lines_from b 1 (pieces 10 (take max_script text))).1) (lt-ltb max_script (length text) long)
+    ∙ ap (λ (ps : List (List ℕ)). is_some (lines_from true 1 ps).1) some.2.2
+    ∙ cut-unread 1 some.0 some.1
+
+-- and no later byte changes what it says
+long-settled : (text rest : List ℕ) → max_script < length text → transcript (text ++ rest) ≡ transcript text
+unfolding transcript
+long-settled text rest long =
+    let longer : max_script < length (text ++ rest) = grind (arith, length-append, long) in
+    ap (λ (b : Bool). lines_from b 1 (pieces 10 (take max_script (text ++ rest)))) (lt-ltb max_script (length (text ++ rest)) longer ∙ sym (lt-ltb max_script (length text) long))
+    ∙ ap (λ (t : List ℕ). lines_from (nat_lt max_script (length text)) 1 (pieces 10 t)) (take-append-le max_script text rest (omega (arith, long)))
+
+read-whole : (text : List ℕ) (lines : List TranscriptLine) → max_script < length text → transcript text ≡ (lines, None) → ⊥
+read-whole text lines long read =
+    let no : is_some (None {A = ℕ}) ≡ true = ap (λ (t : Transcript). is_some t.1) (sym read) ∙ long-unread text long in
+    cc
+
+-- ---- what is found of a text that was read to its end, or is too long
+
+writes : (s : Status) (ended : Bool) (left : Option (List ℕ)) (text output : List ℕ) → IsAtItsEnd ended left ⊎ (max_script < length text) → Finds s text output → JudgeWrites s ended left text output
+writes status.Done ended left text output (inl whole) finds = (whole, finds)
+writes status.Done ended left text output (inr long) finds = absurd (read-whole text finds.lines long finds.read)
+writes status.Unlawful ended left text output (inl whole) finds = (whole, finds)
+writes status.Unlawful ended left text output (inr long) finds = absurd (read-whole text finds.2.lines long finds.2.read)
+writes (status.Script n) ended left text output (inl whole) finds = (inl whole, finds)
+writes (status.Script n) ended left text output (inr long) finds = (inr (λ rest. long-settled text rest long), finds)
+writes status.Usage ended left text output settled finds = absurd finds
+writes status.ReadFault ended left text output settled finds = absurd finds
+writes status.WriteFault ended left text output settled finds = absurd finds
+writes status.Memory ended left text output settled finds = absurd finds
+
+pub Did-judged : (s : Status) (text : List ℕ) (ended : Bool) (given given' left left' taken taken' : Option (List ℕ)) → Gives text given given' left left' →
+    IsAtItsEnd ended left' ⊎ (max_script < length text) → Tells s text taken taken' → Did (Judges s ended left') given given' left left' taken taken'
+Did-judged status.Done text ended given given' left left' taken taken' gives settled tells =
+    record { read = text; output = tells.0; gives = gives; takes = tells.2; holds = writes status.Done ended left' text tells.0 settled tells.1 }
+Did-judged status.Unlawful text ended given given' left left' taken taken' gives settled tells =
+    record { read = text; output = tells.0; gives = gives; takes = tells.2; holds = writes status.Unlawful ended left' text tells.0 settled tells.1 }
+Did-judged (status.Script n) text ended given given' left left' taken taken' gives settled tells =
+    record { read = text; output = tells.0; gives = gives; takes = tells.2; holds = writes (status.Script n) ended left' text tells.0 settled tells.1 }
+Did-judged status.WriteFault text ended given given' left left' taken taken' gives settled tells =
+    let some = tells.3 in
+    record {
+      read = text;
+      output = some.0;
+      gives = gives;
+      takes = some.3;
+      holds = (tells.0, tells.1, some.1, writes tells.0 ended left' text tells.1 settled tells.2, some.2);
+    }
+Did-judged status.Memory text ended given given' left left' taken taken' gives settled tells =
+    record { read = text; output = []; gives = gives; takes = tells ∙ sym (append_known-nil taken); holds = refl }
+Did-judged status.Usage text ended given given' left left' taken taken' gives settled tells = absurd tells.1
+Did-judged status.ReadFault text ended given given' left left' taken taken' gives settled tells = absurd tells.1
+
+-- the input failed, or memory was refused, and nothing was written
+pub Did-unjudged : (s : Status) (read : List ℕ) (ended : Bool) (given given' left left' taken : Option (List ℕ)) → (s ≡ status.ReadFault) ⊎ (s ≡ status.Memory) → Gives read given given' left left' →
+    Did (Judges s ended left') given given' left left' taken taken
+Did-unjudged s read ended given given' left left' taken (inl is) gives =
+    subst (λ (t : Status). Did (Judges t ended left') given given' left left' taken taken) (sym is)
+    (record { read = read; output = []; gives = gives; takes = sym (append_known-nil taken); holds = refl })
+Did-unjudged s read ended given given' left left' taken (inr is) gives =
+    subst (λ (t : Status). Did (Judges t ended left') given given' left left' taken taken) (sym is)
+    (record { read = read; output = []; gives = gives; takes = sym (append_known-nil taken); holds = refl })

@@ -1,0 +1,14 @@
+use Rattle.std.proofs.Common.{◌≡◌, ◌-◌, length, vec_len}
+use Rattle.zx_outside.specs.Reading.{Gives}
+use Rattle.zetcd_cmd.specs.Streams.{MayWait}
+use Rattle.zetcd_cmd.proofs.judge.read_text.Given as goal
+
+abbrev pub invariant-pieces : goal.invariant-pieces
+invariant-pieces g l = record {
+  seen : Gives l.text.items (g.I.Source.given l.fn.input) (g.I.Source.given l.input) (g.I.Source.left l.fn.input) (g.I.Source.left l.input);
+  wide : vec_len l.buffer ≡ 65536;
+  waited : MayWait (g.I.Source.counts l.fn.input) l.idle (g.I.Source.counts l.input);
+}
+
+abbrev pub decreases-pieces : goal.decreases-pieces
+decreases-pieces g l = 100000001 - length l.text.items
