@@ -2,8 +2,9 @@
 //!
 //! The examples are files of `data/examples`, so a new one needs no proof:
 //!
-//! - `replay/NAME.script` with `NAME.transcript`, and `show/NAME.stream` with `NAME.lines`: an input and all that is written
-//!   of it, with `NAME.status` where the status is not 0. The input is handed over whole and in pieces of several sizes.
+//! - `replay/NAME.script` with `NAME.transcript`, `show/NAME.stream` with `NAME.lines`, and `judge/NAME.transcript` with
+//!   `NAME.verdict`: an input and all that is written of it, with `NAME.status` where the status is not 0. The input is handed over
+//!   whole and in pieces of several sizes.
 //! - `runs/NAME.run`: a run of its own, with other words, faults, idle turns, or an input that is too long for a file
 //!   ([`Run`](crate::run::Run) has its lines).
 //! - `count`: how many examples there are, so that none gets lost.
@@ -48,6 +49,7 @@ fn main(rt: HostRuntime) -> Result<ExitCode> {
     };
     files_of(&rt, root, "replay", "script", "transcript", &mut tally)?;
     files_of(&rt, root, "show", "stream", "lines", &mut tally)?;
+    files_of(&rt, root, "judge", "transcript", "verdict", &mut tally)?;
     runs_of(&rt, root, &mut tally)?;
     let wanted = number_of(&rt, format!(in rt.alloc(); "{root}/count")?.as_str())?;
     let (passed, failed) = (tally.passed, tally.failed);
