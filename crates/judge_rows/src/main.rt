@@ -4,9 +4,6 @@
 //! Each is spelled from the records of zookeeper.jute and the rules of the Programmer's Guide, without this project's code; a
 //! name that has another in front is that transcript with one thing spoiled. `count` says how many there are, so that none gets lost.
 //!
-//! So far the faults of lines that can't be read and the verdicts on the history and on the order are compared; of any other
-//! verdict, that there is none of these.
-//!
 //! Nothing is written to standard output. What differs is told on standard error, and the status is then 1.
 #![tactic(auto)]
 
@@ -15,7 +12,7 @@ use std::alloc::Global;
 use std::process::ExitCode;
 use std::rt::Files;
 use std::{env, fs};
-use zk_legal::{history_fault, order_fault};
+use zk_judge::{Verdict, judge};
 use zk_lines::{TranscriptFault, read_transcript};
 use zk_transcript::TranscriptLine;
 use zx_base::Memory;
@@ -90,22 +87,14 @@ fn problem_of<R: Files + AllocGlobal>(rt: &R, path: &str) -> Result<Option<Strin
         bail!("out of memory");
     };
     let wanted = verdict.trim();
-    let is_passed = if is_compared(wanted) {
-        found.as_str() == wanted
+    Ok(if found.as_str() == wanted {
+        None
     } else {
-        found.as_str() == "a history in order"
-    };
-    Ok(if is_passed { None } else { Some(found) })
+        Some(found)
+    })
 }
 
-/// Whether a verdict is on a line that can't be read, on the history or on the order.
-fn is_compared(wanted: &str) -> bool {
-    wanted.starts_with("fault")
-        || wanted.starts_with("unlawful history")
-        || wanted.starts_with("unlawful order")
-}
-
-/// The verdict on a transcript's text, as far as its history and order go.
+/// The verdict on a transcript's text.
 fn verdict_on(alloc: Global, text: &[u8]) -> Result<String, Memory> {
     match read_transcript(alloc, text) {
         Ok(lines) => verdict_of(alloc, lines.as_slice()),
@@ -117,11 +106,10 @@ fn verdict_on(alloc: Global, text: &[u8]) -> Result<String, Memory> {
 }
 
 fn verdict_of(alloc: Global, lines: &[TranscriptLine]) -> Result<String, Memory> {
-    if let Some(line) = history_fault(alloc, lines)? {
-        return Ok(format!(in alloc; "unlawful history {line}")?);
-    }
-    if let Some(line) = order_fault(alloc, lines)? {
-        return Ok(format!(in alloc; "unlawful order {line}")?);
-    }
-    Ok(String::from_str(alloc, "a history in order")?)
+    Ok(match judge(alloc, lines)? {
+        Verdict::Lawful => String::from_str(alloc, "lawful")?,
+        Verdict::History { line } => format!(in alloc; "unlawful history {line}")?,
+        Verdict::Order { line } => format!(in alloc; "unlawful order {line}")?,
+        Verdict::Conversation { connection } => format!(in alloc; "unlawful connection {connection}")?,
+    })
 }
