@@ -1,0 +1,133 @@
+#!/usr/bin/env bash
+# How long a judgement takes, and how much memory: transcripts of N writes and their replies on 16 connections, and one read with a
+# watch for each eight writes, whose notice is told later. Once the writes are of 64 nodes, so that the tree is small; once
+# they are creates of N nodes below 16 others. Prints seconds and peak kilobytes, and fails where a transcript is not judged lawful
+# or a peak is above its bound. Of time it asserts nothing.
+set -eu
+here=$(cd "$(dirname "$0")/.." && pwd)
+program=$here/crates/zetcd/out/zetcd
+[ -x "$program" ] || "$here/run" replay </dev/null >/dev/null
+work=$(mktemp -d)
+trap 'rm -rf "$work"' EXIT
+
+transcript() { # transcript KIND N: N writes, of `sets` or of `creates`
+  python3 - "$@" <<'P'
+import struct, sys
+kind, writes = sys.argv[1], int(sys.argv[2])
+CONNECTIONS = 16
+
+def text(s):
+    return struct.pack(">i", len(s)) + s
+
+def packet(body):
+    return (struct.pack(">i", len(body)) + body).hex()
+
+class Node:
+    def __init__(self, data, zxid, now):
+        self.data, self.czxid, self.mzxid, self.pzxid = data, zxid, zxid, zxid
+        self.ctime = self.mtime = now
+        self.version = self.creates = self.children = 0
+
+    def stat(self):
+        return struct.pack(">qqqqiiiqiiq", self.czxid, self.mzxid, self.ctime, self.mtime, self.version,
+                           2 * self.creates - self.children, 0, 0, len(self.data), self.children, self.pzxid)
+
+out = []
+tree = {b"/": Node(b"", 2, 0)}
+zxid, now = 2, 1000
+watching = {}                                    # path: the connections with a data watch on it
+queue = {c: [] for c in range(1, CONNECTIONS + 1)}
+sent = {c: 0 for c in range(1, CONNECTIONS + 1)} # the index of the last frame
+acl = struct.pack(">ii", 1, 31) + text(b"world") + text(b"anyone")
+
+def frame(c, kind, body):
+    sent[c] += 1
+    out.append("frame %d %d %d %s" % (c, sent[c], zxid, (struct.pack(">ii", sent[c], kind) + body).hex()))
+
+def update(c):
+    global zxid, now
+    zxid, now = zxid + 1, now + 1
+    out.append("update %d asked %d %d %d" % (zxid, c, sent[c], now))
+
+def fire(path, kind):
+    for c in sorted(watching.pop(path, ())):
+        queue[c].append(packet(struct.pack(">iqi", -1, -1, 0) + struct.pack(">ii", kind, 3) + text(path)))
+
+def reply(c, body):
+    for notice in queue[c]:
+        out.append("send %d %s" % (c, notice))
+    queue[c] = []
+    out.append("send %d %s" % (c, packet(struct.pack(">iqi", sent[c], zxid, 0) + body)))
+
+def create(c, path):
+    frame(c, 1, text(path) + text(b"x" * 32) + acl + struct.pack(">i", 0))
+    update(c)
+    parent = tree[path.rpartition(b"/")[0] or b"/"]
+    parent.creates, parent.children, parent.pzxid = parent.creates + 1, parent.children + 1, zxid
+    tree[path] = Node(b"x" * 32, zxid, now)
+    fire(path, 1)
+    reply(c, text(path))
+
+def set_data(c, path, data):
+    frame(c, 5, text(path) + text(data) + struct.pack(">i", -1))
+    update(c)
+    node = tree[path]
+    node.data, node.version, node.mzxid, node.mtime = data, node.version + 1, zxid, now
+    fire(path, 3)
+    reply(c, node.stat())
+
+def get_data(c, path):
+    frame(c, 4, text(path) + b"\1")
+    watching.setdefault(path, set()).add(c)
+    reply(c, text(tree[path].data) + tree[path].stat())
+
+out.append("update 2 begin 0")
+for c in range(1, CONNECTIONS + 1):
+    out.append("open %d 1 %016x %s" % (c, c, "%02x" % c * 16))
+    out.append("frame %d 0 %d %s" % (c, zxid, (struct.pack(">iqiq", 0, 0, 30000, 0) + text(bytes(16)) + b"\0").hex()))
+    zxid += 1
+    out.append("update %d session %016x %d" % (zxid, c, c))
+    out.append("send %d %s" % (c, packet(struct.pack(">iiq", 0, 30000, c) + text(bytes([c]) * 16) + b"\0")))
+
+def turn(n):
+    return n % CONNECTIONS + 1
+
+for n in range(writes):
+    c = turn(n)
+    if n < CONNECTIONS:
+        create(c, b"/n%02d" % c)
+    elif kind == "creates" or n < 64:
+        create(c, b"/n%02d/%07d" % (c, n))
+    else:
+        set_data(c, b"/n%02d" % turn(n * 7), b"%032d" % n)
+    if n % 8 == 7:
+        get_data(turn(n * 5), b"/n%02d" % turn(n * 3) if n >= CONNECTIONS else b"/")
+out.append("done")
+print("\n".join(out))
+P
+}
+
+failed=0
+
+measure() { # measure LABEL BOUND: the peak may have so many kilobytes
+  python3 - "$program" "$work/transcript" "$@" <<'P' || failed=1
+import resource, subprocess, sys, time
+program, transcript, label, bound = sys.argv[1:]
+start = time.time()
+with open(transcript) as source:
+    run = subprocess.run([program, "judge"], stdin=source, stdout=subprocess.PIPE)
+seconds = time.time() - start
+peak = resource.getrusage(resource.RUSAGE_CHILDREN).ru_maxrss
+good = run.stdout == b"lawful\n" and peak <= int(bound)
+print("%-24s %-24s %8.2f s  %9d kB of %s%s" % (label, run.stdout.decode().strip(), seconds, peak, bound, "" if good else "  FAILED"))
+sys.exit(0 if good else 1)
+P
+}
+
+for kind in sets creates; do
+  for n in 1000 10000 50000; do
+    transcript "$kind" "$n" >"$work/transcript"
+    measure "$n $kind" 400000
+  done
+done
+exit "$failed"
