@@ -11,10 +11,12 @@ use Rattle.zt_text.proofs.PieceLaws.{pieces-some}
 use Rattle.zx_outside.specs.Reading.{Gives}
 use Rattle.zx_outside.specs.Writing.{Takes}
 use Rattle.zx_outside.proofs.Streams.{append_known-nil}
+use Rattle.zetcd_cmd.specs.declared.judge.Reading.{Reading}
+use Rattle.zetcd_cmd.specs.declared.judge.Reading.TheVariants as reading
 use Rattle.zetcd_cmd.specs.declared.status.Status.{Status}
 use Rattle.zetcd_cmd.specs.declared.status.Status.TheVariants as status
 use Rattle.zetcd_cmd.specs.Judged.{Finds, IsJudged}
-use Rattle.zetcd_cmd.specs.Judging.{Tells}
+use Rattle.zetcd_cmd.specs.Judging.{IsRead, Tells}
 use Rattle.zetcd_cmd.specs.Outcomes.{Did, IsAtItsEnd, IsFront, JudgeWrites, Judges}
 
 -- ---- a text that is too long
@@ -37,7 +39,7 @@ unfolding transcript
 long-unread text long =
     let some = pieces-some 10 (take max_script text) in
     ap (λ (b : Bool). is_some (lines_from b 1 (pieces 10 (take max_script text))).1) (lt-ltb max_script (length text) long)
-    ∙ ap (λ (ps : List (List ℕ)). is_some (lines_from true 1 ps).1) some.2.2
+    ∙ ap (λ (ps : List (List ℕ)). is_some (lines_from true 1 ps).1) some.2
     ∙ cut-unread 1 some.0 some.1
 
 -- and no later byte changes what it says
@@ -50,7 +52,7 @@ long-settled text rest long =
 
 read-whole : (text : List ℕ) (lines : List TranscriptLine) → max_script < length text → transcript text ≡ (lines, None) → ⊥
 read-whole text lines long read =
-    let no : is_some (None {A = ℕ}) ≡ true = ap (λ (t : Transcript). is_some t.1) (sym read) ∙ long-unread text long in
+    let no : is_some {T = ℕ} None ≡ true = ap (λ (t : Transcript). is_some t.1) (sym read) ∙ long-unread text long in
     cc
 
 -- ---- what is found of a text that was read to its end, or is too long
@@ -98,3 +100,24 @@ Did-unjudged s read ended given given' left left' taken (inl is) gives =
 Did-unjudged s read ended given given' left left' taken (inr is) gives =
     subst (λ (t : Status). Did (Judges t ended left') given given' left left' taken taken) (sym is)
     (record { read = read; output = []; gives = gives; takes = sym (append_known-nil taken); holds = refl })
+
+-- it came whole
+Did-whole : (how : Reading) (s : Status) (text shown : List ℕ) (ended : Bool) (given given' left left' taken taken' : Option (List ℕ)) → how ≡ reading.Whole → shown ≡ text →
+    IsRead how text ended given given' left left' → Tells s shown taken taken' → Did (Judges s ended left') given given' left left' taken taken'
+Did-whole how s text shown ended given given' left left' taken taken' is same read tells =
+    let whole = subst (λ (h : Reading). IsRead h text ended given given' left left') is read in
+    Did-judged s text ended given given' left left' taken taken' (subst (λ (t : List ℕ). Gives t given given' left left') whole.2.1 whole.1) (inl whole.2.0)
+    (subst (λ (t : List ℕ). Tells s t taken taken') same tells)
+
+-- it was too long
+Did-long : (how : Reading) (s : Status) (text shown : List ℕ) (ended : Bool) (given given' left left' taken taken' : Option (List ℕ)) → how ≡ reading.TooLong → shown ≡ text →
+    IsRead how text ended given given' left left' → Tells s shown taken taken' → Did (Judges s ended left') given given' left left' taken taken'
+Did-long how s text shown ended given given' left left' taken taken' is same read tells =
+    let long = subst (λ (h : Reading). IsRead h text ended given given' left left') is read in
+    Did-judged s text ended given given' left left' taken taken' (subst (λ (t : List ℕ). Gives t given given' left left') long.2.1 long.1) (inr long.2.0)
+    (subst (λ (t : List ℕ). Tells s t taken taken') same tells)
+
+pub Did-read : (how : Reading) (s : Status) (text shown : List ℕ) (ended : Bool) (given given' left left' taken taken' : Option (List ℕ)) → (how ≡ reading.Whole) ⊎ (how ≡ reading.TooLong) → shown ≡ text →
+    IsRead how text ended given given' left left' → Tells s shown taken taken' → Did (Judges s ended left') given given' left left' taken taken'
+Did-read how s text shown ended given given' left left' taken taken' (inl is) same read tells = Did-whole how s text shown ended given given' left left' taken taken' is same read tells
+Did-read how s text shown ended given given' left left' taken taken' (inr is) same read tells = Did-long how s text shown ended given given' left left' taken taken' is same read tells

@@ -124,7 +124,8 @@ fn status_on(verdict: Verdict) -> Status
 {
     match verdict {
         Verdict::Lawful => Status::Done,
-        Verdict::History { .. } | Verdict::Order { .. } | Verdict::Conversation { .. } => Status::Unlawful,
+        Verdict::History { .. } | Verdict::Order { .. } | Verdict::Conversation { .. } =>
+            Status::Unlawful,
     }
 }
 
