@@ -110,6 +110,8 @@ fn verdict_of(alloc: Global, lines: &[TranscriptLine]) -> Result<String, Memory>
         Verdict::Lawful => String::from_str(alloc, "lawful")?,
         Verdict::History { line } => format!(in alloc; "unlawful history {line}")?,
         Verdict::Order { line } => format!(in alloc; "unlawful order {line}")?,
-        Verdict::Conversation { connection } => format!(in alloc; "unlawful connection {connection}")?,
+        Verdict::Conversation { connection } => format!(in alloc;
+            "unlawful connection {connection}"
+        )?,
     })
 }
