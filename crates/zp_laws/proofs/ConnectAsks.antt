@@ -67,7 +67,7 @@ module _ (c : Connect) (phase : Phase) (step : ConnectStep) where
   moved (Some a) h = answered c.phase a h
 
 -- the request and the fresh number stay, so the ask of a phase does
-same-ask : (c : Connect) (a b p : Phase) → asked_in (record { request = c.request; fresh = c.fresh; phase = a }) p ≡ asked_in (record { request = c.request; fresh = c.fresh; phase = b }) p
+pub same-ask : (c : Connect) (a b p : Phase) → asked_in (record { request = c.request; fresh = c.fresh; phase = a }) p ≡ asked_in (record { request = c.request; fresh = c.fresh; phase = b }) p
 same-ask c a b Unasked = refl
 same-ask c a b Looking = refl
 same-ask c a b Granting = refl

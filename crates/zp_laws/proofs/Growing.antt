@@ -48,7 +48,7 @@ module _ (lines more : List TranscriptLine) (conn : ℕ) where
 
   module _ (who : Who) (w : Walker) (looked k : ℕ) (f : List ℕ) (here : placed_frame conn w.next lines ≡ Some (k, f)) where
     -- where the next request's frame has come
-    moment-push : IsMoment lines conn who w looked → IsMoment (lines ++ more) conn who w looked
+    pub moment-push : IsMoment lines conn who w looked → IsMoment (lines ++ more) conn who w looked
     moment-push t = record {
       past = omega (arith, t.past, length-append lines more);
       later = t.later;

@@ -36,7 +36,7 @@ use Rattle.zn_view.specs.Deciding.{IsGood}
 use Rattle.zn_view.specs.Seen.{View}
 use Rattle.zn_view.specs.declared.plan.Plan.{Plan}
 use Rattle.zp_step.specs.Stages.{Core, Stage, Unconnected, Connecting, Ready, KeepingAlive, Checking, Reading, Committing, Waiting, Shut, asked_of}
-use Rattle.zp_laws.proofs.Growing.{stands-push}
+use Rattle.zp_laws.proofs.Growing.{moment-push, stands-push}
 use Rattle.zp_laws.specs.Frames.{IsAtWork, is_served}
 use Rattle.zp_laws.specs.Inputs.{IsOfEarlierIn, IsOwn, IsOwnLine, IsTrueAnswer, Precedes, StoodAt, is_first, kind_for}
 use Rattle.zp_laws.specs.Standing.{IsMoment, Knows, Stands, is_ahead}
@@ -51,7 +51,6 @@ use Rattle.zp_whole.proofs.Looking.{ahead-none, get-last, moment-now}
 use Rattle.zp_whole.proofs.Moments.{whole}
 use Rattle.zp_whole.proofs.Outcomes.{IsNext, Still, outcome, plan-commits, still}
 use Rattle.zp_whole.proofs.Packets.{packets-append}
-use Rattle.zp_whole.proofs.Serving.{moment-push}
 use Rattle.zp_whole.proofs.Talking.{ahead-push, own-none, talks-push}
 use Rattle.zp_whole.proofs.Transactions.{txn-answered, txn-reads}
 use Rattle.zp_whole.specs.Bounds.{IsBound, IsBoundAs, IsBoundAsk, attachment}
@@ -285,7 +284,7 @@ commit-serving s u lines c core a b xid q v p m e w k h x done parts right = rec
       zxid = omega (arith, ints, done.grown);
       kind = kind-same q core.who.session c core.next m;
       stood = subst (StandsFor (present s)) (sym (state_at-push lines (l ∷ []) (length lines) (omega arith) ∙ ap after (take-length lines))) (stands-now s lines w);
-      planned = moment-push lines (l ∷ []) c core.who k.walker (length lines) (record { place = (work.frame).place; bytes = work.bytes; framed = ap (λ n. placed_frame c n lines) same_next ∙ (work.frame).framed }) (moment-now lines c core k.walker k.place w.legal k.attached k.talks (k.stands).matches);
+      planned = moment-push lines (l ∷ []) c core.who k.walker (length lines) (work.frame).place work.bytes (ap (λ n. placed_frame c n lines) same_next ∙ (work.frame).framed) (moment-now lines c core k.walker k.place w.legal k.attached k.talks (k.stands).matches);
     }
 
 -- ---- whatever it has out

@@ -28,6 +28,7 @@ use Rattle.zp_happen.specs.Worlds.{Closed, Conn, Connection, World, behind_step,
 use Rattle.zp_happen.specs.declared.flight.Asking.{Asking}
 use Rattle.zp_happen.specs.declared.flight.Flight.TheVariants.{Carried, Out}
 use Rattle.zp_laws.proofs.Asking.{open-is}
+use Rattle.zp_laws.proofs.ConnectAsks.{same-ask}
 use Rattle.zp_laws.proofs.Ending.{steps_end_well}
 use Rattle.zp_laws.proofs.Going.{goes-walks}
 use Rattle.zp_laws.proofs.WalkMoves.{walk-next}
@@ -76,16 +77,6 @@ use Rattle.zs_session.specs.declared.connect.Phase.{Phase}
 use Rattle.zx_base.proofs.Options.{none_some, some_is}
 
 -- ---- the step
-
-asks-same : (x : Connect) (b p : Phase) → asked_in (record { request = x.request; fresh = x.fresh; phase = b }) p ≡ asked_in x p
-asks-same x b Unasked = refl
-asks-same x b Looking = refl
-asks-same x b Granting = refl
-asks-same x b Creating = refl
-asks-same x b (Keeping seen life) = refl
-asks-same x b LookingAgain = refl
-asks-same x b (Attaching seen life) = refl
-asks-same x b Over = refl
 
 -- the answer is the welcome to this session
 welcome-is : (r : ConnectRequest) (id timeout : ℤ) (passwd : List ℕ) (s : Session) → s.timeout ≡ timeout → s.passwd ≡ passwd → connect_packet (record { timeout = timeout; session = id; passwd = passwd; read_only = answered_read_only r }) ≡ connect_packet (welcome r id s)
@@ -165,7 +156,7 @@ module _ (w w' : World) (c : ℕ) (behind : List TranscriptLine) (i : Input) (hd
         opens = ap is_closed hd.serving;
         unshut = λ e f. ap (λ (u : Core). is_shut u.stage) (sym (core-same (asking_core core kept (in_phase x p)) e f));
         serves = λ e f s. absurd (true-false (sym (ap (λ (u : Core). is_served u.stage) (core-same (asking_core core kept (in_phase x p)) e f) ∙ s)));
-        bound = λ y e. subst (IsBoundAsk w.store w.lines) (out-same (record { ask = q; kind = kind_of_connect c (in_phase x p) p }) y e) (connect-bound w.store w.lines c (in_phase x p) awaiting p q rests (asks-same x p p ∙ asked));
+        bound = λ y e. subst (IsBoundAsk w.store w.lines) (out-same (record { ask = q; kind = kind_of_connect c (in_phase x p) p }) y e) (connect-bound w.store w.lines c (in_phase x p) awaiting p q rests (same-ask x p x.phase p ∙ asked));
         own = λ y e f g. attaches-c y.kind e p (ap (λ (u : Asking). u.kind) (sym (out-same (record { ask = q; kind = kind_of_connect c (in_phase x p) p }) y f))) g;
         heard = λ m b e. absurd (none_some (sym none ∙ e));
       })
@@ -181,7 +172,7 @@ module _ (w w' : World) (c : ℕ) (behind : List TranscriptLine) (i : Input) (hd
           bytes = k.bytes;
           framed = k.framed;
           reads = k.reads;
-          flies = record { asked = asks-same x p p ∙ asked; kind = refl; rests = rests; unattached = none };
+          flies = record { asked = same-ask x p x.phase p ∙ asked; kind = refl; rests = rests; unattached = none };
         },
       )
 

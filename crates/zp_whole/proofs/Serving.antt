@@ -1,28 +1,24 @@
 -- Lines of others leave what is known of a connection with a session.
 use Rattle.std.proofs.Common.{◌≡◌, ℕ, ◌+◌, List, [], ◌∷◌, ◌++◌, length, refl, sym, ap, ◌∙◌, subst, arith, true, false, ℤ, append-nil}
 use Rattle.std.specs.Prelude.{Option, Some, None}
-use Rattle.std.proofs.lemmas.List.{length-append}
 use Rattle.std.proofs.lemmas.Option.{slice_get_within}
 use Rattle.ev_types.specs.Store.{Store, present}
 use Rattle.ev_types.specs.declared.answer.Answer.{Answer}
 use Rattle.ev_types.specs.declared.answer.Answer.TheVariants as answer
-use Rattle.zk_transcript.proofs.Appending.{first_place-push}
 use Rattle.zk_transcript.proofs.Attachments.{attach_of-push}
 use Rattle.zk_transcript.proofs.Lookups.{first_place-skip, slice_get-front}
 use Rattle.zk_transcript.proofs.Walks.{state_at-push}
-use Rattle.zk_transcript.specs.History.{frame_shown}
 use Rattle.zk_transcript.specs.Legal.{Attachment, is_below, is_legal}
 use Rattle.zk_transcript.specs.Walks.{Walker, own_update, own_update_shown, packets, placed_frame}
 use Rattle.zk_transcript.specs.declared.transcript.TranscriptLine.{TranscriptLine}
 use Rattle.zk_transcript.specs.declared.transcript.TranscriptLine.TheVariants.{Update}
 use Rattle.zk_transcript.specs.declared.transcript.UpdateKind.{UpdateKind}
 use Rattle.zn_layout.specs.StandsFor.{StandsFor}
-use Rattle.zn_view.specs.declared.plan.Who.{Who}
 use Rattle.zp_step.specs.Stages.{Core, Stage, Unconnected, Connecting, Ready, KeepingAlive, Checking, Reading, Committing, Waiting, Shut}
-use Rattle.zp_laws.proofs.Growing.{stands-push}
+use Rattle.zp_laws.proofs.Growing.{moment-push, stands-push}
 use Rattle.zp_laws.specs.Frames.{IsAtWork}
 use Rattle.zp_laws.specs.Inputs.{IsOwn, IsTrueAnswer, Precedes, is_first}
-use Rattle.zp_laws.specs.Standing.{IsMoment, Knows, Stands, is_ahead}
+use Rattle.zp_laws.specs.Standing.{Knows, Stands, is_ahead}
 use Rattle.zp_happen.specs.declared.flight.Flight.{Flight}
 use Rattle.zp_happen.specs.declared.flight.Flight.TheVariants.{Out, Carried, Denied}
 use Rattle.zp_whole.proofs.Carrying.{no-index, one, requested-for}
@@ -65,10 +61,10 @@ elsewhere-plain lines c l h = record {
 
 -- ---- an answer that waits to be delivered
 
-pub record HasFrame (lines : List TranscriptLine) (c i : ℕ) : Type 0 where
-  pub place : ℕ
-  pub bytes : List ℕ
-  pub framed : placed_frame c i lines ≡ Some (place, bytes)
+record HasFrame (lines : List TranscriptLine) (c i : ℕ) : Type 0 where
+  place : ℕ
+  bytes : List ℕ
+  framed : placed_frame c i lines ≡ Some (place, bytes)
 
 some-frame : (lines : List TranscriptLine) (c i : ℕ) (st : Stage) → is_first st ≡ true → IsAtWork lines c i st → HasFrame lines c i
 some-frame lines c i (Checking f) h k = record { place = k.place; bytes = f; framed = k.framed }
@@ -80,21 +76,6 @@ some-frame lines c i (Connecting ph) h k = absurd (cc)
 some-frame lines c i (KeepingAlive f) h k = absurd (cc)
 some-frame lines c i (Waiting p) h k = absurd (cc)
 some-frame lines c i Shut h k = absurd (cc)
-
--- where the next request's frame has come
-pub moment-push : (lines more : List TranscriptLine) (c : ℕ) (who : Who) (w : Walker) (looked : ℕ) → HasFrame lines c w.next → IsMoment lines c who w looked → IsMoment (lines ++ more) c who w looked
-moment-push lines more c who w looked f t = record {
-  past = omega (arith, t.past, length-append lines more);
-  later = t.later;
-  told = t.told;
-  asked = λ j bytes e. t.asked j bytes (f.framed ∙ sym (first_place-push (frame_shown c w.next) 0 lines more (f.place, f.bytes) f.framed) ∙ e);
-  place = t.place;
-  attached = attach_of-push lines more c (t.place, attachment who) t.attached;
-  since = t.since;
-}
-
-frame-as : (lines : List TranscriptLine) (c i j : ℕ) → j ≡ i → HasFrame lines c i → HasFrame lines c j
-frame-as lines c i j e f = subst (HasFrame lines c) (sym e) f
 
 own-push : (lines more : List TranscriptLine) (c : ℕ) (core : Core) (w : Walker) (before : Store) (looked : ℕ) (st : Stage) (a : Answer) → w.next ≡ core.next → own_update c core.next (lines ++ more) ≡ own_update c core.next lines
     → IsAtWork lines c core.next st → IsOwn lines c core w before looked st a → IsOwn (lines ++ more) c core w before looked st a
@@ -109,7 +90,7 @@ own-push lines more c core w before looked (Committing xid q v p m) (answer.Txn 
       zxid = o.zxid;
       kind = o.kind;
       stood = subst (StandsFor (present before)) (sym (state_at-push lines more o.place within)) o.stood;
-      planned = moment-push lines more c core.who w o.place (frame-as lines c core.next w.next next (record { place = (work.frame).place; bytes = work.bytes; framed = (work.frame).framed })) o.planned;
+      planned = moment-push lines more c core.who w o.place (work.frame).place work.bytes (ap (λ n. placed_frame c n lines) next ∙ (work.frame).framed) o.planned;
     }
 own-push lines more c core w before looked (Committing xid q v p m) (answer.Txn r false parts) next same work o = same ∙ o
 own-push lines more c core w before looked (Committing xid q v p m) (answer.Range r x) next same work o = same ∙ o
@@ -138,7 +119,7 @@ answer-push s u lines more c core w looked a x e k t = record {
   earlier = t.earlier;
   shown = λ f. (let sh = t.shown f in record {
     stands = subst (StandsFor (present t.then_store)) (sym (state_at-push lines more looked (sh.moment).past)) sh.stands;
-    moment = moment-push lines more c core.who w looked (frame-as lines c core.next w.next ((k.matches).next) (some-frame lines c core.next core.stage f k.work)) sh.moment;
+    moment = (let some = some-frame lines c core.next core.stage f k.work in moment-push lines more c core.who w looked some.place some.bytes (ap (λ n. placed_frame c n lines) (k.matches).next ∙ some.framed) sh.moment);
   });
   own = own-push lines more c core w t.before looked core.stage a ((k.matches).next) (e.same core.next) k.work t.own;
 }
