@@ -120,7 +120,8 @@ impl Core {
     /// What the transaction that is out does where it changes the head, as a line of a transcript tells it in which the
     /// connection has this number: none where no such transaction is out.
     pub fn update_asked(&self, connection: u32) -> Option<UpdateKind>
-        ensures { result ≡ kind_in_stage connection self.now self.now.stage }
+        ensures asked { result ≡ kind_in_stage connection self.now self.now.stage }
+        ensures held { IsHeld self.now }
     {
         asked_in(connection, &self.client, &self.stage)
     }

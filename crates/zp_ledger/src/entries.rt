@@ -6,7 +6,7 @@ ghost use Rattle.std.specs.Option.{option_map};
 ghost use Rattle.ev_types.specs.Store.{mod_of};
 ghost use Rattle.zn_layout.specs.Records.{IsHeadRec};
 ghost use Rattle.zp_happen.specs.Entries.{AreTriggersOf, entry_behind};
-ghost use Rattle.zp_ledger.specs.Entering.{IsAdded};
+ghost use Rattle.zp_ledger.specs.Entering.{AreNumbered, IsAdded};
 
 use ev_types::Kv;
 use std::alloc::Global;
@@ -51,6 +51,13 @@ impl Entries {
         ensures { result ≡ length self.now }
     {
         self.shared.len()
+    }
+
+    /// Proof only: entry n stands at place n - 1, and tells what a head's record can hold.
+    pub fn are_numbered(&self)
+        ensures { AreNumbered self.now }
+    {
+        let _ = &self.shared;
     }
 
     /// Adds the entry of the update that left this head. Without memory the entries stay as they were.
