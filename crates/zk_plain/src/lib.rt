@@ -1,7 +1,7 @@
 //! The service's machine as a program: what a request makes of the tree is planned on it, and then carried out in place.
 //!
-//! Each function's contract is the definition of `zk_model` that it runs. The service itself stands on stored keys and not on
-//! this crate; a judge of transcripts runs the definitions by it.
+//! Each function's contract is the definition of `zk_model` that it runs. The service itself stands on stored keys, and takes
+//! of this crate the load of a multi and its row of codes alone; a judge of transcripts runs the definitions by it.
 #![tactic(auto)]
 
 mod create;
@@ -22,7 +22,7 @@ pub use create::{begin, is_create_mode, is_open_acl, is_sequential};
 pub use edit::Edit;
 pub use fault::Fault;
 pub use laws::sound_trees_fit;
-pub use multi::{Transaction, several};
+pub use multi::{Transaction, data_load, distinct, path_load, row_of, several};
 pub use outcome::Outcome;
 pub use requests::{
     read_path, single, single_check, single_create, single_delete, single_set_data,

@@ -171,7 +171,8 @@ fn data_len(part: &Part) -> usize
     }
 }
 
-fn data_load(parts: &[Part]) -> Option<usize>
+/// The bytes of all parts' data, none above 1,000,000.
+pub fn data_load(parts: &[Part]) -> Option<usize>
     ensures { result ≡ within (sum_by data_len parts.now) }
 {
     let mut sum = Some(0);
@@ -181,8 +182,8 @@ fn data_load(parts: &[Part]) -> Option<usize>
     sum
 }
 
-/// The bytes of these paths, added.
-fn path_load(paths: &[Path], before: Option<usize>) -> Option<usize>
+/// The bytes of these paths, added to a sum: none above 1,000,000.
+pub fn path_load(paths: &[Path], before: Option<usize>) -> Option<usize>
     ensures { (n : ℕ) → before ≡ within n → result ≡ within (n + sum_by length paths.now) }
 {
     let mut sum = before;
@@ -193,7 +194,7 @@ fn path_load(paths: &[Path], before: Option<usize>) -> Option<usize>
 }
 
 /// Each session once, in the order of their numbers.
-fn distinct(alloc: Global, sessions: &[i64]) -> Result<Vec<i64>, Memory>
+pub fn distinct(alloc: Global, sessions: &[i64]) -> Result<Vec<i64>, Memory>
     ensures { IfOk result (λ v. v.items ≡ distinct sessions.now) }
 {
     let mut once = BTreeSet::new(alloc);
@@ -240,7 +241,7 @@ fn codes(alloc: Global, len: usize, code: i32) -> Result<Vec<PartResult>, Memory
 }
 
 /// The row of codes of a transaction whose part at this place is refused.
-fn row_of(alloc: Global, len: usize, place: usize, code: i32) -> Result<Vec<PartResult>, Memory>
+pub fn row_of(alloc: Global, len: usize, place: usize, code: i32) -> Result<Vec<PartResult>, Memory>
     requires { place < len }
     ensures { IfOk result (λ row. row.items ≡ row_of len place code) }
 {

@@ -25,7 +25,7 @@ use zx_base::Memory;
 
 /// The revision at which the record of a session's life was put, by the connection that the session is attached to: none
 /// where the session is closed or has lapsed.
-fn attached_at(view: &View, session: i64) -> Result<Option<i64>, Memory>
+pub fn attached_at(view: &View, session: i64) -> Result<Option<i64>, Memory>
     requires real { pos 1 ≤ℤ session }
     requires seen { HasSeen view.now (LeaseKey (nat_abs session)) }
     ensures { IfOk result (IsAttachedAt (sees view.now (LeaseKey (nat_abs session)))) }

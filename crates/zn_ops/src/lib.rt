@@ -14,7 +14,7 @@ mod kinds;
 mod laws;
 mod wanting;
 
-pub use deciding::decide;
+pub use deciding::{attached_at, decide};
 pub use form::plain_reply;
 pub use kinds::is_single;
 pub use laws::planned_where_not_refused;

@@ -16,7 +16,7 @@ use Rattle.zn_layout.specs.ReadingSteps.{IsPathOf}
 use Rattle.zn_view.specs.declared.plan.Who.{Who}
 use Rattle.zn_view.specs.declared.want.Want.{Want}
 use Rattle.zn_view.specs.declared.want.Want.TheVariants as want
-use Rattle.zn_view.specs.Needs.{key_want, Follows, IsRead, IsLacking, AreNeeds, is_multi}
+use Rattle.zn_view.specs.Needs.{key_want, Follows, IsRead, IsLacking, AreNeeds}
 use Rattle.zn_view.specs.Seen.{View, listed}
 use Rattle.zn_view.specs.Views.{reads, about_path}
 use Rattle.zn_view.specs.Lacking.{lacking}
@@ -100,8 +100,8 @@ module _ (r : Request) (who : Who) (v : View) (p : Bytes) (due : Bool) (follows 
       once true = all_pairs_push (λ (w u : Want). w ≢ u) (lacking v (read_keys r who)) (want.Children p) (lacking-once v (read_keys r who)) (λ i d lt is. no_listing_named _ (Contains-get_or (lacking v (read_keys r who)) i d lt) is)
       once false = lacking-once v (read_keys r who)
 
-  pub wanted-needed : plain_request no_watches r ≡ None → is_multi r ≡ false → AreNeeds r who v wanted
-  wanted-needed plain single = needs-from r who v wanted wanted_only wanted_all wanted_once plain single
+  pub wanted-needed : plain_request no_watches r ≡ None → AreNeeds r who v wanted
+  wanted-needed plain = needs-from r who v wanted wanted_only wanted_all wanted_once plain
 
 -- ---- by the path
 
@@ -125,34 +125,34 @@ no_listing r who v p none = record {
 
 -- keys alone
 pub keys-needed : (text p : Bytes) (ks : List Key) (who : Who) (v : View) (ws : List Want) → IsPathOf text (Some p) → ws ≡ lacking v (map key_bytes (first_keys who ++ ks)) → AreKeyNeeds text ks who v ws
-keys-needed text p ks who v ws path is r formed single reads_are none =
+keys-needed text p ks who v ws path is r formed reads_are none =
     let all : lacking v (read_keys r who) ≡ ws = ap (λ (l : List Key). lacking v (map key_bytes (first_keys who ++ l))) reads_are ∙ sym is in
-    subst (λ (l : List Want). AreNeeds r who v l) all (wanted-needed r who v p false (no_listing r who v p none) (path_formed r text p formed path) single)
+    subst (λ (l : List Want). AreNeeds r who v l) all (wanted-needed r who v p false (no_listing r who v p none) (path_formed r text p formed path))
 
 pub no_path-key_needed : (text : Bytes) (ks : List Key) (who : Who) (v : View) (ws : List Want) → IsPathOf text None → ws ≡ [] → AreKeyNeeds text ks who v ws
-no_path-key_needed text ks who v ws bad is r formed single reads_are none = subst (λ (l : List Want). AreNeeds r who v l) (sym is) (no_path-needed r who v text formed bad)
+no_path-key_needed text ks who v ws bad is r formed reads_are none = subst (λ (l : List Want). AreNeeds r who v l) (sym is) (no_path-needed r who v text formed bad)
 
 -- ---- each kind
 
 pub exists-needed : (text : Bytes) (watch : Bool) (who : Who) (v : View) (ws : List Want) → AreKeyNeeds text (about_path text) who v ws → AreNeeds (req.Exists text watch) who v ws
 unfolding reads
-exists-needed text watch who v ws h = h (req.Exists text watch) (formed-exists text watch) refl refl (λ w f. f)
+exists-needed text watch who v ws h = h (req.Exists text watch) (formed-exists text watch) refl (λ w f. f)
 
 pub get_data-needed : (text : Bytes) (watch : Bool) (who : Who) (v : View) (ws : List Want) → AreKeyNeeds text (about_path text) who v ws → AreNeeds (req.GetData text watch) who v ws
 unfolding reads
-get_data-needed text watch who v ws h = h (req.GetData text watch) (formed-get_data text watch) refl refl (λ w f. f)
+get_data-needed text watch who v ws h = h (req.GetData text watch) (formed-get_data text watch) refl (λ w f. f)
 
 pub get_acl-needed : (text : Bytes) (who : Who) (v : View) (ws : List Want) → AreKeyNeeds text (about_path text) who v ws → AreNeeds (req.GetAcl text) who v ws
 unfolding reads
-get_acl-needed text who v ws h = h (req.GetAcl text) (formed-get_acl text) refl refl (λ w f. f)
+get_acl-needed text who v ws h = h (req.GetAcl text) (formed-get_acl text) refl (λ w f. f)
 
 pub check-needed : (text : Bytes) (version : ℤ) (who : Who) (v : View) (ws : List Want) → AreKeyNeeds text (DataKey text ∷ []) who v ws → AreNeeds (req.Check text version) who v ws
 unfolding reads
-check-needed text version who v ws h = h (req.Check text version) (formed-check text version) refl refl (λ w f. f)
+check-needed text version who v ws h = h (req.Check text version) (formed-check text version) refl (λ w f. f)
 
 pub sync-needed : (text : Bytes) (who : Who) (v : View) (ws : List Want) → AreKeyNeeds text [] who v ws → AreNeeds (req.Sync text) who v ws
 unfolding reads
-sync-needed text who v ws h = h (req.Sync text) (formed-sync text) refl refl (λ w f. f)
+sync-needed text who v ws h = h (req.Sync text) (formed-sync text) refl (λ w f. f)
 
 -- ---- getChildren
 
@@ -175,14 +175,14 @@ unfolding reads
 get_children-needed text p watch who v ws path wants =
     let here = subst (λ (q : Bytes). AreListingWants q who v ws) path.0 wants in
     subst (λ (l : List Want). AreNeeds (req.GetChildren text watch) who v l) (sym here.2)
-    (wanted-needed (req.GetChildren text watch) who v text here.0 (follows_names text watch who v here.0 here.1) (path_formed (req.GetChildren text watch) text p (formed-get_children text watch) path) refl)
+    (wanted-needed (req.GetChildren text watch) who v text here.0 (follows_names text watch who v here.0 here.1) (path_formed (req.GetChildren text watch) text p (formed-get_children text watch) path))
 
 pub get_children2-needed : (text p : Bytes) (watch : Bool) (who : Who) (v : View) (ws : List Want) → IsPathOf text (Some p) → AreListingWants p who v ws → AreNeeds (req.GetChildren2 text watch) who v ws
 unfolding reads
 get_children2-needed text p watch who v ws path wants =
     let here = subst (λ (q : Bytes). AreListingWants q who v ws) path.0 wants in
     subst (λ (l : List Want). AreNeeds (req.GetChildren2 text watch) who v l) (sym here.2)
-    (wanted-needed (req.GetChildren2 text watch) who v text here.0 (follows_stat text watch who v here.0 here.1) (path_formed (req.GetChildren2 text watch) text p (formed-get_children2 text watch) path) refl)
+    (wanted-needed (req.GetChildren2 text watch) who v text here.0 (follows_stat text watch who v here.0 here.1) (path_formed (req.GetChildren2 text watch) text p (formed-get_children2 text watch) path))
 
 -- the children weren't listed
 unlisted : (o : Option (List Bytes)) → not (is_some o) ≡ true → o ≡ None

@@ -39,7 +39,7 @@ pub set_watches-needed : (since : ℤ) (who : Who) (v : View) (datas exists chil
 set_watches-needed since who v datas exists children keys ws keys_are is =
     let r = req.SetWatches since exists datas children in
     subst (λ (l : List Want). AreNeeds r who v l) (ap (lacking v) (set_watches_read since who datas exists children ∙ sym keys_are) ∙ sym is)
-    (wanted-needed r who v [] false (no_listing r who v [] (λ w f. f)) (set_watches_formed since exists datas children) refl)
+    (wanted-needed r who v [] false (no_listing r who v [] (λ w f. f)) (set_watches_formed since exists datas children))
 
 -- a text more
 valid-more : (texts : List Bytes) (i : ℕ) (t : Bytes) → i < length texts → t ≡ get_or texts i t → valid (take (i + 1) texts) ≡ valid (take i texts) ++ valid (t ∷ [])

@@ -9,7 +9,7 @@ use Rattle.zn_view.specs.declared.want.Want.{Want}
 use Rattle.zn_view.specs.declared.want.Want.TheVariants as want
 use Rattle.zn_view.specs.declared.plan.Who.{Who}
 use Rattle.zn_view.specs.Lacking.{lacking}
-use Rattle.zn_view.specs.Needs.{Follows, AreNeeds, is_multi}
+use Rattle.zn_view.specs.Needs.{Follows, AreNeeds}
 use Rattle.zn_view.specs.Seen.{View, listed}
 use Rattle.zn_view.specs.Views.{reads, about_path}
 
@@ -31,7 +31,7 @@ IsFormed r text = plain_request no_watches r ≡ told_of_path no_watches text
 
 -- what is needed of each request of this path that looks up these keys and nothing that follows from them
 abbrev pub AreKeyNeeds : Bytes → List Key → Who → View → List Want → Type 0
-AreKeyNeeds text ks who v ws = (r : Request) → IsFormed r text → is_multi r ≡ false → reads r who.session ≡ ks → ((w : Want) → Follows r who.session v w → ⊥) → AreNeeds r who v ws
+AreKeyNeeds text ks who v ws = (r : Request) → IsFormed r text → reads r who.session ≡ ks → ((w : Want) → Follows r who.session v w → ⊥) → AreNeeds r who v ws
 
 -- the keys of each request: the head's, the session's life, and those of the row
 abbrev pub first_keys : Who → List Key

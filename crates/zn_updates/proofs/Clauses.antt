@@ -36,8 +36,10 @@ use Rattle.zn_updates.specs.Choices.{Choice, Refuse, Make}
 use Rattle.zn_view.specs.Deciding.{IfPlanned, IsToldByForm}
 use Rattle.zn_updates.specs.Deciding.{IfMakes, IfMade, IsAttached, IsBySound, IsGuarded, decision_of, on_keys, plan_of}
 use Rattle.zn_updates.specs.Making.{chosen_of}
-use Rattle.zn_updates.proofs.Deciding.{IsPart, IsChosen, by_tree, plan_is}
-use Rattle.zn_updates.proofs.WellMade.{AreWellMade, IfChanges}
+use Rattle.zn_updates.specs.Layers.{IsChosen}
+use Rattle.zn_updates.proofs.Deciding.{IsPart, by_tree, plan_is}
+use Rattle.zn_updates.specs.Parts.{IfChanges}
+use Rattle.zn_updates.proofs.WellMade.{AreWellMade}
 
 pub makes_cond : (P : List Trigger → Type 0) (b : Bool) (x y : Choice) → IfMakes P x → IfMakes P y → IfMakes P (cond b x y)
 makes_cond P true x y f g = f

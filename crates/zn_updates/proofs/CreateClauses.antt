@@ -6,7 +6,6 @@ use Rattle.std.proofs.lemmas.List.Elements.{All-append, All-cons, All-nil}
 use Rattle.std.specs.FinMap.{get}
 use Rattle.std.specs.Ordering.{int_eq}
 use Rattle.ev_types.specs.declared.answer.Kv.{Kv}
-use Rattle.ev_types.specs.Ranges.{Keys}
 use Rattle.zx_base.specs.Maps.{Bytes}
 use Rattle.zx_base.proofs.Options.{some_is}
 use Rattle.zk_model.specs.declared.node.Node.{Node}
@@ -31,13 +30,12 @@ use Rattle.zn_layout.specs.Keys.{Key, HeadKey, DataKey, CountsKey, SessionKey, L
 use Rattle.zn_layout.specs.Reading.{IsValueOf}
 use Rattle.zn_layout.specs.Records.{counts_value, IsCountRec, IsHeadRec, IsLongCount, IsSessionRec}
 use Rattle.zn_layout.proofs.Paths.{path_short}
-use Rattle.zn_layout.specs.StandsFor.{StandsFor}
 use Rattle.zn_layout.proofs.Nodes.{counts_value-injective}
 use Rattle.zn_view.specs.declared.plan.Decision.{Decision}
 use Rattle.zn_view.specs.declared.plan.Who.{Who}
 use Rattle.zn_view.specs.declared.want.Want.{Want}
 use Rattle.zn_view.specs.Lookups.{HasSeen, sees}
-use Rattle.zn_view.specs.Needs.{AreNeeds, Follows, IsRead, key_want, IsWhole}
+use Rattle.zn_view.specs.Needs.{AreNeeds, Follows, IsCreatesSeen, IsRead, key_want, IsWhole}
 use Rattle.zn_view.specs.Lacking.{lacking}
 use Rattle.zn_view.specs.Seen.{View, seen}
 use Rattle.zn_view.specs.Views.{reads, about_parent}
@@ -52,17 +50,17 @@ use Rattle.zn_updates.specs.Forms.{IsFormOf}
 use Rattle.zn_updates.proofs.Plans.{choice-by_tree}
 use Rattle.zn_view.specs.Deciding.{IfPlanned, IsToldByForm, is_by_tree}
 use Rattle.zn_updates.specs.Deciding.{IfMakes, IsBySound, IsCreate, IsGuarded, IsOwnPaths, IsUpLookedUp, creates_in, creates_seen, decision_of, on_keys, path_for}
-use Rattle.zn_updates.specs.KeysRead.{create_keys, numbered, numbered_at, plain_data, session_nodes, IsCreatesSeen, IsParentCreates}
+use Rattle.zn_updates.specs.KeysRead.{create_keys, numbered, numbered_at, plain_data, session_nodes, IsParentCreates}
 use Rattle.zn_updates.specs.Making.{IsDataSeen, IsCountsSeen, IsPathsSeen, has_found}
 use Rattle.zn_updates.specs.Right.{IsRight}
 use Rattle.zn_updates.specs.Seen.{ShowsCounts, ShowsOwned}
 use Rattle.zn_updates.proofs.Clauses.{AreKeys, IsShortKey, makes_cond, by_form, by_sound, near_sees, planned, refused_plans}
 use Rattle.zn_updates.proofs.CreateRight.{create_right, created_under}
-use Rattle.zn_updates.proofs.Deciding.{IsPart, IsChosen, code_of}
+use Rattle.zn_updates.specs.Layers.{code_of, IsChosen, Shows}
+use Rattle.zn_updates.proofs.Deciding.{IsPart}
 use Rattle.zn_updates.proofs.WellMade.{create-made, paths-listed, two_triggers}
 use Rattle.zn_updates.proofs.Meanings.{of_abs}
 use Rattle.zn_updates.proofs.Showing.{data-shown, counts-shown, paths-shown, there-shown}
-use Rattle.zn_updates.proofs.Telling.{Tells}
 
 -- whatever node is there, without the parent's counts nothing is created
 same_taken : (p q content : Bytes) (now : ℕ) (ephemeral : Bool) (session : ℤ) (x : Option SeenData) (paths : Option (List Bytes)) (a b : Bool)
@@ -201,21 +199,21 @@ module _ (path content : Bytes) (acl : List Acl) (flags : ℤ) (formed : form_re
 
     -- ---- where the view has what a state has
 
-    module _ (m : Keys) (s : State) (z : ℤ) (now : ℕ) (moment : now < 2 ^ 62) (sound : IsSound s) (stands : StandsFor m s) (tells : Tells v m) (y : Session) (opened : session_at who.session s ≡ Some y) where
+    module _ (s : State) (z : ℤ) (now : ℕ) (moment : now < 2 ^ 62) (sound : IsSound s) (shown : Shows z v s) (y : Session) (opened : session_at who.session s ≡ Some y) where
       own_shown : is_ephemeral flags ≡ true → ShowsOwned paths (owned s.tree who.session)
       own_shown is = subst (λ (o : ℤ). ShowsOwned paths (owned s.tree o)) (of_abs who.session long.least)
-          (paths-shown v m s stands tells (nat_abs who.session) y paths (ap (λ (o : ℤ). session_at o s) (of_abs who.session long.least) ∙ opened) (own_seen is))
+          (paths-shown z v s shown (nat_abs who.session) y paths (ap (λ (o : ℤ). session_at o s) (of_abs who.session long.least) ∙ opened) (own_seen is))
 
       -- by the node at the path that was looked up
       right_at : IsRight z s (create_choice p q content now (is_ephemeral flags) who.session x c (is_some (get s.tree p)) paths) (created_under s p q content flags who.session z now sound (made_below q up (creates_in c)) (valid_path (creates_in c)) moment short y opened long (get s.tree q) (get s.tree p))
       right_at = create_right s p q content flags who.session z now sound (made_below q up (creates_in c)) (valid_path (creates_in c)) moment short y opened long x c paths (get s.tree q) (get s.tree p) refl refl
-          (data-shown v m s stands tells z q x data_seen) (counts-shown v m s stands tells z q c counts_seen) own_shown
+          (data-shown z v s shown q x data_seen) (counts-shown z v s shown q c counts_seen) own_shown
 
       -- the model's path is that one
       same_path : (u : Node) → get s.tree q ≡ Some u → made_path flags path u ≡ p
       same_path u there =
-          let shown = subst (λ (o : Option Node). ShowsCounts z c o (num_children s.tree q)) there (counts-shown v m s stands tells z q c counts_seen) in
-          ap (λ (n : ℕ). if is_sequential flags then sequence_path path n else path) (sym (shown_creates z c u (num_children s.tree q) shown))
+          let counted = subst (λ (o : Option Node). ShowsCounts z c o (num_children s.tree q)) there (counts-shown z v s shown q c counts_seen) in
+          ap (λ (n : ℕ). if is_sequential flags then sequence_path path n else path) (sym (shown_creates z c u (num_children s.tree q) counted))
 
       under_is : (u : Option Node) → get s.tree q ≡ u → create_under s.tree max_owned who.session flags content z now path q u
           ≡ created_under s p q content flags who.session z now sound (made_below q up (creates_in c)) (valid_path (creates_in c)) moment short y opened long u (get s.tree p)
@@ -226,23 +224,23 @@ module _ (path content : Bytes) (acl : List Acl) (flags : ℤ) (formed : form_re
       taken_is None e =
           subst (λ (o : Option SeenCounts). create_choice p q content now (is_ephemeral flags) who.session x o (is_some (get s.tree p)) paths ≡ create_choice p q content now (is_ephemeral flags) who.session x o (has_found (sees v (DataKey p))) paths) (sym e)
           (same_taken p q content now (is_ephemeral flags) who.session x paths _ _)
-      taken_is (Some w) e = ap (λ b. create_choice p q content now (is_ephemeral flags) who.session x c b paths) (sym (there-shown v m s stands tells p (looked_up w e)))
+      taken_is (Some w) e = ap (λ b. create_choice p q content now (is_ephemeral flags) who.session x c b paths) (sym (there-shown z v s shown p (looked_up w e)))
 
       right_here : IsRight z s (choice now) (single s.tree max_owned who.session (Create path content acl flags) z now)
       right_here = subst (λ (o : Outcome). IsRight z s (choice now) o) (sym (effect_is s who.session z now (Some q) up ∙ under_is (get s.tree q) refl))
           (subst (λ (k : Choice). IsRight z s k (created_under s p q content flags who.session z now sound (made_below q up (creates_in c)) (valid_path (creates_in c)) moment short y opened long (get s.tree q) (get s.tree p))) (taken_is c refl) right_at)
 
-    below_chosen : IsChosen (Create path content acl flags) who v choice
+    pub below_chosen : IsChosen (Create path content acl flags) who v choice
     below_chosen = record {
-      right = λ m s z now moment sound stands tells y opened. right_here m s z now moment sound stands tells y opened;
+      right = λ s z now moment sound shown y opened. right_here s z now moment sound shown y opened;
       same_code = λ now. create_codes p q content now (is_ephemeral flags) who.session x c (has_found (sees v (DataKey p))) paths;
     }
 
   -- ---- the root
 
-  root_chosen : (who : Who) (v : View) → parent (named flags path) ≡ None → IsChosen (Create path content acl flags) who v (λ now. Refuse node_exists)
+  pub root_chosen : (who : Who) (v : View) → parent (named flags path) ≡ None → IsChosen (Create path content acl flags) who v (λ now. Refuse node_exists)
   root_chosen who v none = record {
-    right = λ m s z now moment sound stands tells y opened. effect_is s who.session z now None none;
+    right = λ s z now moment sound shown y opened. effect_is s who.session z now None none;
     same_code = λ now. refl;
   }
 
@@ -308,7 +306,7 @@ module _ (path content : Bytes) (acl : List Acl) (flags : ℤ) (formed : form_re
       → AreNeeds (req.Create path content acl flags) who v ws
   create_needs who v ws q creates up is e =
       are-needs (req.Create path content acl flags) who v (create_keys (is_sequential flags) (is_ephemeral flags) path (parent (named flags path)) who.session creates) ws
-      (e ∙ ap (λ (o : Option Bytes). lacking v (map key_bytes (create_keys (is_sequential flags) (is_ephemeral flags) path o who.session creates))) up) create_formed refl
+      (e ∙ ap (λ (o : Option Bytes). lacking v (map key_bytes (create_keys (is_sequential flags) (is_ephemeral flags) path o who.session creates))) up) create_formed
       (reads_from who v creates (subst (λ (o : Option Bytes). IsParentCreates v o creates) up is)) (reads_to who v creates (subst (λ (o : Option Bytes). IsParentCreates v o creates) up is))
 
   fixed_seen : (who : Who) (v : View) → IsWhole (req.Create path content acl flags) who v → (k : Key) → In k (fixed who.session) → HasSeen v k

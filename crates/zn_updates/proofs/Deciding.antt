@@ -35,24 +35,14 @@ use Rattle.zn_updates.specs.Choices.{Choice, Refuse, Make}
 use Rattle.zn_updates.specs.Deciding.{IsAttached, decision_of, plan_of}
 use Rattle.zn_updates.specs.Right.{IsRight, IsOutcome, with_tree}
 use Rattle.zn_view.proofs.AsSeen.{agrees-as_seen, commits-as_seen}
-use Rattle.zn_updates.proofs.Telling.{Tells, told}
+use Rattle.zn_updates.specs.Layers.{code_of, IsChosen}
+use Rattle.zn_updates.proofs.Telling.{Tells, shows, told}
 
 -- the request is this part, asked alone
 pub record IsPart (r : Request) (p : Part) : Type 0 where
   pub told : (t : Tree) (limit : ℕ) (session : ℤ) → tree_reply t limit session no_watches r ≡ refusal_of no_watches (single t limit session p (pos 0) 0)
   pub done : (s : State) (z session : ℤ) (now : ℕ) → done_by s z session r now ≡ commit_single (single s.tree (limit_at session s) session p z now)
   pub after : (s : State) (z session : ℤ) (now : ℕ) → state_after s z session r now ≡ committed s z (commit_single (single s.tree (limit_at session s) session p z now))
-
--- the code of a choice
-abbrev pub code_of : Choice → Option ℤ
-code_of (Refuse code) = Some code
-code_of (Make cs ts draft) = None
-
--- in every sound state of keys that have what the view saw, and in which the session is open, at every moment
-pub record IsChosen (p : Part) (who : Who) (v : View) (choice : ℕ → Choice) : Type 0 where
-  pub right : (m : Keys) (s : State) (z : ℤ) (now : ℕ) → now < 2 ^ 62 → IsSound s → StandsFor m s → Tells v m → (x : Session) → session_at who.session s ≡ Some x
-      → IsRight z s (choice now) (single s.tree max_owned who.session p z now)
-  pub same_code : (now : ℕ) → code_of (choice now) ≡ code_of (choice 0)
 
 refuse_of : (c : Choice) (code : ℤ) → code_of c ≡ Some code → c ≡ Refuse code
 refuse_of (Refuse x) code e = ap Refuse (some_is e)
@@ -78,7 +68,7 @@ pub by_tree : (r : Request) (p : Part) (who : Who) (v near : View) (choice : ℕ
 by_tree r p who v near choice now part chosen s sound of x opened =
     subst (IsByTree r (decision_of near (choice now))) (sym (part.told s.tree max_owned who.session))
     (by_choice r near s (choice 0) (choice now) _ (chosen.same_code now)
-    (chosen.right of.0 s (pos 0) 0 (omega arith) sound of.1 (told v of.0 (agrees-as_seen v of.0 of.2)) x opened))
+    (chosen.right s (pos 0) 0 (omega arith) sound (shows (pos 0) v of.0 s of.1 (told v of.0 (agrees-as_seen v of.0 of.2))) x opened))
 
 -- ---- the plan
 
@@ -134,7 +124,7 @@ module _ (r : Request) (p : Part) (who : Who) (v : View) (choice : ℕ → Choic
     limit = ap limit_in opened.1
 
     made : IsOutcome z s cs ts draft (single s.tree max_owned who.session p z now)
-    made = subst (λ (c : Choice). IsRight z s c (single s.tree max_owned who.session p z now)) is (chosen.right m s z now moment sound stands tells opened.0 opened.1)
+    made = subst (λ (c : Choice). IsRight z s c (single s.tree max_owned who.session p z now)) is (chosen.right s z now moment sound (shows z v m s stands tells) opened.0 opened.1)
 
     abbrev commits : Commit
     commits = record { response = response_of (own_result z draft); tree = made.tree; triggers = ts }

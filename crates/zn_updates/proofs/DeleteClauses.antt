@@ -6,7 +6,6 @@ use Rattle.std.specs.FinMap.{get}
 use Rattle.std.specs.Ordering.{int_eq}
 use Rattle.std.proofs.lemmas.Bool.Decides.{Decides-int_eq}
 use Rattle.ev_types.specs.declared.answer.Kv.{Kv}
-use Rattle.ev_types.specs.Ranges.{Keys}
 use Rattle.zx_base.specs.Maps.{Bytes, same}
 use Rattle.zx_base.proofs.MapLaws.{same-refl}
 use Rattle.zk_model.specs.declared.node.Node.{Node}
@@ -26,7 +25,6 @@ use Rattle.zn_layout.specs.declared.record.NodeRec.{NodeRec}
 use Rattle.zn_layout.specs.Keys.{Key, HeadKey, DataKey, CountsKey, SessionKey, LeaseKey, key_bytes}
 use Rattle.zn_layout.specs.Reading.{IsValueOf}
 use Rattle.zn_layout.specs.Records.{node_value, IsNodeRec, IsHeadRec}
-use Rattle.zn_layout.specs.StandsFor.{StandsFor}
 use Rattle.zn_layout.specs.Records.{IsSessionRec}
 use Rattle.zn_layout.proofs.Nodes.{node_value-injective}
 use Rattle.zn_layout.proofs.Paths.{path_short}
@@ -53,13 +51,14 @@ use Rattle.zn_updates.specs.Making.{IsDataSeen, IsCountsSeen, IsPathsSeen}
 use Rattle.zn_updates.specs.Right.{IsRight}
 use Rattle.zn_updates.specs.Seen.{ShowsData, ShowsOwned}
 use Rattle.zn_updates.proofs.Clauses.{AreKeys, IsShortKey, makes_cond, by_form, by_sound, near_sees, planned, refused_plans}
-use Rattle.zn_updates.proofs.Deciding.{IsPart, IsChosen}
+use Rattle.zn_updates.specs.Layers.{IsChosen, Shows}
+use Rattle.zn_updates.proofs.Deciding.{IsPart}
 use Rattle.zn_updates.proofs.DeleteRight.{delete_right}
 use Rattle.zn_updates.proofs.Forms.{delete_refusal}
 use Rattle.zn_updates.proofs.WellMade.{delete-made, paths-listed, two_triggers}
 use Rattle.zn_updates.proofs.Meanings.{int_eq-apart, of_abs}
 use Rattle.zn_updates.proofs.Showing.{data-shown, counts-shown, paths-shown}
-use Rattle.zn_updates.proofs.Telling.{Tells, told}
+use Rattle.zn_updates.proofs.Telling.{shows, told}
 
 both : (a b : Bool) → (a && b) ≡ true → (a ≡ true) × (b ≡ true)
 both true b h = (refl, h)
@@ -72,10 +71,10 @@ true_false : true ≡ false → ⊥
 true_false e = cc
 
 -- the owner's nodes that were seen are those of its session
-module _ (v : View) (m : Keys) (s : State) (sound : IsSound s) (stands : StandsFor m s) (tells : Tells v m) (z : ℤ) (p : Bytes) (y : SeenData) (paths : Option (List Bytes)) where
+module _ (v : View) (s : State) (sound : IsSound s) (z : ℤ) (shown : Shows z v s) (p : Bytes) (y : SeenData) (paths : Option (List Bytes)) where
   by_session : (id : ℤ) → pos 0 ≤ℤ id → (x : Session) × (session_at id s ≡ Some x) → IsPathsSeen (sees v (SessionKey (nat_abs id))) paths → ShowsOwned paths (owned s.tree id)
   by_session id least x seen_paths = subst (λ (o : ℤ). ShowsOwned paths (owned s.tree o)) (of_abs id least)
-      (paths-shown v m s stands tells (nat_abs id) x.0 paths (ap (λ (o : ℤ). session_at o s) (of_abs id least) ∙ x.1) seen_paths)
+      (paths-shown z v s shown (nat_abs id) x.0 paths (ap (λ (o : ℤ). session_at o s) (of_abs id least) ∙ x.1) seen_paths)
 
   by_node : (n : Option Node) → get s.tree p ≡ n → ShowsData z (Some y) n → (y.owner ≡ pos 0 → ⊥) → IsPathsSeen (sees v (SessionKey (nat_abs y.owner))) paths → ShowsOwned paths (owned s.tree y.owner)
   by_node None there shows owns seen_paths = absurd shows
@@ -85,14 +84,14 @@ module _ (v : View) (m : Keys) (s : State) (sound : IsSound s) (stands : StandsF
       by_session y.owner shows.within.owner.least (session.0, ap (λ (o : ℤ). session_at o s) same_owner ∙ session.1) seen_paths
 
 -- and they are few
-few_owned : (v : View) (m : Keys) (s : State) → IsSound s → StandsFor m s → Tells v m → (p : Bytes) (y : SeenData) (ps : List Bytes) (n : Option Node) → get s.tree p ≡ n → ShowsData (pos 0) (Some y) n → (y.owner ≡ pos 0 → ⊥)
+few_owned : (v : View) (s : State) → IsSound s → Shows (pos 0) v s → (p : Bytes) (y : SeenData) (ps : List Bytes) (n : Option Node) → get s.tree p ≡ n → ShowsData (pos 0) (Some y) n → (y.owner ≡ pos 0 → ⊥)
     → IsPathsSeen (sees v (SessionKey (nat_abs y.owner))) (Some ps) → length ps ≤ max_owned
-few_owned v m s sound stands tells p y ps None there shows owns seen_paths = absurd shows
-few_owned v m s sound stands tells p y ps (Some n) there shows owns seen_paths =
+few_owned v s sound shown p y ps None there shows owns seen_paths = absurd shows
+few_owned v s sound shown p y ps (Some n) there shows owns seen_paths =
     let same_owner : y.owner ≡ n.owner = ap (λ (w : SeenData). w.owner) shows.is in
     let session = sound.owners p n there (λ e. owns (same_owner ∙ e)) in
-    let shown = by_node v m s sound stands tells (pos 0) p y (Some ps) (Some n) there shows owns seen_paths in
-    subst (λ (l : List Bytes). length l ≤ max_owned) (sym shown.is) (sound.limited y.owner session.0 (ap (λ (o : ℤ). session_at o s) same_owner ∙ session.1))
+    let listed = by_node v s sound (pos 0) shown p y (Some ps) (Some n) there shows owns seen_paths in
+    subst (λ (l : List Bytes). length l ≤ max_owned) (sym listed.is) (sound.limited y.owner session.0 (ap (λ (o : ℤ). session_at o s) same_owner ∙ session.1))
 
 module _ (p : Bytes) (version : ℤ) where
   pub delete_plain : plain_request no_watches (req.Delete p version) ≡ told_refusal no_watches (form_refusal (Delete p version))
@@ -127,15 +126,15 @@ module _ (p : Bytes) (version : ℤ) where
       here None = tt
       here (Some above) = makes_cond IsHeadRec (int_eq x.owner (pos 0)) _ _ (two_triggers (Deleted p) (Children q) valid also) (owned_by paths above)
 
-  delete_chosen : (who : Who) (v : View) (q : Bytes) (x : Option SeenData) (c a : Option SeenCounts) (paths : Option (List Bytes)) → (is_path p && not (same p root)) ≡ true → parent p ≡ Some q
+  pub delete_chosen : (who : Who) (v : View) (q : Bytes) (x : Option SeenData) (c a : Option SeenCounts) (paths : Option (List Bytes)) → (is_path p && not (same p root)) ≡ true → parent p ≡ Some q
       → IsDataSeen (sees v (DataKey p)) x → IsCountsSeen (sees v (CountsKey p)) c → IsCountsSeen (sees v (CountsKey q)) a → IsOwnerPaths v x paths
       → IsChosen (Delete p version) who v (λ now. delete_choice p q version x c a paths)
   delete_chosen who v q x c a paths valid below data_seen counts_seen above_seen owner_seen = record {
-    right = λ m s z now moment sound stands tells y opened.
+    right = λ s z now moment sound shown y opened.
         subst (IsRight z s (delete_choice p q version x c a paths)) (sym (effect_is s who.session z now valid))
-        (delete_right s p q version z sound below x c a paths (get s.tree p) refl (data-shown v m s stands tells z p x data_seen) (counts-shown v m s stands tells z p c counts_seen) (counts-shown v m s stands tells z q a above_seen)
-        (λ w e owns. by_node v m s sound stands tells z p w paths (get s.tree p) refl
-        (data-shown v m s stands tells z p (Some w) (subst (IsDataSeen (sees v (DataKey p))) e data_seen)) owns (subst (λ (o : Option SeenData). IsOwnerPaths v o paths) e owner_seen owns)));
+        (delete_right s p q version z sound below x c a paths (get s.tree p) refl (data-shown z v s shown p x data_seen) (counts-shown z v s shown p c counts_seen) (counts-shown z v s shown q a above_seen)
+        (λ w e owns. by_node v s sound z shown p w paths (get s.tree p) refl
+        (data-shown z v s shown p (Some w) (subst (IsDataSeen (sees v (DataKey p))) e data_seen)) owns (subst (λ (o : Option SeenData). IsOwnerPaths v o paths) e owner_seen owns)));
     same_code = λ now. refl;
   }
 
@@ -144,9 +143,9 @@ module _ (p : Bytes) (version : ℤ) where
   no_parent s z sound inner none None there = refl
   no_parent s z sound inner none (Some n) there = let up = sound.parents p n there inner in let bad : None ≡ Some up.path = sym none ∙ up.is in absurd (cc)
 
-  orphan_chosen : (who : Who) (v : View) → (is_path p && not (same p root)) ≡ true → parent p ≡ None → IsChosen (Delete p version) who v (λ now. Refuse no_node)
+  pub orphan_chosen : (who : Who) (v : View) → (is_path p && not (same p root)) ≡ true → parent p ≡ None → IsChosen (Delete p version) who v (λ now. Refuse no_node)
   orphan_chosen who v valid none = record {
-    right = λ m s z now moment sound stands tells y opened. effect_is s who.session z now valid ∙ no_parent s z sound (not_root p (both _ _ valid).1) none (get s.tree p) refl;
+    right = λ s z now moment sound shown y opened. effect_is s who.session z now valid ∙ no_parent s z sound (not_root p (both _ _ valid).1) none (get s.tree p) refl;
     same_code = λ now. refl;
   }
 
@@ -211,7 +210,7 @@ module _ (p : Bytes) (version : ℤ) where
 
   pub delete_needs : (who : Who) (v : View) (ws : List Want) (q : Option Bytes) (owner : ℤ) → (is_path p && not (same p root)) ≡ true → q ≡ parent p → IsOwnerSeen (sees v (DataKey p)) owner → ws ≡ lacking v (map key_bytes (delete_keys p q who.session owner)) → AreNeeds (req.Delete p version) who v ws
   delete_needs who v ws q owner valid up is e =
-      are-needs (req.Delete p version) who v (delete_keys p (parent p) who.session owner) ws (e ∙ ap (λ (o : Option Bytes). lacking v (map key_bytes (delete_keys p o who.session owner))) up) (delete_valid valid) refl (reads_from who v owner is) (reads_to who v owner is)
+      are-needs (req.Delete p version) who v (delete_keys p (parent p) who.session owner) ws (e ∙ ap (λ (o : Option Bytes). lacking v (map key_bytes (delete_keys p o who.session owner))) up) (delete_valid valid) (reads_from who v owner is) (reads_to who v owner is)
 
   pub delete_seen : (who : Who) (v : View) (k : Key) → (is_path p && not (same p root)) ≡ true → IsWhole (req.Delete p version) who v → In k fixed → HasSeen v k
   delete_seen who v k valid whole inside none = whole (delete_valid valid) (key_want k) (inr (inr (inl (k, in_contains k _ (subst (In k) (sym (reads_are who.session)) inside), refl)))) none
@@ -311,8 +310,8 @@ module _ (p : Bytes) (version : ℤ) where
           let data_seen : IsDataSeen (sees v (DataKey p)) (Some y) = subst (IsDataSeen (sees v (DataKey p))) e is.4 in (
             paths-listed (sees v (SessionKey (nat_abs y.owner))) ps seen_paths,
             λ s sound of.
-                let tells = told v of.0 (agrees-as_seen v of.0 of.2) in
-                few_owned v of.0 s sound of.1 tells p y ps (get s.tree p) refl (data-shown v of.0 s of.1 tells (pos 0) p (Some y) data_seen) apart seen_paths,
+                let shown = shows (pos 0) v of.0 s of.1 (told v of.0 (agrees-as_seen v of.0 of.2)) in
+                few_owned v s sound shown p y ps (get s.tree p) refl (data-shown (pos 0) v s shown p (Some y) data_seen) apart seen_paths,
           )
 
       below_promised : IsToldByForm (req.Delete p version) d × IsBySound (req.Delete p version) who v d × IfPlanned (IsGuarded (req.Delete p version) who now v) d

@@ -13,6 +13,9 @@ pub mod Values
 pub mod Places
 pub mod Telling
 pub mod Deciding
+pub mod Layered
+pub mod PartRecords
+pub mod PartChoices
 pub mod Showing
 pub mod WellMade
 pub mod Clauses

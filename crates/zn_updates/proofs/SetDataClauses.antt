@@ -40,7 +40,8 @@ use Rattle.zn_updates.specs.KeysRead.{set_data_keys}
 use Rattle.zn_updates.specs.Making.{IsDataSeen, IsCountsSeen}
 use Rattle.zn_updates.specs.Right.{IsRight}
 use Rattle.zn_updates.proofs.Clauses.{AreKeys, IsShortKey, by_form, by_sound, makes_cond, near_sees, planned}
-use Rattle.zn_updates.proofs.Deciding.{IsPart, IsChosen, code_of}
+use Rattle.zn_updates.specs.Layers.{code_of, IsChosen}
+use Rattle.zn_updates.proofs.Deciding.{IsPart}
 use Rattle.zn_updates.proofs.Forms.{set_refusal}
 use Rattle.zn_updates.proofs.SetDataRight.{set_data_right}
 use Rattle.zn_updates.proofs.Showing.{data-shown, counts-shown}
@@ -81,12 +82,12 @@ module _ (p content : Bytes) (version : ℤ) where
   set_bounds (Some x) None now valid = tt
   set_bounds (Some x) (Some c) now valid = makes_cond IsHeadRec (not (matches version x.version)) _ _ tt (makes_cond IsHeadRec (int_eq x.version max_version) _ _ tt (one_trigger (Changed p) valid))
 
-  set_chosen : (who : Who) (v : View) (x : Option SeenData) (c : Option SeenCounts) → is_path p ≡ true → length content ≤ max_frame → IsDataSeen (sees v (DataKey p)) x → IsCountsSeen (sees v (CountsKey p)) c
+  pub set_chosen : (who : Who) (v : View) (x : Option SeenData) (c : Option SeenCounts) → is_path p ≡ true → length content ≤ max_frame → IsDataSeen (sees v (DataKey p)) x → IsCountsSeen (sees v (CountsKey p)) c
       → IsChosen (SetData p content version) who v (λ now. set_data_choice p content version now x c)
   set_chosen who v x c valid short data_seen counts_seen = record {
-    right = λ m s z now moment sound stands tells y opened.
+    right = λ s z now moment sound shown y opened.
         subst (IsRight z s (set_data_choice p content version now x c)) (sym (effect_is s who.session z now valid))
-        (set_data_right s p content version z now moment short x c (get s.tree p) refl (data-shown v m s stands tells z p x data_seen) (counts-shown v m s stands tells z p c counts_seen));
+        (set_data_right s p content version z now moment short x c (get s.tree p) refl (data-shown z v s shown p x data_seen) (counts-shown z v s shown p c counts_seen));
     same_code = set_codes x c;
   }
 
@@ -108,7 +109,7 @@ module _ (p content : Bytes) (version : ℤ) where
   reads_to who v w (inr (inr (inr h))) = absurd h
 
   pub set_needs : (who : Who) (v : View) (ws : List Want) → is_path p ≡ true → ws ≡ lacking v (map key_bytes (set_data_keys p who.session)) → AreNeeds (req.SetData p content version) who v ws
-  set_needs who v ws valid is = are-needs (req.SetData p content version) who v (set_data_keys p who.session) ws is (set_valid valid) refl (reads_from who v) (reads_to who v)
+  set_needs who v ws valid is = are-needs (req.SetData p content version) who v (set_data_keys p who.session) ws is (set_valid valid) (reads_from who v) (reads_to who v)
 
   pub set_seen : (who : Who) (v : View) (k : Key) → is_path p ≡ true → IsWhole (req.SetData p content version) who v → In k (set_data_keys p who.session) → HasSeen v k
   set_seen who v k valid whole inside none = whole (set_valid valid) (key_want k) (reads_from who v k inside) none

@@ -1,4 +1,4 @@
--- What a view saw of records, keys that have what it saw have too.
+-- What a view saw of records, states that it shows have too; and which states a view shows.
 use Rattle.std.proofs.Common.{◌≡◌, ℕ, ℤ, pos, true, false, cond, List, Option, Some, None, refl, sym, ap, ◌∙◌, subst, arith}
 use Rattle.std.specs.Prelude.{◌≤ℤ◌}
 use Rattle.std.specs.Ordering.{int_eq}
@@ -8,11 +8,11 @@ use Rattle.ev_types.specs.Ranges.{Keys}
 use Rattle.ev_types.specs.Store.{last_revision}
 use Rattle.zx_base.specs.Maps.{Bytes}
 use Rattle.zk_model.specs.declared.node.Node.{Node}
-use Rattle.zk_transcript.specs.History.{Session}
+use Rattle.zk_transcript.specs.History.{State, Session}
 use Rattle.zn_layout.specs.declared.record.NodeRec.{NodeRec}
 use Rattle.zn_layout.specs.Keys.{Key, HeadKey, key_bytes}
 use Rattle.zn_layout.specs.Records.{IsLongCount, IsCountRec}
-use Rattle.zn_layout.specs.StandsFor.{stored_of, at, czxid_of, data_record, DataMeans, CountsMean, NodesMean}
+use Rattle.zn_layout.specs.StandsFor.{stored_of, at, czxid_of, data_record, DataMeans, CountsMean, Means, NodesMean, StandsFor}
 use Rattle.zn_layout.proofs.Lookups.{data_read, counts_read}
 use Rattle.zn_layout.proofs.Keys.{key_bytes-injective}
 use Rattle.zn_layout.proofs.ListRecords.{session_value-injective}
@@ -23,7 +23,8 @@ use Rattle.zn_updates.specs.declared.seen.SeenData.{SeenData}
 use Rattle.zn_updates.specs.declared.seen.SeenCounts.{SeenCounts}
 use Rattle.zn_updates.specs.Making.{IsDataSeen, IsCountsSeen, IsPathsSeen, data_of}
 use Rattle.zn_updates.specs.Seen.{IsDataWithin, IsSeenData, ShowsData, ShowsCounts, ShowsOwned}
-use Rattle.zn_updates.proofs.Meanings.{int_eq-is, int_eq-same}
+use Rattle.zn_updates.specs.Layers.{stored_own, IsPutBelow, Shows}
+use Rattle.zn_updates.proofs.Meanings.{int_eq-is}
 
 -- each key but the head has what was seen
 abbrev pub Tells : View → Keys → Type 0
@@ -35,84 +36,91 @@ told v m as_seen k apart o e = as_seen (key_bytes k) o (λ is. apart (key_bytes-
 
 -- ---- records show what the state has
 
--- what was put at a revision that a store can have
-abbrev IsPut : Option Kv → Type 0
-IsPut o = (kv : Kv) → o ≡ Some kv → (pos 1 ≤ℤ kv.mod_revision) × (kv.mod_revision ≤ℤ last_revision)
-
-czxid-within : (stored revision : ℤ) → IsLongCount stored → pos 1 ≤ℤ revision → revision ≤ℤ last_revision → IsLongCount (czxid_of stored revision)
+czxid-within : (stored revision : ℤ) → IsLongCount stored → pos 0 ≤ℤ revision → revision ≤ℤ last_revision → IsLongCount (czxid_of stored revision)
 czxid-within stored revision long least most =
     elim (int_eq stored (pos 0)) as (λ b. IsLongCount (cond b revision stored)) [
       | true ↦ record { least = omega (arith, ints, least); most = omega (arith, ints, most) }
       | false ↦ long
     ]
 
-true_false : true ≡ false → ⊥
-true_false e = cc
+own-other : (z x : ℤ) → int_eq x (pos 0) ≡ false → own z x ≡ x
+own-other z x apart = ap (λ b. cond b z x) apart
 
-not_zero : (stored revision : ℤ) → pos 1 ≤ℤ revision → czxid_of stored revision ≡ pos 0 → ⊥
-not_zero stored revision least = elim (int_eq stored (pos 0)) as (λ b. int_eq stored (pos 0) ≡ b → cond b revision stored ≡ pos 0 → ⊥) [
-  | true ↦ λ h e. omega (arith, ints, least, e)
-  | false ↦ λ h e. true_false (sym (int_eq-same stored (pos 0) e) ∙ h)
-] refl
-
-own-other : (z x : ℤ) → (x ≡ pos 0 → ⊥) → own z x ≡ x
-own-other z x apart = elim (int_eq x (pos 0)) as (λ b. int_eq x (pos 0) ≡ b → cond b z x ≡ x) [
-  | true ↦ λ h. absurd (apart (int_eq-is x (pos 0) h))
+own-revision : (z revision : ℤ) → pos 1 ≤ℤ revision → own z revision ≡ revision
+own-revision z revision least = elim (int_eq revision (pos 0)) as (λ b. int_eq revision (pos 0) ≡ b → cond b z revision ≡ revision) [
+  | true ↦ λ h. let e = int_eq-is revision (pos 0) h in absurd (omega (arith, ints, least, e))
   | false ↦ λ h. refl
 ] refl
 
-own-revision : (z revision : ℤ) → pos 1 ≤ℤ revision → own z revision ≡ revision
-own-revision z revision least = own-other z revision (λ e. omega (arith, ints, least, e))
+-- a zxid is the update's own where neither the record nor its revision says another
+own-czxid : (z stored revision : ℤ) → own z (czxid_of stored revision) ≡ czxid_of stored (own z revision)
+own-czxid z stored revision = elim (int_eq stored (pos 0)) as (λ b. int_eq stored (pos 0) ≡ b → own z (cond b revision stored) ≡ cond b (own z revision) stored) [
+  | true ↦ λ h. refl
+  | false ↦ λ h. own-other z stored h
+] refl
 
-pub data_shows : (z : ℤ) (n : Option Node) (o : Option Kv) (x : Option SeenData) → IsDataSeen (Some o) x → DataMeans n (stored_of o) → IsPut o → ShowsData z x n
+pub data_shows : (z : ℤ) (n : Option Node) (o : Option Kv) (x : Option SeenData) → IsDataSeen (Some o) x → DataMeans n (stored_own z o) → IsPutBelow o → ShowsData z x n
 data_shows z None None None seen means put = tt
 data_shows z None None (Some x) seen means put = absurd seen
 data_shows z None (Some kv) x seen means put = absurd means
 data_shows z (Some n) None x seen means put = absurd means
 data_shows z (Some n) (Some kv) None seen means put = absurd seen
 data_shows z (Some n) (Some kv) (Some x) seen means put =
-    let at = put kv refl in
-    let least = at.0 in
     let r : NodeRec = seen.0 in
-    let czxid : x.czxid ≡ czxid_of r.czxid kv.mod_revision = seen.3 (omega (arith, ints, least)) in
+    let czxid : x.czxid ≡ czxid_of r.czxid kv.mod_revision = seen.3 put.0 in
     let is : x ≡ data_of r (czxid_of r.czxid kv.mod_revision) = seen.2 ∙ ap (data_of r) czxid in
     let same_record : r ≡ data_record n means.stored = data_read _ n r means seen.1 in
     let within = seen.1.0 in
     let whole : IsDataWithin (data_of r (czxid_of r.czxid kv.mod_revision)) = record {
-      czxid = czxid-within r.czxid kv.mod_revision within.czxid least at.1;
+      czxid = czxid-within r.czxid kv.mod_revision within.czxid put.0 put.1;
       version_least = within.version_least;
       version_most = within.version_most;
       ctime = within.ctime;
       owner = within.owner;
     } in
     let stored : r.czxid ≡ means.stored = ap (λ (y : NodeRec). y.czxid) same_record in
-    let made : czxid_of r.czxid kv.mod_revision ≡ n.czxid = ap (λ (c : ℤ). czxid_of c kv.mod_revision) stored ∙ sym means.made in
+    let made : czxid_of r.czxid (own z kv.mod_revision) ≡ n.czxid = ap (λ (c : ℤ). czxid_of c (own z kv.mod_revision)) stored ∙ sym means.made in
     let shown : IsSeenData z (data_of r (czxid_of r.czxid kv.mod_revision)) n = record {
       within = whole;
       is = ap (λ (y : NodeRec). data_of y (czxid_of r.czxid kv.mod_revision)) same_record;
-      czxid = sym (own-other z (czxid_of r.czxid kv.mod_revision) (not_zero r.czxid kv.mod_revision least) ∙ made);
+      czxid = sym (own-czxid z r.czxid kv.mod_revision ∙ made);
     } in
     subst (λ (y : SeenData). IsSeenData z y n) (sym is) shown
 
-pub counts_shows : (z : ℤ) (n : Option Node) (children : ℕ) (o : Option Kv) (x : Option SeenCounts) → IsCountsSeen (Some o) x → CountsMean n children (stored_of o) → IsPut o → ShowsCounts z x n children
-counts_shows z None children None None seen means put = tt
-counts_shows z None children None (Some x) seen means put = absurd seen
-counts_shows z None children (Some kv) x seen means put = absurd means
-counts_shows z (Some n) children None x seen means put = absurd means
-counts_shows z (Some n) children (Some kv) None seen means put = absurd seen
-counts_shows z (Some n) children (Some kv) (Some x) seen means put =
-    let least = (put kv refl).0 in
+pub counts_shows : (z : ℤ) (n : Option Node) (children : ℕ) (o : Option Kv) (x : Option SeenCounts) → IsCountsSeen (Some o) x → CountsMean n children (stored_own z o) → ShowsCounts z x n children
+counts_shows z None children None None seen means = tt
+counts_shows z None children None (Some x) seen means = absurd seen
+counts_shows z None children (Some kv) x seen means = absurd means
+counts_shows z (Some n) children None x seen means = absurd means
+counts_shows z (Some n) children (Some kv) None seen means = absurd seen
+counts_shows z (Some n) children (Some kv) (Some x) seen means =
     let is = seen.2 in
     record {
       within = subst (λ (y : SeenCounts). IsCountRec y.counts) (sym is) seen.1.0;
       is = ap (λ (y : SeenCounts). y.counts) is ∙ counts_read _ n children seen.0 means seen.1;
-      pzxid = means.pzxid ∙ sym (own-revision z kv.mod_revision least) ∙ ap (λ (y : SeenCounts). own z y.pzxid) (sym is);
+      pzxid = means.pzxid ∙ ap (λ (y : SeenCounts). own z y.pzxid) (sym is);
     }
 
-pub paths_shows : (y : Session) (paths : List Bytes) (o : Option Kv) (x : Option (List Bytes)) → IsPathsSeen (Some o) x → NodesMean (Some y) paths (stored_of o) → ShowsOwned x paths
-paths_shows y paths None x seen means = absurd means
-paths_shows y paths (Some kv) None seen means = absurd seen
-paths_shows y paths (Some kv) (Some ps) seen means = record {
+pub paths_shows : (z : ℤ) (y : Session) (paths : List Bytes) (o : Option Kv) (x : Option (List Bytes)) → IsPathsSeen (Some o) x → NodesMean (Some y) paths (stored_own z o) → ShowsOwned x paths
+paths_shows z y paths None x seen means = absurd means
+paths_shows z y paths (Some kv) None seen means = absurd seen
+paths_shows z y paths (Some kv) (Some ps) seen means = record {
   within = seen.0;
   is = session_value-injective ps paths seen.0 means.fits (sym seen.1 ∙ means.value);
 }
+
+-- ---- keys that stand for a state show it
+
+own_of : (z : ℤ) (o : Option Kv) → ((kv : Kv) → o ≡ Some kv → pos 1 ≤ℤ kv.mod_revision) → stored_own z o ≡ stored_of o
+own_of z None put = refl
+own_of z (Some kv) put = ap (λ (r : ℤ). Some (record { value = kv.value; revision = r; lease = kv.lease })) (own-revision z kv.mod_revision (put kv refl))
+
+below_of : (o : Option Kv) → ((kv : Kv) → o ≡ Some kv → (pos 1 ≤ℤ kv.mod_revision) × (kv.mod_revision ≤ℤ last_revision)) → IsPutBelow o
+below_of None put = tt
+below_of (Some kv) put = let least = (put kv refl).0 in (omega (arith, ints, least), (put kv refl).1)
+
+pub shows : (z : ℤ) (v : View) (m : Keys) (s : State) → StandsFor m s → Tells v m → Shows z v s
+shows z v m s stands tells k apart o e =
+    let here : at m k ≡ o = tells k apart o e in
+    let put : (kv : Kv) → o ≡ Some kv → (pos 1 ≤ℤ kv.mod_revision) × (kv.mod_revision ≤ℤ last_revision) = λ kv is. (stands.layout.least (key_bytes k) kv (here ∙ is), stands.layout.most (key_bytes k) kv (here ∙ is)) in
+    (subst (Means s k) (sym (own_of z o (λ kv is. (put kv is).0))) (subst (λ (w : Option Kv). Means s k (stored_of w)) here (stands.each k)), below_of o put)

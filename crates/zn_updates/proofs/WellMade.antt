@@ -27,8 +27,9 @@ use Rattle.zn_view.specs.Views.{IsOf}
 use Rattle.zn_view.proofs.Sizes.{counts-size, counts_value-size, data-size, node_value-size, session-size, session_value-size}
 use Rattle.zn_updates.specs.declared.seen.SeenData.{SeenData}
 use Rattle.zn_updates.specs.declared.seen.SeenCounts.{SeenCounts}
-use Rattle.zn_updates.specs.Choices.{Choice, Refuse, Make, create_changes, create_choice, create_owned, create_triggers, delete_changes, delete_choice, delete_here, delete_owned, delete_triggers, one_less, one_more, put_owned, set_data_choice, set_record}
+use Rattle.zn_updates.specs.Choices.{Choice, create_changes, create_choice, create_owned, create_triggers, delete_changes, delete_choice, delete_here, delete_owned, delete_triggers, one_less, one_more, put_owned, set_data_choice, set_record}
 use Rattle.zn_updates.specs.Making.{IsPathsSeen}
+use Rattle.zn_updates.specs.Parts.{IfChanges}
 use Rattle.zn_updates.specs.OwnedLists.{placed, without}
 use Rattle.zn_updates.proofs.ListBounds.{placed-length, placed-within, without-length, without-within}
 
@@ -42,10 +43,6 @@ two_triggers t u valid also = record { count = omega arith; valid = All-cons (λ
 
 -- ---- changes
 
-abbrev pub IfChanges : (List Change → List Trigger → Type 0) → Choice → Type 0
-IfChanges P (Refuse code) = Unit {0}
-IfChanges P (Make cs ts draft) = P cs ts
-
 -- each key once and with no lease, and on a view of a sound state few and small ones
 pub record AreWellMade (v : View) (cs : List Change) (ts : List Trigger) : Type 0 where
   pub once : are_distinct (cs ++ head_put ts ∷ []) ≡ true
@@ -55,7 +52,7 @@ pub record AreWellMade (v : View) (cs : List Change) (ts : List Trigger) : Type 
   pub few : length cs ≤ 8
   pub small : (s : State) → IsSound s → IsOf v s → sum_by change_size cs ≤ 1400000
 
-changes_cond : (P : List Change → List Trigger → Type 0) (b : Bool) (x y : Choice) → (b ≡ true → IfChanges P x) → (b ≡ false → IfChanges P y) → IfChanges P (cond b x y)
+pub changes_cond : (P : List Change → List Trigger → Type 0) (b : Bool) (x y : Choice) → (b ≡ true → IfChanges P x) → (b ≡ false → IfChanges P y) → IfChanges P (cond b x y)
 changes_cond P true x y f g = f refl
 changes_cond P false x y f g = g refl
 

@@ -4,11 +4,11 @@ use Rattle.std.specs.Ordering.{int_eq}
 use Rattle.ev_types.specs.declared.answer.Kv.{Kv}
 use Rattle.zk_model.specs.Paths.{sequence_path}
 use Rattle.zx_base.specs.Maps.{Bytes}
-use Rattle.zn_layout.specs.declared.record.CountRec.{CountRec}
 use Rattle.zn_layout.specs.declared.record.NodeRec.{NodeRec}
 use Rattle.zn_layout.specs.Keys.{Key, HeadKey, DataKey, CountsKey, SessionKey, LeaseKey, key_bytes}
 use Rattle.zn_layout.specs.Reading.{IsValueOf}
-use Rattle.zn_layout.specs.Records.{node_value, counts_value, IsNodeRec, IsCountRec}
+use Rattle.zn_layout.specs.Records.{node_value, IsNodeRec}
+use Rattle.zn_view.specs.Needs.{IsCreatesSeen}
 use Rattle.zn_view.specs.Seen.{View, seen}
 use Rattle.zn_view.specs.Views.{about_path, about_parent, counts_of_parent}
 
@@ -31,12 +31,6 @@ set_data_keys p id = start_keys id ++ about_path p
 
 abbrev pub delete_keys : Bytes → Option Bytes → ℤ → ℤ → List Key
 delete_keys p q id owner = start_keys id ++ ((about_path p ++ counts_of_parent q) ++ owner_nodes owner)
-
--- the creates that a view saw of a node, none where it saw none
-abbrev pub IsCreatesSeen : Option (Option Kv) → Option ℕ → Type 0
-IsCreatesSeen None creates = creates ≡ None
-IsCreatesSeen (Some None) creates = creates ≡ None
-IsCreatesSeen (Some (Some kv)) creates = (r : CountRec) × IsValueOf counts_value IsCountRec kv.value r × (creates ≡ Some (nat_abs r.creates))
 
 abbrev pub IsParentCreates : View → Option Bytes → Option ℕ → Type 0
 IsParentCreates v None creates = creates ≡ None

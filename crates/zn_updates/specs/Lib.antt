@@ -5,4 +5,6 @@ pub mod Right
 pub mod Forms
 pub mod Making
 pub mod KeysRead
+pub mod Layers
 pub mod Deciding
+pub mod Parts

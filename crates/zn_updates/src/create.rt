@@ -252,7 +252,7 @@ pub fn choose_create(
 }
 
 /// The path of the node: a sequence node's ends in the parent's count of creates.
-fn path_of(
+pub(crate) fn path_of(
     alloc: Global,
     path: &[u8],
     named: Path,

@@ -18,20 +18,20 @@ const ALL_PERMISSIONS: i32 = 31;
 
 /// The path that was tested, or the code that the request is refused with.
 #[derive(Drop)]
-pub(crate) enum Form {
+pub enum Form {
     Valid(Path),
     Refused(i32),
 }
 
 /// Whether a node of these flags goes with its session.
-pub(crate) fn is_ephemeral(flags: i32) -> bool
+pub fn is_ephemeral(flags: i32) -> bool
     ensures { result ≡ has_ephemeral flags }
 {
     flags == 1 || flags == 3
 }
 
 /// Whether the node's name ends in a number.
-pub(crate) fn is_sequential(flags: i32) -> bool
+pub fn is_sequential(flags: i32) -> bool
     ensures { result ≡ has_sequential flags }
 {
     flags == 2 || flags == 3
@@ -56,11 +56,7 @@ fn is_open(acl: &[Acl]) -> bool
 }
 
 /// A request's path, none where it is not valid.
-pub(crate) fn read_path(
-    alloc: Global,
-    text: &[u8],
-    sequential: bool,
-) -> Result<Option<Path>, Memory>
+pub fn read_path(alloc: Global, text: &[u8], sequential: bool) -> Result<Option<Path>, Memory>
     ensures { IfOk result (λ p. IsPathOf sequential text.now p) }
 {
     match Path::read(alloc, text, sequential) {
@@ -71,12 +67,7 @@ pub(crate) fn read_path(
 }
 
 /// The form of a create. Of a sequential one the path is tested with `1` behind it.
-pub(crate) fn create_form(
-    alloc: Global,
-    path: &[u8],
-    acl: &[Acl],
-    flags: i32,
-) -> Result<Form, Memory>
+pub fn create_form(alloc: Global, path: &[u8], acl: &[Acl], flags: i32) -> Result<Form, Memory>
     ensures { IfOk result (λ form. (content : ByteList) → IsFormOf (has_sequential flags) path.now (form_refusal (part.Create path.now content acl.now flags)) form) }
 {
     let Some(named) = read_path(alloc, path, is_sequential(flags))? else {
@@ -92,7 +83,7 @@ pub(crate) fn create_form(
 }
 
 /// A path that is not the root's, none where it is not valid or the root.
-pub(crate) fn inner_path(alloc: Global, text: &[u8]) -> Result<Option<Path>, Memory>
+pub fn inner_path(alloc: Global, text: &[u8]) -> Result<Option<Path>, Memory>
     ensures { IfOk result (λ p. IsInnerPath text.now p) }
 {
     if text == b"/".as_slice() {

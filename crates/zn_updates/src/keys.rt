@@ -6,8 +6,9 @@ ghost use Rattle.zk_model.specs.Paths.{is_path, is_sequence_prefix};
 ghost use Rattle.zn_layout.specs.Keys.{CountsKey, DataKey, key_bytes};
 ghost use Rattle.zn_view.specs.Lacking.{lacking};
 ghost use Rattle.zn_view.specs.Lookups.{sees};
+ghost use Rattle.zn_view.specs.Needs.{IsCreatesSeen};
 ghost use Rattle.zn_view.specs.Views.{about_path};
-ghost use Rattle.zn_updates.specs.KeysRead.{create_keys as keys_of_create, numbered, plain_data, session_nodes, IsCreatesSeen, IsParentCreates, start_keys as keys_of_each, owner_nodes, set_data_keys as keys_of_set_data, delete_keys as keys_of_delete, IsOwnerSeen};
+ghost use Rattle.zn_updates.specs.KeysRead.{create_keys as keys_of_create, numbered, plain_data, session_nodes, IsParentCreates, start_keys as keys_of_each, owner_nodes, set_data_keys as keys_of_set_data, delete_keys as keys_of_delete, IsOwnerSeen};
 
 use crate::seen::{counts_seen, data_seen};
 use std::alloc::Global;
@@ -17,7 +18,7 @@ use zn_view::{View, Want};
 use zx_base::{Bytes, Memory, Seq};
 
 /// The head and the record of the session's life.
-fn start_keys(alloc: Global, session: i64) -> Result<Seq<Bytes>, Memory>
+pub fn start_keys(alloc: Global, session: i64) -> Result<Seq<Bytes>, Memory>
     requires { pos 1 ≤ℤ session }
     ensures { IfOk result (λ keys. keys ≡ map key_bytes (keys_of_each session)) }
 {
@@ -28,7 +29,7 @@ fn start_keys(alloc: Global, session: i64) -> Result<Seq<Bytes>, Memory>
 }
 
 /// A node's record and counts.
-fn push_node(alloc: Global, keys: &mut Seq<Bytes>, path: &Path) -> Result<(), Memory>
+pub fn push_node(alloc: Global, keys: &mut Seq<Bytes>, path: &Path) -> Result<(), Memory>
     requires { length path.now ≤ max_path }
     ensures { OnOk result (keys.new ≡ keys.old ++ map key_bytes (about_path path.now)) }
 {
@@ -62,7 +63,7 @@ pub(crate) fn set_data_wants(
 }
 
 /// The nodes of an owner, unless it is 0.
-fn push_owner(alloc: Global, keys: &mut Seq<Bytes>, owner: i64) -> Result<(), Memory>
+pub fn push_owner(alloc: Global, keys: &mut Seq<Bytes>, owner: i64) -> Result<(), Memory>
     requires { pos 0 ≤ℤ owner }
     ensures { OnOk result (keys.new ≡ keys.old ++ map key_bytes (owner_nodes owner)) }
 {
@@ -124,7 +125,7 @@ fn delete_keys_of(
 }
 
 /// The owner that the view saw of a node, 0 where it saw none.
-fn owner_seen(alloc: Global, view: &View, path: &Path) -> Result<i64, Memory>
+pub fn owner_seen(alloc: Global, view: &View, path: &Path) -> Result<i64, Memory>
     requires { IsTrue (is_path path.now) }
     ensures is { IfOk result (IsOwnerSeen (sees view.now (DataKey path.now))) }
     ensures least { IfOk result (λ owner. pos 0 ≤ℤ owner) }
@@ -158,7 +159,7 @@ pub(crate) fn delete_wants(
 }
 
 /// The record of a node that is not a sequence node.
-fn push_data(
+pub fn push_data(
     alloc: Global,
     keys: &mut Seq<Bytes>,
     path: &[u8],
@@ -174,7 +175,7 @@ fn push_data(
 }
 
 /// The session's nodes, for an ephemeral node.
-fn push_session(
+pub fn push_session(
     alloc: Global,
     keys: &mut Seq<Bytes>,
     session: i64,
@@ -190,7 +191,7 @@ fn push_session(
 }
 
 /// The creates that the view saw of a node, none where it saw none.
-fn creates_seen(alloc: Global, view: &View, path: &Path) -> Result<Option<u32>, Memory>
+pub fn creates_seen(alloc: Global, view: &View, path: &Path) -> Result<Option<u32>, Memory>
     requires { IsTrue (is_path path.now) }
     ensures { IfOk result (IsCreatesSeen (sees view.now (CountsKey path.now))) }
 {

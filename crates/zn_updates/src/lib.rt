@@ -10,7 +10,7 @@
 //! [`choose_delete`] and [`choose_set_data`] compute it, and `proofs/` shows that wherever keys have what was seen, the
 //! choice is what the request comes to (`IsRight`), and that its changes of keys are those of the tree (`Fits`). A zxid of 0
 //! in a record is that of the update itself, so that a transaction of several requests can choose by what the requests
-//! before it left.
+//! before it left: [`choose_part`] chooses a part on a view with the keys laid over it that the parts before wrote.
 //!
 //! A new node's data is copied once, from the request into its value.
 #![tactic(auto)]
@@ -22,7 +22,9 @@ mod delete;
 mod draft;
 mod form;
 mod keys;
+mod layers;
 mod owned;
+mod part;
 mod plan;
 mod requests;
 mod seen;
@@ -32,6 +34,13 @@ pub use chosen::{Chosen, Update};
 pub use create::choose_create;
 pub use delete::choose_delete;
 pub use draft::finish;
+pub use form::{Form, create_form, inner_path, is_ephemeral, is_sequential, read_path};
+pub use keys::{
+    creates_seen, owner_seen, push_data, push_node, push_owner, push_session, start_keys,
+};
+pub use layers::{data_over, paths_over};
+pub use part::choose_part;
+pub use plan::success;
 pub use requests::{decide_update, update_needs};
 pub use seen::{SeenCounts, SeenData};
 pub use set_data::choose_set_data;

@@ -30,7 +30,7 @@ fn body_of(draft: PartResult) -> Body
 }
 
 /// The operations of an update, the put of the head and the read of it.
-fn success(alloc: Global, acts: Seq<Act>, head: &HeadRec) -> Result<Seq<Act>, Memory>
+pub fn success(alloc: Global, acts: Seq<Act>, head: &HeadRec) -> Result<Seq<Act>, Memory>
     requires { IsHeadRec head.now.triggers }
     ensures { IfOk result (λ l. l ≡ (acts ++ act_of (head_put head.now.triggers) ∷ []) ++ read_key (key_bytes HeadKey) ∷ []) }
 {

@@ -48,7 +48,7 @@ fn resolved(stored: i64, revision: i64) -> i64
 }
 
 /// A node's record, none where the node is not there.
-pub(crate) fn data_seen(view: &View, path: &Path) -> Result<Option<SeenData>, Memory>
+pub fn data_seen(view: &View, path: &Path) -> Result<Option<SeenData>, Memory>
     requires valid { IsTrue (is_path path.now) }
     requires seen { HasSeen view.now (DataKey path.now) }
     ensures is { IfOk result (λ o. IsDataSeen (sees view.now (DataKey path.now)) o) }
@@ -66,7 +66,7 @@ pub(crate) fn data_seen(view: &View, path: &Path) -> Result<Option<SeenData>, Me
 }
 
 /// The counts of a node's children, none where the node is not there.
-pub(crate) fn counts_seen(view: &View, path: &Path) -> Result<Option<SeenCounts>, Memory>
+pub fn counts_seen(view: &View, path: &Path) -> Result<Option<SeenCounts>, Memory>
     requires valid { IsTrue (is_path path.now) }
     requires seen { HasSeen view.now (CountsKey path.now) }
     ensures is { IfOk result (λ o. IsCountsSeen (sees view.now (CountsKey path.now)) o) }
@@ -82,7 +82,7 @@ pub(crate) fn counts_seen(view: &View, path: &Path) -> Result<Option<SeenCounts>
 }
 
 /// The paths of a session's nodes, none where the session is not open. Its number is at least 1.
-pub(crate) fn paths_seen(view: &View, session: i64) -> Result<Option<Seq<Path>>, Memory>
+pub fn paths_seen(view: &View, session: i64) -> Result<Option<Seq<Path>>, Memory>
     requires real { pos 1 ≤ℤ session }
     requires seen { HasSeen view.now (SessionKey (nat_abs session)) }
     ensures is { IfOk result (λ o. IsPathsSeen (sees view.now (SessionKey (nat_abs session))) o) }
@@ -95,7 +95,7 @@ pub(crate) fn paths_seen(view: &View, session: i64) -> Result<Option<Seq<Path>>,
 }
 
 /// Whether a node is there.
-pub(crate) fn is_there(alloc: Global, view: &View, path: &Path) -> Result<bool, Memory>
+pub fn is_there(alloc: Global, view: &View, path: &Path) -> Result<bool, Memory>
     requires valid { IsTrue (is_path path.now) }
     ensures { IfOk result (λ there. there ≡ has_found (sees view.now (DataKey path.now))) }
 {

@@ -1,6 +1,7 @@
 pub mod KeyKinds
 pub mod ChildPaths
 pub mod Added
+pub mod Laying
 pub mod AsSeen
 pub mod Committing
 pub mod Tested

@@ -11,7 +11,7 @@ use Rattle.zn_view.specs.declared.want.Want.{Want}
 use Rattle.zn_view.specs.declared.want.Want.TheVariants as want
 use Rattle.zx_base.specs.Maps.{Bytes}
 use Rattle.zn_view.specs.Lacking.{lacking}
-use Rattle.zn_view.specs.Needs.{key_want, IsRead, IsLacking, AreNeeds, is_multi}
+use Rattle.zn_view.specs.Needs.{key_want, IsRead, IsLacking, AreNeeds}
 use Rattle.zn_view.specs.Seen.{View}
 use Rattle.zn_view.proofs.Elements.{contains-map, empty-contains, mapped-contained}
 use Rattle.zn_view.proofs.Members.{In, contains_in, in_contains}
@@ -19,14 +19,13 @@ use Rattle.zn_view.proofs.Named.{IsNamed, lacking-once, named_all, only_all}
 
 -- wants that are what is read and lacking, each once
 pub needs-from : (r : Request) (who : Who) (v : View) (ws : List Want) → ((w : Want) → Contains ws w → IsRead r who v w × IsLacking v w) → ((w : Want) → IsRead r who v w → IsLacking v w → Contains ws w)
-    → AllPairs (λ (w u : Want). w ≢ u) ws → plain_request no_watches r ≡ None → is_multi r ≡ false → AreNeeds r who v ws
-needs-from r who v ws only all once plain single = record {
+    → AllPairs (λ (w u : Want). w ≢ u) ws → plain_request no_watches r ≡ None → AreNeeds r who v ws
+needs-from r who v ws only all once plain = record {
   only = only;
   enough = λ none _ w reads lacks. empty-contains ws w none (all w reads lacks);
   all = λ _. all;
   once = once;
   none = λ t e. absurd (none_some (sym plain ∙ e));
-  known = λ _. single;
 }
 
 -- what needs no tree reads nothing
@@ -37,14 +36,13 @@ no-needs r who v t ws is plain = record {
   all = λ none. absurd (none_some (sym none ∙ plain));
   once = subst (λ (l : List Want). AllPairs (λ (w u : Want). w ≢ u) l) (sym is) (λ i j d lt bad. absurd (omega (arith, bad)));
   none = λ u e. is;
-  known = λ none. absurd (none_some (sym none ∙ plain));
 }
 
 -- where a request reads these keys
-pub are-needs : (r : Request) (who : Who) (v : View) (ks : List Key) (ws : List Want) → ws ≡ lacking v (map key_bytes ks) → plain_request no_watches r ≡ None → is_multi r ≡ false
+pub are-needs : (r : Request) (who : Who) (v : View) (ks : List Key) (ws : List Want) → ws ≡ lacking v (map key_bytes ks) → plain_request no_watches r ≡ None
     → ((k : Key) → In k ks → IsRead r who v (key_want k)) → ((w : Want) → IsRead r who v w → (k : Key) × In k ks × (w ≡ key_want k)) → AreNeeds r who v ws
-are-needs r who v ks ws is plain single from to =
-    needs-from r who v ws only all (subst (λ (l : List Want). AllPairs (λ (w u : Want). w ≢ u) l) (sym is) (lacking-once v (map key_bytes ks))) plain single
+are-needs r who v ks ws is plain from to =
+    needs-from r who v ws only all (subst (λ (l : List Want). AllPairs (λ (w u : Want). w ≢ u) l) (sym is) (lacking-once v (map key_bytes ks))) plain
   where
     named : (w : Want) → IsNamed v (map key_bytes ks) w → IsRead r who v w × IsLacking v w
     named w h =

@@ -5,5 +5,6 @@ pub mod Views
 pub mod Lookups
 pub mod Needs
 pub mod Lacking
+pub mod Laying
 pub mod Deciding
 pub mod Laws

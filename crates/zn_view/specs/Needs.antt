@@ -1,5 +1,6 @@
 -- What a request looks up before it can be decided, and what a finished draft is.
-use Rattle.std.specs.Prelude.{◌≡◌, ◌≢◌, ℤ, pos, nat_abs, ◌⊎◌, Bool, true, false, List, [], map, Some, None, IsTrue, AllPairs, Contains, if◌then◌else◌}
+use Rattle.std.specs.Prelude.{◌≡◌, ◌≢◌, ℕ, suc, ℤ, pos, nat_abs, ◌⊎◌, List, [], ◌∷◌, ◌++◌, map, fold, Option, Some, None, option_map, All, IsTrue, AllPairs, Contains, if◌then◌else◌, MatchBool}
+use Rattle.std.specs.List.{flat_map}
 use Rattle.std.specs.Ordering.{int_eq}
 use Rattle.ev_types.specs.declared.answer.Kv.{Kv}
 use Rattle.zk_model.specs.declared.node.Stat.{Stat}
@@ -9,17 +10,20 @@ use Rattle.zk_model.specs.declared.reply.PartResult.{PartResult}
 use Rattle.zk_model.specs.declared.reply.PartResult.TheVariants as result
 use Rattle.zk_model.specs.declared.reply.Reply.{Reply}
 use Rattle.zk_model.specs.declared.reply.Reply.TheVariants as reply
+use Rattle.zk_model.specs.declared.request.Part.{Part}
+use Rattle.zk_model.specs.declared.request.Part.TheVariants as part
 use Rattle.zk_model.specs.declared.request.Request.{Request}
 use Rattle.zk_model.specs.declared.request.Request.TheVariants as req
-use Rattle.zk_model.specs.Paths.{parent, sequence_path, with_one}
-use Rattle.zk_model.specs.Single.{is_sequential}
+use Rattle.zk_model.specs.Paths.{is_child, parent, sequence_path, with_one}
+use Rattle.zk_model.specs.Single.{form_refusal, is_sequential}
 use Rattle.zk_model.specs.Watches.{no_watches}
 use Rattle.zk_transcript.specs.Answers.{Told, plain_request}
-use Rattle.zx_base.specs.Maps.{Bytes}
+use Rattle.zx_base.specs.Maps.{Bytes, same}
 use Rattle.zn_layout.specs.declared.record.NodeRec.{NodeRec}
 use Rattle.zn_layout.specs.declared.record.CountRec.{CountRec}
 use Rattle.zn_layout.specs.declared.record.LeaseRec.{LeaseRec}
 use Rattle.zn_layout.specs.Keys.{Key, DataKey, CountsKey, SessionKey, LeaseKey, key_bytes}
+use Rattle.zn_layout.specs.Reading.{IsValueOf}
 use Rattle.zn_layout.specs.Records.{node_value, counts_value, session_value, lease_value, IsNodeRec, IsCountRec, IsSessionRec, IsLeaseRec}
 use Rattle.zn_view.specs.declared.want.Want.{Want}
 use Rattle.zn_view.specs.declared.want.Want.TheVariants as want
@@ -27,7 +31,7 @@ use Rattle.zn_view.specs.declared.plan.Plan.{Plan}
 use Rattle.zn_view.specs.declared.plan.Who.{Who}
 use Rattle.zn_view.specs.Asks.{again_of, guards_of, head_want, picked}
 use Rattle.zn_view.specs.Seen.{View, seen, listed}
-use Rattle.zn_view.specs.Views.{reads}
+use Rattle.zn_view.specs.Views.{part_reads, reads}
 
 -- ---- the records that a view saw
 
@@ -50,17 +54,88 @@ SawNodes v id ps = IsSessionRec ps × SawValue v (SessionKey (nat_abs id)) (sess
 abbrev pub SawLife : View → ℤ → LeaseRec → Type 0
 SawLife v id r = IsLeaseRec r × SawValue v (LeaseKey (nat_abs id)) (lease_value r)
 
+abbrev pub IsLacking : View → Want → Type 0
+IsLacking v (want.Key k) = seen v k ≡ None
+IsLacking v (want.Children p) = listed v p ≡ None
+
+-- ---- what the parts of a multi read besides
+
+-- the owner of a node has a list of its nodes
+abbrev pub FollowsOwner : View → Bytes → Want → Type 0
+FollowsOwner v p w = (r : NodeRec) × SawNode v p r × (r.owner ≡ pos 0 → ⊥) × (w ≡ key_want (SessionKey (nat_abs r.owner)))
+
+-- the creates that a view saw below a node, none where it saw none
+abbrev pub IsCreatesSeen : Option (Option Kv) → Option ℕ → Type 0
+IsCreatesSeen None creates = creates ≡ None
+IsCreatesSeen (Some None) creates = creates ≡ None
+IsCreatesSeen (Some (Some kv)) creates = (r : CountRec) × IsValueOf counts_value IsCountRec kv.value r × (creates ≡ Some (nat_abs r.creates))
+
+-- The creates below q once one node more is made: one more where it is a child of q, and none yet where it is q itself.
+abbrev pub with_made : Bytes → Option ℕ → Bytes → Option ℕ
+with_made q creates p = if same p q then Some 0 else (if is_child q p then option_map suc creates else creates)
+
+-- and once these are made in turn
+abbrev pub creates_after : Option ℕ → Bytes → List Bytes → Option ℕ
+creates_after creates q made = fold (with_made q) creates made
+
+-- a sequence node's path ends in the creates of its parent, where the view and the nodes made before determine them
+pub record IsNumbered (v : View) (made : List Bytes) (prefix p : Bytes) : Type 0 where
+  pub above : Bytes
+  pub below : parent (with_one prefix) ≡ Some above
+  pub first : Option ℕ
+  pub saw : IsCreatesSeen (seen v (key_bytes (CountsKey above))) first
+  pub number : ℕ
+  pub counted : creates_after first above made ≡ Some number
+  pub named : p ≡ sequence_path prefix number
+
+abbrev pub IsPathMade : View → List Bytes → ℤ → Bytes → Bytes → Type 0
+IsPathMade v made flags path p = MatchBool (is_sequential flags) (IsNumbered v made path p) (p ≡ path)
+
+-- the paths of the nodes that were made, in turn, with that of a part's node behind these
+abbrev pub PartMakes : View → List Bytes → Part → List Bytes → Type 0
+PartMakes v before (part.Create path d a f) made = (p : Bytes) × IsPathMade v before f path p × (made ≡ before ++ p ∷ [])
+PartMakes v before _ made = made ≡ before
+
+-- the paths of the nodes that parts make, of which the latest part comes first; the form of none is refused
+abbrev pub Makes : View → List Part → List Bytes → Type 0
+Makes v [] made = made ≡ []
+Makes v (p ∷ parts) made = (form_refusal p ≡ None) × (before : List Bytes) × Makes v parts before × PartMakes v before p made
+
+abbrev pub OwnerSeen : View → Part → Type 0
+OwnerSeen v (part.Delete p x) = (w : Want) → FollowsOwner v p w → IsLacking v w → ⊥
+OwnerSeen v _ = Unit {0}
+
+-- all that these parts read was looked up, so that it shows what they do
+pub record WereSeen (id : ℤ) (v : View) (parts : List Part) (made : List Bytes) : Type 0 where
+  pub keys : (k : Key) → Contains (flat_map (part_reads id) parts) k → seen v (key_bytes k) ≡ None → ⊥
+  pub nodes : (p : Bytes) → Contains made p → seen v (key_bytes (DataKey p)) ≡ None → ⊥
+  pub owners : All (OwnerSeen v) parts
+
+-- what follows for a part from the view and from the parts before it, the latest first: the nodes of the owner of a node that is
+-- deleted; and the key of a sequence node, once the view shows all that the parts before read
+abbrev pub FollowsPart : ℤ → View → List Part → Part → Want → Type 0
+FollowsPart id v before (part.Create path d a f) w =
+    IsTrue (is_sequential f) × (made : List Bytes) × Makes v before made × WereSeen id v before made × (p : Bytes) × IsNumbered v made path p × (w ≡ key_want (DataKey p))
+FollowsPart id v before (part.Delete p x) w = FollowsOwner v p w
+FollowsPart id v before _ w = ⊥
+
+-- and for some part behind these
+abbrev pub FollowsFrom : ℤ → View → List Part → List Part → Want → Type 0
+FollowsFrom id v before [] w = ⊥
+FollowsFrom id v before (p ∷ parts) w = ((form_refusal p ≡ None) × FollowsPart id v before p w) ⊎ FollowsFrom id v (p ∷ before) parts w
+
 -- ---- what is read
 
 -- what is looked up besides: the children of a node, which are listed at once; and what follows from the view: the key of a
--- sequence node, the nodes of an owner, and the counts of the parents of a session's nodes
+-- sequence node, the nodes of an owner, the counts of the parents of a session's nodes, and what follows for a multi's parts
 abbrev pub Follows : Request → ℤ → View → Want → Type 0
 Follows (req.Create p d a f) id v w =
     IsTrue (is_sequential f) × (q : Bytes) × (parent (with_one p) ≡ Some q) × (r : CountRec) × SawCounts v q r × (w ≡ key_want (DataKey (sequence_path p (nat_abs r.creates))))
-Follows (req.Delete p x) id v w = (r : NodeRec) × SawNode v p r × (r.owner ≡ pos 0 → ⊥) × (w ≡ key_want (SessionKey (nat_abs r.owner)))
+Follows (req.Delete p x) id v w = FollowsOwner v p w
 Follows (req.GetChildren p x) id v w = w ≡ want.Children p
 Follows (req.GetChildren2 p x) id v w = w ≡ want.Children p
 Follows req.Close id v w = (ps : List Bytes) × (p q : Bytes) × SawNodes v id ps × Contains ps p × (parent p ≡ Some q) × (w ≡ key_want (CountsKey q))
+Follows (req.Multi parts) id v w = FollowsFrom id v [] parts w
 Follows _ id v w = ⊥
 
 abbrev pub life_want : ℤ → Want
@@ -70,10 +145,6 @@ life_want id = key_want (LeaseKey (nat_abs id))
 abbrev pub IsRead : Request → Who → View → Want → Type 0
 IsRead r who v w = (w ≡ head_want) ⊎ (w ≡ life_want who.session) ⊎ ((k : Key) × Contains (reads r who.session) k × (w ≡ key_want k)) ⊎ Follows r who.session v w
 
-abbrev pub IsLacking : View → Want → Type 0
-IsLacking v (want.Key k) = seen v k ≡ None
-IsLacking v (want.Children p) = listed v p ≡ None
-
 -- nothing that the request reads is lacking
 abbrev pub LacksNothing : Request → Who → View → Type 0
 LacksNothing r who v = (w : Want) → IsRead r who v w → IsLacking v w → ⊥
@@ -82,19 +153,14 @@ LacksNothing r who v = (w : Want) → IsRead r who v w → IsLacking v w → ⊥
 abbrev pub IsWhole : Request → Who → View → Type 0
 IsWhole r who v = plain_request no_watches r ≡ None → LacksNothing r who v
 
-abbrev pub is_multi : Request → Bool
-is_multi (req.Multi parts) = true
-is_multi _ = false
-
 -- The wants name what is read and lacking, all of it at once and each once, and so nothing only where nothing is lacking. What
--- needs no tree reads nothing. What a multi reads isn't said here: no wants are its needs, unless its form is refused.
+-- needs no tree reads nothing.
 pub record AreNeeds (r : Request) (who : Who) (v : View) (ws : List Want) : Type 0 where
   pub only : (w : Want) → Contains ws w → IsRead r who v w × IsLacking v w
   pub enough : ws ≡ [] → plain_request no_watches r ≡ None → (w : Want) → IsRead r who v w → IsLacking v w → ⊥
   pub all : plain_request no_watches r ≡ None → (w : Want) → IsRead r who v w → IsLacking v w → Contains ws w
   pub once : AllPairs (λ (w u : Want). w ≢ u) ws
   pub none : (t : Told) → plain_request no_watches r ≡ Some t → ws ≡ []
-  pub known : plain_request no_watches r ≡ None → is_multi r ≡ false
 
 -- A plan guards what its request reads, but for the head, as the view saw it, and no other key, whatever else the view saw. The
 -- same keys are read again where a guard does not hold.

@@ -1,5 +1,5 @@
 -- Which views are of which states; what each request looks up; and what a decision and a plan are worth.
-use Rattle.std.specs.Prelude.{◌≡◌, ℕ, ℤ, pos, nat_abs, ◌≤ℤ◌, ◌<ℤ◌, Bool, true, false, List, [], ◌∷◌, ◌++◌, map, filter, drop, Option, Some, None, All, IfSome, IsTrue, if◌then◌else◌, MatchBool}
+use Rattle.std.specs.Prelude.{◌≡◌, ℕ, ℤ, pos, nat_abs, ◌≤ℤ◌, ◌<ℤ◌, Bool, true, false, List, [], ◌∷◌, ◌++◌, map, filter, drop, Option, Some, None, All, IfSome, IsTrue, is_some, if◌then◌else◌, MatchBool}
 use Rattle.std.specs.FinMap.{get, keys, retain_keys}
 use Rattle.std.specs.List.{list_all, flat_map}
 use Rattle.std.specs.Ordering.{int_eq}
@@ -12,10 +12,12 @@ use Rattle.zk_model.specs.declared.node.Trigger.{Trigger}
 use Rattle.zk_model.specs.declared.reply.Body.TheVariants as body
 use Rattle.zk_model.specs.declared.reply.Reply.{Reply}
 use Rattle.zk_model.specs.declared.reply.Reply.TheVariants as reply
+use Rattle.zk_model.specs.declared.request.Part.{Part}
+use Rattle.zk_model.specs.declared.request.Part.TheVariants as part
 use Rattle.zk_model.specs.declared.request.Request.{Request}
 use Rattle.zk_model.specs.declared.request.Request.TheVariants as req
 use Rattle.zk_model.specs.Paths.{is_path, parent}
-use Rattle.zk_model.specs.Single.{is_ephemeral, is_sequential, named}
+use Rattle.zk_model.specs.Single.{form_refusal, is_ephemeral, is_sequential, named}
 use Rattle.zk_model.specs.Watches.{Watches, no_watches, arm_data, arm_children}
 use Rattle.zk_transcript.specs.Answers.{Told, limit_in, plain_request, tree_reply}
 use Rattle.zk_transcript.specs.History.{State, Session, Commit, IsSound, commit, committed, limit_of, session_at, session_ended}
@@ -82,7 +84,18 @@ own_data flags p = if is_sequential flags then [] else DataKey p ∷ []
 abbrev pub valid : List Bytes → List Bytes
 valid ps = filter is_path ps
 
--- The keys that follow from the request alone. What a multi looks up isn't said here (see `AreNeeds`).
+-- the keys that follow from a part of a multi: those that the same request reads alone
+abbrev pub part_keys : ℤ → Part → List Key
+part_keys id (part.Create p d a f) = about_parent (parent (named f p)) ++ own_data f p ++ own_nodes f id
+part_keys id (part.Delete p v) = about_path p ++ counts_of_parent (parent p)
+part_keys id (part.SetData p d v) = about_path p
+part_keys id (part.Check p v) = DataKey p ∷ []
+
+-- a part whose form is refused reads nothing
+abbrev pub part_reads : ℤ → Part → List Key
+part_reads id p = if is_some (form_refusal p) then [] else part_keys id p
+
+-- The keys that follow from the request alone; a multi reads what its parts read.
 unfoldable pub reads : Request → ℤ → List Key
 reads (req.Create p d a f) id = about_parent (parent (named f p)) ++ own_data f p ++ own_nodes f id
 reads (req.Delete p v) id = about_path p ++ counts_of_parent (parent p)
@@ -98,7 +111,7 @@ reads req.Close id = SessionKey (nat_abs id) ∷ []
 reads (req.Sync p) id = []
 reads req.Ping id = []
 reads (req.Auth kind scheme auth) id = []
-reads (req.Multi parts) id = []
+reads (req.Multi parts) id = flat_map (part_reads id) parts
 
 -- ---- what a decision is worth
 

@@ -7,7 +7,7 @@
 //!
 //! In `specs/`, in reading order: `Seen` (a view, and what it saw), `Asks` (the ranges that are read, and what their
 //! answers show), `Adding` (what a view takes), `Views` (which states a view is of, and what a decision and a plan are
-//! worth), `Needs` (what a request looks up), `Deciding` (what is asked of each decision), `Lacking`, `Lookups`, `Laws`. The laws are the functions of `laws`, and stand
+//! worth), `Needs` (what a request looks up), `Deciding` (what is asked of each decision), `Lacking`, `Laying`, `Lookups`, `Laws`. The laws are the functions of `laws`, and stand
 //! in `proofs/` by topic: `SeenAfter`, `Showing`, `AsSeen`, `Narrowing`, `Tested`, `Committing`, `Asked`. Who shows that a request's
 //! changes are those of its update, in each state whose keys have what the view saw, has shown that its plan carries it
 //! out ([`a_plan_commits`]).

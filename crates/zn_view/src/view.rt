@@ -1,13 +1,15 @@
 //! Views: what some keys had at one revision of an etcd.
 
-ghost use Rattle.std.specs.Prelude.{◌≡◌, All, OnOk, OnErr};
+ghost use Rattle.std.specs.Prelude.{◌≡◌, ◌≤◌, ◌+◌, ◌∷◌, ◌++◌, length, take, drop, All, OnOk, OnErr};
+ghost use Rattle.zn_view.specs.declared.snapshot.SeenKey.{SeenKey as AnySeen};
 ghost use Rattle.zn_view.specs.Adding.{at_revision, with_key, with_list, first_of};
+ghost use Rattle.zn_view.specs.Laying.{placed, with_laid};
 ghost use Rattle.zn_view.specs.Seen.{empty_view, IsCount, IsSeen};
 
 use crate::snapshot::{SeenChildren, SeenKey};
 use std::alloc::Global;
 use std::marker::Model;
-use zx_base::Memory;
+use zx_base::{Memory, Seq};
 
 /// What some keys had at one revision. Every value is a record of its key's kind.
 #[derive(Debug, Drop)]
@@ -33,6 +35,33 @@ impl Model for View {
     } };
 
     ghost invariant = { λ v. IsCount v.revision × All IsSeen v.keys.items };
+}
+
+/// The first place at which this key stands, or that behind all keys.
+fn place_of(keys: &[SeenKey], key: &[u8]) -> usize
+    ensures is { (x : AnySeen) → x.key ≡ key.now → placed x keys.now ≡ take result keys.now ++ x ∷ drop (result + 1) keys.now }
+    ensures within { result ≤ length keys.now }
+{
+    let mut place = 0;
+    while place < keys.len() && !keys[place].key.is(key) {
+        place += 1;
+    }
+    place
+}
+
+/// Puts a key in the place where it stands, or behind the others.
+fn lay_in(keys: &mut Vec<SeenKey>, seen: SeenKey) -> Result<(), Memory>
+    ensures ok { OnOk result (keys.new.items ≡ placed seen keys.old.items) }
+    ensures err { OnErr result (keys.new.items ≡ keys.old.items) }
+    ensures kept { IsSeen seen → All IsSeen keys.old.items → All IsSeen keys.new.items }
+{
+    let place = place_of(keys, seen.key.as_slice());
+    if place < keys.len() {
+        keys[place] = seen;
+        return Ok(());
+    }
+    keys.push(seen)?;
+    Ok(())
 }
 
 impl View {
@@ -107,5 +136,21 @@ impl View {
         if self.revision == 0 {
             self.revision = revision;
         }
+    }
+
+    /// Puts a key in place of what was seen of it, or behind the others. Otherwise it is as it was.
+    pub fn lay(&mut self, seen: SeenKey) -> Result<(), Memory>
+        requires { IsSeen seen }
+        ensures ok { OnOk result (self.new ≡ with_laid self.old seen) }
+        ensures err { OnErr result (self.new ≡ self.old) }
+    {
+        lay_in(&mut self.keys, seen)
+    }
+
+    /// The keys that were seen, in the order in which they were looked up.
+    pub fn into_keys(self) -> Seq<SeenKey>
+        ensures { result ≡ self.keys }
+    {
+        Seq::from_vec(self.keys)
     }
 }

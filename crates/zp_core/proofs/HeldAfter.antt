@@ -25,7 +25,6 @@ use Rattle.zn_layout.specs.declared.entry.Entry.{Entry}
 use Rattle.zn_updates.specs.Deciding.{content_in}
 use Rattle.zn_view.specs.Adding.{at_revision}
 use Rattle.zn_view.specs.Asks.{with_part, with_parts}
-use Rattle.zn_view.specs.Needs.{is_multi}
 use Rattle.zn_view.specs.Lookups.{found_at}
 use Rattle.zn_view.specs.Seen.{IsCount, View, empty_view}
 use Rattle.zn_view.specs.declared.plan.Decision.{Decision}
@@ -55,7 +54,7 @@ use Rattle.zp_step.specs.Stages.{Core, Pending, Stage, Unconnected, Connecting, 
 use Rattle.zp_step.specs.Steps.{Answers, Comes, Handles, IsFit, counted, queued}
 use Rattle.zp_step.specs.Taking.{Takes, TakesReadable, end_of_plain, plainly}
 use Rattle.zp_happen.specs.Unbuilt.{is_multi as asks_multi}
-use Rattle.zp_core.specs.Held.{IsBuilt, IsBuiltIn, IsFrame, IsHeld, IsHeldIn, IsReal, IsRequest, IsServing}
+use Rattle.zp_core.specs.Held.{IsBuilt, IsBuiltIn, IsFrame, IsHeld, IsHeldIn, IsReal, IsRequest, IsServing, is_multi}
 
 -- ---- a request that came in a frame
 

@@ -1,11 +1,11 @@
 -- What each core keeps, and which requests are built.
-use Rattle.std.specs.Prelude.{◌≡◌, ℕ, ℤ, pos, ◌≤◌, ◌≤ℤ◌, false, List, length, All, MatchBool}
+use Rattle.std.specs.Prelude.{◌≡◌, Bool, ℕ, ℤ, pos, ◌≤◌, ◌≤ℤ◌, false, List, length, All, MatchBool}
 use Rattle.zk_jute.specs.Requests.{read_request}
 use Rattle.zk_model.specs.declared.request.Request.{Request}
+use Rattle.zk_model.specs.declared.request.Request.TheVariants as req
 use Rattle.zk_model.specs.Limits.{max_frame}
 use Rattle.zk_transcript.specs.Walks.{has_header}
 use Rattle.zn_updates.specs.Deciding.{content_in}
-use Rattle.zn_view.specs.Needs.{is_multi}
 use Rattle.zn_view.specs.Seen.{IsCount}
 use Rattle.zs_session.specs.Connecting.{IsHeld as IsHeldConnect}
 use Rattle.zp_step.specs.declared.input.Input.{Input}
@@ -19,6 +19,10 @@ pub record IsFrame (bytes : List ℕ) : Type 0 where
   pub short : length bytes ≤ max_frame
   pub headed : has_header (read_request bytes) ≡ true
   pub built : asks_multi (read_request bytes) ≡ false
+
+abbrev pub is_multi : Request → Bool
+is_multi (req.Multi parts) = true
+is_multi _ = false
 
 -- a request that came in such a frame
 pub record IsRequest (r : Request) : Type 0 where

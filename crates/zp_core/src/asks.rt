@@ -2,10 +2,11 @@
 
 ghost use Rattle.std.specs.Prelude.{◌≡◌, ◌≤ℤ◌, ◌∷◌, [], pos, false, IfOk, take};
 ghost use Rattle.zn_view.specs.Asks.{reading as reading_of, transaction as transaction_of};
-ghost use Rattle.zn_view.specs.Needs.{AreNeeds, is_multi};
+ghost use Rattle.zn_view.specs.Needs.{AreNeeds};
 ghost use Rattle.zp_step.specs.Looking.{asks_for, decided, max_ranges};
 ghost use Rattle.zp_step.specs.Replies.{Is};
 ghost use Rattle.zp_step.specs.declared.action.Action.TheVariants as action;
+ghost use Rattle.zp_core.specs.Held.{is_multi};
 ghost use Rattle.zp_core.specs.Meanings.{Leads, ready};
 ghost use Rattle.zn_view.specs.declared.plan.Decision.TheVariants as decision;
 

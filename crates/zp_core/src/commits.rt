@@ -4,12 +4,12 @@ ghost use Rattle.std.specs.Prelude.{◌≡◌, ◌≤◌, ◌≤ℤ◌, length, 
 ghost use Rattle.zk_model.specs.Limits.{max_frame};
 ghost use Rattle.zn_updates.specs.Deciding.{content_in};
 ghost use Rattle.zn_view.specs.Adding.{AreNumbers};
-ghost use Rattle.zn_view.specs.Needs.{is_multi};
 ghost use Rattle.zn_view.specs.Seen.{IsCount};
 ghost use Rattle.zn_view.specs.Asks.{transaction};
 ghost use Rattle.zs_session.specs.Answering.{IsAnswerTo};
 ghost use Rattle.zp_step.specs.Plans.{CommitAnswered, Committed, end_behind as end_of, finishes};
 ghost use Rattle.zp_step.specs.Replies.{Is, waits};
+ghost use Rattle.zp_core.specs.Held.{is_multi};
 ghost use Rattle.zp_core.specs.Meanings.{Leads, plan_of, ready};
 
 use crate::client::Client;

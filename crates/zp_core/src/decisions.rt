@@ -3,11 +3,12 @@
 ghost use Rattle.std.specs.Prelude.{◌≡◌, ◌≤◌, ◌≤ℤ◌, [], length, pos, false, None, IfOk, ◌<◌, ◌^◌};
 ghost use Rattle.zk_model.specs.Limits.{max_frame};
 ghost use Rattle.zn_updates.specs.Deciding.{content_in};
-ghost use Rattle.zn_view.specs.Needs.{AreNeeds, is_multi};
+ghost use Rattle.zn_view.specs.Needs.{AreNeeds};
 ghost use Rattle.zn_view.specs.Views.{IsDecision};
 ghost use Rattle.zn_view.specs.Deciding.{IsTested};
 ghost use Rattle.zp_step.specs.Looking.{IsBacked, change_by, decided, expired, moved, pending};
 ghost use Rattle.zp_step.specs.Replies.{Is};
+ghost use Rattle.zp_core.specs.Held.{is_multi};
 ghost use Rattle.zp_core.specs.Meanings.{Leads, change_of, pending_of, ready};
 
 use crate::asks::ask_plan;

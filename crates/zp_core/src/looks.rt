@@ -3,8 +3,8 @@
 ghost use Rattle.std.specs.Prelude.{◌≡◌, ◌≤◌, ◌≤ℤ◌, length, pos, false, IfOk, ◌<◌, ◌^◌};
 ghost use Rattle.zk_model.specs.Limits.{max_frame};
 ghost use Rattle.zn_updates.specs.Deciding.{content_in};
-ghost use Rattle.zn_view.specs.Needs.{is_multi};
 ghost use Rattle.zp_step.specs.Looking.{Looks};
+ghost use Rattle.zp_core.specs.Held.{is_multi};
 ghost use Rattle.zp_core.specs.Meanings.{Leads, ready};
 
 use crate::asks::{ask_for, needs};

@@ -4,12 +4,12 @@ ghost use Rattle.std.specs.Prelude.{◌≡◌, ◌≤◌, ◌≤ℤ◌, length, 
 ghost use Rattle.zk_model.specs.Limits.{max_frame};
 ghost use Rattle.zn_updates.specs.Deciding.{content_in};
 ghost use Rattle.zn_view.specs.Adding.{AreNumbers, IsOtherRevision, at_revision};
-ghost use Rattle.zn_view.specs.Needs.{is_multi};
 ghost use Rattle.zn_view.specs.Seen.{IsCount};
 ghost use Rattle.zn_view.specs.Asks.{reading as reading_of};
 ghost use Rattle.ev_types.specs.declared.answer.Answer.TheVariants as answers;
 ghost use Rattle.zs_session.specs.Answering.{IsAnswerTo};
 ghost use Rattle.zp_step.specs.Plans.{ReadOn};
+ghost use Rattle.zp_core.specs.Held.{is_multi};
 ghost use Rattle.zp_core.specs.Meanings.{Leads, ready};
 
 use crate::client::Client;

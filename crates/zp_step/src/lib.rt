@@ -9,8 +9,7 @@
 //! What a step is stands in `specs/` alone, as a relation (`Steps`); the code that takes the steps is in a crate above. A
 //! relation, since what is asked for a request and what is decided on it are said by what they are worth (`AreNeeds`,
 //! `IsDecision`, `IsPlan`), for every kind of request in the same way. No definition looks at what a request is, but for a
-//! setWatches, which arms many watches at once, and for a closeSession, which ends the connection. What a multi looks up is
-//! not said yet (`AreNeeds`), so none can be taken up by these definitions.
+//! setWatches, which arms many watches at once, and for a closeSession, which ends the connection.
 //!
 //! In `specs/`, in reading order:
 //!

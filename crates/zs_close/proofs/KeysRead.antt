@@ -143,7 +143,7 @@ module _ (v : View) (who : Who) (ps : List Bytes) where
       (CountsKey q, inr (inr (inr (in_counts q (parents ps) (of_parent ps p q (subst (λ (l : List Bytes). Contains l p) (sym one) c) e)))), is)
 
   pub close-needs : (ws : List Want) → IsNodesSeen (sees v (SessionKey (nat_abs id))) ps → ws ≡ lacking v (read_keys id ps) → AreNeeds req.Close who v ws
-  close-needs ws nodes is = are-needs req.Close who v (end_keys id ps) ws is plain refl (read_from nodes) (read_to nodes)
+  close-needs ws nodes is = are-needs req.Close who v (end_keys id ps) ws is plain (read_from nodes) (read_to nodes)
 
   -- ---- a plan that guards what is read
 

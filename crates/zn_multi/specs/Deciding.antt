@@ -1,0 +1,73 @@
+-- What a multi is decided to be, by what its parts come to.
+use Rattle.std.specs.Prelude.{◌≡◌, ℕ, ℤ, pos, ◌+◌, ◌≤ℤ◌, List, [], ◌∷◌, ◌++◌, length, nat_lt, sum_by, Option, Some, None, MatchBool}
+use Rattle.std.specs.Ordering.{int_eq}
+use Rattle.ev_types.specs.declared.answer.Kv.{Kv}
+use Rattle.ev_types.specs.Reads.{read_key}
+use Rattle.zk_model.specs.declared.reply.Body.TheVariants as body
+use Rattle.zk_model.specs.declared.reply.Reply.TheVariants as reply
+use Rattle.zk_model.specs.declared.request.Part.{Part}
+use Rattle.zk_model.specs.Codes.{bad_arguments}
+use Rattle.zk_model.specs.Limits.{max_load}
+use Rattle.zk_model.specs.Multi.{data_len, distinct, row_of}
+use Rattle.zn_layout.specs.Changes.{act_of, head_put}
+use Rattle.zn_layout.specs.Keys.{HeadKey, key_bytes}
+use Rattle.zn_view.specs.declared.plan.Decision.{Decision}
+use Rattle.zn_view.specs.declared.plan.Decision.TheVariants.{Answered, Planned, Expired, Moved}
+use Rattle.zn_view.specs.declared.plan.Plan.{Plan}
+use Rattle.zn_view.specs.declared.plan.Who.{Who}
+use Rattle.zn_view.specs.Asks.{again_of, guards_of, picked}
+use Rattle.zn_view.specs.Seen.{View}
+use Rattle.zx_base.specs.Maps.{Bytes}
+use Rattle.zn_updates.specs.Parts.{IfPaths}
+use Rattle.zn_multi.specs.Carrying.{no_progress, Runs}
+use Rattle.zn_multi.specs.Laying.{written_acts}
+use Rattle.zn_multi.specs.declared.carrying.Carried.{Carried}
+use Rattle.zn_multi.specs.declared.carrying.Carried.TheVariants.{Stopped, Passed}
+use Rattle.zn_multi.specs.declared.carrying.Progress.{Progress}
+
+-- ---- the load
+
+abbrev pub path_bytes : Option (List Bytes) → ℕ
+path_bytes None = 0
+path_bytes (Some ps) = sum_by length ps
+
+-- the bytes of the paths of the nodes that a session owned before, by the list that the view saw. No session has a number below 1
+abbrev pub IsOwnedLoad : View → ℤ → ℕ → Type 0
+IsOwnedLoad v id n = (ps : Option (List Bytes)) × (pos 1 ≤ℤ id → IfPaths v id ps) × (n ≡ path_bytes ps)
+
+-- and those of several sessions
+abbrev pub AreOwnedLoads : View → List ℤ → ℕ → Type 0
+AreOwnedLoads v [] n = n ≡ 0
+AreOwnedLoads v (id ∷ ids) n = (a b : ℕ) × IsOwnedLoad v id a × AreOwnedLoads v ids b × (n ≡ a + b)
+
+-- ---- the decision
+
+abbrev pub refused : ℤ → Decision
+refused code = Answered (reply.Refused code) None
+
+-- Each key that was laid is written once, and the head is put last and then read. Some keys are guarded as the view saw them.
+pub record IsPlanOf (v : View) (p : Progress) (plan : Plan) : Type 0 where
+  pub keys : List Bytes
+  pub guards : plan.guards ≡ guards_of (picked v keys)
+  pub again : plan.again ≡ again_of (picked v keys)
+  pub acts : plan.success ≡ (written_acts v p.over.keys ++ act_of (head_put p.triggers) ∷ []) ++ read_key (key_bytes HeadKey) ∷ []
+  pub draft : plan.draft ≡ reply.Good (body.Parts p.results)
+  pub triggers : plan.triggers ≡ p.triggers
+
+abbrev pub IsPlannedAs : View → Progress → Decision → Type 0
+IsPlannedAs v p d = (plan : Plan) × (d ≡ Planned plan) × IsPlanOf v p plan
+
+-- the row of codes where a part is refused; else a refusal where the load is above the most; else a plan
+abbrev pub IsByParts : View → List Part → Carried → Decision → Type 0
+IsByParts v parts (Stopped place code) d = d ≡ Answered (reply.Good (body.Parts (row_of (length parts) place code))) None
+IsByParts v parts (Passed p) d = (n : ℕ) × AreOwnedLoads v (distinct p.touched) n × MatchBool (nat_lt max_load (sum_by data_len parts + n)) (d ≡ refused bad_arguments) (IsPlannedAs v p d)
+
+-- by what all parts come to, in turn
+abbrev pub IsInTurn : Who → ℕ → View → List Part → Decision → Type 0
+IsInTurn who now v parts d = (c : Carried) × Runs who now v no_progress 0 parts c × IsByParts v parts c d
+
+-- by the record of the session's life first
+abbrev pub IsByLife : Who → ℕ → View → List Part → Decision → Option (Option Kv) → Type 0
+IsByLife who now v parts d None = ⊥
+IsByLife who now v parts d (Some None) = d ≡ Expired
+IsByLife who now v parts d (Some (Some kv)) = MatchBool (int_eq kv.mod_revision who.mine) (IsInTurn who now v parts d) (d ≡ Moved kv.mod_revision)

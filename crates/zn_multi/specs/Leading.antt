@@ -1,0 +1,34 @@
+-- What the parts of a multi lead to, in a state that the view shows.
+use Rattle.std.specs.Prelude.{◌≡◌, ℕ, ℤ, ◌+◌, true, List, ◌++◌, length, map, All}
+use Rattle.zk_model.specs.declared.node.Trigger.{Trigger}
+use Rattle.zk_model.specs.declared.reply.PartResult.{PartResult}
+use Rattle.zk_model.specs.declared.request.Part.{Part}
+use Rattle.zk_model.specs.Limits.{max_owned}
+use Rattle.zk_model.specs.Multi.{Parts, Stopped, Passed, parts_of}
+use Rattle.zk_model.specs.Znodes.{Tree}
+use Rattle.zk_transcript.specs.History.{State, IsSound}
+use Rattle.zn_layout.specs.Changes.{Change, are_distinct}
+use Rattle.zn_layout.specs.Fits.{Fits}
+use Rattle.zn_view.specs.Needs.{own_result}
+use Rattle.zn_view.specs.Seen.{View}
+use Rattle.zn_updates.specs.Parts.{IsKeptChange}
+use Rattle.zn_updates.specs.Right.{with_tree}
+use Rattle.zn_multi.specs.Laying.{laid_view}
+use Rattle.zn_multi.specs.declared.carrying.Progress.{Progress}
+
+-- what later parts come to, with what these came to before them
+abbrev pub behind : List PartResult → List Trigger → List ℤ → Parts → Parts
+behind rs gs ss (Stopped place code) = Stopped (length rs + place) code
+behind rs gs ss (Passed results t triggers touched) = Passed (rs ++ results) t (gs ++ triggers) (ss ++ touched)
+
+-- The parts before the rest lead to a sound tree, with their results at this zxid, and the rest goes on from there. What was laid
+-- over the view are the changes of keys from the state to the one with that tree, each key once.
+pub record LeadsTo (id : ℤ) (now : ℕ) (v : View) (parts rest : List Part) (p : Progress) (s : State) (z : ℤ) : Type 0 where
+  pub tree : Tree
+  pub runs : parts_of s.tree max_owned id parts z now ≡ behind (map (own_result z) p.results) p.triggers p.touched (parts_of tree max_owned id rest z now)
+  pub sound : IsSound (with_tree s tree)
+  pub changes : List Change
+  pub over : p.over ≡ laid_view changes
+  pub once : are_distinct changes ≡ true
+  pub kept : All IsKeptChange changes
+  pub fits : Fits z changes s (with_tree s tree)

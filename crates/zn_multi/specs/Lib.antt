@@ -1,0 +1,4 @@
+pub mod Laying
+pub mod Carrying
+pub mod Leading
+pub mod Deciding

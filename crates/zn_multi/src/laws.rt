@@ -1,0 +1,39 @@
+//! The laws of multis. Each function does nothing, and its contract is the law.
+
+ghost use Rattle.std.specs.Prelude.{◌<◌, ◌^◌, ◌≡◌, ◌≤◌, ◌++◌, ℕ, ℤ, [], List, Some, true};
+ghost use Rattle.zk_model.specs.declared.request.Part.{Part as AnyPart};
+ghost use Rattle.zk_model.specs.Limits.{max_owned};
+ghost use Rattle.zk_model.specs.Multi.{Stopped as StoppedAt, parts_of};
+ghost use Rattle.zk_transcript.specs.History.{Session, IsSound, session_at};
+ghost use Rattle.zn_view.specs.declared.plan.Who.{Who as AnyWho};
+ghost use Rattle.zn_multi.specs.Carrying.{no_progress, AreShort, Runs, RunsSeen};
+ghost use Rattle.zn_multi.specs.Leading.{LeadsTo};
+ghost use Rattle.zn_multi.specs.declared.carrying.Carried.TheVariants.{Stopped, Passed};
+ghost use Rattle.zn_multi.specs.declared.carrying.Progress.{Progress as AnyProgress};
+ghost use Rattle.zk_transcript.specs.History.{State};
+ghost use Rattle.zn_layout.specs.Fits.{Fits};
+ghost use Rattle.zn_view.specs.Seen.{View as AnyView};
+ghost use Rattle.zn_updates.specs.Layers.{Shows, layered};
+ghost use Rattle.zn_layout.specs.Changes.{Change, acts_of, are_distinct, last};
+ghost use Rattle.zn_layout.specs.Keys.{Key};
+ghost use Rattle.zn_multi.specs.Laying.{all_laid, laid_view, with_acts};
+
+/// Operations that are laid over keys leave each key once, and of each the last that was written.
+pub fn each_key_is_laid_once()
+    ensures once { (ws cs : List Change) → are_distinct ws ≡ true → are_distinct (all_laid ws cs) ≡ true }
+    ensures last { (ws cs : List Change) (k : Key) → are_distinct ws ≡ true → last (all_laid ws cs) k ≡ last (ws ++ cs) k }
+    ensures laid { (ws cs : List Change) → with_acts (laid_view ws) (acts_of cs) ≡ laid_view (all_laid ws cs) }
+{}
+
+/// Changes that lead from a state to another, laid over a view that shows the first, show the second: so a later part is chosen
+/// on what the parts before it left.
+pub fn later_parts_see_earlier_ones()
+    ensures { (z : ℤ) (v : AnyView) (ws : List Change) (s new : State) → Shows z v s → Fits z ws s new → are_distinct ws ≡ true → Shows z (layered (laid_view ws) v) new }
+{}
+
+/// What the parts come to on a view that shows a sound state, they come to in that state at any zxid: they stop at the same part
+/// with the same code, or pass, and the keys that were laid over the view are the changes to the state behind them.
+pub fn parts_are_carried_out_in_turn()
+    ensures stops { (who : AnyWho) (now : ℕ) (v : AnyView) (parts : List AnyPart) (s : State) (z : ℤ) (x : Session) (place : ℕ) (code : ℤ) (run : Runs who now v no_progress 0 parts (Stopped place code)) → RunsSeen who now v no_progress 0 parts (Stopped place code) run → now < 2 ^ 62 → AreShort parts → IsSound s → Shows z v s → session_at who.session s ≡ Some x → parts_of s.tree max_owned who.session parts z now ≡ StoppedAt place code }
+    ensures passes { (who : AnyWho) (now : ℕ) (v : AnyView) (parts : List AnyPart) (s : State) (z : ℤ) (x : Session) (p : AnyProgress) (run : Runs who now v no_progress 0 parts (Passed p)) → RunsSeen who now v no_progress 0 parts (Passed p) run → now < 2 ^ 62 → AreShort parts → IsSound s → Shows z v s → session_at who.session s ≡ Some x → LeadsTo who.session now v parts [] p s z }
+{}

@@ -1,0 +1,141 @@
+-- What is chosen for each part is right.
+use Rattle.std.proofs.Common.{◌<◌, ◌^◌, ◌≡◌, ℕ, ◌≤◌, ℤ, pos, true, false, Bool, cond, not, length, List, [], Option, Some, None, refl, sym, ap, subst}
+use Rattle.std.specs.Prelude.{◌&&◌, IfSome, IsTrue}
+use Rattle.std.specs.FinMap.{get}
+use Rattle.zx_base.specs.Maps.{Bytes, same}
+use Rattle.zk_model.specs.declared.node.Node.{Node}
+use Rattle.zk_model.specs.declared.request.Acl.{Acl}
+use Rattle.zk_model.specs.declared.request.Part.{Part}
+use Rattle.zk_model.specs.declared.request.Part.TheVariants as part
+use Rattle.zk_model.specs.declared.reply.PartResult.TheVariants as result
+use Rattle.zk_model.specs.Codes.{no_node, node_exists, bad_version}
+use Rattle.zk_model.specs.Limits.{max_frame, max_owned}
+use Rattle.zk_model.specs.PathFaults.{is_valid}
+use Rattle.zk_model.specs.Paths.{is_path, parent, root}
+use Rattle.zk_model.specs.Single.{Refused, Done, check, effect, form_refusal, is_ephemeral, is_sequential, matches, named, path_refusal, single, unless_refused}
+use Rattle.zk_transcript.specs.History.{State}
+use Rattle.zn_layout.specs.Fits.{Fits}
+use Rattle.zn_layout.specs.Keys.{Key, HeadKey, DataKey, CountsKey, SessionKey, LeaseKey}
+use Rattle.zn_layout.specs.Records.{IsLongCount}
+use Rattle.zn_view.specs.declared.plan.Who.{Who}
+use Rattle.zn_layout.specs.StandsFor.{Stored, Means}
+use Rattle.zn_view.specs.Lookups.{HasSeen, sees}
+use Rattle.zn_view.specs.Seen.{View}
+use Rattle.zn_updates.specs.declared.chosen.Chosen.{Chosen}
+use Rattle.zn_updates.specs.declared.chosen.Chosen.TheVariants as chosen
+use Rattle.zn_updates.specs.declared.seen.SeenData.{SeenData}
+use Rattle.zn_updates.specs.declared.seen.SeenCounts.{SeenCounts}
+use Rattle.zn_updates.specs.Choices.{Refuse, Make, delete_choice, set_data_choice}
+use Rattle.zn_updates.specs.Deciding.{IsOwnerLookedUp, IsOwnerPaths, creates_in, path_for}
+use Rattle.zn_updates.specs.Making.{IsCountsSeen, chosen_of}
+use Rattle.zn_updates.specs.Parts.{check_choice, IfCounts, IfData, IfPaths, IsCreatedBelow, IsDeletedBelow, IsPartChoice}
+use Rattle.zn_updates.specs.Right.{IsRight, with_tree}
+use Rattle.zn_updates.specs.Seen.{IsDataWithin, ShowsData}
+use Rattle.zn_updates.proofs.CreateClauses.{below_chosen, parent_is_valid, root_chosen, valid_path}
+use Rattle.zn_updates.proofs.DeleteClauses.{delete_chosen, orphan_chosen}
+use Rattle.zn_updates.proofs.PartRecords.{check-kept, create-kept, delete-kept, set-kept}
+use Rattle.zn_updates.proofs.SetDataClauses.{set_chosen}
+use Rattle.zn_updates.proofs.Showing.{data-shown}
+
+-- ---- a part whose form is refused
+
+refused_single : (s : State) (session z : ℤ) (now : ℕ) (p : Part) (code : ℤ) → form_refusal p ≡ Some code → single s.tree max_owned session p z now ≡ Refused code
+unfolding single
+refused_single s session z now p code e = ap (λ (o : Option ℤ). unless_refused o (effect s.tree max_owned session p z now)) e
+
+pub refused_part : (p : Part) (who : Who) (now : ℕ) (v : View) (code : ℤ) → form_refusal p ≡ Some code → IsPartChoice p who now v (chosen.Refused code)
+refused_part p who now v code e = record {
+  choice = λ _. Refuse code;
+  is = refl;
+  chosen = λ _. record { right = λ s z at moment sound shown y opened. refused_single s who.session z at p code e; same_code = λ _. refl };
+  kept = tt;
+}
+
+-- ---- create
+
+module _ (path content : Bytes) (acl : List Acl) (flags : ℤ) (who : Who) (now : ℕ) (v : View) (formed : form_refusal (part.Create path content acl flags) ≡ None) (valid : is_valid (is_sequential flags) path ≡ true) where
+  pub created_root : parent (named flags path) ≡ None → IsPartChoice (part.Create path content acl flags) who now v (chosen.Refused node_exists)
+  created_root none = record { choice = λ _. Refuse node_exists; is = refl; chosen = λ _. root_chosen path content acl flags formed valid who v none; kept = tt }
+
+  pub created_part : (q : Bytes) → parent (named flags path) ≡ Some q → length content ≤ max_frame → now < 2 ^ 62 → IsLongCount who.session → (c : Chosen)
+      → IsCreatedBelow v path content now (is_sequential flags) (is_ephemeral flags) who.session q c → IsPartChoice (part.Create path content acl flags) who now v c
+  created_part q up short moment long c h = record {
+    choice = _;
+    is = h.is;
+    chosen = λ saw. let here = saw q up in
+        below_chosen path content acl flags formed valid who v q up short long h.up h.above h.paths (h.up_is here.up) (h.above_is here.counts) (λ e. h.paths_are e (here.nodes e))
+        (λ w e. subst (λ (o : Option SeenCounts). HasSeen v (DataKey (path_for (is_sequential flags) path o))) (sym e) (here.own w (subst (IsCountsSeen (sees v (CountsKey q))) e (h.above_is here.counts))));
+    kept = create-kept _ q (valid_path path content acl flags formed valid (creates_in h.above)) (parent_is_valid path content acl flags formed valid q up) content short now moment who.session long (is_ephemeral flags) h.up h.above _ h.paths h.above_within h.paths_within;
+  }
+
+-- ---- delete
+
+module _ (p : Bytes) (version : ℤ) (who : Who) (now : ℕ) (v : View) (valid : (is_path p && not (same p root)) ≡ true) where
+  pub deleted_orphan : parent p ≡ None → IsPartChoice (part.Delete p version) who now v (chosen.Refused no_node)
+  deleted_orphan none = record { choice = λ _. Refuse no_node; is = refl; chosen = λ _. orphan_chosen p version who v valid none; kept = tt }
+
+  owners : (o : Option SeenData) (paths : Option (List Bytes)) → IsOwnerLookedUp v o → IfSome o (λ (x : SeenData). (x.owner ≡ pos 0 → ⊥) → IfPaths v x.owner paths) → IsOwnerPaths v o paths
+  owners None paths saw h = tt
+  owners (Some x) paths saw h = λ owns. h owns (saw owns)
+
+  pub deleted_part : (q : Bytes) → parent p ≡ Some q → IsTrue (is_path p) → IsTrue (is_path q) → (c : Chosen) → IsDeletedBelow v p version q c → IsPartChoice (part.Delete p version) who now v c
+  deleted_part q up own above c h = record {
+    choice = λ _. delete_choice p q version h.node h.counts h.above h.paths;
+    is = h.is;
+    chosen = λ saw. delete_chosen p version who v q h.node h.counts h.above h.paths valid up (h.node_is saw.node) (h.counts_are saw.counts) (h.above_is (saw.above q up)) (owners h.node h.paths (saw.owner h.node (h.node_is saw.node)) h.paths_are);
+    kept = delete-kept p q own above version h.node h.counts h.above h.paths h.above_within h.paths_within;
+  }
+
+-- ---- setData
+
+pub set_part : (p content : Bytes) (version : ℤ) (who : Who) (now : ℕ) (v : View) → IsTrue (is_path p) → length content ≤ max_frame → now < 2 ^ 62 → (x : Option SeenData) (k : Option SeenCounts) → IfData v p x → IfCounts v p k → IfSome x IsDataWithin
+    → (c : Chosen) → c ≡ chosen_of (set_data_choice p content version now x k) → IsPartChoice (part.SetData p content version) who now v c
+set_part p content version who now v valid short moment x k data_is counts_are within c is = record {
+  choice = λ at. set_data_choice p content version at x k;
+  is = is;
+  chosen = λ saw. set_chosen p content version who v x k valid short (data_is saw.0) (counts_are saw.1);
+  kept = set-kept p content now valid moment short version x k within;
+}
+
+-- ---- check
+
+same_means : (s : State) (k : Key) (o : Option Stored) → Means s k o → Means (with_tree s s.tree) k o
+same_means s HeadKey o h = h
+same_means s (DataKey p) o h = h
+same_means s (CountsKey p) o h = h
+same_means s (SessionKey id) o h = h
+same_means s (LeaseKey id) o h = h
+
+unchanged : (z : ℤ) (s : State) → Fits z [] s (with_tree s s.tree)
+unchanged z s = record { each = λ k o h. same_means s k o h }
+
+check_right : (z : ℤ) (s : State) (version : ℤ) (x : Option SeenData) (n : Option Node) → ShowsData z x n → IsRight z s (check_choice version x) (check s.tree version n)
+unfolding check_choice
+check_right z s version None None shown = refl
+check_right z s version None (Some n) shown = absurd shown
+check_right z s version (Some x) None shown = absurd shown
+check_right z s version (Some x) (Some n) shown =
+    subst (λ (k : ℤ). IsRight z s (cond (not (matches version k)) (Refuse bad_version) (Make [] [] result.Checked)) (check s.tree version (Some n))) (sym (ap (λ (w : SeenData). w.version) shown.is)) (by_version (matches version n.version))
+  where
+    by_version : (b : Bool) → IsRight z s (cond (not b) (Refuse bad_version) (Make [] [] result.Checked)) (cond (not b) (Refused bad_version) (Done result.Checked s.tree []))
+    by_version false = refl
+    by_version true = record { tree = s.tree; done = refl; fits = unchanged z s; headless = refl }
+
+checked_single : (s : State) (session z : ℤ) (now : ℕ) (p : Bytes) (version : ℤ) → is_path p ≡ true → single s.tree max_owned session (part.Check p version) z now ≡ check s.tree version (get s.tree p)
+unfolding single form_refusal effect
+checked_single s session z now p version valid = ap (λ b. unless_refused (path_refusal b) (check s.tree version (get s.tree p))) valid
+
+pub check_refusal : (p : Bytes) (version : ℤ) (valid : Bool) → is_path p ≡ valid → form_refusal (part.Check p version) ≡ path_refusal valid
+unfolding form_refusal
+check_refusal p version valid h = ap path_refusal h
+
+pub checked_part : (p : Bytes) (version : ℤ) (who : Who) (now : ℕ) (v : View) → is_path p ≡ true → (x : Option SeenData) → IfData v p x → (c : Chosen) → c ≡ chosen_of (check_choice version x) → IsPartChoice (part.Check p version) who now v c
+checked_part p version who now v valid x data_is c is = record {
+  choice = λ _. check_choice version x;
+  is = is;
+  chosen = λ saw. record {
+    right = λ s z at moment sound shown y opened. subst (IsRight z s (check_choice version x)) (sym (checked_single s who.session z at p version valid)) (check_right z s version x (get s.tree p) (data-shown z v s shown p x (data_is saw)));
+    same_code = λ _. refl;
+  };
+  kept = check-kept version x;
+}

@@ -1,0 +1,119 @@
+-- What is chosen for a part of a multi, on what a view shows.
+use Rattle.std.specs.Prelude.{◌≡◌, ℕ, ℤ, pos, nat_abs, ◌≤◌, Bool, true, not, List, [], length, All, Option, Some, None, IfSome, if◌then◌else◌}
+use Rattle.zk_model.specs.declared.node.Trigger.{Trigger}
+use Rattle.zk_model.specs.declared.reply.PartResult.TheVariants as result
+use Rattle.zk_model.specs.declared.request.Part.{Part}
+use Rattle.zk_model.specs.declared.request.Part.TheVariants as part
+use Rattle.zk_model.specs.Codes.{no_node, bad_version}
+use Rattle.zk_model.specs.Paths.{parent}
+use Rattle.zk_model.specs.Single.{is_ephemeral, is_sequential, matches, named}
+use Rattle.zx_base.specs.Maps.{Bytes}
+use Rattle.zn_layout.specs.Changes.{Change, Put}
+use Rattle.zn_layout.specs.Keys.{HeadKey, DataKey, CountsKey, SessionKey, key_bytes}
+use Rattle.zn_layout.specs.Records.{IsCountRec, IsHeadRec, IsSessionRec}
+use Rattle.zn_view.specs.declared.plan.Who.{Who}
+use Rattle.zn_view.specs.Asks.{IsLeaseless}
+use Rattle.zn_view.specs.Lookups.{HasSeen, sees}
+use Rattle.zn_view.specs.Seen.{View, IsOfKind, kind_of}
+use Rattle.zn_updates.specs.declared.chosen.Chosen.{Chosen}
+use Rattle.zn_updates.specs.declared.seen.SeenData.{SeenData}
+use Rattle.zn_updates.specs.declared.seen.SeenCounts.{SeenCounts}
+use Rattle.zn_updates.specs.Choices.{Choice, Refuse, Make, create_choice, delete_choice}
+use Rattle.zn_updates.specs.Deciding.{IsOwnerLookedUp, path_for}
+use Rattle.zn_updates.specs.Layers.{IsChosen}
+use Rattle.zn_updates.specs.Making.{IsDataSeen, IsCountsSeen, IsPathsSeen, chosen_of, has_found}
+
+-- the data of a create or a setData
+abbrev pub part_content : Part → Bytes
+part_content (part.Create path d a f) = d
+part_content (part.SetData p d x) = d
+part_content _ = []
+
+-- a check, by its node's record
+unfoldable pub check_choice : ℤ → Option SeenData → Choice
+check_choice version None = Refuse no_node
+check_choice version (Some x) = if not (matches version x.version) then Refuse bad_version else Make [] [] result.Checked
+
+-- ---- what its choice looks at was looked up
+
+-- a new node's parent, its session's nodes where it is ephemeral, and its own key
+pub record IsCreateSeen (id : ℤ) (v : View) (path : Bytes) (flags : ℤ) (q : Bytes) : Type 0 where
+  pub up : HasSeen v (DataKey q)
+  pub counts : HasSeen v (CountsKey q)
+  pub nodes : is_ephemeral flags ≡ true → HasSeen v (SessionKey (nat_abs id))
+  pub own : (w : SeenCounts) → IsCountsSeen (sees v (CountsKey q)) (Some w) → HasSeen v (DataKey (path_for (is_sequential flags) path (Some w)))
+
+pub record IsDeleteSeen (v : View) (p : Bytes) : Type 0 where
+  pub node : HasSeen v (DataKey p)
+  pub counts : HasSeen v (CountsKey p)
+  pub above : (q : Bytes) → parent p ≡ Some q → HasSeen v (CountsKey q)
+  pub owner : (x : Option SeenData) → IsDataSeen (sees v (DataKey p)) x → IsOwnerLookedUp v x
+
+abbrev pub IsPartSeen : ℤ → View → Part → Type 0
+IsPartSeen id v (part.Create path d a f) = (q : Bytes) → parent (named f path) ≡ Some q → IsCreateSeen id v path f q
+IsPartSeen id v (part.Delete p x) = IsDeleteSeen v p
+IsPartSeen id v (part.SetData p d x) = HasSeen v (DataKey p) × HasSeen v (CountsKey p)
+IsPartSeen id v (part.Check p x) = HasSeen v (DataKey p)
+
+-- ---- what is promised of it
+
+abbrev pub IfChanges : (List Change → List Trigger → Type 0) → Choice → Type 0
+IfChanges P (Refuse code) = Unit {0}
+IfChanges P (Make cs ts draft) = P cs ts
+
+-- a change of another key than the head's: a record of the key's kind with no lease is put, or the key is deleted
+pub record IsKeptChange (c : Change) : Type 0 where
+  pub apart : c.key ≡ HeadKey → ⊥
+  pub leaseless : IsLeaseless c
+  pub written : IfSome c.put (λ (w : Put). IsOfKind (kind_of (key_bytes c.key)) w.value)
+
+pub record AreKept (cs : List Change) (ts : List Trigger) : Type 0 where
+  pub changes : All IsKeptChange cs
+  pub few : length cs ≤ 4
+  pub triggers : IsHeadRec ts
+  pub told : length ts ≤ 2
+
+-- the choice that is right, where what it looks at was looked up
+pub record IsPartChoice (p : Part) (who : Who) (now : ℕ) (v : View) (c : Chosen) : Type 0 where
+  pub choice : ℕ → Choice
+  pub is : c ≡ chosen_of (choice now)
+  pub chosen : IsPartSeen who.session v p → IsChosen p who v choice
+  pub kept : IfChanges AreKept (choice now)
+
+-- ---- what the code chose on
+
+abbrev pub IfData : View → Bytes → Option SeenData → Type 0
+IfData v p x = HasSeen v (DataKey p) → IsDataSeen (sees v (DataKey p)) x
+
+abbrev pub IfCounts : View → Bytes → Option SeenCounts → Type 0
+IfCounts v p x = HasSeen v (CountsKey p) → IsCountsSeen (sees v (CountsKey p)) x
+
+abbrev pub IfPaths : View → ℤ → Option (List Bytes) → Type 0
+IfPaths v id ps = HasSeen v (SessionKey (nat_abs id)) → IsPathsSeen (sees v (SessionKey (nat_abs id))) ps
+
+abbrev pub AreCountsWithin : Option SeenCounts → Type 0
+AreCountsWithin x = IfSome x (λ (w : SeenCounts). IsCountRec w.counts)
+
+pub record IsCreatedBelow (v : View) (path content : Bytes) (now : ℕ) (sequential ephemeral : Bool) (session : ℤ) (q : Bytes) (c : Chosen) : Type 0 where
+  pub up : Option SeenData
+  pub above : Option SeenCounts
+  pub paths : Option (List Bytes)
+  pub up_is : IfData v q up
+  pub above_is : IfCounts v q above
+  pub above_within : AreCountsWithin above
+  pub paths_are : ephemeral ≡ true → IfPaths v session paths
+  pub paths_within : IfSome paths IsSessionRec
+  pub is : c ≡ chosen_of (create_choice (path_for sequential path above) q content now ephemeral session up above (has_found (sees v (DataKey (path_for sequential path above)))) paths)
+
+pub record IsDeletedBelow (v : View) (p : Bytes) (version : ℤ) (q : Bytes) (c : Chosen) : Type 0 where
+  pub node : Option SeenData
+  pub counts : Option SeenCounts
+  pub above : Option SeenCounts
+  pub paths : Option (List Bytes)
+  pub node_is : IfData v p node
+  pub counts_are : IfCounts v p counts
+  pub above_is : IfCounts v q above
+  pub above_within : AreCountsWithin above
+  pub paths_are : IfSome node (λ (x : SeenData). (x.owner ≡ pos 0 → ⊥) → IfPaths v x.owner paths)
+  pub paths_within : IfSome paths IsSessionRec
+  pub is : c ≡ chosen_of (delete_choice p q version node counts above paths)

@@ -1,0 +1,97 @@
+//! What a view shows of a node and of a session, with keys laid over it: those that the parts of a multi wrote before.
+
+ghost use Rattle.std.specs.Prelude.{◌≡◌, ◌≤ℤ◌, None, pos, nat_abs, IfOk, IfSome, IsTrue, MatchOption};
+ghost use Rattle.zk_model.specs.Paths.{is_path};
+ghost use Rattle.zn_layout.specs.Keys.{DataKey, CountsKey, SessionKey};
+ghost use Rattle.zn_layout.specs.Records.{IsCountRec, IsSessionRec};
+ghost use Rattle.zn_view.specs.Lookups.{HasSeen, sees};
+ghost use Rattle.zn_view.specs.Seen.{seen};
+ghost use Rattle.zn_updates.specs.Layers.{layered};
+ghost use Rattle.zn_updates.specs.Making.{IsDataSeen, IsCountsSeen, IsPathsSeen, has_found};
+ghost use Rattle.zn_updates.specs.Seen.{IsDataWithin};
+
+use crate::seen::{SeenCounts, SeenData, counts_seen, data_seen, is_there, paths_seen};
+use std::alloc::Global;
+use zk_model::Path;
+use zn_layout::{counts_key, data_key, session_key};
+use zn_view::View;
+use zx_base::{Memory, Seq};
+
+/// The one of two views that shows a key: none where neither saw it.
+fn showing<'a>(over: &'a View, view: &'a View, key: &[u8]) -> Option<&'a View>
+    ensures { MatchOption result (seen (layered over.now view.now) key.now ≡ None) (λ v. (seen v.now key.now ≡ seen (layered over.now view.now) key.now) × (seen v.now key.now ≡ None → ⊥)) }
+{
+    match over.found(key) {
+        Some(_) => Some(over),
+        None => match view.found(key) {
+            Some(_) => Some(view),
+            None => None,
+        },
+    }
+}
+
+/// A node's record, none where the node is not there.
+pub fn data_over(
+    alloc: Global,
+    over: &View,
+    view: &View,
+    path: &Path,
+) -> Result<Option<SeenData>, Memory>
+    requires valid { IsTrue (is_path path.now) }
+    ensures is { IfOk result (λ o. HasSeen (layered over.now view.now) (DataKey path.now) → IsDataSeen (sees (layered over.now view.now) (DataKey path.now)) o) }
+    ensures within { IfOk result (λ o. IfSome o IsDataWithin) }
+{
+    let key = data_key(alloc, path.bytes())?;
+    match showing(over, view, key.as_slice()) {
+        Some(view) => data_seen(view, path),
+        None => Ok(None),
+    }
+}
+
+/// The counts of a node's children, none where the node is not there.
+pub fn counts_over(
+    alloc: Global,
+    over: &View,
+    view: &View,
+    path: &Path,
+) -> Result<Option<SeenCounts>, Memory>
+    requires valid { IsTrue (is_path path.now) }
+    ensures is { IfOk result (λ o. HasSeen (layered over.now view.now) (CountsKey path.now) → IsCountsSeen (sees (layered over.now view.now) (CountsKey path.now)) o) }
+    ensures within { IfOk result (λ o. IfSome o (λ x. IsCountRec x.counts)) }
+{
+    let key = counts_key(alloc, path.bytes())?;
+    match showing(over, view, key.as_slice()) {
+        Some(view) => counts_seen(view, path),
+        None => Ok(None),
+    }
+}
+
+/// The paths of a session's nodes, none where the session is not open. Its number is at least 1.
+pub fn paths_over(
+    alloc: Global,
+    over: &View,
+    view: &View,
+    session: i64,
+) -> Result<Option<Seq<Path>>, Memory>
+    requires real { pos 1 ≤ℤ session }
+    ensures is { IfOk result (λ o. HasSeen (layered over.now view.now) (SessionKey (nat_abs session)) → IsPathsSeen (sees (layered over.now view.now) (SessionKey (nat_abs session))) o) }
+    ensures within { IfOk result (λ o. IfSome o IsSessionRec) }
+{
+    let key = session_key(alloc, session)?;
+    match showing(over, view, key.as_slice()) {
+        Some(view) => paths_seen(view, session),
+        None => Ok(None),
+    }
+}
+
+/// Whether a node is there.
+pub fn is_there_over(alloc: Global, over: &View, view: &View, path: &Path) -> Result<bool, Memory>
+    requires valid { IsTrue (is_path path.now) }
+    ensures { IfOk result (λ there. there ≡ has_found (sees (layered over.now view.now) (DataKey path.now))) }
+{
+    let key = data_key(alloc, path.bytes())?;
+    match showing(over, view, key.as_slice()) {
+        Some(view) => is_there(alloc, view, path),
+        None => Ok(false),
+    }
+}

@@ -1,0 +1,316 @@
+//! A part of a multi, chosen on a view with the keys laid over it that the parts before wrote.
+
+ghost use Rattle.std.specs.Prelude.{◌<◌, ◌^◌, ◌≡◌, ◌≤◌, ◌≤ℤ◌, Some, pos, length, IfOk, IfSome, IsTrue, IsFalse, option_copied};
+ghost use Rattle.zk_model.specs.Limits.{max_frame, max_path};
+ghost use Rattle.zk_model.specs.Paths.{is_path, is_sequence_prefix, parent as parent_of};
+ghost use Rattle.zk_model.specs.declared.request.Part.TheVariants as parts;
+ghost use Rattle.zn_updates.specs.Layers.{layered};
+ghost use Rattle.zn_updates.specs.Making.{chosen_of};
+ghost use Rattle.zn_updates.specs.Parts.{check_choice, part_content, IsCreatedBelow, IsDeletedBelow, IsPartChoice, IfPaths};
+ghost use Rattle.zn_updates.specs.Seen.{IsDataWithin};
+ghost use Rattle.zn_layout.specs.Records.{IsSessionRec};
+ghost use Rattle.std.specs.Prelude.{true};
+
+use crate::chosen::{Chosen, Update};
+use crate::create::{choose_create, path_of};
+use crate::delete::choose_delete;
+use crate::form::{Form, create_form, inner_path, is_ephemeral, is_sequential, read_path};
+use crate::layers::{counts_over, data_over, is_there_over, paths_over};
+use crate::seen::SeenData;
+use crate::set_data::{choose_set_data, matches};
+use std::alloc::Global;
+use zk_model::code::{BAD_ARGUMENTS, BAD_VERSION, NO_NODE, NODE_EXISTS};
+use zk_model::{Acl, Part, PartResult, Path};
+use zn_view::{View, Who};
+use zx_base::{Memory, Seq};
+
+/// The paths of the session's nodes, for an ephemeral node.
+fn own_paths_over(
+    alloc: Global,
+    over: &View,
+    view: &View,
+    session: i64,
+    ephemeral: bool,
+) -> Result<Option<Seq<Path>>, Memory>
+    requires real { pos 1 ≤ℤ session }
+    ensures is { IfOk result (λ o. ephemeral ≡ true → IfPaths (layered over.now view.now) session o) }
+    ensures within { IfOk result (λ o. IfSome o IsSessionRec) }
+{
+    if ephemeral {
+        paths_over(alloc, over, view, session)
+    } else {
+        Ok(None)
+    }
+}
+
+/// Chooses a create below a parent.
+fn created_below(
+    alloc: Global,
+    path: &[u8],
+    named: Path,
+    parent: &Path,
+    content: &[u8],
+    sequential: bool,
+    ephemeral: bool,
+    session: i64,
+    now: u64,
+    over: &View,
+    view: &View,
+) -> Result<Chosen, Memory>
+    requires parent { IsTrue (is_path parent.now) }
+    requires moment { now < 2 ^ 62 }
+    requires short { length content.now ≤ max_frame }
+    requires real { pos 1 ≤ℤ session }
+    requires prefix { IsTrue sequential → IsTrue (is_sequence_prefix path.now) }
+    requires named { IsFalse sequential → named ≡ path.now }
+    ensures { IfOk result (IsCreatedBelow (layered over.now view.now) path.now content.now now sequential ephemeral session parent.now) }
+{
+    let up = data_over(alloc, over, view, parent)?;
+    let above = counts_over(alloc, over, view, parent)?;
+    let path = path_of(alloc, path, named, sequential, &above)?;
+    let taken = is_there_over(alloc, over, view, &path)?;
+    let paths = own_paths_over(alloc, over, view, session, ephemeral)?;
+    choose_create(
+        alloc,
+        &path,
+        parent,
+        content,
+        now,
+        ephemeral,
+        session,
+        up.as_ref(),
+        above.as_ref(),
+        taken,
+        paths,
+    )
+}
+
+fn created(
+    alloc: Global,
+    path: &[u8],
+    content: &[u8],
+    acl: &[Acl],
+    flags: i32,
+    who: Who,
+    now: u64,
+    over: &View,
+    view: &View,
+) -> Result<Chosen, Memory>
+    requires moment { now < 2 ^ 62 }
+    requires short { length content.now ≤ max_frame }
+    requires real { pos 1 ≤ℤ who.session }
+    ensures { IfOk result (IsPartChoice (parts.Create path.now content.now acl.now flags) who now (layered over.now view.now)) }
+{
+    let named = match create_form(alloc, path, acl, flags)? {
+        Form::Valid(named) => named,
+        Form::Refused(code) => return Ok(Chosen::Refused(code)),
+    };
+    match named.parent(alloc)? {
+        Some(parent) => created_below(
+            alloc,
+            path,
+            named,
+            &parent,
+            content,
+            is_sequential(flags),
+            is_ephemeral(flags),
+            who.session,
+            now,
+            over,
+            view,
+        ),
+        None => Ok(Chosen::Refused(NODE_EXISTS)),
+    }
+}
+
+/// The paths of the nodes of a node's owner, none where it has no owner.
+fn owner_paths_over(
+    alloc: Global,
+    over: &View,
+    view: &View,
+    node: &Option<SeenData>,
+) -> Result<Option<Seq<Path>>, Memory>
+    requires within { IfSome node.now IsDataWithin }
+    ensures is { IfOk result (λ o. IfSome node.now (λ x. (x.owner ≡ pos 0 → ⊥) → IfPaths (layered over.now view.now) x.owner o)) }
+    ensures within { IfOk result (λ o. IfSome o IsSessionRec) }
+{
+    match node {
+        Some(node) if node.owner != 0 => paths_over(alloc, over, view, node.owner),
+        Some(_) | None => Ok(None),
+    }
+}
+
+fn deleted_below(
+    alloc: Global,
+    path: &Path,
+    parent: &Path,
+    version: i32,
+    over: &View,
+    view: &View,
+) -> Result<Chosen, Memory>
+    requires valid { IsTrue (is_path path.now) }
+    requires parent { IsTrue (is_path parent.now) }
+    ensures { IfOk result (IsDeletedBelow (layered over.now view.now) path.now version parent.now) }
+{
+    let node = data_over(alloc, over, view, path)?;
+    let counts = counts_over(alloc, over, view, path)?;
+    let above = counts_over(alloc, over, view, parent)?;
+    let paths = owner_paths_over(alloc, over, view, &node)?;
+    choose_delete(
+        alloc,
+        path,
+        parent,
+        version,
+        node.as_ref(),
+        counts.as_ref(),
+        above.as_ref(),
+        paths,
+    )
+}
+
+fn deleted(
+    alloc: Global,
+    path: &[u8],
+    version: i32,
+    who: Who,
+    now: u64,
+    over: &View,
+    view: &View,
+) -> Result<Chosen, Memory>
+    ensures { IfOk result (IsPartChoice (parts.Delete path.now version) who now (layered over.now view.now)) }
+{
+    let _whose = (who, now);
+    match inner_path(alloc, path)? {
+        Some(path) => match path.parent(alloc)? {
+            Some(parent) => deleted_below(alloc, &path, &parent, version, over, view),
+            None => Ok(Chosen::Refused(NO_NODE)),
+        },
+        None => Ok(Chosen::Refused(BAD_ARGUMENTS)),
+    }
+}
+
+fn set(
+    alloc: Global,
+    path: &[u8],
+    content: &[u8],
+    version: i32,
+    who: Who,
+    now: u64,
+    over: &View,
+    view: &View,
+) -> Result<Chosen, Memory>
+    requires moment { now < 2 ^ 62 }
+    requires short { length content.now ≤ max_frame }
+    ensures { IfOk result (IsPartChoice (parts.SetData path.now content.now version) who now (layered over.now view.now)) }
+{
+    match read_path(alloc, path, false)? {
+        Some(path) => {
+            let node = data_over(alloc, over, view, &path)?;
+            let counts = counts_over(alloc, over, view, &path)?;
+            choose_set_data(
+                alloc,
+                &path,
+                content,
+                version,
+                now,
+                node.as_ref(),
+                counts.as_ref(),
+            )
+        }
+        None => Ok(Chosen::Refused(BAD_ARGUMENTS)),
+    }
+}
+
+/// Decides a check by its node's record.
+#[tactic(auto, unfolding(crate::specs::Parts::check_choice))]
+fn choose_check(alloc: Global, version: i32, node: Option<&SeenData>) -> Chosen
+    ensures { result ≡ chosen_of (check_choice version (option_copied node.entry)) }
+{
+    let Some(node) = node else {
+        return Chosen::Refused(NO_NODE);
+    };
+    if !matches(version, node.version) {
+        return Chosen::Refused(BAD_VERSION);
+    }
+    Chosen::Made(Update {
+        acts: Seq::new(alloc),
+        triggers: Seq::new(alloc),
+        draft: PartResult::Checked,
+    })
+}
+
+fn checked(
+    alloc: Global,
+    path: &[u8],
+    version: i32,
+    who: Who,
+    now: u64,
+    over: &View,
+    view: &View,
+) -> Result<Chosen, Memory>
+    ensures { IfOk result (IsPartChoice (parts.Check path.now version) who now (layered over.now view.now)) }
+{
+    let _whose = (who, now);
+    match read_path(alloc, path, false)? {
+        Some(path) => {
+            let node = data_over(alloc, over, view, &path)?;
+            Ok(choose_check(alloc, version, node.as_ref()))
+        }
+        None => Ok(Chosen::Refused(BAD_ARGUMENTS)),
+    }
+}
+
+/// Chooses what comes of a part of a multi, by its form and by what a view shows with these keys laid over it. A key that
+/// neither saw counts as absent. `now` is in milliseconds since 1970; the session's number is at least 1.
+pub fn choose_part(
+    alloc: Global,
+    part: &Part,
+    who: Who,
+    now: u64,
+    over: &View,
+    view: &View,
+) -> Result<Chosen, Memory>
+    requires moment { now < 2 ^ 62 }
+    requires short { length (part_content part.now) ≤ max_frame }
+    requires real { pos 1 ≤ℤ who.session }
+    ensures { IfOk result (IsPartChoice part.now who now (layered over.now view.now)) }
+{
+    match part {
+        Part::Create {
+            path,
+            content,
+            acl,
+            flags,
+        } => created(
+            alloc,
+            path.as_slice(),
+            content.as_slice(),
+            acl.as_slice(),
+            *flags,
+            who,
+            now,
+            over,
+            view,
+        ),
+        Part::Delete { path, version } => {
+            deleted(alloc, path.as_slice(), *version, who, now, over, view)
+        }
+        Part::SetData {
+            path,
+            content,
+            version,
+        } => set(
+            alloc,
+            path.as_slice(),
+            content.as_slice(),
+            *version,
+            who,
+            now,
+            over,
+            view,
+        ),
+        Part::Check { path, version } => {
+            checked(alloc, path.as_slice(), *version, who, now, over, view)
+        }
+    }
+}
