@@ -11,3 +11,4 @@ pub mod Sent
 pub mod Tries
 pub mod Replied
 pub mod Stages
+pub mod Placed

@@ -1,6 +1,7 @@
 //! What is told in answer to a frame as of a moment.
 
-ghost use Rattle.std.specs.Prelude.{◌≡◌, ◌<◌, Some, length, option_map, IfOk};
+ghost use Rattle.std.specs.Prelude.{◌≡◌, ◌<◌, Some, length, option_map, slice_get, IfOk, IfSome};
+ghost use Rattle.zk_transcript.specs.declared.transcript.TranscriptLine.TheVariants.{Update};
 ghost use Rattle.zk_model.specs.declared.reply.Reply.TheVariants as reply;
 ghost use Rattle.zk_transcript.specs.History.{after};
 ghost use Rattle.zk_transcript.specs.Answers.{limit_in, plain_reply as plain_reply_of, session_refusal as session_refusal_of, session_seen};
@@ -9,12 +10,13 @@ ghost use Rattle.zk_answers.specs.Outcomes.{told_of};
 ghost use Rattle.zk_judge.specs.Fronts.{IsFront};
 ghost use Rattle.zk_judge.specs.Seen.{ending_of, frame_as};
 
+use crate::bodies::copy_of_body;
 use crate::frames::{FrameRead, plain_reply, refused};
 use crate::index::Index;
 use crate::walker::Party;
 use std::alloc::Global;
 use zk_answers::{Told, Watches, tree_reply};
-use zk_history::{State, asked_commit, state_at};
+use zk_history::State;
 use zk_model::code::{SESSION_EXPIRED, SESSION_MOVED};
 use zk_model::{Body, Reply};
 use zk_transcript::{TranscriptLine, UpdateKind, UpdateRec};
@@ -115,24 +117,14 @@ fn response_at(
     update: UpdateRec,
 ) -> Result<Option<Body>, Memory>
     requires within { place < length index.now.lines.now }
+    requires update { slice_get index.now.lines.now place ≡ Some (Update update) }
     ensures { IfOk result (λ o. o ≡ response_at_of index.now.lines.now place update.zxid update.kind) }
 {
     match update.kind {
-        UpdateKind::Asked {
-            connection,
-            index: asked,
-            now,
-        } => {
-            let before = &index.lines[..place];
-            let Ok(state) = state_at(alloc, index.lines, place) else {
-                return Err(Memory);
-            };
-            match asked_commit(alloc, before, &state, update.zxid, connection, asked, now) {
-                Ok(Some(commit)) => Ok(Some(commit.response)),
-                Ok(None) => Ok(None),
-                Err(_) => Err(Memory),
-            }
-        }
+        UpdateKind::Asked { .. } => match index.response(place) {
+            Some(response) => Ok(Some(copy_of_body(alloc, response)?)),
+            None => Ok(None),
+        },
         UpdateKind::Closed { .. } => Ok(Some(Body::Empty)),
         _ => Ok(None),
     }
@@ -160,6 +152,7 @@ fn told_of_own(
     update: UpdateRec,
 ) -> Result<Option<Ending>, Memory>
     requires front { IsFront past.now index.now.lines.now }
+    requires update { slice_get index.now.lines.now place ≡ Some (Update update) }
     ensures { IfOk result (λ o. option_map ending_of o ≡ told_as_of_of past.now party.connection party.session (frame_as frame.now) watches.now (Some (place, update))) }
 {
     if past.len() == 0 || past.len() - 1 != place {
@@ -191,6 +184,7 @@ pub fn told_as_of(
     own: Option<(usize, UpdateRec)>,
 ) -> Result<Option<Ending>, Memory>
     requires front { IsFront past.now index.now.lines.now }
+    requires own { IfSome own (λ u. slice_get index.now.lines.now u.0 ≡ Some (Update u.1)) }
     requires state { state.now ≡ after past.now }
     ensures { IfOk result (λ o. option_map ending_of o ≡ told_as_of_of past.now party.connection party.session (frame_as frame.now) watches.now own) }
 {

@@ -1,7 +1,9 @@
 //! The updates that a client has not been told of fire its watches.
 
 ghost use Rattle.std.specs.Prelude.{◌≡◌, ◌<◌, Some, true, length, slice_get, IfOk};
+ghost use Rattle.zk_transcript.specs.declared.transcript.UpdateRec.{UpdateRec as Updated};
 ghost use Rattle.zk_transcript.specs.declared.transcript.TranscriptLine.{TranscriptLine as Line};
+ghost use Rattle.zk_transcript.specs.declared.transcript.TranscriptLine.TheVariants.{Update};
 ghost use Rattle.zk_transcript.specs.Walks.{fired_above as fired_above_of, is_above as is_above_of, then_fired};
 ghost use Rattle.zk_judge.specs.Seen.{fired_of, walker_of};
 ghost use Rattle.zk_judge.specs.Fronts.{IsFront, IsTold};
@@ -10,20 +12,17 @@ use crate::index::Index;
 use crate::packets::add_notices;
 use crate::walker::{Fired, Walker};
 use std::alloc::Global;
-use zk_history::state_at;
 use zk_transcript::TranscriptLine;
 use zx_base::Memory;
 
-/// The update at a place fires its triggers. A count beyond its field is as if memory were refused.
+/// The update at a place fires its triggers.
 fn fire_at(alloc: Global, index: &Index, place: usize, fired: Fired) -> Result<Fired, Memory>
     requires within { place < length index.now.lines.now }
+    requires update { (u : Updated) × (slice_get index.now.lines.now place ≡ Some (Update u)) }
     ensures { IfOk result (λ f. fired_of f ≡ then_fired index.now.lines.now place true (fired_of fired)) }
 {
-    let Ok(state) = state_at(alloc, index.lines, place + 1) else {
-        return Err(Memory);
-    };
     let Fired { watches, due } = fired;
-    let seen = watches.fire_all(alloc, state.triggers())?;
+    let seen = watches.fire_all(alloc, index.triggers(place))?;
     let mut due = due;
     add_notices(alloc, &mut due, place + 1, seen.notices.as_slice())?;
     Ok(Fired {

@@ -1,29 +1,46 @@
-//! The lines of a transcript, with what is looked up in them.
+//! The lines of a transcript, with tables of what they show and of what its updates did.
 
-ghost use Rattle.std.specs.Prelude.{◌≡◌, ◌<◌, ◌≤◌, ℕ, Some, length, option_map, slice_get, IfSome};
+ghost use Rattle.std.specs.Prelude.{◌≡◌, ◌+◌, ◌<◌, ◌≤◌, ℕ, Some, length, option_map, slice_get, take, IfOk, IfSome};
 ghost use Rattle.zk_transcript.specs.declared.transcript.UpdateRec.{UpdateRec as Updated};
 ghost use Rattle.zk_transcript.specs.declared.transcript.TranscriptLine.TheVariants.{Update};
-ghost use Rattle.zk_transcript.specs.History.{first_place};
+ghost use Rattle.zk_transcript.specs.History.{first_place, state_at};
 ghost use Rattle.zk_transcript.specs.Walks.{after_update as after_update_of, own_update as own_update_of, placed_frame as placed_frame_of, update_shown as update_shown_of};
 ghost use Rattle.zk_transcript.specs.Legal.{attach_of as attach_of_of};
 ghost use Rattle.zk_transcript.specs.Conversations.{close_shown as close_shown_of};
-ghost use Rattle.zk_legal.specs.Formed.{placed_attachment};
-ghost use Rattle.zk_judge.specs.Seen.{placed_bytes};
+ghost use Rattle.zk_history.specs.Commits.{response_in};
+ghost use Rattle.zk_history.specs.Pasts.{lines_of};
+ghost use Rattle.zk_history.specs.Shown.{placed_attachment, placed_bytes};
 
-use crate::places;
+use std::alloc::Global;
+use zk_history::{Effects, Past};
+use zk_model::{Body, Trigger};
 use zk_transcript::{TranscriptLine, UpdateRec};
+use zx_base::Memory;
 
-/// A transcript. Each look-up goes through its lines.
+/// A transcript, with what its lines show and what its updates did.
 #[derive(Drop)]
 pub struct Index<'a> {
     pub lines: &'a [TranscriptLine],
+    past: Past<'a>,
+    effects: Effects<'a>,
+    ghost shown: { lines_of past ≡ lines.now },
+    ghost done: { effects.all.now ≡ lines.now },
 }
 
 impl<'a> Index<'a> {
-    pub fn new(lines: &'a [TranscriptLine]) -> Index<'a>
-        ensures { result.lines.now ≡ lines.now }
+    /// Goes over the lines once. A number beyond its field, as in no run, is as if memory were refused.
+    pub fn new(alloc: Global, lines: &'a [TranscriptLine]) -> Result<Index<'a>, Memory>
+        ensures { IfOk result (λ i. i.lines.now ≡ lines.now) }
     {
-        Index { lines }
+        let effects = match Effects::of(alloc, lines) {
+            Ok(effects) => effects,
+            Err(_) => return Err(Memory),
+        };
+        Ok(Index {
+            lines,
+            past: Past::behind(alloc, lines)?,
+            effects,
+        })
     }
 
     /// A frame of a connection: its line's place and its bytes.
@@ -31,15 +48,16 @@ impl<'a> Index<'a> {
         ensures placed { option_map placed_bytes result ≡ placed_frame_of connection index self.now.lines.now }
         ensures within { IfSome result (λ x. x.0 < length self.now.lines.now) }
     {
-        places::placed_frame(self.lines, connection, index)
+        self.past.placed_frame(connection, index)
     }
 
     /// The line that carries out a request of a connection.
     pub fn own_update(&self, connection: u32, index: u64) -> Option<(usize, UpdateRec)>
         ensures shown { result ≡ own_update_of connection index self.now.lines.now }
         ensures within { IfSome result (λ x. x.0 < length self.now.lines.now) }
+        ensures stands { IfSome result (λ x. slice_get self.now.lines.now x.0 ≡ Some (Update x.1)) }
     {
-        places::own_update(self.lines, connection, index)
+        self.past.own_update(connection, index)
     }
 
     /// The place of the update of a zxid.
@@ -47,7 +65,7 @@ impl<'a> Index<'a> {
         ensures placed { option_map (λ k. (k, zxid)) result ≡ first_place (update_shown_of zxid) 0 self.now.lines.now }
         ensures within { IfSome result (λ k. k < length self.now.lines.now) }
     {
-        places::update_place(self.lines, zxid)
+        self.past.update_place(zxid)
     }
 
     /// The moment right behind the update of a zxid, or 0.
@@ -64,14 +82,14 @@ impl<'a> Index<'a> {
     pub fn attach_of(&self, connection: u32) -> Option<(usize, (i64, i64))>
         ensures { option_map placed_attachment result ≡ attach_of_of connection self.now.lines.now }
     {
-        zk_legal::attach_of(self.lines, connection)
+        self.past.attach_of(connection)
     }
 
     /// The place of a connection's close.
     pub fn close_place(&self, connection: u32) -> Option<usize>
         ensures { option_map (λ k. (k, connection)) result ≡ first_place (close_shown_of connection) 0 self.now.lines.now }
     {
-        places::close_place(self.lines, connection)
+        self.past.close_place(connection)
     }
 
     /// The place of the first update from a place on, or the number of lines.
@@ -81,6 +99,22 @@ impl<'a> Index<'a> {
         ensures within { result ≤ length self.now.lines.now }
         ensures none { (k : ℕ) (u : Updated) → from ≤ k → k < result → slice_get self.now.lines.now k ≡ Some (Update u) → ⊥ }
     {
-        places::next_update(self.lines, from)
+        self.effects.next_update(from)
+    }
+
+    /// What watches see of the update at a place.
+    pub fn triggers(&self, place: usize) -> &[Trigger]
+        requires { place < length self.now.lines.now }
+        ensures { (u : Updated) → slice_get self.now.lines.now place ≡ Some (Update u) → result.now ≡ (state_at self.now.lines.now (place + 1)).triggers }
+    {
+        self.effects.triggers(place)
+    }
+
+    /// The body of the reply to the request that the update at a place carried out.
+    pub fn response(&self, place: usize) -> Option<&Body>
+        requires { place < length self.now.lines.now }
+        ensures { (u : Updated) → slice_get self.now.lines.now place ≡ Some (Update u) → option_map (λ b. b.now) result ≡ response_in (take place self.now.lines.now) (state_at self.now.lines.now place) u.zxid u.kind }
+    {
+        self.effects.response(place)
     }
 }

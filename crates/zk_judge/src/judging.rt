@@ -161,7 +161,8 @@ fn conversation_fault(alloc: Global, lines: &[TranscriptLine]) -> Result<Option<
     requires { history_fault_of lines.now ≡ None }
     ensures { IfOk result (λ o. IsLeastFault (IsLawfulAndFresh lines.now) o) }
 {
-    let conversations = judged(alloc, &Index::new(lines))?;
+    let index = Index::new(alloc, lines)?;
+    let conversations = judged(alloc, &index)?;
     Ok(least_unlawful(&conversations))
 }
 

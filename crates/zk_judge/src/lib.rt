@@ -4,12 +4,13 @@
 //! with the conversations. Each is judged by its least walk, reply by reply: one that repeats its place needs no state, and any
 //! other is tried as of two moments at most.
 //!
-//! The states are gone through once: at each moment every connection is advanced whose next reply waits for it. A look-up by a
-//! connection, an index or a zxid goes through all lines, and what an update fires or gives its request is worked out from the
-//! first line on.
+//! The states are gone through once: at each moment every connection is advanced whose next reply waits for it. Look-ups are by
+//! tables, and what each update did is kept, so that the time is that of the lines, the packets and the notices, but for the cost
+//! of the tree.
 #![tactic(auto)]
 
 mod answers;
+mod bodies;
 mod connects;
 mod conversations;
 mod firing;

@@ -1,6 +1,7 @@
 //! The steps of a connection's walk that answer a frame.
 
-ghost use Rattle.std.specs.Prelude.{◌≡◌, ◌&&◌, ◌+◌, ◌<◌, ◌++◌, ◌∷◌, ◌^◌, [], Some, length, option_map, IfOk};
+ghost use Rattle.std.specs.Prelude.{◌≡◌, ◌&&◌, ◌+◌, ◌<◌, ◌++◌, ◌∷◌, ◌^◌, [], Some, length, option_map, slice_get, IfOk, IfSome};
+ghost use Rattle.zk_transcript.specs.declared.transcript.TranscriptLine.TheVariants.{Update};
 ghost use Rattle.zk_transcript.specs.Answers.{xid_of as xid_of_of};
 ghost use Rattle.zk_transcript.specs.History.{after, state_at};
 ghost use Rattle.zk_transcript.specs.Walks.{Answer, Plain, after_update as after_update_of, answer_as_of as answer_as_of_of, answer_plainly as answer_plainly_of, due_notices, is_auth_refusal as is_auth_refusal_of, has_header as has_header_of, later_of as later_of_of, may_answer_at, move, plain_answer as plain_answer_of, reply_step as reply_step_of, reply_step_if as reply_step_if_of, told_as_of as told_as_of_of};
@@ -232,6 +233,7 @@ fn answer_fired(
     fired: Fired,
 ) -> Result<Option<Step>, Memory>
     requires front { IsFront past.now index.now.lines.now }
+    requires own { IfSome own (λ u. slice_get index.now.lines.now u.0 ≡ Some (Update u.1)) }
     requires state { state.now ≡ after past.now }
     requires place { place + 1 < 2 ^ 64 }
     ensures { IfOk result (λ o. option_map step_of o ≡ reply_step_if_of past.now (walker_of walker.now) place (xid_of_of (frame_as frame.now)) fired.due.items (told_as_of_of past.now party.connection party.session (frame_as frame.now) fired.watches own)) }
@@ -265,6 +267,7 @@ fn answer_behind(
 ) -> Result<Option<Step>, Memory>
     requires told { IsTold index.now.lines.now (walker_of walker.now) }
     requires front { IsFront past.now index.now.lines.now }
+    requires own { IfSome own (λ u. slice_get index.now.lines.now u.0 ≡ Some (Update u.1)) }
     requires state { state.now ≡ after past.now }
     requires place { place + 1 < 2 ^ 64 }
     ensures { IfOk result (λ o. option_map step_of o ≡ answer_behind_of past.now party.connection party.session (walker_of walker.now) own place (frame_as frame.now)) }
@@ -289,6 +292,7 @@ fn answer_frame_as_of(
 ) -> Result<Option<Step>, Memory>
     requires told { IsTold index.now.lines.now (walker_of walker.now) }
     requires front { IsFront past.now index.now.lines.now }
+    requires own { IfSome own (λ u. slice_get index.now.lines.now u.0 ≡ Some (Update u.1)) }
     requires state { state.now ≡ after past.now }
     requires place { place + 1 < 2 ^ 64 }
     ensures { IfOk result (λ o. option_map step_of o ≡ answer_as_of_of past.now party.connection party.session (walker_of walker.now) own (Some (place, bytes.now))) }

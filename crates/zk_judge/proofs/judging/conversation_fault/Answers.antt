@@ -11,9 +11,9 @@ use Rattle.zk_judge.proofs.judging.conversation_fault.Goals as goal
 
 pub returns : goal.returns
 returns c =
-    let lines = c.new.result.lines.now in
+    let lines = c.in_ok-index.index.lines.now in
     let value = sym c.deref.ensures.value in
     let stand = subst (λ (xs : List Conversation). All (IsStanding lines (length lines + 1)) xs) value c.in_ok-conversations.ensures.stand in
     let opened = subst (λ (xs : List Conversation). AreOpened lines xs) value c.in_ok-conversations.ensures.opened in
-    subst (λ (ls : List TranscriptLine). IsLeastFault (IsLawfulAndFresh ls) c.least_unlawful.result) c.new.ensures
-    (least-of-opened lines c.deref.result.now c.least_unlawful.result (ap history_fault c.new.ensures ∙ c.requires) opened (c.least_unlawful.ensures lines stand))
+    subst (λ (ls : List TranscriptLine). IsLeastFault (IsLawfulAndFresh ls) c.least_unlawful.result) c.in_ok-index.ensures
+    (least-of-opened lines c.deref.result.now c.least_unlawful.result (ap history_fault c.in_ok-index.ensures ∙ c.requires) opened (c.least_unlawful.ensures lines stand))
