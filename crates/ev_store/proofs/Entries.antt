@@ -1,18 +1,20 @@
 -- A sorted map of std as a finite map: the leases, and the keys that a range met.
 use Rattle.std.proofs.Common.{◌≡◌, Bool, true, false, cond, ◌&&◌, Some, None, List, [], ◌∷◌, map, refl, sym, ap, ◌∙◌, subst}
-use Rattle.std.specs.Prelude.{T}
+use Rattle.std.specs.Prelude.{T, IfSome, Option}
 use Rattle.std.specs.declared.cmp.Ordering.{Ordering}
-use Rattle.std.specs.declared.cmp.Ordering.TheVariants.{Less}
+use Rattle.std.specs.declared.cmp.Ordering.TheVariants.{Less, Equal, Greater}
 use Rattle.std.specs.Ordering.{is_lt, eq_by_cmp, nat_cmp}
 use Rattle.std.specs.Cmp.{IsTotalOrder, eq_by_cmp_equiv}
 use Rattle.std.specs.Cmp.Lexicographic.{slice_cmp, nat_list_cmp_total}
-use Rattle.std.specs.List.{AllByRecursion}
+use Rattle.std.specs.List.{All, AllByRecursion}
 use Rattle.std.specs.List.Sorted.{IsStrictlySortedBy}
 use Rattle.std.specs.Map.{lookup, keys_of, values_of}
 use Rattle.std.specs.BTreeMap.{is_at}
-use Rattle.std.specs.FinMap.{FinMap, IsAntisymmetric, find, is_sorted, get, insert, remove, entries, retain_keys, from_entries, from_sorted, same_map, get-from_entries, get-insert, get-remove, get-from_sorted, entries-from_sorted}
+use Rattle.std.specs.FinMap.{FinMap, IsAntisymmetric, find, is_sorted, get, insert, remove, entries, values, retain_keys, from_entries, from_sorted, same_map, get-entries, get-from_entries, get-insert, get-remove, get-from_sorted, entries-from_sorted, entries_sorted}
 use Rattle.std.specs.FinMap.Entries.{below_all}
+use Rattle.std.proofs.lemmas.Map.Keys.{IsDistinct-from_sorted}
 use Rattle.std.proofs.lemmas.Map.Lookups.{exact_bytes}
+use Rattle.std.proofs.lemmas.Map.Views.{All-values_from_lookup}
 use Rattle.zx_base.specs.Maps.{Bytes}
 use Rattle.zx_base.proofs.MapLaws.{get-retain}
 use Rattle.ev_types.specs.declared.answer.Kv.{Kv}
@@ -69,3 +71,37 @@ pub values-in_range : (r : RangeReq) (m : Keys) (es : List (Bytes × Kv)) → Is
 unfolding in_range
 values-in_range r m es ordered gets =
     ap (map (λ (e : Bytes × Kv). e.1)) (entries_from_gets nat_list_cmp_total exact_bytes (retain_keys m (is_within r.key r.end)) es ordered (λ q. gets q ∙ sym (get-retain m (is_within r.key r.end) q)))
+
+-- ---- what holds of each value that a map answers holds of all its values
+
+first_of_two : (a b : Bool) → T (a && b) → T a
+first_of_two true b h = tt
+first_of_two false b h = h
+
+second_of_two : (a b : Bool) → T (a && b) → T b
+second_of_two true b h = h
+second_of_two false b h = absurd h
+
+less-from_is_lt : (o : Ordering) → T (is_lt o) → o ≡ Less
+less-from_is_lt Less h = refl
+less-from_is_lt Equal h = absurd h
+less-from_is_lt Greater h = absurd h
+
+if_found : {X : Type 0} (P : X → Type 0) (o : Option X) → ((x : X) → o ≡ Some x → P x) → IfSome o P
+if_found P None h = tt
+if_found P (Some x) h = h x refl
+
+module _ {K X : Type 0} (R : K → K → Ordering) where
+  keys-below_all : (k : K) (es : List (K × X)) → T (below_all R k es) → AllByRecursion (λ y. R k y ≡ Less) (keys_of es)
+  keys-below_all k [] h = tt
+  keys-below_all k (e ∷ es) h = (less-from_is_lt (R k e.0) (first_of_two _ _ h), keys-below_all k es (second_of_two _ _ h))
+
+  keys-is_sorted : (es : List (K × X)) → T (is_sorted R es) → IsStrictlySortedBy R (keys_of es)
+  unfolding IsStrictlySortedBy
+  keys-is_sorted [] h = tt
+  keys-is_sorted (e ∷ es) h = (keys-below_all e.0 es (first_of_two _ _ h), keys-is_sorted es (second_of_two _ _ h))
+
+  pub All-values : (o : IsTotalOrder R) (P : X → Type 0) (m : FinMap R X) → ((k : K) (x : X) → get m k ≡ Some x → P x) → All P (values m)
+  All-values o P m h =
+      All-values_from_lookup (eq_by_cmp_equiv o) P (entries m) (IsDistinct-from_sorted R (keys_of (entries m)) (keys-is_sorted (entries m) (entries_sorted m)))
+      (λ q. if_found P _ (λ x found. h q x (get-entries m q ∙ find-lookup R q (entries m) ∙ found)))

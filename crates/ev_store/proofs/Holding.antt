@@ -1,43 +1,24 @@
 -- What a walk over the changes keeps of the keys of a range, key by key.
 use Rattle.std.proofs.Common.{◌≡◌, ℕ, ◌+◌, ◌<◌, ◌^◌, length, Bool, true, false, cond, ℤ, pos, List, [], ◌∷◌, Option, Some, None, refl, sym, ap, ◌∙◌, subst}
-use Rattle.std.specs.declared.cmp.Ordering.{Ordering}
-use Rattle.std.specs.declared.cmp.Ordering.TheVariants.{Less, Equal, Greater}
-use Rattle.std.specs.Ordering.{nat_cmp, is_eq}
-use Rattle.std.specs.Cmp.Lexicographic.{slice_cmp, nat_list_cmp_total}
+use Rattle.std.specs.Ordering.{nat_cmp}
+use Rattle.std.specs.Cmp.Lexicographic.{slice_cmp}
 use Rattle.std.specs.FinMap.{get, empty}
 use Rattle.std.specs.List.{list_all}
 use Rattle.std.specs.List.Sorted.{IsStrictlySortedBy}
 use Rattle.std.specs.Map.{lookup, keys_of, values_of}
 use Rattle.std.specs.BTreeMap.{is_at}
-use Rattle.std.proofs.lemmas.Cmp.{tied_itself}
-use Rattle.std.proofs.lemmas.Map.Lookups.{exact_bytes}
 use Rattle.zx_base.specs.Maps.{Bytes, same}
-use Rattle.zx_base.proofs.MapLaws.{same-true, apart-from_same}
+use Rattle.zx_base.proofs.MapLaws.{same-true}
 use Rattle.ev_types.specs.declared.answer.Kv.{Kv}
 use Rattle.ev_types.specs.declared.ask.RangeReq.{RangeReq}
 use Rattle.ev_types.specs.Ranges.{is_within, found, found_among}
 use Rattle.ev_types.specs.Store.{Change, Puts, Removes, after_changes, keys_from}
+use Rattle.ev_types.proofs.Names.{names-tie}
 use Rattle.ev_store.specs.declared.change.Content.{Content}
 use Rattle.ev_store.specs.Changes.{change_of, puts_once}
 use Rattle.ev_store.proofs.Entries.{values-in_range}
 use Rattle.ev_store.proofs.Folding.{get-after_changes}
 use Rattle.ev_store.specs.Folds.{kv_after_put, key_after_change, key_after_changes, key_after_revisions, within_change, within_changes, within_revisions}
-
-equal : (o : Ordering) → is_eq o ≡ true → o ≡ Equal
-equal Less h = cc
-equal Equal h = refl
-equal Greater h = cc
-
--- two byte strings tie exactly where they are the same
-tied-same : (k q : Bytes) → is_at (slice_cmp nat_cmp k) q ≡ same k q
-tied-same k q =
-    elim (same k q) as (λ b. same k q ≡ b → is_eq (slice_cmp nat_cmp k q) ≡ b) [
-      | true ↦ λ e. subst (λ (x : Bytes). is_eq (slice_cmp nat_cmp k x) ≡ true) (same-true k q e) (ap is_eq (tied_itself nat_list_cmp_total k))
-      | false ↦ λ e. elim (is_eq (slice_cmp nat_cmp k q)) as (λ b. is_eq (slice_cmp nat_cmp k q) ≡ b → b ≡ false) [
-        | true ↦ λ t. absurd (apart-from_same k q e (exact_bytes k q (equal _ t)))
-        | false ↦ λ t. refl
-      ] refl
-    ] refl
 
 -- the range of all keys
 pub is_within_all : (k : Bytes) → is_within [] (0 ∷ []) k ≡ true
@@ -62,7 +43,7 @@ module _ (range : RangeReq) where
   written : (k q : Bytes) (w : Option Kv → Option Kv) (f : Bytes → Option Kv) → within k ≡ true →
       cond (is_at (slice_cmp nat_cmp k) q) (w (f k)) (f q) ≡ cond (within q) (cond (same k q) (w (f q)) (f q)) (f q)
   written k q w f inside =
-      ap (λ b. cond b (w (f k)) (f q)) (tied-same k q)
+      ap (λ b. cond b (w (f k)) (f q)) (names-tie k q)
       ∙ elim (same k q) as (λ b. same k q ≡ b → cond b (w (f k)) (f q) ≡ cond (within q) (cond b (w (f q)) (f q)) (f q)) [
         | true ↦ λ e. ap (λ x. w (f x)) (same-true k q e) ∙ ap (λ b. cond b (w (f q)) (f q)) (sym (subst (λ (x : Bytes). within x ≡ true) (same-true k q e) inside))
         | false ↦ λ e. sym (either_way (within q) (f q))

@@ -30,12 +30,12 @@ changed-from r m (Removes k) q kv h = go (same k q) (sym (get-remove_at m k q) �
     go true e = absurd cc
     go false e = inr e
 
-after_changes-from : (r : ℤ) (m : Keys) (cs : List Change) (q : Bytes) (kv : Kv) → get (after_changes r m cs) q ≡ Some kv → (kv.mod_revision ≡ r) ⊎ (get m q ≡ Some kv)
+pub after_changes-from : (r : ℤ) (m : Keys) (cs : List Change) (q : Bytes) (kv : Kv) → get (after_changes r m cs) q ≡ Some kv → (kv.mod_revision ≡ r) ⊎ (get m q ≡ Some kv)
 after_changes-from r m [] q kv h = inr h
 after_changes-from r m (c ∷ cs) q kv h = elim (after_changes-from r (changed r m c) cs q kv h) [ inl e ↦ inl e | inr e ↦ changed-from r m c q kv e ]
 
 -- put at one of n revisions, of which the first has number r
-record IsPutFrom (r n : ℕ) (kv : Kv) : Type 0 where
+pub record IsPutFrom (r n : ℕ) (kv : Kv) : Type 0 where
   pub revision : ℕ
   pub least : r ≤ revision
   pub most : revision < r + n
@@ -55,7 +55,7 @@ keys_from-from r m (cs ∷ css) q kv h = elim (keys_from-from (r + 1) (after_cha
 ]
 
 -- at a revision each key was put at one up to it
-put_by : (s : Store) (a : ℕ) (q : Bytes) (kv : Kv) → get (store_at s a) q ≡ Some kv → IsPutFrom 1 (length (take a s.revisions)) kv
+pub put_by : (s : Store) (a : ℕ) (q : Bytes) (kv : Kv) → get (store_at s a) q ≡ Some kv → IsPutFrom 1 (length (take a s.revisions)) kv
 unfolding store_at
 put_by s a q kv h = elim (keys_from-from 1 empty (take a s.revisions) q kv h) [ inl p ↦ p | inr e ↦ absurd (none_some (sym (get-empty (slice_cmp nat_cmp) q) ∙ e)) ]
 

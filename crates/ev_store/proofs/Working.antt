@@ -14,7 +14,7 @@ use Rattle.ev_types.specs.Denials.{writes, puts, writes_twice}
 use Rattle.ev_store.specs.Changes.{put_keys, are_distinct}
 use Rattle.std.proofs.lemmas.Bool.{not_from_false, not-true, or_parts, or_from, and_parts, and_from}
 
-after_changes-append : (r : ℤ) (m : Keys) (cs ds : List Change) → after_changes r m (cs ++ ds) ≡ after_changes r (after_changes r m cs) ds
+pub after_changes-append : (r : ℤ) (m : Keys) (cs ds : List Change) → after_changes r m (cs ++ ds) ≡ after_changes r (after_changes r m cs) ds
 after_changes-append r m [] ds = refl
 after_changes-append r m (c ∷ cs) ds = after_changes-append r (changed r m c) cs ds
 

@@ -1,4 +1,5 @@
 pub mod Asks
+pub mod Numbers
 pub mod FirstDenial
 pub mod Changes
 pub mod Codes

@@ -19,10 +19,9 @@ ghost use Rattle.zx_base.specs.Maps.{Bytes as ByteList};
 use crate::change::Change;
 use crate::fault::{Denied, StoreFault};
 use crate::key::{Found, after_put};
-use crate::name::Name;
 use crate::range::{Held, all_keys, held_after, hold};
 use crate::store::Store;
-use ev_types::{Kv, RangeReq};
+use ev_types::{Kv, Name, RangeReq};
 use std::alloc::Global;
 use zx_base::{Memory, Seq};
 

@@ -17,7 +17,6 @@ mod key;
 mod lapse;
 mod laws;
 mod leases;
-mod name;
 mod operations;
 mod range;
 mod refusal;

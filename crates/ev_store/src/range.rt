@@ -15,8 +15,7 @@ ghost use Rattle.zx_base.specs.Maps.{Bytes as ByteList};
 
 use crate::change::Change;
 use crate::key::{Found, after_put};
-use crate::name::Name;
-use ev_types::{Kv, RangeAns, RangeReq};
+use ev_types::{Kv, Name, RangeAns, RangeReq};
 use std::alloc::Global;
 use std::collections::BTreeMap;
 use zx_base::{Bytes, Memory, Seq};

@@ -10,6 +10,7 @@ ghost use Rattle.ev_store.specs.declared.fault.Denied.{Denied as Denial};
 ghost use Rattle.ev_store.specs.Asks.{IsGrantable};
 ghost use Rattle.ev_store.specs.FirstDenial.{first_denial, full, Names};
 ghost use Rattle.ev_store.specs.Changes.{puts_once};
+ghost use Rattle.ev_store.specs.Numbers.{HasNumbers};
 
 use crate::change::Change;
 use crate::fault::{Denied, StoreFault};
@@ -185,8 +186,10 @@ impl Store {
         ensures carried { IfOk result (λ a. carry self.old ask.now ≡ Some (self.new, a)) }
         ensures denied { (d : Denial) → result ≡ Err (StoreFault.Denied d) → carry self.old ask.now ≡ None }
         ensures first { (d : Denial) → result ≡ Err (StoreFault.Denied d) → first_denial self.old ask.now ≡ Some d }
+        ensures numbers { IfOk result HasNumbers }
         ensures stays { OnErr result (self.new ≡ self.old) }
     {
+        self.history();
         self.answer_to(ask)
     }
 

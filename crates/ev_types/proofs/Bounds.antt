@@ -10,7 +10,7 @@ use Rattle.ev_types.specs.Ranges.{Keys}
 use Rattle.ev_types.specs.Store.{Store, Change, Puts, Removes, revision, present, put_over, changed, after_changes, keys_from}
 use Rattle.zx_base.specs.Maps.{Bytes}
 use Rattle.zx_base.proofs.MapLaws.{either, get-insert_same, get-insert_other, get-remove_same, get-remove_other}
-use Rattle.zx_base.proofs.Options.{none_some}
+use Rattle.zx_base.proofs.Options.{none_some, some_is}
 use Rattle.ev_types.proofs.Grown.{present-is}
 
 pub record IsPutWithin (r : ℤ) (kv : Kv) : Type 0 where
@@ -20,16 +20,13 @@ pub record IsPutWithin (r : ℤ) (kv : Kv) : Type 0 where
 abbrev Within : Keys → ℤ → Type 0
 Within m r = (k : Bytes) (kv : Kv) → get m k ≡ Some kv → IsPutWithin r kv
 
-same_kv : {x y : Kv} → Some x ≡ Some y → x ≡ y
-same_kv e = cc
-
 put_at : (r : ℤ) (k v : Bytes) (lease : ℤ) (old : Option Kv) → (put_over r k v lease old).mod_revision ≡ r
 put_at r k v lease None = refl
 put_at r k v lease (Some kv) = refl
 
 once : (r : ℤ) (m : Keys) (c : Change) → pos 1 ≤ℤ r → Within m r → Within (changed r m c) r
 once r m (Puts k v lease) low within q kv e = ⊎_elim
-    (λ same. let is : put_over r k v lease (get m k) ≡ kv = same_kv (sym (get-insert_same m k _) ∙ sym (ap (get (changed r m (Puts k v lease))) same) ∙ e) in
+    (λ same. let is : put_over r k v lease (get m k) ≡ kv = some_is (sym (get-insert_same m k _) ∙ sym (ap (get (changed r m (Puts k v lease))) same) ∙ e) in
     let here : r ≡ kv.mod_revision = sym (put_at r k v lease (get m k)) ∙ ap (λ (x : Kv). x.mod_revision) is in
     record { least = subst (λ (x : ℤ). pos 1 ≤ℤ x) here low; most = subst (λ (x : ℤ). x ≤ℤ r) here (omega (arith, ints)) })
     (λ apart. within q kv (sym (get-insert_other m k q _ apart) ∙ e))

@@ -10,15 +10,13 @@ use Rattle.std.proofs.lemmas.Bool.{or_left, le-ltb, lt-ltb}
 use Rattle.std.proofs.lemmas.Int.{ints}
 use Rattle.zx_base.specs.Maps.{Bytes, same}
 use Rattle.zx_base.proofs.MapLaws.{either, same-refl, same-false, get-insert_same, get-insert_other, get-retain}
+use Rattle.zx_base.proofs.Options.{some_is}
 use Rattle.ev_types.specs.declared.answer.Kv.{Kv}
 use Rattle.ev_types.specs.Ranges.{Keys}
 use Rattle.ev_types.specs.Store.{Store, Change, Puts, revision, after_changes, present, store_at, put_over, grown, last_revision, max_revisions}
 use Rattle.ev_types.specs.Denials.{has_lease, is_full}
 use Rattle.ev_types.specs.Lapses.{is_leased, leased_keys, removals, lapse, foreign}
 use Rattle.ev_types.proofs.Grown.{present-grown, earlier-grown, revision-grown}
-
-some_same : {A : Type 0} {x y : A} → ◌≡◌ {A = Option A} (Some x) (Some y) → x ≡ y
-some_same e = cc
 
 -- ---- what is there after removals
 
@@ -68,7 +66,7 @@ store_at-without s id r = refl
 
 chosen : {A : Type 0} (b : Bool) (x y : A) → cond b None (Some x) ≡ Some y → (b ≡ false) × (x ≡ y)
 chosen true x y e = absurd cc
-chosen false x y e = (refl, some_same e)
+chosen false x y e = (refl, some_is e)
 
 record IsLapsed (s new : Store) (id : ℤ) : Type 0 where
   pub there : has_lease s id ≡ true

@@ -4,3 +4,4 @@ pub mod Transactions
 pub mod Found
 pub mod Allowed
 pub mod Bounds
+pub mod Names

@@ -7,6 +7,7 @@
 mod answer;
 mod ask;
 mod laws;
+mod name;
 mod route;
 
 pub use answer::{ActAns, Answer, Kv, RangeAns};
@@ -15,4 +16,5 @@ pub use laws::{
     foreign_puts_one_key, keys_were_put, lapse_takes_its_keys, one_key_is_found,
     reads_change_nothing,
 };
+pub use name::Name;
 pub use route::Route;

@@ -1,9 +1,9 @@
-//! Keys as a sorted map keeps them.
+//! Keys as a sorted map or set keeps them.
 
 use std::cmp::Ordering;
 use std::marker::Model;
 
-/// A key's bytes. Its order is the one that a range has.
+/// A key's bytes, borrowed. Its order is the one that a range has.
 #[derive(Drop)]
 pub struct Name<'a> {
     pub bytes: &'a [u8],
