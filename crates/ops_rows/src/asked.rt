@@ -1,19 +1,22 @@
 //! What a request needs, what is decided on it, and the reply that its plan earns.
 
-ghost use Rattle.std.specs.Prelude.{◌≤◌, length, IsTrue};
+ghost use Rattle.std.specs.Prelude.{◌<◌, ◌^◌, ◌≤◌, ◌≤ℤ◌, ◌↔◌, pos, length, IsTrue};
 ghost use Rattle.zk_model.specs.Limits.{max_frame};
 ghost use Rattle.zn_updates.specs.Deciding.{content_in};
+ghost use Rattle.zn_updates.specs.Parts.{part_content};
+ghost use Rattle.zn_multi.specs.Carrying.{AreShort};
 
 use crate::plans::plan_text;
 use crate::replies::{push_reply, push_word, word_of};
 use crate::requests::request;
 use row_files::Words;
 use std::alloc::Global;
-use zk_model::Request;
 use zk_model::limit::MAX_FRAME;
+use zk_model::{Part, Request};
+use zn_multi::{decide_multi, needs_multi};
 use zn_ops::{decide, finish, is_single, needs};
 use zn_view::{Arm, Decision, View, Want, Who};
-use zx_base::Memory;
+use zx_base::{Memory, Seq};
 
 /// The moments that are decided at are below this one, in milliseconds since 1970.
 const MOMENTS: u64 = 4_611_686_018_427_387_904;
@@ -41,6 +44,82 @@ fn is_short(request: &Request) -> bool
     }
 }
 
+/// What a single request or a multi needs; none of another.
+fn wanted(
+    alloc: Global,
+    request: &Request,
+    who: Who,
+    view: &View,
+) -> Result<Option<Seq<Want>>, Memory> {
+    if who.session < 1 {
+        return Ok(None);
+    }
+    if let Request::Multi { parts } = request {
+        return Ok(Some(needs_multi(alloc, parts.as_slice(), who, view)?));
+    }
+    if !is_single(request) {
+        return Ok(None);
+    }
+    Ok(Some(needs(alloc, request, who, view)?))
+}
+
+fn is_short_part(part: &Part) -> bool
+    ensures { IsTrue result ↔ length (part_content part.now) ≤ max_frame }
+{
+    match part {
+        Part::Create { content, .. } | Part::SetData { content, .. } => content.len() <= MAX_FRAME,
+        Part::Delete { .. } | Part::Check { .. } => true,
+    }
+}
+
+fn are_short(parts: &[Part]) -> bool
+    ensures { IsTrue result → AreShort parts.now }
+{
+    parts.iter().all(|part| is_short_part(part))
+}
+
+/// The decision on a single request, where nothing is lacking.
+fn decision_alone(
+    alloc: Global,
+    request: &Request,
+    who: Who,
+    now: u64,
+    view: &View,
+) -> Result<Option<Decision>, Memory>
+    requires real { pos 1 ≤ℤ who.session }
+    requires moment { now < 2 ^ 62 }
+{
+    if !is_single(request) || !is_short(request) {
+        return Ok(None);
+    }
+    let wants = needs(alloc, request, who, view)?;
+    if !wants.as_slice().is_empty() {
+        return Ok(None);
+    }
+    Ok(Some(decide(alloc, request, who, now, view)?))
+}
+
+/// The decision on a multi of these parts, where nothing is lacking.
+fn decision_on_parts(
+    alloc: Global,
+    parts: &[Part],
+    who: Who,
+    now: u64,
+    view: &View,
+) -> Result<Option<Decision>, Memory>
+    requires real { pos 1 ≤ℤ who.session }
+    requires moment { now < 2 ^ 62 }
+{
+    if !are_short(parts) {
+        return Ok(None);
+    }
+    let wants = needs_multi(alloc, parts, who, view)?;
+    if !wants.as_slice().is_empty() {
+        return Ok(None);
+    }
+    Ok(Some(decide_multi(alloc, parts, who, now, view)?))
+}
+
 /// The decision, where nothing is lacking.
 fn decision(
     alloc: Global,
@@ -49,14 +128,13 @@ fn decision(
     now: u64,
     view: &View,
 ) -> Result<Option<Decision>, Memory> {
-    if !is_single(request) || who.session < 1 || MOMENTS <= now || !is_short(request) {
+    if who.session < 1 || MOMENTS <= now {
         return Ok(None);
     }
-    let wants = needs(alloc, request, who, view)?;
-    if !wants.as_slice().is_empty() {
-        return Ok(None);
+    match request {
+        Request::Multi { parts } => decision_on_parts(alloc, parts.as_slice(), who, now, view),
+        _ => decision_alone(alloc, request, who, now, view),
     }
-    Ok(Some(decide(alloc, request, who, now, view)?))
 }
 
 fn push_want(text: &mut String, want: &Want) -> Result<(), Memory> {
@@ -78,10 +156,9 @@ pub fn needed(alloc: Global, view: &View, words: Words) -> Result<Option<String>
     let Some(request) = request(alloc, words)? else {
         return Ok(None);
     };
-    if !is_single(&request) || session < 1 {
+    let Some(wants) = wanted(alloc, &request, Who { session, mine: 0 }, view)? else {
         return Ok(None);
-    }
-    let wants = needs(alloc, &request, Who { session, mine: 0 }, view)?;
+    };
     let mut text = String::from_str(alloc, "wants")?;
     for want in wants.as_slice() {
         push_want(&mut text, want)?;

@@ -1,4 +1,4 @@
-//! Tries the rows of the file `decisions` on single requests, and says on standard error where a row differs.
+//! Tries the rows of the files `decisions` and `multis`, and says on standard error where a row differs.
 //!
 //! A row is LEFT = RIGHT ([`row_files`]); the file says in its first lines what its rows are. Expected values are by hand from
 //! the Programmer's Guide, `KeeperException.Code` and the layout's tables in `docs/FORMATS.md`. A new row needs no proof.
@@ -60,19 +60,23 @@ impl Looking {
     }
 }
 
-/// Looks in the file that its first argument names, and without one in `decisions`.
+/// Looks in the file that its first argument names, and without one in `decisions` and `multis`.
 fn main(rt: HostRuntime) -> Result<ExitCode> {
     let alloc = rt.alloc();
     let given = env::args(&rt)?.nth(1);
-    let file = match &given {
-        Some(file) => file.as_str(),
-        None => "decisions",
-    };
     let mut rows = Looking {
         view: View::empty(alloc),
         revision: 0,
     };
-    Ok(if try_file(&rt, file, &mut rows)? == 0 {
+    let differ = match &given {
+        Some(file) => try_file(&rt, file.as_str(), &mut rows)?,
+        None => {
+            let singles = try_file(&rt, "decisions", &mut rows)?;
+            let multis = try_file(&rt, "multis", &mut rows)?;
+            singles | multis
+        }
+    };
+    Ok(if differ == 0 {
         ExitCode::SUCCESS
     } else {
         ExitCode::FAILURE

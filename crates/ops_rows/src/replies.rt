@@ -80,13 +80,37 @@ fn push_body(alloc: Global, text: &mut String, body: &Body) -> Result<(), Memory
             push_word(text, "open")?;
             push_stat(alloc, text, stat)
         }
-        Body::Parts(parts) => push_parts(text, parts.as_slice()),
+        Body::Parts(parts) => push_parts(alloc, text, parts.as_slice()),
     }
 }
 
-/// No single request has parts.
-fn push_parts(text: &mut String, _parts: &[PartResult]) -> Result<(), Memory> {
-    push_word(text, "parts")
+fn push_part(alloc: Global, text: &mut String, part: &PartResult) -> Result<(), Memory> {
+    match part {
+        PartResult::Created(path) => {
+            push_word(text, "created")?;
+            push_word(text, word_of(path.as_slice()))
+        }
+        PartResult::Deleted => push_word(text, "deleted"),
+        PartResult::Set(stat) => {
+            push_word(text, "set")?;
+            push_stat(alloc, text, stat)
+        }
+        PartResult::Checked => push_word(text, "checked"),
+        PartResult::Code(code) => {
+            let word = format!(in alloc; " code {code}")?;
+            text.push_str(word.as_str())?;
+            Ok(())
+        }
+    }
+}
+
+/// ` parts`, and the result of each
+fn push_parts(alloc: Global, text: &mut String, parts: &[PartResult]) -> Result<(), Memory> {
+    push_word(text, "parts")?;
+    for part in parts {
+        push_part(alloc, text, part)?;
+    }
+    Ok(())
 }
 
 /// ` refused CODE`, or the body

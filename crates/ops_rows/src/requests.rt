@@ -3,13 +3,13 @@
 use crate::values::{content_of, push_data};
 use row_files::Words;
 use std::alloc::Global;
-use zk_model::{Acl, Request};
+use zk_model::{Acl, Part, Request};
 use zx_base::{Bytes, Memory, Seq, Text};
 
 /// The request that the rest of a row spells: `create PATH DATA FLAGS`, with `closed` behind it where its access list is not
 /// the open one, `delete PATH VERSION`, `set PATH DATA VERSION`, `exists`, `get`, `children` and `children2 PATH WATCH`,
 /// `acl PATH`, `check PATH VERSION`, `sync PATH`, `ping`, `auth SCHEME`, `watches SINCE DATA EXIST CHILD` with one path in
-/// each list, `multi`, `close`. A watch is 1 or 0, `-` is no bytes, and data of `~NUMBER` so many `x`.
+/// each list, `multi PART ; PART ; ..`, `close`. A watch is 1 or 0, `-` is no bytes, and data of `~NUMBER` so many `x`.
 pub fn request(alloc: Global, words: Words) -> Result<Option<Request>, Memory> {
     let mut words = words;
     let Some(kind) = words.word() else {
@@ -25,9 +25,7 @@ pub fn request(alloc: Global, words: Words) -> Result<Option<Request>, Memory> {
         "auth" => auth(alloc, words),
         "ping" => Ok(Some(Request::Ping)),
         "close" => Ok(Some(Request::Close)),
-        "multi" => Ok(Some(Request::Multi {
-            parts: Seq::new(alloc),
-        })),
+        "multi" => multi(alloc, words),
         _ => Ok(None),
     }
 }
@@ -150,4 +148,65 @@ fn auth(alloc: Global, words: Words) -> Result<Option<Request>, Memory> {
         scheme: text(alloc, scheme)?,
         auth: Seq::new(alloc),
     }))
+}
+
+/// The next part of a multi.
+fn part(alloc: Global, kind: &str, words: &mut Words) -> Result<Option<Part>, Memory> {
+    let Some(path) = words.word() else {
+        return Ok(None);
+    };
+    let path = text(alloc, path)?;
+    match kind {
+        "create" => {
+            let (Some(content), Some(flags)) = (words.word(), words.int()) else {
+                return Ok(None);
+            };
+            Ok(Some(Part::Create {
+                path,
+                content: data(alloc, content)?,
+                acl: access(alloc, false)?,
+                flags,
+            }))
+        }
+        "set" => {
+            let (Some(content), Some(version)) = (words.word(), words.int()) else {
+                return Ok(None);
+            };
+            Ok(Some(Part::SetData {
+                path,
+                content: data(alloc, content)?,
+                version,
+            }))
+        }
+        "delete" => Ok(match words.int() {
+            Some(version) => Some(Part::Delete { path, version }),
+            None => None,
+        }),
+        "check" => Ok(match words.int() {
+            Some(version) => Some(Part::Check { path, version }),
+            None => None,
+        }),
+        _ => Ok(None),
+    }
+}
+
+/// At most 30 parts.
+fn multi(alloc: Global, words: Words) -> Result<Option<Request>, Memory> {
+    let mut words = words;
+    let mut parts = Seq::new(alloc);
+    for _ in 0..30 {
+        let Some(kind) = words.word() else {
+            break;
+        };
+        let Some(part) = part(alloc, kind, &mut words)? else {
+            return Ok(None);
+        };
+        parts.push(part)?;
+        match words.word() {
+            Some(";") => {}
+            Some(_) => return Ok(None),
+            None => break,
+        }
+    }
+    Ok(Some(Request::Multi { parts }))
 }

@@ -9,3 +9,4 @@ pub mod Setting
 pub mod Remaining
 pub mod Needed
 pub mod WatchKeys
+pub mod Indexed

@@ -6,9 +6,9 @@ use Rattle.zk_model.specs.Watches.{Watches, set_watches}
 use Rattle.zk_model.specs.declared.request.Request.TheVariants as req
 use Rattle.zk_transcript.specs.History.{State}
 use Rattle.zx_base.specs.Maps.{Bytes}
-use Rattle.zn_layout.specs.Keys.{Key, DataKey, CountsKey}
+use Rattle.zn_layout.specs.Keys.{Key, DataKey, CountsKey, key_bytes}
 use Rattle.zn_view.specs.declared.plan.Who.{Who}
-use Rattle.zn_view.specs.Seen.{View}
+use Rattle.zn_view.specs.Seen.{View, found_of, seen}
 use Rattle.zn_view.specs.Views.{IsOf}
 use Rattle.zw_watch.specs.declared.seen_path.SeenPath.{SeenPath}
 use Rattle.zw_watch.specs.declared.seen_path.WatchList.{WatchList}
@@ -28,6 +28,15 @@ changing_key Children p = CountsKey p
 abbrev pub put_at : Option Kv → Option ℤ
 put_at None = None
 put_at (Some kv) = Some kv.mod_revision
+
+-- the same of a path that may not be valid
+abbrev pub key_at : WatchList → Bytes → Option Bytes
+key_at list p = if is_path p then Some (key_bytes (changing_key list p)) else None
+
+-- what was found by such a key
+abbrev pub at_by : View → Option Bytes → Option ℤ
+at_by v None = None
+at_by v (Some k) = put_at (found_of (seen v k))
 
 -- a path that isn't valid counts as absent
 abbrev pub seen_path : View → WatchList → Bytes → SeenPath

@@ -1,5 +1,5 @@
 -- What a request still wants, as it is found.
-use Rattle.std.specs.Prelude.{◌≡◌, nat_abs, Bool, true, false, cond, List, [], ◌∷◌, ◌++◌, map, None}
+use Rattle.std.specs.Prelude.{◌≡◌, nat_abs, Bool, true, cond, List, [], ◌∷◌, ◌++◌, map, None}
 use Rattle.zx_base.specs.Maps.{Bytes}
 use Rattle.zk_model.specs.declared.request.Request.{Request}
 use Rattle.zk_model.specs.Watches.{no_watches}

@@ -4,8 +4,8 @@
 //! reply is the one by the tree of each state that the view is of, with the watch that it arms. A setWatches is answered
 //! alone; what its paths show is [`seen_paths`].
 //!
-//! A node's data is copied once, into the reply. Each look-up goes over what the view saw, so a setWatches takes time in
-//! proportion to the square of the number of its paths.
+//! A node's data is copied once, into the reply. Each look-up goes over what the view saw; a setWatches, which has many, makes
+//! an index of it first.
 #![tactic(auto)]
 
 mod acl;

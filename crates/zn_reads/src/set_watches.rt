@@ -1,6 +1,9 @@
 //! SetWatches (zookeeper.jute, `SetWatches`): its reply, and what was found at its paths.
 
-ghost use Rattle.std.specs.Prelude.{IsTrue, ◌≡◌, ◌++◌, ℤ, List, None, IfOk, OnOk, map, option_copied};
+ghost use Rattle.std.specs.Prelude.{IsTrue, ◌≡◌, ◌++◌, ℤ, List, None, IfOk, OnOk, map, option_copied, option_map};
+ghost use Rattle.std.specs.BTreeMap as tree;
+ghost use Rattle.std.specs.Cmp.Lexicographic.{slice_cmp};
+ghost use Rattle.std.specs.Ordering.{nat_cmp};
 ghost use Rattle.zk_model.specs.Paths.{is_path};
 ghost use Rattle.zk_model.specs.Watches.{Watches, set_watches};
 ghost use Rattle.zk_model.specs.declared.reply.Body.TheVariants as bodies;
@@ -9,18 +12,20 @@ ghost use Rattle.zk_model.specs.declared.request.Request.TheVariants as req;
 ghost use Rattle.zk_transcript.specs.History.{State};
 ghost use Rattle.zn_layout.specs.Keys.{key_bytes};
 ghost use Rattle.zn_view.specs.Needs.{LacksNothing};
-ghost use Rattle.zn_reads.specs.SeenPaths.{changing_key, put_at, seen_path, seen_paths, IsSetBy};
+ghost use Rattle.zn_reads.specs.SeenPaths.{at_by, changing_key, key_at, put_at, seen_path, seen_paths, IsSetBy};
+ghost use Rattle.zw_watch.specs.declared.seen_path.WatchList.TheVariants as lists;
 ghost use Rattle.zn_view.specs.declared.plan.Decision.TheVariants as decisions;
 ghost use Rattle.zn_view.specs.declared.plan.Who.{Who as AnyWho};
+ghost use Rattle.zn_view.specs.Indexing.{IsIndex};
+ghost use Rattle.zn_view.specs.Seen.{View as AnyView};
 ghost use Rattle.zn_view.specs.Views.{IsOf};
 
 use crate::form::read_path;
-use crate::found::found;
 use crate::keys::{counts_key_of, data_key_of};
 use ev_types::Kv;
 use std::alloc::Global;
 use zk_model::{Body, Path, Reply};
-use zn_view::{Decision, View};
+use zn_view::{Decision, Index, View, found_by};
 use zw_watch::{SeenPath, WatchList};
 use zx_base::{Bytes, Memory, Seq, Text};
 
@@ -53,45 +58,112 @@ fn put_at(found: Option<&Kv>) -> Option<i64>
     }
 }
 
-/// A path that is not valid counts as absent.
-fn at(alloc: Global, list: WatchList, text: &[u8], view: &View) -> Result<Option<i64>, Memory>
-    ensures { IfOk result (λ at. at ≡ (seen_path view.now list text.now).at) }
+/// The key whose last put is the change that a watch on this path waits for, none where the path is not valid.
+fn key_at(alloc: Global, list: WatchList, text: &[u8]) -> Result<Option<Bytes>, Memory>
+    ensures { IfOk result (λ k. k ≡ key_at list text.now) }
 {
     match read_path(alloc, text)? {
-        Some(path) => {
-            let key = changing_key(alloc, list, &path)?;
-            Ok(put_at(found(view, key.as_slice())))
-        }
+        Some(path) => Ok(Some(changing_key(alloc, list, &path)?)),
         None => Ok(None),
     }
 }
 
-fn seen_path(alloc: Global, list: WatchList, text: &[u8], view: &View) -> Result<SeenPath, Memory>
-    ensures { IfOk result (λ x. x ≡ seen_path view.now list text.now) }
+fn keys_at(alloc: Global, list: WatchList, texts: &[Text]) -> Result<Vec<Option<Bytes>>, Memory>
+    ensures { IfOk result (λ ks. ks.items ≡ map (key_at list) texts.now) }
 {
-    Ok(SeenPath {
-        path: Seq::copy_of(alloc, text)?,
-        list,
-        at: at(alloc, list, text, view)?,
-    })
+    let mut keys = Vec::new(alloc);
+    for text in texts {
+        keys.push(key_at(alloc, list, text.as_slice())?)?;
+    }
+    Ok(keys)
 }
 
-fn push_seen(
+/// A path that is not valid counts as absent.
+fn at<'a>(index: &Index<'a>, key: &'a Option<Bytes>) -> Option<i64>
+    ensures { (v : AnyView) → IsIndex v (λ q. option_map option_copied (tree.get (slice_cmp nat_cmp) index.now q)) → result ≡ at_by v key.now }
+{
+    match key {
+        Some(key) => match found_by(index, key.as_slice()) {
+            Some(found) => put_at(found),
+            None => None,
+        },
+        None => None,
+    }
+}
+
+/// Adds what was found at the paths of a list, each by its key.
+fn push_seen<'a>(
     alloc: Global,
     list: WatchList,
     texts: &[Text],
-    view: &View,
+    keys: &'a [Option<Bytes>],
+    index: &Index<'a>,
     seen: &mut Vec<SeenPath>,
 ) -> Result<(), Memory>
-    ensures { OnOk result (seen.new.items ≡ seen.old.items ++ map (seen_path view.now list) texts.now) }
+    requires { keys.now ≡ map (key_at list) texts.now }
+    ensures { (v : AnyView) → IsIndex v (λ q. option_map option_copied (tree.get (slice_cmp nat_cmp) index.now q)) → OnOk result (seen.new.items ≡ seen.old.items ++ map (seen_path v list) texts.now) }
 {
-    for text in texts {
-        seen.push(seen_path(alloc, list, text.as_slice(), view)?)?;
+    for (place, key) in keys.iter().enumerate() {
+        seen.push(SeenPath {
+            path: Seq::copy_of(alloc, texts[place].as_slice())?,
+            list,
+            at: at(index, key),
+        })?;
     }
     Ok(())
 }
 
+/// The keys of the paths of the three lists.
+#[derive(Drop)]
+struct Keys {
+    datas: Vec<Option<Bytes>>,
+    exists: Vec<Option<Bytes>>,
+    children: Vec<Option<Bytes>>,
+}
+
 /// What was found at the paths of the three lists, one list behind the other.
+fn seen_by<'a>(
+    alloc: Global,
+    datas: &[Text],
+    exists: &[Text],
+    children: &[Text],
+    keys: &'a Keys,
+    view: &'a View,
+) -> Result<Vec<SeenPath>, Memory>
+    requires datas { keys.now.datas.items ≡ map (key_at lists.Datas) datas.now }
+    requires exists { keys.now.exists.items ≡ map (key_at lists.Exists) exists.now }
+    requires children { keys.now.children.items ≡ map (key_at lists.Children) children.now }
+    ensures { IfOk result (λ xs. xs.items ≡ seen_paths view.now datas.now exists.now children.now) }
+{
+    let index = view.index()?;
+    let mut seen = Vec::new(alloc);
+    push_seen(
+        alloc,
+        WatchList::Datas,
+        datas,
+        &keys.datas,
+        &index,
+        &mut seen,
+    )?;
+    push_seen(
+        alloc,
+        WatchList::Exists,
+        exists,
+        &keys.exists,
+        &index,
+        &mut seen,
+    )?;
+    push_seen(
+        alloc,
+        WatchList::Children,
+        children,
+        &keys.children,
+        &index,
+        &mut seen,
+    )?;
+    Ok(seen)
+}
+
 fn seen_in_turn(
     alloc: Global,
     datas: &[Text],
@@ -101,16 +173,18 @@ fn seen_in_turn(
 ) -> Result<Vec<SeenPath>, Memory>
     ensures { IfOk result (λ xs. xs.items ≡ seen_paths view.now datas.now exists.now children.now) }
 {
-    let mut seen = Vec::new(alloc);
-    push_seen(alloc, WatchList::Datas, datas, view, &mut seen)?;
-    push_seen(alloc, WatchList::Exists, exists, view, &mut seen)?;
-    push_seen(alloc, WatchList::Children, children, view, &mut seen)?;
-    Ok(seen)
+    let keys = Keys {
+        datas: keys_at(alloc, WatchList::Datas, datas)?,
+        exists: keys_at(alloc, WatchList::Exists, exists)?,
+        children: keys_at(alloc, WatchList::Children, children)?,
+    };
+    seen_by(alloc, datas, exists, children, &keys, view)
 }
 
 /// What was found at each path of a setWatches, in the order in which they are gone through: its data paths, its exist
 /// paths, its child paths. Where the view lacks nothing that the request looks up, arming and telling by this list is what
-/// the service does on the tree of each state that the view is of.
+/// the service does on the tree of each state that the view is of. It takes time in proportion to the number of paths and of
+/// the keys that were seen, times the logarithm of the latter.
 pub fn seen_paths(
     alloc: Global,
     datas: &[Text],

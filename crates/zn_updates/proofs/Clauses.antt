@@ -108,7 +108,11 @@ module _ (r : Request) (p : Part) (who : Who) (v : View) (ks : List Key) (choice
       writes = record { own = record { changes = cs; acts = refl; leases = well.leases; triggers = well.triggers; reads = again-present (again_of (on_keys v ks).keys) }; once = well.once }
 
       small : (s : State) → IsSound s → IsOf v s → IsSmallPlan plan
-      small s sound of = plan-small v (map key_bytes ks) plan cs (omega (arith, length-map ks key_bytes, keys.few)) (All-map (λ (k : Bytes). length k ≤ 1033) key_bytes ks keys.short) well.few (well.small s sound of) well.told well.triggers refl refl refl
+      small s sound of =
+          let few_keys : length (map key_bytes ks) ≤ 8 = omega (arith, length-map ks key_bytes, keys.few) in
+          let few_told : length plan.triggers ≤ 2 = well.told in
+          let small = well.small s sound of in
+          plan-small v (map key_bytes ks) plan cs (omega arith) (All-map (λ (k : Bytes). length k ≤ 1033) key_bytes ks keys.short) (omega (arith, well.few)) (omega (arith, small)) well.triggers refl refl refl
 
       life_inside : In (key_bytes (LeaseKey (nat_abs who.session))) (map key_bytes ks)
       life_inside = in_mapped key_bytes (LeaseKey (nat_abs who.session)) ks keys.life

@@ -63,7 +63,7 @@ use Rattle.zn_updates.proofs.Meanings.{of_abs}
 use Rattle.zn_updates.proofs.Showing.{data-shown, counts-shown, paths-shown, there-shown}
 
 -- whatever node is there, without the parent's counts nothing is created
-same_taken : (p q content : Bytes) (now : ℕ) (ephemeral : Bool) (session : ℤ) (x : Option SeenData) (paths : Option (List Bytes)) (a b : Bool)
+pub same_taken : (p q content : Bytes) (now : ℕ) (ephemeral : Bool) (session : ℤ) (x : Option SeenData) (paths : Option (List Bytes)) (a b : Bool)
     → create_choice p q content now ephemeral session x None a paths ≡ create_choice p q content now ephemeral session x None b paths
 unfolding create_choice
 same_taken p q content now ephemeral session None paths a b = refl
@@ -141,11 +141,11 @@ numbered-few true path None = omega arith
 numbered-few true path (Some n) = omega arith
 numbered-few false path creates = omega arith
 
-plain-short : (sequential : Bool) (path : Bytes) → is_valid sequential path ≡ true → All IsShortKey (plain_data sequential path)
+pub plain-short : (sequential : Bool) (path : Bytes) → is_valid sequential path ≡ true → All IsShortKey (plain_data sequential path)
 plain-short true path h = All-nil IsShortKey
 plain-short false path h = All-cons IsShortKey (DataKey path) [] (omega (arith, data-size path, path_short path h)) (All-nil IsShortKey)
 
-own-short : (ephemeral : Bool) (id : ℤ) → All IsShortKey (session_nodes ephemeral id)
+pub own-short : (ephemeral : Bool) (id : ℤ) → All IsShortKey (session_nodes ephemeral id)
 own-short true id = All-cons IsShortKey (SessionKey (nat_abs id)) [] (omega (arith, session-size (nat_abs id))) (All-nil IsShortKey)
 own-short false id = All-nil IsShortKey
 

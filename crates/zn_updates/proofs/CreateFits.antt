@@ -1,5 +1,5 @@
 -- The changes of a create fit it.
-use Rattle.std.proofs.Common.{◌≡◌, ◌≢◌, ℕ, ℤ, pos, ◌+◌, ◌-◌, ◌<◌, ◌≤◌, ◌^◌, true, false, cond, List, [], ◌∷◌, ◌++◌, length, Option, Some, None, refl, sym, ap, ◌∙◌, subst, ⊎_elim, arith, ◌+ℤ◌}
+use Rattle.std.proofs.Common.{◌≡◌, ◌≢◌, ℕ, ℤ, pos, ◌+◌, ◌-◌, ◌<◌, ◌≤◌, ◌^◌, true, false, cond, List, [], ◌∷◌, ◌++◌, length, Option, Some, None, refl, sym, ap, ◌∙◌, subst, ⊎_elim, arith}
 use Rattle.std.specs.Prelude.{◌≤ℤ◌, nat_abs, nat_eq, IsTrue}
 use Rattle.std.specs.Ordering.{int_eq}
 use Rattle.std.specs.FinMap.{get}
@@ -28,20 +28,14 @@ use Rattle.zn_updates.specs.OwnedLists.{placed}
 use Rattle.zn_updates.specs.Right.{with_tree}
 use Rattle.zn_updates.specs.Seen.{IsSeenCounts, IsSeenPaths}
 use Rattle.zn_updates.proofs.ListBounds.{placed-within}
-use Rattle.zn_updates.proofs.Meanings.{data_along, data_same, counts_along, nodes_along, int_eq-same, int_eq-apart, session_is, session_other, moment_within, zero_within}
+use Rattle.zn_updates.proofs.Meanings.{below_most, data_along, data_same, counts_along, nodes_along, int_eq-same, int_eq-apart, session_is, session_other, moment_within, zero_within}
 use Rattle.zn_updates.proofs.OwnedLists.{owned-create}
-
-true_false : true ≡ false → ⊥
-true_false e = cc
-
-below_most : (n : ℤ) → n ≤ℤ max_creates → int_eq n max_creates ≡ false → (n +ℤ pos 1) ≤ℤ max_creates
-below_most n h apart = let far : n ≡ max_creates → ⊥ = λ e. true_false (sym (int_eq-same n max_creates e) ∙ apart) in omega (arith, ints)
 
 pub one_more-within : (c : CountRec) → IsCountRec c → int_eq c.creates max_creates ≡ false → IsCountRec (one_more c)
 one_more-within c within room =
     let least = within.children in
     let fewer = within.fewer in
-    record { children = omega (arith, ints); fewer = omega (arith, ints); creates = below_most c.creates within.creates room }
+    record { children = omega (arith, ints); fewer = omega (arith, ints); creates = below_most c.creates max_creates within.creates room }
 
 pub new_record-within : (content : Bytes) (now : ℕ) (owner : ℤ) → now < 2 ^ 62 → length content ≤ max_frame → IsLongCount owner → IsNodeRec (new_record content now owner)
 new_record-within content now owner moment short owned = record {

@@ -4,6 +4,7 @@ use Rattle.std.specs.Prelude.{◌≤ℤ◌, All, not, nat_abs, map, IsTrue, ◌&
 use Rattle.std.proofs.lemmas.List.Elements.{All-cons, All-nil}
 use Rattle.std.specs.FinMap.{get}
 use Rattle.std.specs.Ordering.{int_eq}
+use Rattle.std.proofs.lemmas.Bool.{true≢false}
 use Rattle.std.proofs.lemmas.Bool.Decides.{Decides-int_eq}
 use Rattle.ev_types.specs.declared.answer.Kv.{Kv}
 use Rattle.zx_base.specs.Maps.{Bytes, same}
@@ -32,7 +33,7 @@ use Rattle.zn_view.specs.declared.plan.Decision.{Decision}
 use Rattle.zn_view.specs.declared.plan.Who.{Who}
 use Rattle.zn_view.specs.declared.want.Want.{Want}
 use Rattle.zn_view.specs.Lookups.{HasSeen, sees}
-use Rattle.zn_view.specs.Needs.{AreNeeds, Follows, IsRead, key_want, IsWhole}
+use Rattle.zn_view.specs.Needs.{AreNeeds, FollowsOwner, IsRead, key_want, IsWhole}
 use Rattle.zn_view.specs.Lacking.{lacking}
 use Rattle.zn_view.specs.Seen.{View, seen}
 use Rattle.zn_view.specs.Views.{IsOf, reads, about_path, counts_of_parent}
@@ -66,9 +67,6 @@ both false b h = absurd (cc)
 
 not_root : (p : Bytes) → not (same p root) ≡ true → p ≢ root
 not_root p h e = let t : same p root ≡ true = ap (λ (x : Bytes). same x root) e ∙ same-refl root in let f : not true ≡ true = sym (ap not t) ∙ h in cc
-
-true_false : true ≡ false → ⊥
-true_false e = cc
 
 -- the owner's nodes that were seen are those of its session
 module _ (v : View) (s : State) (sound : IsSound s) (z : ℤ) (shown : Shows z v s) (p : Bytes) (y : SeenData) (paths : Option (List Bytes)) where
@@ -179,24 +177,30 @@ module _ (p : Bytes) (version : ℤ) where
   in_owner : (owner : ℤ) (k : Key) → In k (owner_nodes owner) → (owner ≡ pos 0 → ⊥) × (k ≡ SessionKey (nat_abs owner))
   in_owner owner k = elim (int_eq owner (pos 0)) as (λ b. int_eq owner (pos 0) ≡ b → In k (cond b [] (SessionKey (nat_abs owner) ∷ [])) → (owner ≡ pos 0 → ⊥) × (k ≡ SessionKey (nat_abs owner))) [
     | true ↦ λ e h. absurd h
-    | false ↦ λ e h. ⊎_elim (λ is. (λ z. true_false (sym ((Decides-int_eq owner (pos 0)).1 z) ∙ e), sym is)) (λ bad. absurd bad) h
+    | false ↦ λ e h. ⊎_elim (λ is. (λ z. true≢false (sym ((Decides-int_eq owner (pos 0)).1 z) ∙ e), sym is)) (λ bad. absurd bad) h
   ] refl
 
-  owner_in : (owner : ℤ) → (owner ≡ pos 0 → ⊥) → In (SessionKey (nat_abs owner)) (owner_nodes owner)
+  pub owner_in : (owner : ℤ) → (owner ≡ pos 0 → ⊥) → In (SessionKey (nat_abs owner)) (owner_nodes owner)
   owner_in owner owns = subst (λ b. In (SessionKey (nat_abs owner)) (cond b [] (SessionKey (nat_abs owner) ∷ []))) (sym (int_eq-apart owner (pos 0) owns)) (inl refl)
 
-  follows : (who : Who) (v : View) (owner : ℤ) → IsOwnerSeen (sees v (DataKey p)) owner → (k : Key) → In k (owner_nodes owner) → Follows (req.Delete p version) who.session v (key_want k)
-  follows who v owner is k h =
+  pub owner_follows : (v : View) (owner : ℤ) → IsOwnerSeen (sees v (DataKey p)) owner → (k : Key) → In k (owner_nodes owner) → FollowsOwner v p (key_want k)
+  owner_follows v owner is k h =
       let at = in_owner owner k h in
       let node = owner_node v owner is at.0 in
       (node.0, (node.1.is.0, (node.1.kv, node.1.there, node.1.is.1)), (λ e. at.0 (node.2 ∙ e)), ap key_want (at.1 ∙ ap (λ (o : ℤ). SessionKey (nat_abs o)) node.2))
+
+  pub owner_to : (v : View) (owner : ℤ) → IsOwnerSeen (sees v (DataKey p)) owner → (w : Want) → FollowsOwner v p w → (k : Key) × In k (owner_nodes owner) × (w ≡ key_want k)
+  owner_to v owner is w h =
+      let node : IsNodeSeen v h.0 = record { kv = h.1.1.0; there = h.1.1.1; is = (h.1.0, h.1.1.2) } in
+      let same_owner = same_node v owner is h.0 node in
+      (SessionKey (nat_abs owner), owner_in owner (λ e. h.2 (sym same_owner ∙ e)), h.3 ∙ ap (λ (o : ℤ). key_want (SessionKey (nat_abs o))) (sym same_owner))
 
   reads_from : (who : Who) (v : View) (owner : ℤ) → IsOwnerSeen (sees v (DataKey p)) owner → (k : Key) → In k (delete_keys p (parent p) who.session owner) → IsRead (req.Delete p version) who v (key_want k)
   reads_from who v owner is k (inl e) = inl (ap key_want (sym e))
   reads_from who v owner is k (inr (inl e)) = inr (inl (ap key_want (sym e)))
   reads_from who v owner is k (inr (inr h)) = ⊎_elim
       (λ a. inr (inr (inl (k, in_contains k _ (subst (In k) (sym (reads_are who.session)) a), refl))))
-      (λ b. inr (inr (inr (follows who v owner is k b))))
+      (λ b. inr (inr (inr (owner_follows v owner is k b))))
       (in_either k fixed (owner_nodes owner) h)
 
   reads_to : (who : Who) (v : View) (owner : ℤ) → IsOwnerSeen (sees v (DataKey p)) owner → (w : Want) → IsRead (req.Delete p version) who v w → (k : Key) × In k (delete_keys p (parent p) who.session owner) × (w ≡ key_want k)
@@ -204,9 +208,8 @@ module _ (p : Bytes) (version : ℤ) where
   reads_to who v owner is w (inr (inl e)) = (LeaseKey (nat_abs who.session), inr (inl refl), e)
   reads_to who v owner is w (inr (inr (inl h))) = (h.0, inr (inr (in_left h.0 fixed (owner_nodes owner) (subst (In h.0) (reads_are who.session) (contains_in h.0 _ h.1)))), h.2)
   reads_to who v owner is w (inr (inr (inr h))) =
-      let node : IsNodeSeen v h.0 = record { kv = h.1.1.0; there = h.1.1.1; is = (h.1.0, h.1.1.2) } in
-      let same_owner = same_node v owner is h.0 node in
-      (SessionKey (nat_abs owner), inr (inr (in_right _ fixed (owner_nodes owner) (owner_in owner (λ e. h.2 (sym same_owner ∙ e))))), h.3 ∙ ap (λ (o : ℤ). key_want (SessionKey (nat_abs o))) (sym same_owner))
+      let k = owner_to v owner is w h in
+      (k.0, inr (inr (in_right _ fixed (owner_nodes owner) k.1)), k.2)
 
   pub delete_needs : (who : Who) (v : View) (ws : List Want) (q : Option Bytes) (owner : ℤ) → (is_path p && not (same p root)) ≡ true → q ≡ parent p → IsOwnerSeen (sees v (DataKey p)) owner → ws ≡ lacking v (map key_bytes (delete_keys p q who.session owner)) → AreNeeds (req.Delete p version) who v ws
   delete_needs who v ws q owner valid up is e =
@@ -221,10 +224,10 @@ module _ (p : Bytes) (version : ℤ) where
   pub owner_looked_up : (who : Who) (v : View) → (is_path p && not (same p root)) ≡ true → IsWhole (req.Delete p version) who v → (x : Option SeenData) → IsDataSeen (sees v (DataKey p)) x → IsOwnerLookedUp v x
   owner_looked_up who v valid whole None is = tt
   owner_looked_up who v valid whole (Some x) is = λ owns none.
-      whole (delete_valid valid) (key_want (SessionKey (nat_abs x.owner))) (inr (inr (inr (owner_follows x is owns)))) none
+      whole (delete_valid valid) (key_want (SessionKey (nat_abs x.owner))) (inr (inr (inr (nodes_follow x is owns)))) none
     where
-      owner_follows : (y : SeenData) → IsDataSeen (sees v (DataKey p)) (Some y) → (y.owner ≡ pos 0 → ⊥) → Follows (req.Delete p version) who.session v (key_want (SessionKey (nat_abs y.owner)))
-      owner_follows y h owns = elim (sees v (DataKey p)) as (λ o. sees v (DataKey p) ≡ o → IsDataSeen o (Some y) → Follows (req.Delete p version) who.session v (key_want (SessionKey (nat_abs y.owner)))) [
+      nodes_follow : (y : SeenData) → IsDataSeen (sees v (DataKey p)) (Some y) → (y.owner ≡ pos 0 → ⊥) → FollowsOwner v p (key_want (SessionKey (nat_abs y.owner)))
+      nodes_follow y h owns = elim (sees v (DataKey p)) as (λ o. sees v (DataKey p) ≡ o → IsDataSeen o (Some y) → FollowsOwner v p (key_want (SessionKey (nat_abs y.owner)))) [
         | None ↦ λ e bad. absurd bad
         | Some None ↦ λ e bad. absurd bad
         | Some (Some kv) ↦ λ e g.
@@ -234,10 +237,10 @@ module _ (p : Bytes) (version : ℤ) where
 
   -- ---- the keys that a plan guards
 
-  owner_few : (owner : ℤ) → length (owner_nodes owner) ≤ 1
+  pub owner_few : (owner : ℤ) → length (owner_nodes owner) ≤ 1
   owner_few owner = elim (int_eq owner (pos 0)) as (λ b. length (cond b [] (SessionKey (nat_abs owner) ∷ [])) ≤ 1) [ true ↦ omega arith | false ↦ omega arith ]
 
-  owner_short : (owner : ℤ) → All IsShortKey (owner_nodes owner)
+  pub owner_short : (owner : ℤ) → All IsShortKey (owner_nodes owner)
   owner_short owner = elim (int_eq owner (pos 0)) as (λ b. All IsShortKey (cond b [] (SessionKey (nat_abs owner) ∷ []))) [
     | true ↦ All-nil IsShortKey
     | false ↦ All-cons IsShortKey (SessionKey (nat_abs owner)) [] (omega (arith, session-size (nat_abs owner))) (All-nil IsShortKey)
@@ -273,7 +276,7 @@ module _ (p : Bytes) (version : ℤ) where
   -- ---- what is promised
 
   not_owned : (owner : ℤ) → int_eq owner (pos 0) ≡ false → owner ≡ pos 0 → ⊥
-  not_owned owner e is = true_false (sym ((Decides-int_eq owner (pos 0)).1 is) ∙ e)
+  not_owned owner e is = true≢false (sym ((Decides-int_eq owner (pos 0)).1 is) ∙ e)
 
   module _ (who : Who) (v : View) (now : ℕ) (valid : (is_path p && not (same p root)) ≡ true) (moment : now < 2 ^ 62) (real : pos 1 ≤ℤ who.session) (d : Decision) where
     module _ (q : Bytes) (below : parent p ≡ Some q) (is : IsDelete v p version who.session (Some q) d) where

@@ -2,9 +2,11 @@
 use Rattle.std.proofs.Common.{◌≡◌, ℕ, ℤ, pos, Bool, true, false, cond, not, List, Option, Some, None, refl, sym, ap, ◌∙◌, subst, arith, eqb}
 use Rattle.std.specs.Ordering.{int_eq}
 use Rattle.std.specs.FinMap.{get}
+use Rattle.std.proofs.lemmas.Bool.{true≢false}
 use Rattle.std.proofs.lemmas.Bool.Decides.{nat_tests}
 use Rattle.std.proofs.lemmas.Int.{ints}
 use Rattle.zx_base.specs.Maps.{Bytes}
+use Rattle.zx_base.proofs.Options.{some_is}
 use Rattle.zk_model.specs.declared.node.Node.{Node}
 use Rattle.zk_model.specs.declared.reply.PartResult.TheVariants as result
 use Rattle.zk_model.specs.Codes.{bad_version, not_empty}
@@ -26,17 +28,11 @@ use Rattle.zn_updates.proofs.Meanings.{int_eq-is, int_eq-same}
 is_zero : (n : ℕ) → int_eq (pos n) (pos 0) ≡ eqb n 0
 is_zero n = grind (arith, nat_tests, ints)
 
-true_false : true ≡ false → ⊥
-true_false e = cc
-
-some_same : {X : Type 0} (x y : X) → Some x ≡ Some y → x ≡ y
-some_same x y e = cc
-
 -- the parent of a node that is there is there, and has no owner
 pub plain_parent : (s : State) (p q : Bytes) (n : Node) → IsSound s → parent p ≡ Some q → get s.tree p ≡ Some n → HasPlain s.tree q
 plain_parent s p q n sound below here =
     let up = sound.parents p n here (not_root p q below) in
-    subst (HasPlain s.tree) (some_same up.path q (sym up.is ∙ below)) up.has
+    subst (HasPlain s.tree) (some_is (sym up.is ∙ below)) up.has
 
 module _ (s : State) (p q : Bytes) (version z : ℤ) (sound : IsSound s) (below : parent p ≡ Some q) where
   module _ (n : Node) (x : SeenData) (here : get s.tree p ≡ Some n) (seen : IsSeenData z x n) where
@@ -87,7 +83,7 @@ module _ (s : State) (p q : Bytes) (version z : ℤ) (sound : IsSound s) (below 
       deletes paths shows = elim (int_eq x.owner (pos 0)) as (λ b. int_eq x.owner (pos 0) ≡ b → IsRight z s (cond b (Make (delete_changes p q above.counts) (delete_triggers p q) result.Deleted) (delete_owned p q above.counts x.owner paths)) done) [
         | true ↦ plain
         | false ↦ λ e.
-            let has_owner : x.owner ≡ pos 0 → ⊥ = λ free. true_false (sym (int_eq-same x.owner (pos 0) free) ∙ e) in
+            let has_owner : x.owner ≡ pos 0 → ⊥ = λ free. true≢false (sym (int_eq-same x.owner (pos 0) free) ∙ e) in
             by_paths paths has_owner (shows has_owner)
       ] refl
 
@@ -95,7 +91,7 @@ module _ (s : State) (p q : Bytes) (version z : ℤ) (sound : IsSound s) (below 
         IsRight z s (delete_here p q x above paths) (Done result.Deleted (removed s.tree p z) (removal p))
     by_parent above None is counted paths shows = absurd (cc)
     by_parent None (Some w) is counted paths shows = absurd counted
-    by_parent (Some c) (Some w) is counted paths shows = deletes c (subst (λ (y : Node). IsSeenCounts z c y (num_children s.tree q)) (some_same w up.node is) counted) paths shows
+    by_parent (Some c) (Some w) is counted paths shows = deletes c (subst (λ (y : Node). IsSeenCounts z c y (num_children s.tree q)) (some_is is) counted) paths shows
 
     -- the tests of the version and of the children
     tests : (made : Choice) (done : Outcome) → IsRight z s made done → (b e : Bool) →

@@ -15,6 +15,7 @@ pub mod Telling
 pub mod Deciding
 pub mod Layered
 pub mod PartRecords
+pub mod PartWrites
 pub mod PartChoices
 pub mod Showing
 pub mod WellMade

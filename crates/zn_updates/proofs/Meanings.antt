@@ -1,6 +1,6 @@
 -- What keys mean is carried along equal look-ups; sessions' numbers.
-use Rattle.std.proofs.Common.{◌^◌, ◌<◌, ◌≡◌, ℕ, ℤ, pos, true, false, List, Option, Some, None, refl, sym, ap, ◌∙◌, subst, arith, eqb-true}
-use Rattle.std.proofs.lemmas.Bool.{eqb-false}
+use Rattle.std.proofs.Common.{◌^◌, ◌<◌, ◌≡◌, ℕ, ℤ, pos, true, false, List, Option, Some, None, refl, sym, ap, ◌∙◌, subst, arith, eqb-true, ◌+ℤ◌}
+use Rattle.std.proofs.lemmas.Bool.{eqb-false, true≢false}
 use Rattle.std.specs.Prelude.{◌≤ℤ◌, nat_abs, nat_eq}
 use Rattle.std.specs.Ordering.{int_eq}
 use Rattle.std.proofs.lemmas.Int.{ints}
@@ -58,6 +58,9 @@ int_eq-same a b h = (Decides-int_eq a b).1 h
 
 pub int_eq-apart : (a b : ℤ) → (a ≡ b → ⊥) → int_eq a b ≡ false
 int_eq-apart a b h = elim (int_eq a b) as (λ t. int_eq a b ≡ t → t ≡ false) [ true ↦ λ e. absurd (h (int_eq-is a b e)) | false ↦ λ e. refl ] refl
+
+pub below_most : (n most : ℤ) → n ≤ℤ most → int_eq n most ≡ false → (n +ℤ pos 1) ≤ℤ most
+below_most n most h apart = let far : n ≡ most → ⊥ = λ e. true≢false (sym (int_eq-same n most e) ∙ apart) in omega (arith, ints)
 
 pub of_abs : (id : ℤ) → pos 0 ≤ℤ id → pos (nat_abs id) ≡ id
 of_abs id h = omega (arith, ints)

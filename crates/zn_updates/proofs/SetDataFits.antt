@@ -1,6 +1,5 @@
 -- The change of a setData fits it.
-use Rattle.std.proofs.Common.{◌^◌, ◌<◌, ◌≡◌, ℕ, ℤ, pos, ◌≤◌, true, false, cond, length, Some, None, refl, sym, ap, ◌∙◌, subst, ⊎_elim, arith, ◌+ℤ◌}
-use Rattle.std.specs.Prelude.{◌≤ℤ◌}
+use Rattle.std.proofs.Common.{◌^◌, ◌<◌, ◌≡◌, ℕ, ℤ, pos, ◌≤◌, true, false, cond, length, Some, None, refl, sym, ap, ◌∙◌, subst, ⊎_elim, arith}
 use Rattle.std.specs.Ordering.{int_eq}
 use Rattle.std.specs.FinMap.{get, insert}
 use Rattle.std.proofs.lemmas.Int.{ints}
@@ -21,14 +20,8 @@ use Rattle.zn_updates.specs.declared.seen.SeenData.{SeenData}
 use Rattle.zn_updates.specs.Seen.{IsSeenData, IsDataWithin}
 use Rattle.zn_updates.specs.Choices.{set_record, set_changes}
 use Rattle.zn_updates.specs.Right.{with_tree}
-use Rattle.zn_updates.proofs.Meanings.{data_along, counts_along, counts_same, nodes_along, int_eq-same, moment_within}
+use Rattle.zn_updates.proofs.Meanings.{data_along, counts_along, counts_same, nodes_along, below_most, moment_within}
 use Rattle.zn_updates.proofs.OwnedLists.{owned-change}
-
-true_false : true ≡ false → ⊥
-true_false e = cc
-
-below_most : (n : ℤ) → n ≤ℤ max_version → int_eq n max_version ≡ false → (n +ℤ pos 1) ≤ℤ max_version
-below_most n h apart = let far : n ≡ max_version → ⊥ = λ e. true_false (sym (int_eq-same n max_version e) ∙ apart) in omega (arith, ints)
 
 -- the record that is put keeps its bounds
 pub set_record-within : (x : SeenData) (content : Bytes) (now : ℕ) → IsDataWithin x → int_eq x.version max_version ≡ false → now < 2 ^ 62 → length content ≤ max_frame → IsNodeRec (set_record x content now)
@@ -37,7 +30,7 @@ set_record-within x content now within room moment short =
     record {
       czxid = within.czxid;
       version_least = omega (arith, ints);
-      version_most = below_most x.version within.version_most room;
+      version_most = below_most x.version max_version within.version_most room;
       ctime = within.ctime;
       mtime = moment_within now moment;
       owner = within.owner;

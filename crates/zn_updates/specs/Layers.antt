@@ -1,5 +1,5 @@
 -- A view with keys laid over it, as the parts of a multi left them; and when a choice on it is right.
-use Rattle.std.specs.Prelude.{◌<◌, ◌^◌, ◌≡◌, ℕ, ℤ, pos, ◌≤◌, ◌≤ℤ◌, ◌++◌, Option, Some, None, IfSome}
+use Rattle.std.specs.Prelude.{◌<◌, ◌^◌, ◌≡◌, ℕ, ℤ, pos, ◌≤ℤ◌, ◌++◌, Option, Some, None, IfSome}
 use Rattle.ev_types.specs.declared.answer.Kv.{Kv}
 use Rattle.ev_types.specs.Store.{last_revision}
 use Rattle.zk_model.specs.declared.request.Part.{Part}

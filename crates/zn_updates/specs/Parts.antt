@@ -1,20 +1,22 @@
 -- What is chosen for a part of a multi, on what a view shows.
-use Rattle.std.specs.Prelude.{◌≡◌, ℕ, ℤ, pos, nat_abs, ◌≤◌, Bool, true, not, List, [], length, All, Option, Some, None, IfSome, if◌then◌else◌}
+use Rattle.std.specs.Prelude.{◌≡◌, ◌+◌, ℕ, ℤ, pos, nat_abs, ◌≤◌, Bool, true, not, List, [], length, sum_by, All, Contains, Option, Some, None, IfSome, if◌then◌else◌}
+use Rattle.ev_types.specs.declared.answer.Kv.{Kv}
 use Rattle.zk_model.specs.declared.node.Trigger.{Trigger}
 use Rattle.zk_model.specs.declared.reply.PartResult.TheVariants as result
 use Rattle.zk_model.specs.declared.request.Part.{Part}
 use Rattle.zk_model.specs.declared.request.Part.TheVariants as part
 use Rattle.zk_model.specs.Codes.{no_node, bad_version}
 use Rattle.zk_model.specs.Paths.{parent}
-use Rattle.zk_model.specs.Single.{is_ephemeral, is_sequential, matches, named}
+use Rattle.zk_model.specs.Single.{form_refusal, is_ephemeral, is_sequential, matches, named}
 use Rattle.zx_base.specs.Maps.{Bytes}
-use Rattle.zn_layout.specs.Changes.{Change, Put}
-use Rattle.zn_layout.specs.Keys.{HeadKey, DataKey, CountsKey, SessionKey, key_bytes}
+use Rattle.zn_layout.specs.Changes.{Change, Put, put_size}
+use Rattle.zn_layout.specs.Keys.{Key, HeadKey, DataKey, CountsKey, SessionKey, LeaseKey, key_bytes}
 use Rattle.zn_layout.specs.Records.{IsCountRec, IsHeadRec, IsSessionRec}
 use Rattle.zn_view.specs.declared.plan.Who.{Who}
 use Rattle.zn_view.specs.Asks.{IsLeaseless}
 use Rattle.zn_view.specs.Lookups.{HasSeen, sees}
-use Rattle.zn_view.specs.Seen.{View, IsOfKind, kind_of}
+use Rattle.zn_view.specs.Seen.{View, seen, IsOfKind, kind_of}
+use Rattle.zn_view.specs.Views.{part_keys}
 use Rattle.zn_updates.specs.declared.chosen.Chosen.{Chosen}
 use Rattle.zn_updates.specs.declared.seen.SeenData.{SeenData}
 use Rattle.zn_updates.specs.declared.seen.SeenCounts.{SeenCounts}
@@ -49,11 +51,15 @@ pub record IsDeleteSeen (v : View) (p : Bytes) : Type 0 where
   pub above : (q : Bytes) → parent p ≡ Some q → HasSeen v (CountsKey q)
   pub owner : (x : Option SeenData) → IsDataSeen (sees v (DataKey p)) x → IsOwnerLookedUp v x
 
+abbrev pub IsSeenFor : ℤ → View → Part → Type 0
+IsSeenFor id v (part.Create path d a f) = (q : Bytes) → parent (named f path) ≡ Some q → IsCreateSeen id v path f q
+IsSeenFor id v (part.Delete p x) = IsDeleteSeen v p
+IsSeenFor id v (part.SetData p d x) = HasSeen v (DataKey p) × HasSeen v (CountsKey p)
+IsSeenFor id v (part.Check p x) = HasSeen v (DataKey p)
+
+-- the choice of a part whose form is refused looks at nothing
 abbrev pub IsPartSeen : ℤ → View → Part → Type 0
-IsPartSeen id v (part.Create path d a f) = (q : Bytes) → parent (named f path) ≡ Some q → IsCreateSeen id v path f q
-IsPartSeen id v (part.Delete p x) = IsDeleteSeen v p
-IsPartSeen id v (part.SetData p d x) = HasSeen v (DataKey p) × HasSeen v (CountsKey p)
-IsPartSeen id v (part.Check p x) = HasSeen v (DataKey p)
+IsPartSeen id v p = form_refusal p ≡ None → IsSeenFor id v p
 
 -- ---- what is promised of it
 
@@ -73,17 +79,56 @@ pub record AreKept (cs : List Change) (ts : List Trigger) : Type 0 where
   pub triggers : IsHeadRec ts
   pub told : length ts ≤ 2
 
--- the choice that is right, where what it looks at was looked up
+-- ---- which keys a part writes, and how many bytes
+
+-- the node's record, where it was looked up
+abbrev pub IfData : View → Bytes → Option SeenData → Type 0
+IfData v p x = HasSeen v (DataKey p) → IsDataSeen (sees v (DataKey p)) x
+
+-- the bytes of a value, of a session's nodes none
+abbrev pub size_beside : Key → Option Put → ℕ
+size_beside (SessionKey n) w = 0
+size_beside HeadKey w = put_size w
+size_beside (DataKey p) w = put_size w
+size_beside (CountsKey p) w = put_size w
+size_beside (LeaseKey n) w = put_size w
+
+abbrev pub plain_size : Change → ℕ
+plain_size c = size_beside c.key c.put
+
+-- the part makes or removes a node of this session
+abbrev pub IsTouching : ℤ → View → Part → ℕ → Type 0
+IsTouching id v (part.Create path d a f) n = (is_ephemeral f ≡ true) × (n ≡ nat_abs id)
+IsTouching id v (part.Delete p x) n = (w : SeenData) × IfData v p (Some w) × (w.owner ≡ pos 0 → ⊥) × (n ≡ nat_abs w.owner)
+IsTouching id v (part.SetData p d x) n = ⊥
+IsTouching id v (part.Check p x) n = ⊥
+
+-- a key that is deleted is one that the part reads, and the nodes of a session are those of one whose node is made or removed
+pub record IsOwnChange (id : ℤ) (v : View) (p : Part) (c : Change) : Type 0 where
+  pub short : length (key_bytes c.key) ≤ 1033
+  pub gone : c.put ≡ None → Contains (part_keys id p) c.key
+  pub nodes : (n : ℕ) → c.key ≡ SessionKey n → IsTouching id v p n
+
+pub record AreOwn (id : ℤ) (v : View) (p : Part) (cs : List Change) : Type 0 where
+  pub each : All (IsOwnChange id v p) cs
+  pub light : sum_by plain_size cs ≤ 55 + length (part_content p)
+
+abbrev pub IfOwn : ℤ → View → Part → Choice → Type 0
+IfOwn id v p c = IfChanges (λ cs ts. AreOwn id v p cs) c
+
+-- what a view saw, another saw too
+abbrev pub IsNarrower : View → View → Type 0
+IsNarrower near v = (k : Bytes) (o : Option Kv) → seen near k ≡ Some o → seen v k ≡ Some o
+
+-- The choice is right on this view, and on each narrower one, where what it looks at was looked up.
 pub record IsPartChoice (p : Part) (who : Who) (now : ℕ) (v : View) (c : Chosen) : Type 0 where
   pub choice : ℕ → Choice
   pub is : c ≡ chosen_of (choice now)
-  pub chosen : IsPartSeen who.session v p → IsChosen p who v choice
+  pub chosen : (near : View) → IsNarrower near v → IsPartSeen who.session near p → IsChosen p who near choice
   pub kept : IfChanges AreKept (choice now)
+  pub own : IfOwn who.session v p (choice now)
 
 -- ---- what the code chose on
-
-abbrev pub IfData : View → Bytes → Option SeenData → Type 0
-IfData v p x = HasSeen v (DataKey p) → IsDataSeen (sees v (DataKey p)) x
 
 abbrev pub IfCounts : View → Bytes → Option SeenCounts → Type 0
 IfCounts v p x = HasSeen v (CountsKey p) → IsCountsSeen (sees v (CountsKey p)) x

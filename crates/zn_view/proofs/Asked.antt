@@ -25,7 +25,7 @@ use Rattle.zn_view.specs.Views.{Agrees, WasPut}
 
 -- ---- a key that was seen is guarded
 
-guard_later : (g : Guard) (x : SeenKey) (xs : List SeenKey) (b : Bool) → Contains (guards_of xs) g → Contains (if b then guards_of xs else record { key = x.key; mod_revision = mod_of x.found } ∷ guards_of xs) g
+pub guard_later : (g : Guard) (x : SeenKey) (xs : List SeenKey) (b : Bool) → Contains (guards_of xs) g → Contains (if b then guards_of xs else record { key = x.key; mod_revision = mod_of x.found } ∷ guards_of xs) g
 guard_later g x xs true h = h
 guard_later g x xs false (i, lt, e) = (suc i, omega (arith, lt), e)
 

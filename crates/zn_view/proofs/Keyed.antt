@@ -9,14 +9,15 @@ use Rattle.std.specs.FinMap.{get, entries, retain_keys, empty, get-empty, get-en
 use Rattle.std.specs.FinMap.Entries.{below_all, is_sorted, find}
 use Rattle.std.proofs.lemmas.Cmp.{tied_itself}
 use Rattle.std.proofs.lemmas.List.Elements.{All-nil, All-cons, All-head, All-tail}
-use Rattle.std.proofs.lemmas.Map.Lookups.{exact_bytes}
 use Rattle.ev_types.specs.declared.answer.Kv.{Kv}
 use Rattle.ev_types.specs.Ranges.{Keys, found, in_range, is_within, shown}
 use Rattle.ev_types.specs.Reads.{key_range, one_found}
 use Rattle.ev_types.specs.Store.{Store, Change, Puts, Removes, after_changes, changed, keys_from, put_over, store_at}
 use Rattle.ev_types.proofs.Found.{found-key}
+use Rattle.ev_types.proofs.Names.{names-tie}
 use Rattle.zx_base.specs.Maps.{Bytes, same}
-use Rattle.zx_base.proofs.MapLaws.{either, same-refl, get-insert_same, get-insert_other, get-remove_same, get-remove_other, get-retain}
+use Rattle.zx_base.proofs.MapLaws.{either, same-refl, same-true, get-insert_same, get-insert_other, get-remove_same, get-remove_other, get-retain}
+use Rattle.zx_base.proofs.Options.{none_some, some_is}
 use Rattle.zn_view.specs.declared.want.Want.TheVariants as want
 use Rattle.zn_view.specs.Asks.{children_start, children_end, is_child_of, kept_under, path_in, paths_in, range_of}
 use Rattle.zn_view.specs.Views.{children_kept}
@@ -26,19 +27,13 @@ use Rattle.zn_view.specs.Views.{children_kept}
 abbrev pub AreKeyed : Keys → Type 0
 AreKeyed m = (k : Bytes) (kv : Kv) → get m k ≡ Some kv → kv.key ≡ k
 
-none_some : {x : Kv} → None ≡ Some x → ⊥
-none_some e = cc
-
-same_kv : {x y : Kv} → Some x ≡ Some y → x ≡ y
-same_kv e = cc
-
 put-key : (r : ℤ) (k v : Bytes) (lease : ℤ) (old : Option Kv) → (put_over r k v lease old).key ≡ k
 put-key r k v lease None = refl
 put-key r k v lease (Some kv) = refl
 
 keyed-change : (r : ℤ) (m : Keys) (c : Change) → AreKeyed m → AreKeyed (changed r m c)
 keyed-change r m (Puts k v lease) keyed q kv e = ⊎_elim
-    (λ same. let is : put_over r k v lease (get m k) ≡ kv = same_kv (sym (get-insert_same m k _) ∙ sym (ap (get (changed r m (Puts k v lease))) same) ∙ e) in
+    (λ same. let is : put_over r k v lease (get m k) ≡ kv = some_is (sym (get-insert_same m k _) ∙ sym (ap (get (changed r m (Puts k v lease))) same) ∙ e) in
     sym (ap (λ (x : Kv). x.key) is) ∙ put-key r k v lease (get m k) ∙ sym same)
     (λ apart. keyed q kv (sym (get-insert_other m k q _ apart) ∙ e))
     (either q k)
@@ -96,14 +91,9 @@ none-below q [] h = refl
 none-below q (e ∷ es) h =
     ap (λ (b : Bool). cond b (Some e.1) (find order q es)) (apart_if_less (order q e.0) (and_first (is_lt (order q e.0)) (below_all order q es) h)) ∙ none-below q es (and_second (is_lt (order q e.0)) (below_all order q es) h)
 
-equal_of : (o : Ordering) → is_eq o ≡ true → o ≡ Equal
-equal_of Less h = cc
-equal_of Equal h = refl
-equal_of Greater h = cc
-
 find-later : (k : Bytes) (x : Kv) (e : Bytes × Kv) (es : List (Bytes × Kv)) (b : Bool) → is_eq (order k e.0) ≡ b → T (below_all order e.0 es) → find order k es ≡ Some x → cond b (Some e.1) (find order k es) ≡ Some x
 find-later k x e es true is below h =
-    let same : k ≡ e.0 = exact_bytes k e.0 (equal_of (order k e.0) is) in
+    let same : k ≡ e.0 = same-true k e.0 (sym (names-tie k e.0) ∙ is) in
     absurd (none_some (sym (none-below e.0 es below) ∙ ap (λ (q : Bytes). find order q es) (sym same) ∙ h))
 find-later k x e es false is below h = h
 

@@ -1,5 +1,5 @@
 -- Keys that are put in their place.
-use Rattle.std.proofs.Common.{◌≡◌, ◌∙◌, sym, refl, ap, List, [], ◌∷◌, ◌++◌, ◌<◌, ◌≤◌, zero, suc, ◌+◌, length, take, drop, cond, true, false, arith, slice_set, ℕ}
+use Rattle.std.proofs.Common.{◌≡◌, ◌∙◌, refl, ap, List, [], ◌∷◌, ◌++◌, ◌<◌, zero, suc, ◌+◌, length, take, drop, cond, true, false, arith, slice_set, ℕ}
 use Rattle.std.specs.Prelude.{All}
 use Rattle.std.proofs.lemmas.List.Elements.{All-cons, All-head, All-tail, All-nil}
 use Rattle.zx_base.specs.Maps.{same}

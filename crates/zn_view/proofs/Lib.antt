@@ -20,5 +20,5 @@ pub mod Sizes
 pub mod PlanSizes
 pub mod TakenPlans
 pub mod NumberTests
-pub mod Names
 pub mod Unknown
+pub mod Indexing

@@ -1,7 +1,8 @@
 -- Keys that are wanted: each that was not looked up is named, and no other.
-use Rattle.std.proofs.Common.{◌≡◌, ◌≢◌, ℕ, zero, suc, ◌<◌, length, get_or, Bool, true, false, cond, ◌||◌, List, [], ◌∷◌, ◌++◌, Option, Some, None, refl, sym, ap, ◌∙◌, subst, ◌⊎◌, ⊎_elim, inl, inr, arith}
+use Rattle.std.proofs.Common.{◌≡◌, ◌≢◌, ℕ, zero, suc, ◌<◌, length, get_or, true, false, cond, ◌||◌, List, [], ◌∷◌, ◌++◌, Option, Some, None, refl, sym, ap, ◌∙◌, subst, ◌⊎◌, ⊎_elim, inl, inr, arith}
 use Rattle.std.specs.Prelude.{AllPairs, Contains, fold, is_some}
 use Rattle.std.specs.List.{list_any}
+use Rattle.std.proofs.lemmas.Bool.{true≢false, or_cases, or_parts, or_right}
 use Rattle.std.proofs.lemmas.List.Elements.{Contains-push, Contains-append_left, Contains-push_cases}
 use Rattle.std.proofs.lemmas.List.Quantifiers.{all_pairs_push}
 use Rattle.ev_types.specs.declared.answer.Kv.{Kv}
@@ -14,14 +15,6 @@ use Rattle.zn_view.specs.Lacking.{is_want_of, with_want, lacking}
 use Rattle.zn_view.proofs.Elements.{contains-first, contains-rest, contains-cases}
 
 -- ---- one key
-
-or_true : (a b : Bool) → (a || b) ≡ true → (a ≡ true) ⊎ (b ≡ true)
-or_true true b h = inl refl
-or_true false b h = inr h
-
-or_false : (a b : Bool) → (a || b) ≡ false → a ≡ false
-or_false true b h = h
-or_false false b h = refl
 
 unseen_none : (o : Option (Option Kv)) → is_some o ≡ false → o ≡ None
 unseen_none None h = refl
@@ -40,7 +33,7 @@ wanted-contained k [] h = cc
 wanted-contained k (w ∷ ws) h = ⊎_elim
     (λ e. subst (λ (x : Want). Contains (w ∷ ws) x) (wanted_key k w e) (contains-first w ws))
     (λ e. contains-rest w ws (want.Key k) (wanted-contained k ws e))
-    (or_true (is_want_of k w) (list_any (is_want_of k) ws) h)
+    (or_cases (is_want_of k w) (list_any (is_want_of k) ws) h)
 
 -- what a list with one more key to look for contains
 kept_one : (v : View) (ws : List Want) (k : Bytes) (w : Want) → Contains ws w → Contains (with_want v ws k) w
@@ -48,14 +41,14 @@ kept_one v ws k w has = elim (is_some (seen v k) || list_any (is_want_of k) ws) 
 
 named_one : (v : View) (ws : List Want) (k : Bytes) → seen v k ≡ None → Contains (with_want v ws k) (want.Key k)
 named_one v ws k none = elim (is_some (seen v k) || list_any (is_want_of k) ws) as (λ b. (is_some (seen v k) || list_any (is_want_of k) ws) ≡ b → Contains (cond b ws (ws ++ want.Key k ∷ [])) (want.Key k)) [
-  | true ↦ λ e. ⊎_elim (λ s. absurd (seen_some (seen v k) s none)) (λ a. wanted-contained k ws a) (or_true (is_some (seen v k)) (list_any (is_want_of k) ws) e)
+  | true ↦ λ e. ⊎_elim (λ s. absurd (seen_some (seen v k) s none)) (λ a. wanted-contained k ws a) (or_cases (is_some (seen v k)) (list_any (is_want_of k) ws) e)
   | false ↦ λ e. Contains-push ws (want.Key k)
 ] refl
 
 only_one : (v : View) (ws : List Want) (k : Bytes) (w : Want) → Contains (with_want v ws k) w → Contains ws w ⊎ ((w ≡ want.Key k) × (seen v k ≡ None))
 only_one v ws k w = elim (is_some (seen v k) || list_any (is_want_of k) ws) as (λ b. (is_some (seen v k) || list_any (is_want_of k) ws) ≡ b → Contains (cond b ws (ws ++ want.Key k ∷ [])) w → Contains ws w ⊎ ((w ≡ want.Key k) × (seen v k ≡ None))) [
   | true ↦ λ e has. inl has
-  | false ↦ λ e has. ⊎_elim (λ h. inl h) (λ h. inr (sym h, unseen_none (seen v k) (or_false (is_some (seen v k)) (list_any (is_want_of k) ws) e))) (Contains-push_cases ws (want.Key k) w has)
+  | false ↦ λ e has. ⊎_elim (λ h. inl h) (λ h. inr (sym h, unseen_none (seen v k) (or_parts (is_some (seen v k)) (list_any (is_want_of k) ws) e).0)) (Contains-push_cases ws (want.Key k) w has)
 ] refl
 
 -- ---- many keys
@@ -87,21 +80,10 @@ only_all v (x ∷ ks) ws w has = ⊎_elim
 
 -- ---- each once
 
-or_right : (a b : Bool) → b ≡ true → (a || b) ≡ true
-or_right true b h = refl
-or_right false b h = h
-
-or_second : (a b : Bool) → (a || b) ≡ false → b ≡ false
-or_second true b h = absurd (cc)
-or_second false b h = h
-
 wanted_at : (k : Bytes) (ws : List Want) (i : ℕ) (d : Want) → i < length ws → get_or ws i d ≡ want.Key k → list_any (is_want_of k) ws ≡ true
 wanted_at k [] i d lt e = absurd (omega (arith, lt))
 wanted_at k (w ∷ ws) zero d lt e = ap (λ b. b || list_any (is_want_of k) ws) (ap (is_want_of k) e ∙ same-refl k)
 wanted_at k (w ∷ ws) (suc i) d lt e = or_right (is_want_of k w) (list_any (is_want_of k) ws) (wanted_at k ws i d (omega (arith, lt)) e)
-
-true_false : true ≡ false → ⊥
-true_false e = cc
 
 abbrev pub AreApart : List Want → Type 0
 AreApart ws = AllPairs (λ (w u : Want). w ≢ u) ws
@@ -110,7 +92,7 @@ apart_one : (v : View) (ws : List Want) (k : Bytes) → AreApart ws → AreApart
 apart_one v ws k apart =
     elim (is_some (seen v k) || list_any (is_want_of k) ws) as (λ b. (is_some (seen v k) || list_any (is_want_of k) ws) ≡ b → AreApart (cond b ws (ws ++ want.Key k ∷ []))) [
       | true ↦ λ e. apart
-      | false ↦ λ e. all_pairs_push (λ (w u : Want). w ≢ u) ws (want.Key k) apart (λ i d lt is. true_false (sym (wanted_at k ws i d lt is) ∙ or_second (is_some (seen v k)) (list_any (is_want_of k) ws) e))
+      | false ↦ λ e. all_pairs_push (λ (w u : Want). w ≢ u) ws (want.Key k) apart (λ i d lt is. true≢false (sym (wanted_at k ws i d lt is) ∙ (or_parts (is_some (seen v k)) (list_any (is_want_of k) ws) e).1))
     ] refl
 
 apart_all : (v : View) (ks : List Bytes) (ws : List Want) → AreApart ws → AreApart (fold (with_want v) ws ks)

@@ -3,6 +3,7 @@
 use Rattle.std.proofs.Common.{◌≡◌, ℕ, ℤ, true, false, List, [], ◌∷◌, ◌++◌, Option, Some, None, refl, sym, ap, ◌∙◌, subst, inl, inr, ⊎_elim, arith, zero, suc}
 use Rattle.std.specs.Prelude.{All, Contains, nat_abs, if◌then◌else◌}
 use Rattle.std.specs.FinMap.{get}
+use Rattle.std.proofs.lemmas.Bool.{true≢false}
 use Rattle.std.proofs.lemmas.List.Elements.{All-nil, All-cons, All-head, All-tail, All-weaker, All-contains}
 use Rattle.ev_types.specs.declared.answer.Kv.{Kv}
 use Rattle.ev_types.specs.declared.ask.Guard.{Guard}
@@ -27,9 +28,6 @@ use Rattle.zn_view.proofs.Members.{In, contains_in}
 
 -- ---- what is seen
 
-true_false : true ≡ false → ⊥
-true_false e = cc
-
 -- what is seen among the picked keys was seen
 pub picked-seen : (v : View) (ks : List Bytes) (k : Bytes) (o : Option Kv) → seen_in k (picked v ks) ≡ Some o → seen v k ≡ Some o
 picked-seen v [] k o e = absurd (none_some e)
@@ -50,7 +48,7 @@ picked-told v (j ∷ ks) k o h e =
       | None ↦ λ f. ⊎_elim (λ is. absurd (none_some (sym f ∙ ap (seen v) is ∙ e))) (λ later. picked-told v ks k o later e) h
       | Some p ↦ λ f. elim (same j k) as (λ b. same j k ≡ b → (if b then Some p else seen_in k (picked v ks)) ≡ Some o) [
         | true ↦ λ g. sym f ∙ ap (seen v) (same-true j k g) ∙ e
-        | false ↦ λ g. ⊎_elim (λ is. absurd (true_false (sym (ap (λ (x : Bytes). same j x) (sym is) ∙ same-refl j) ∙ g))) (λ later. picked-told v ks k o later e) h
+        | false ↦ λ g. ⊎_elim (λ is. absurd (true≢false (sym (ap (λ (x : Bytes). same j x) (sym is) ∙ same-refl j) ∙ g))) (λ later. picked-told v ks k o later e) h
       ] refl
     ] refl
 

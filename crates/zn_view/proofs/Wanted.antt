@@ -1,5 +1,5 @@
 -- What a view lacks of the keys that a request looks up is what the request needs.
-use Rattle.std.proofs.Common.{◌≡◌, ◌≢◌, List, [], Some, None, refl, sym, ap, ◌∙◌, subst, ⊎_elim, arith, false}
+use Rattle.std.proofs.Common.{◌≡◌, ◌≢◌, List, [], Some, None, refl, sym, ap, ◌∙◌, subst, ⊎_elim, arith}
 use Rattle.std.specs.Prelude.{AllPairs, Contains, map}
 use Rattle.zk_model.specs.declared.request.Request.{Request}
 use Rattle.zk_model.specs.Watches.{no_watches}

@@ -1,6 +1,6 @@
 -- How a view is read from an etcd: ranges at one revision, and what their answers show. How a plan is asked: a guarded
 -- transaction whose failure reads what was guarded.
-use Rattle.std.specs.Prelude.{◌≡◌, ◌+◌, ℤ, pos, nat_abs, Bool, true, false, List, [], ◌∷◌, ◌++◌, map, filter, drop, Option, Some, None, All, Contains, IfSome, codes, if◌then◌else◌}
+use Rattle.std.specs.Prelude.{◌≡◌, ℤ, pos, nat_abs, Bool, true, false, List, [], ◌∷◌, ◌++◌, map, filter, drop, Option, Some, None, All, Contains, IfSome, if◌then◌else◌}
 use Rattle.ev_types.specs.declared.answer.ActAns.{ActAns}
 use Rattle.ev_types.specs.declared.answer.ActAns.TheVariants as part
 use Rattle.ev_types.specs.declared.answer.Kv.{Kv}
@@ -14,10 +14,10 @@ use Rattle.ev_types.specs.declared.ask.TxnReq.{TxnReq}
 use Rattle.ev_types.specs.Ranges.{is_within}
 use Rattle.ev_types.specs.Reads.{are_present_reads}
 use Rattle.ev_types.specs.Store.{mod_of}
-use Rattle.zk_model.specs.Paths.{depth, root, slash}
 use Rattle.zx_base.specs.Maps.{Bytes, same}
 use Rattle.zn_layout.specs.Changes.{Change, Put, are_distinct, head_put, update_acts}
-use Rattle.zn_layout.specs.Keys.{HeadKey, LeaseKey, key_bytes, four_digits}
+use Rattle.zn_layout.specs.Keys.{HeadKey, LeaseKey, key_bytes}
+use Rattle.zn_layout.specs.Listing as layout
 use Rattle.zn_layout.specs.Records.{IsHeadRec}
 use Rattle.zn_view.specs.declared.plan.Plan.{Plan}
 use Rattle.zn_view.specs.declared.plan.Who.{Who}
@@ -28,16 +28,13 @@ use Rattle.zn_view.specs.Seen.{View, seen}
 
 -- ---- the ranges that are read
 
--- what the data keys of a node's children begin with, but for the slash: those of `/a` are from `zk/d/0002/a/` up to
--- `zk/d/0002/a0`, and those of the root from `zk/d/0001/` up to `zk/d/00010`
-abbrev pub children_prefix : Bytes → Bytes
-children_prefix p = codes "zk/d/" ++ four_digits (depth p + 1) ++ (if same p root then [] else p)
-
+-- the data keys of a node's children: those of `/a` are from `zk/d/0002/a/` up to `zk/d/0002/a0`, and those of the root from
+-- `zk/d/0001/` up to `zk/d/00010`
 unfoldable pub children_start : Bytes → Bytes
-children_start p = children_prefix p ++ slash ∷ []
+children_start p = layout.children_from p
 
 unfoldable pub children_end : Bytes → Bytes
-children_end p = children_prefix p ++ 48 ∷ []
+children_end p = layout.children_end p
 
 -- of children only the keys
 abbrev pub range_of : ℤ → Want → RangeReq

@@ -5,6 +5,7 @@ pub mod Views
 pub mod Lookups
 pub mod Needs
 pub mod Lacking
+pub mod Indexing
 pub mod Laying
 pub mod Deciding
 pub mod Laws

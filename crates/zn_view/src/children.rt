@@ -6,7 +6,8 @@ ghost use Rattle.ev_types.specs.Ranges.{comes_before};
 ghost use Rattle.zk_model.specs.Paths.{root};
 ghost use Rattle.zx_base.specs.Maps.{Bytes as ByteList, same};
 ghost use Rattle.zn_layout.specs.Keys.{digit as decimal_digit};
-ghost use Rattle.zn_view.specs.Asks.{children_prefix, children_start as first_child, children_end as behind_children, is_child_of, path_in, paths_in};
+ghost use Rattle.zn_layout.specs.Listing.{base, child_front};
+ghost use Rattle.zn_view.specs.Asks.{children_start as first_child, children_end as behind_children, is_child_of, path_in, paths_in};
 
 use ev_types::Kv;
 use std::alloc::Global;
@@ -38,7 +39,7 @@ pub fn children_end(alloc: Global, path: &Path) -> Result<Bytes, Memory>
 }
 
 fn bound(alloc: Global, path: &Path, last: u8) -> Result<Bytes, Memory>
-    ensures { IfOk result (λ k. k ≡ children_prefix path.now ++ last ∷ []) }
+    ensures { IfOk result (λ k. k ≡ child_front path.now ++ base path.now ++ last ∷ []) }
 {
     let n = u64::from(path.depth()) + 1;
     let digits = [digit(n / 1000), digit(n / 100), digit(n / 10), digit(n)];
@@ -53,7 +54,7 @@ fn bound(alloc: Global, path: &Path, last: u8) -> Result<Bytes, Memory>
 
 /// The path, of the root nothing.
 fn own_bytes(path: &Path) -> &[u8]
-    ensures { result.now ≡ (if same path.now root then [] else path.now) }
+    ensures { result.now ≡ base path.now }
 {
     let bytes = path.bytes();
     if bytes == b"/".as_slice() {

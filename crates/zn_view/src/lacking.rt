@@ -10,10 +10,10 @@ ghost use Rattle.zn_view.specs.declared.want.Want.TheVariants as want;
 ghost use Rattle.zn_view.specs.Lacking.{is_want_of, known_from, lacking as lacking_of, with_want};
 ghost use Rattle.zn_view.specs.Seen.{View as AnyView, seen};
 
-use crate::name::Name;
 use crate::snapshot::SeenKey;
 use crate::view::View;
 use crate::want::Want;
+use ev_types::Name;
 use std::alloc::Global;
 use std::collections::BTreeSet;
 use zx_base::{Bytes, Memory, Seq};

@@ -7,25 +7,24 @@
 //!
 //! In `specs/`, in reading order: `Seen` (a view, and what it saw), `Asks` (the ranges that are read, and what their
 //! answers show), `Adding` (what a view takes), `Views` (which states a view is of, and what a decision and a plan are
-//! worth), `Needs` (what a request looks up), `Deciding` (what is asked of each decision), `Lacking`, `Laying`, `Lookups`, `Laws`. The laws are the functions of `laws`, and stand
-//! in `proofs/` by topic: `SeenAfter`, `Showing`, `AsSeen`, `Narrowing`, `Tested`, `Committing`, `Asked`. Who shows that a request's
-//! changes are those of its update, in each state whose keys have what the view saw, has shown that its plan carries it
-//! out ([`a_plan_commits`]).
+//! worth), `Needs` (what a request looks up), `Deciding` (what is asked of each decision), `Lacking`, `Indexing`, `Laying`,
+//! `Lookups`, `Laws`. The laws are the functions of `laws`, and stand in `proofs/` by topic: `SeenAfter`, `Showing`, `AsSeen`,
+//! `Narrowing`, `Tested`, `Committing`, `Asked`. Who shows that a request's changes are those of its update, in each state whose
+//! keys have what the view saw, has shown that its plan carries it out ([`a_plan_commits`]).
 //!
-//! A look-up goes over the keys that were seen and copies nothing of a value; adding to a view copies each key and value
-//! that is kept once.
+//! A look-up goes over the keys that were seen and copies nothing of a value; for many there is an index ([`View::index`]). Adding
+//! to a view copies each key and value that is kept once.
 #![tactic(auto)]
 
 mod add;
 mod children;
 mod fault;
 mod guards;
+mod index;
 mod kind;
 mod lacking;
 mod laws;
 mod lookup;
-mod name;
-mod narrow;
 mod numbers;
 mod plan;
 mod round;
@@ -35,6 +34,7 @@ mod want;
 
 pub use children::{children_end, children_start};
 pub use fault::ViewFault;
+pub use index::{Index, found_by};
 pub use laws::{
     a_plan_commits, a_plan_is_answered, a_plan_may_be_asked, a_round_agrees, a_session_is_tested,
     children_are_listed, guarded_keys_are_as_seen, some_keys_are_enough, the_last_update_is_told,

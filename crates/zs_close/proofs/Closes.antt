@@ -1,8 +1,8 @@
 -- What a close is decided by makes its decision and its plan what they are to be.
-use Rattle.std.proofs.Common.{◌≡◌, ℕ, ℤ, pos, ◌≤◌, Bool, true, false, length, List, [], Option, Some, None, refl, sym, ap, subst, inl, inr, arith}
+use Rattle.std.proofs.Common.{◌≡◌, ℕ, ℤ, pos, ◌≤◌, true, false, length, List, [], Option, Some, None, refl, sym, ap, subst, inl, inr, arith}
 use Rattle.std.specs.Prelude.{◌≤ℤ◌, nat_abs, nat_le, Contains, MatchBool}
 use Rattle.std.specs.Ordering.{int_eq}
-use Rattle.std.proofs.lemmas.Bool.{le-leb}
+use Rattle.std.proofs.lemmas.Bool.{both_ways, le-leb, true≢false}
 use Rattle.std.proofs.lemmas.Bool.Decides.{Decides-int_eq}
 use Rattle.std.proofs.lemmas.Int.{ints}
 use Rattle.ev_types.specs.declared.answer.Kv.{Kv}
@@ -13,7 +13,7 @@ use Rattle.zk_model.specs.declared.request.Request.TheVariants as req
 use Rattle.zk_model.specs.Limits.{max_owned}
 use Rattle.zk_model.specs.Znodes.{owned}
 use Rattle.zk_model.specs.Watches.{no_watches}
-use Rattle.zk_transcript.specs.Answers.{plain_request, tree_reply}
+use Rattle.zk_transcript.specs.Answers.{tree_reply}
 use Rattle.zk_transcript.specs.History.{State, Session, IsSound, limit_of, session_at, session_ended}
 use Rattle.zx_base.specs.Maps.{Bytes}
 use Rattle.zn_layout.specs.Keys.{SessionKey, LeaseKey, key_bytes}
@@ -36,16 +36,9 @@ use Rattle.zn_view.proofs.Narrowing.{picked-among, picked-told}
 use Rattle.zn_view.proofs.Tested.{expired-decides, moved-decides, tree-decides}
 use Rattle.zs_close.specs.Closing.{IsEndPlan, IsClose, IsCloseBy, IsClosedBy, IsClosedWith, unsound}
 use Rattle.zs_close.specs.Wanting.{end_keys, read_keys, IsNodesSeen}
-use Rattle.zs_close.proofs.KeysRead.{end-reads}
+use Rattle.zs_close.proofs.KeysRead.{end-reads, plain}
 use Rattle.zs_close.proofs.Taken.{end-taken}
 use Rattle.zs_close.proofs.EndPlans.{agrees-for, commits-for, nodes-few, nodes-mean, life-means, ended-carries, ended-triggers}
-
-true_false : {b : Bool} → b ≡ true → b ≡ false → ⊥
-true_false t f = cc
-
-plain : plain_request no_watches req.Close ≡ None
-unfolding plain_request
-plain = refl
 
 told : (s : State) (limit : ℕ) (session : ℤ) → tree_reply s.tree limit session no_watches req.Close ≡ None
 unfolding tree_reply
@@ -91,7 +84,7 @@ module _ (who : Who) (v : View) (real : pos 1 ≤ℤ who.session) where
 
   -- and no more nodes than it may own
   too_many : (n : ℕ) → nat_le n max_owned ≡ false → n ≤ max_owned → ⊥
-  too_many n e few = true_false (le-leb n max_owned few) e
+  too_many n e few = both_ways _ e (le-leb n max_owned few)
 
   module _ (life_kv : Kv) (saw_life : life ≡ Some (Some life_kv)) (here : int_eq life_kv.mod_revision who.mine ≡ true) (d : Decision) where
     with_decides : (kv : Kv) (ps : List Bytes) → session_seen ≡ Some (Some kv) → IsNodesIn kv ps → IsClosedWith who.session v ps d → IsDecision req.Close who v d
@@ -170,7 +163,7 @@ module _ (who : Who) (v : View) (real : pos 1 ≤ℤ who.session) where
 
   module _ (p : Plan) (is : IsPlannedClose who v p) where
     not_lapsed : (s : State) → true ≡ false → (x : Session) → session_at who.session s ≡ Some x → x.lapsed ≡ true
-    not_lapsed s e x h = absurd (true_false refl e)
+    not_lapsed s e x h = absurd (true≢false e)
 
     close-plan : (now : ℕ) → IsPlan req.Close who now v p (λ z. finished z p.draft)
     close-plan now = record {

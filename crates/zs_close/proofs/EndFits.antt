@@ -12,6 +12,7 @@ use Rattle.std.proofs.lemmas.Int.{ints}
 use Rattle.std.proofs.lemmas.List.Sums.{sum_by-cons}
 use Rattle.zx_base.specs.Maps.{Bytes, same}
 use Rattle.zx_base.proofs.MapLaws.{ext}
+use Rattle.zx_base.proofs.Options.{some_is}
 use Rattle.zk_model.specs.declared.node.Node.{Node}
 use Rattle.zk_model.specs.Paths.{root, is_child}
 use Rattle.zk_model.specs.Single.{without_child}
@@ -30,9 +31,6 @@ use Rattle.zs_close.specs.Ending.{fewer, end_changes}
 use Rattle.zs_close.proofs.Removed.{left_over, removed_all-is, num_children-removed_all, AreThere}
 use Rattle.zs_close.proofs.Members.{rising-apart, IsOwned, owned-there, any-member}
 use Rattle.zs_close.proofs.Written.{gone_if, put_if, put_of, life_gone, written-head, written-data, written-counts, written-session, written-life}
-
-same_some : {X : Type 0} {x y : X} → Some x ≡ Some y → x ≡ y
-same_some e = cc
 
 -- ---- what the keys of a node mean where a child of it goes
 
@@ -96,7 +94,7 @@ module _ (s : State) (z id : ℤ) (alive : Bool) (counts : Bytes → Option Coun
   not_root : (p : Bytes) → IsOwned s.tree id p → p ≢ root
   not_root p own e =
       let top = sound.rooted in
-      let is : own.node ≡ top.node = same_some (sym own.there ∙ ap (get s.tree) e ∙ top.there) in
+      let is : own.node ≡ top.node = some_is (sym own.there ∙ ap (get s.tree) e ∙ top.there) in
       let zero : pos 0 ≡ id = sym top.plain ∙ sym (ap (λ (n : Node). n.owner) is) ∙ own.owner in
       omega (arith, ints)
 
@@ -105,13 +103,13 @@ module _ (s : State) (z id : ℤ) (alive : Bool) (counts : Bytes → Option Coun
       let m = any-member (is_child r) ps h in
       let own = mine m.path m.inside in
       let up = sound.parents m.path own.node own.there (not_root m.path own) in
-      let here : up.path ≡ r = same_some (sym up.is ∙ parent-from_child m.path r m.passes) in
+      let here : up.path ≡ r = some_is (sym up.is ∙ parent-from_child m.path r m.passes) in
       record { node = up.has.node; there = sym (ap (get s.tree) here) ∙ up.has.there; plain = up.has.plain }
 
   plain_not_mine : (r : Bytes) → IsPlain r → list_any (same r) ps ≡ true → ⊥
   plain_not_mine r p h =
       let own = mine r h in
-      let is : own.node ≡ p.node = same_some (sym own.there ∙ p.there) in
+      let is : own.node ≡ p.node = some_is (sym own.there ∙ p.there) in
       let zero : pos 0 ≡ id = sym p.plain ∙ sym (ap (λ (n : Node). n.owner) is) ∙ own.owner in
       omega (arith, ints)
 

@@ -78,7 +78,7 @@ reads_close : (id : ℤ) → reads req.Close id ≡ SessionKey (nat_abs id) ∷ 
 unfolding reads
 reads_close id = refl
 
-plain : plain_request no_watches req.Close ≡ None
+pub plain : plain_request no_watches req.Close ≡ None
 unfolding plain_request
 plain = refl
 

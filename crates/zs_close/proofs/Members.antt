@@ -1,18 +1,19 @@
 -- Which paths are in a list, and that a list in order has each once.
-use Rattle.std.proofs.Common.{◌≡◌, ◌≢◌, ℤ, Bool, true, false, cond, ◌||◌, List, [], ◌∷◌, Option, Some, None, refl, sym, ap, ◌∙◌, ⊎_elim}
+use Rattle.std.proofs.Common.{◌≡◌, ◌≢◌, ℤ, Bool, true, false, cond, ◌||◌, List, [], ◌∷◌, Option, Some, None, refl, sym, ap, ◌∙◌}
 use Rattle.std.specs.Prelude.{is_some}
 use Rattle.std.specs.List.{list_any, AllByRecursion}
 use Rattle.std.specs.List.Sorted.{IsStrictlySortedBy}
-use Rattle.std.specs.Ordering.{int_eq, nat_cmp, eq_by_cmp, is_eq}
+use Rattle.std.specs.Ordering.{int_eq, nat_cmp, eq_by_cmp}
 use Rattle.std.specs.Cmp.Lexicographic.{slice_cmp, nat_list_cmp_total}
 use Rattle.std.specs.declared.cmp.Ordering.{Ordering}
-use Rattle.std.specs.declared.cmp.Ordering.TheVariants.{Less, Equal, Greater}
+use Rattle.std.specs.declared.cmp.Ordering.TheVariants.{Less, Equal}
 use Rattle.std.specs.FinMap.{get, contains_key-keys}
+use Rattle.std.proofs.lemmas.Bool.{or_right}
 use Rattle.std.proofs.lemmas.Bool.Decides.{Decides-int_eq}
 use Rattle.std.proofs.lemmas.Cmp.{tied_itself}
-use Rattle.std.proofs.lemmas.Map.Lookups.{exact_bytes}
 use Rattle.zx_base.specs.Maps.{Bytes, same}
-use Rattle.zx_base.proofs.MapLaws.{either, same-refl, same-false}
+use Rattle.zx_base.proofs.MapLaws.{same-refl, same-false}
+use Rattle.ev_types.proofs.Names.{names-tie}
 use Rattle.zk_model.specs.declared.node.Node.{Node}
 use Rattle.zk_model.specs.Znodes.{Tree, owned, owned_by}
 use Rattle.zk_transcript.proofs.Owned.{if_owned, get-owned_as}
@@ -36,24 +37,9 @@ rising-apart (p ∷ ps) h = (apart_below p ps h.0, rising-apart ps h.1)
 
 -- ---- the nodes of a session
 
-equal : (o : Ordering) → is_eq o ≡ true → o ≡ Equal
-equal Less h = absurd (cc)
-equal Equal h = refl
-equal Greater h = absurd (cc)
-
-tied-same : (r x : Bytes) → eq_by_cmp (slice_cmp nat_cmp) r x ≡ same r x
-tied-same r x = ⊎_elim
-    (λ e. ap (eq_by_cmp (slice_cmp nat_cmp) r) (sym e) ∙ ap is_eq (tied_itself nat_list_cmp_total r) ∙ sym (same-refl r) ∙ ap (same r) e)
-    (λ n. by_test n (is_eq (slice_cmp nat_cmp r x)) refl ∙ sym (same-false r x n))
-    (either r x)
-  where
-    by_test : r ≢ x → (b : Bool) → is_eq (slice_cmp nat_cmp r x) ≡ b → b ≡ false
-    by_test n true e = absurd (n (exact_bytes r x (equal _ e)))
-    by_test n false e = refl
-
 any-same : (r : Bytes) (ps : List Bytes) → list_any (eq_by_cmp (slice_cmp nat_cmp) r) ps ≡ list_any (same r) ps
 any-same r [] = refl
-any-same r (p ∷ ps) = λ i. tied-same r p i || any-same r ps i
+any-same r (p ∷ ps) = λ i. names-tie r p i || any-same r ps i
 
 -- a node that is there, under this owner
 pub record IsOwned (t : Tree) (id : ℤ) (r : Bytes) : Type 0 where
@@ -74,10 +60,6 @@ owned-there t id r h = owned_there t id r (get t r) refl
     (sym (ap is_some (get-owned_as t id r (get t r) refl)) ∙ contains_key-keys (owned_by t id) r ∙ any-same r (owned t id) ∙ h)
 
 -- ---- a member that passes a test
-
-or_right : (a b : Bool) → b ≡ true → (a || b) ≡ true
-or_right true b h = refl
-or_right false b h = h
 
 pub record IsMember (f : Bytes → Bool) (ps : List Bytes) : Type 0 where
   pub path : Bytes

@@ -2,6 +2,7 @@
 use Rattle.std.proofs.Common.{◌≡◌, ◌+◌, ◌≤◌, Bool, true, false, cond, ◌||◌, length, List, [], ◌∷◌, ◌++◌, Option, Some, None, refl, sym, ap, ◌∙◌, ⊎_elim, arith}
 use Rattle.std.specs.Prelude.{IsTrue}
 use Rattle.std.specs.List.{list_any, All}
+use Rattle.std.proofs.Math.Bool.{or-false, or_assoc}
 use Rattle.std.proofs.lemmas.List.Elements.{All-nil, All-head, All-tail, All-push}
 use Rattle.zk_model.proofs.ValidPaths.{parent-valid}
 use Rattle.std.proofs.lemmas.List.{length-append}
@@ -18,14 +19,6 @@ same-turned p q = ⊎_elim
     (λ n. same-false p q n ∙ sym (same-false q p (λ e. n (sym e))))
     (either p q)
 
-or_false : (b : Bool) → (b || false) ≡ b
-or_false true = refl
-or_false false = refl
-
-or_assoc : (a b c : Bool) → ((a || b) || c) ≡ (a || (b || c))
-or_assoc true b c = refl
-or_assoc false b c = refl
-
 -- whose parent it is
 is_child-some : (p q r : Bytes) → parent p ≡ Some q → is_child r p ≡ same r q
 unfolding is_child
@@ -39,11 +32,11 @@ module _ (found : List Bytes) (q r : Bytes) where
   known : list_any (same q) found ≡ true → list_any (same r) found ≡ (list_any (same r) found || same r q)
   known h = elim (same r q) as (λ b. same r q ≡ b → list_any (same r) found ≡ (list_any (same r) found || b)) [
     | true ↦ λ e. let all : list_any (same r) found ≡ true = ap (λ (x : Bytes). list_any (same x) found) (same-true r q e) ∙ h in all ∙ sym (ap (λ b. b || true) all)
-    | false ↦ λ e. sym (or_false (list_any (same r) found))
+    | false ↦ λ e. sym (or-false (list_any (same r) found))
   ] refl
 
   fresh : list_any (same r) (found ++ q ∷ []) ≡ (list_any (same r) found || same r q)
-  fresh = list_any-append (same r) found (q ∷ []) ∙ ap (λ b. list_any (same r) found || b) (or_false (same r q))
+  fresh = list_any-append (same r) found (q ∷ []) ∙ ap (λ b. list_any (same r) found || b) (or-false (same r q))
 
   with_some : list_any (same r) (with_parent found (Some q)) ≡ (list_any (same r) found || same r q)
   with_some = elim (list_any (same q) found) as (λ b. list_any (same q) found ≡ b → list_any (same r) (cond b found (found ++ q ∷ [])) ≡ (list_any (same r) found || same r q)) [
@@ -52,11 +45,11 @@ module _ (found : List Bytes) (q r : Bytes) where
   ] refl
 
 with_parent-any : (found : List Bytes) (p r : Bytes) (o : Option Bytes) → parent p ≡ o → list_any (same r) (with_parent found o) ≡ (list_any (same r) found || is_child r p)
-with_parent-any found p r None e = sym (or_false (list_any (same r) found)) ∙ ap (λ b. list_any (same r) found || b) (sym (is_child-none p r e))
+with_parent-any found p r None e = sym (or-false (list_any (same r) found)) ∙ ap (λ b. list_any (same r) found || b) (sym (is_child-none p r e))
 with_parent-any found p r (Some q) e = with_some found q r ∙ ap (λ b. list_any (same r) found || b) (sym (is_child-some p q r e))
 
 pub parents_from-any : (ps found : List Bytes) (r : Bytes) → list_any (same r) (parents_from found ps) ≡ (list_any (same r) found || list_any (is_child r) ps)
-parents_from-any [] found r = sym (or_false (list_any (same r) found))
+parents_from-any [] found r = sym (or-false (list_any (same r) found))
 parents_from-any (p ∷ ps) found r =
     parents_from-any ps (with_parent found (parent p)) r
     ∙ ap (λ b. b || list_any (is_child r) ps) (with_parent-any found p r (parent p) refl)

@@ -1,7 +1,7 @@
 -- What a reaping is decided by makes its decision and its plan what they are to be.
-use Rattle.std.proofs.Common.{◌≡◌, ℕ, zero, suc, ℤ, pos, ◌≤◌, Bool, true, false, length, List, [], ◌∷◌, Option, Some, None, refl, sym, ap, ◌∙◌, subst, inl, inr, arith}
+use Rattle.std.proofs.Common.{◌≡◌, ℕ, zero, ℤ, pos, ◌≤◌, Bool, true, false, length, List, [], ◌∷◌, Option, Some, None, refl, sym, ap, ◌∙◌, subst, inl, inr, arith}
 use Rattle.std.specs.Prelude.{◌≤ℤ◌, nat_abs, nat_le, if◌then◌else◌, Contains, MatchBool}
-use Rattle.std.proofs.lemmas.Bool.{le-leb}
+use Rattle.std.proofs.lemmas.Bool.{both_ways, le-leb}
 use Rattle.std.proofs.lemmas.Int.{ints}
 use Rattle.ev_types.specs.declared.answer.Kv.{Kv}
 use Rattle.ev_types.specs.declared.ask.Guard.{Guard}
@@ -20,6 +20,7 @@ use Rattle.zn_view.specs.Deciding.{IsTaken}
 use Rattle.zn_view.specs.Lookups.{sees, IsNodesIn}
 use Rattle.zn_view.specs.Seen.{View, seen_in}
 use Rattle.zn_view.specs.Views.{Agrees, IsOf}
+use Rattle.zn_view.proofs.Asked.{guard_later}
 use Rattle.zn_view.proofs.Committing.{zxid-least}
 use Rattle.zn_view.proofs.Members.{in_mapped}
 use Rattle.zn_view.proofs.Narrowing.{picked-told}
@@ -32,14 +33,7 @@ use Rattle.zs_close.proofs.Taken.{end-taken}
 use Rattle.zs_close.proofs.KeysRead.{end-reads}
 use Rattle.zs_close.proofs.EndPlans.{agrees-for, commits-for, life-not_head, nodes-few, nodes-mean, life-means, session-open, ended-carries, ended-triggers}
 
-true_false : {b : Bool} → b ≡ true → b ≡ false → ⊥
-true_false t f = cc
-
 -- ---- a key that was seen is guarded, also where it was absent
-
-guard_later : (g : Guard) (x : SeenKey) (xs : List SeenKey) (b : Bool) → Contains (guards_of xs) g → Contains (if b then guards_of xs else record { key = x.key; mod_revision = mod_of x.found } ∷ guards_of xs) g
-guard_later g x xs true h = h
-guard_later g x xs false c = let lt = c.1 in (suc c.0, omega (arith, lt), c.2)
 
 module _ (k : Bytes) (o : Option Kv) (apart : k ≡ key_bytes HeadKey → ⊥) where
   abbrev own : Guard
@@ -95,7 +89,7 @@ module _ (id : ℤ) (v : View) (real : pos 1 ≤ℤ id) where
   life = sees v (LeaseKey (nat_abs id))
 
   too_many : (n : ℕ) → nat_le n max_owned ≡ false → n ≤ max_owned → ⊥
-  too_many n e few = true_false (le-leb n max_owned few) e
+  too_many n e few = both_ways _ e (le-leb n max_owned few)
 
   -- ---- the decision
 

@@ -3,9 +3,11 @@ use Rattle.std.proofs.Common.{◌≡◌, ◌≢◌, ℤ, ◌+◌, ◌-◌, Bool,
 use Rattle.std.specs.Prelude.{option_map}
 use Rattle.std.specs.List.{list_any, count_by}
 use Rattle.std.specs.FinMap.{get, insert, remove, len}
+use Rattle.std.proofs.lemmas.Bool.{both_ways, or_left, or_right}
 use Rattle.std.proofs.lemmas.List.Sums.{sum_by-cons}
 use Rattle.zx_base.specs.Maps.{Bytes, same}
 use Rattle.zx_base.proofs.MapLaws.{same-refl, same-true, same-false, apart-from_same, get-insert_same, get-insert_other, get-remove_same, get-remove_other, retain-remove, remove-absent, len-remove_there, get-none_from_len, get-retain}
+use Rattle.zx_base.proofs.Options.{some_is, some_none}
 use Rattle.zk_model.specs.declared.node.Node.{Node}
 use Rattle.zk_model.specs.Paths.{parent, is_child, is_at_path}
 use Rattle.zk_model.specs.Single.{removed, removed_under, at_parent, without_child}
@@ -13,15 +15,6 @@ use Rattle.zk_model.specs.Znodes.{Tree, below, num_children}
 use Rattle.zk_model.proofs.Paths.{is_child-yes, parent-from_child, apart_from_parent}
 use Rattle.zk_transcript.specs.History.{removed_all}
 use Rattle.zk_transcript.proofs.Children.{get-below_child, num_children-change}
-
-same_some : {X : Type 0} {x y : X} → Some x ≡ Some y → x ≡ y
-same_some e = cc
-
-some_none : {X : Type 0} {x : X} → Some x ≡ None → ⊥
-some_none e = cc
-
-true_false : {b : Bool} → b ≡ true → b ≡ false → ⊥
-true_false t f = cc
 
 -- ---- who is left
 
@@ -63,7 +56,7 @@ module _ (t : Tree) (p : Bytes) (z : ℤ) (r : Bytes) where
   by_child u where_child where_not = elim (is_child r p) as (λ b. is_child r p ≡ b → get u r ≡ left_over (same r p) (is_child r p) z (get t r)) [ true ↦ where_child | false ↦ where_not ] refl
 
   is_parent : (q : Bytes) → parent p ≡ Some q → is_child r p ≡ true → q ≡ r
-  is_parent q below h = same_some (sym below ∙ parent-from_child p r h)
+  is_parent q below h = some_is (sym below ∙ parent-from_child p r h)
 
   gone_below_none : (q : Bytes) → parent p ≡ Some q → get t q ≡ None → get (remove t p) r ≡ left_over (same r p) (is_child r p) z (get t r)
   gone_below_none q below none = by_child (remove t p)
@@ -75,7 +68,7 @@ module _ (t : Tree) (p : Bytes) (z : ℤ) (r : Bytes) where
   gone_below q up below there = by_child (insert (remove t p) q (without_child up z))
       (λ h. let here : q ≡ r = is_parent q below h in
       sym (ap (get (insert (remove t p) q (without_child up z))) here) ∙ get-insert_same (remove t p) q (without_child up z) ∙ sym (left_parent (Some up) h (sym (ap (get t) here) ∙ there)))
-      (λ h. get-insert_other (remove t p) q r (without_child up z) (λ e. true_false (is_child-yes p r (below ∙ ap Some (sym e))) h) ∙ gone_alone h)
+      (λ h. get-insert_other (remove t p) q r (without_child up z) (λ e. both_ways _ h (is_child-yes p r (below ∙ ap Some (sym e)))) ∙ gone_alone h)
 
   pub removed-is : get (removed t p z) r ≡ left_over (same r p) (is_child r p) z (get t r)
   removed-is = by_parent (parent p) refl
@@ -140,17 +133,9 @@ some_left : (child : Bool) (z : ℤ) (n : Node) → (m : Node) × (left_over fal
 some_left true z n = (without_child n z, refl)
 some_left false z n = (n, refl)
 
-or_right : (a b : Bool) → b ≡ true → (a || b) ≡ true
-or_right true b h = refl
-or_right false b h = h
-
-or_left : (a b : Bool) → a ≡ true → (a || b) ≡ true
-or_left true b h = refl
-or_left false b h = absurd (cc)
-
 are_there-later : (t : Tree) (p : Bytes) (ps : List Bytes) (z : ℤ) → AreThere t (p ∷ ps) → list_any (same p) ps ≡ false → AreThere (removed t p z) ps
 are_there-later t p ps z there apart q h =
-    let far : q ≢ p = λ e. true_false (sym (ap (λ (x : Bytes). list_any (same x) ps) e) ∙ h) apart in
+    let far : q ≢ p = λ e. both_ways _ apart (sym (ap (λ (x : Bytes). list_any (same x) ps) e) ∙ h) in
     let was = there q (or_right (same q p) (list_any (same q) ps) h) in
     let left = some_left (is_child q p) z was.0 in
     (left.0, removed-is t p z q ∙ (λ i. left_over (same-false q p far i) (is_child q p) z (was.1 i)) ∙ left.1)

@@ -6,11 +6,9 @@ use Rattle.std.specs.List.Sorted.{IsStrictlySortedBy}
 use Rattle.std.specs.Ordering.{nat_cmp}
 use Rattle.std.specs.Cmp.Lexicographic.{slice_cmp}
 use Rattle.std.proofs.lemmas.List.{length-map}
-use Rattle.std.proofs.lemmas.List.Elements.{All-nil, All-cons, All-head, All-tail, All-map, All-contains}
+use Rattle.std.proofs.lemmas.Bool.{true≢false}
+use Rattle.std.proofs.lemmas.List.Elements.{All-nil, All-cons, All-head, All-tail, All-map}
 use Rattle.ev_types.specs.declared.answer.Kv.{Kv}
-use Rattle.ev_types.specs.declared.ask.Act.{Act}
-use Rattle.ev_types.specs.declared.ask.TxnReq.{TxnReq}
-use Rattle.ev_types.specs.Sizes.{act_size, guard_size, IsSendable}
 use Rattle.zk_model.specs.declared.node.Node.{Node}
 use Rattle.zk_model.specs.declared.node.Trigger.{Trigger}
 use Rattle.zk_model.specs.Paths.{is_child, is_path}
@@ -21,20 +19,15 @@ use Rattle.zn_layout.specs.Changes.{Change, head_put, are_distinct, update_acts}
 use Rattle.zn_layout.specs.Keys.{Key, HeadKey, CountsKey, SessionKey, LeaseKey, key_bytes}
 use Rattle.zn_layout.specs.Records.{IsHeadRec}
 use Rattle.zn_layout.specs.StandsFor.{counts_record}
-use Rattle.zn_layout.specs.Updates.{update_txn}
-use Rattle.zn_layout.proofs.Denials.{update-sendable}
 use Rattle.zn_layout.proofs.Paths.{path_short}
 use Rattle.zn_view.specs.declared.plan.Plan.{Plan}
-use Rattle.zn_view.specs.declared.snapshot.SeenKey.{SeenKey}
-use Rattle.zn_view.specs.Asks.{guards_of, again_of, picked, ranges_of, plan_txn, WritesOnce}
+use Rattle.zn_view.specs.Asks.{WritesOnce}
 use Rattle.zn_view.specs.Deciding.{IsTaken}
 use Rattle.zn_view.specs.Lookups.{sees, IsNodesIn}
 use Rattle.zn_view.specs.Seen.{View}
-use Rattle.zn_view.specs.Views.{IsOf}
-use Rattle.zn_view.proofs.Members.{in_contains}
-use Rattle.zn_view.proofs.Narrowing.{picked-each}
-use Rattle.zn_view.proofs.PlanSizes.{picked-length}
-use Rattle.zn_view.proofs.Sizes.{again-length, again-present, again-short, counts-size, guards-length, guards-short, head-size, head_put-size, life-size, session-size, sum_by-most}
+use Rattle.zn_view.specs.Views.{IsOf, IsSmallPlan}
+use Rattle.zn_view.proofs.PlanSizes.{plan-small}
+use Rattle.zn_view.proofs.Sizes.{again-present, counts-size, head-size, life-size, session-size}
 use Rattle.zn_view.proofs.TakenPlans.{small-taken}
 use Rattle.zs_close.specs.Closing.{IsEndPlan}
 use Rattle.zs_close.specs.Ending.{end_changes, parents}
@@ -79,32 +72,11 @@ module _ (alive : Bool) (id : ℤ) (v : View) (real : pos 1 ≤ℤ id) (kv : Kv)
   owns : owned s.tree id ≡ ps
   owns = (session-open v id real of.0 s of.1 ps as_seen kv saw nodes).owns
 
-  -- what is guarded, and read again
-  abbrev keys : List SeenKey
-  keys = picked v (read_keys id ps)
-
-  few_keys : length keys ≤ 43
-  few_keys = omega (arith, picked-length v (read_keys id ps), keys-few id ps, few)
-
-  short_keys : All (λ (x : SeenKey). length x.key ≤ 1033) keys
-  short_keys =
-      let short = All-map (λ (k : Bytes). length k ≤ 1033) key_bytes (end_keys id ps) (keys-short id ps valid) in
-      picked-each (λ (x : SeenKey). length x.key ≤ 1033) v (read_keys id ps) (λ k o h e. All-contains (λ (b : Bytes). length b ≤ 1033) (read_keys id ps) k short (in_contains k (read_keys id ps) h))
-
   abbrev changes : List Change
   changes = end_changes alive id (counts_in s) ps
 
-  abbrev again : List Act
-  again = ranges_of (pos 0) (again_of keys)
-
-  abbrev txn : TxnReq
-  txn = update_txn (guards_of keys) changes p.triggers again
-
   acts : p.success ≡ update_acts changes p.triggers
   acts = plan.success (counts_in s) (counts-told v id real of.0 s of.1 ps as_seen)
-
-  is_txn : txn ≡ plan_txn p
-  is_txn = λ i. record { guards = sym plan.guards i; success = sym acts i; failure = ranges_of (pos 0) (sym plan.again i) }
 
   bounds : IsHeadRec p.triggers
   bounds = subst IsHeadRec (sym plan.triggers) (end_triggers-within ps few valid)
@@ -115,34 +87,14 @@ module _ (alive : Bool) (id : ℤ) (v : View) (real : pos 1 ≤ℤ id) (kv : Kv)
   few_changes : length changes ≤ 122
   few_changes = omega (arith, end-length alive id (counts_in s) ps, few)
 
-  few_guards : length (guards_of keys) ≤ 43
-  few_guards = omega (arith, guards-length keys, few_keys)
-
-  few_again : length again ≤ 44
-  few_again = omega (arith, again-length keys, few_guards)
-
-  sendable : IsSendable txn
-  sendable = update-sendable (guards_of keys) changes p.triggers again (omega (arith, few_guards)) (omega (arith, few_changes)) (omega (arith, few_again))
-      (omega (
-        arith,
-        sum_by-most guard_size 1033 (guards_of keys) (guards-short keys short_keys),
-        end-size alive id (counts_in s) ps valid,
-        head_put-size p.triggers bounds,
-        head-size,
-        sum_by-most act_size 1033 again (again-short keys short_keys),
-        few_guards,
-        few_again,
-        few_changes,
-        few_triggers,
-      ))
+  small : IsSmallPlan p
+  small = plan-small v (read_keys id ps) p changes (omega (arith, keys-few id ps, few)) (All-map (λ (k : Bytes). length k ≤ 1033) key_bytes (end_keys id ps) (keys-short id ps valid)) (omega (arith, few_changes))
+      (omega (arith, keys-few id ps, few, end-size alive id (counts_in s) ps valid, few_changes, few_triggers)) bounds plan.guards plan.again acts
 
   no_children : (r : Bytes) → list_any (same r) ps ≡ true → list_any (is_child r) ps ≡ false
   no_children = subst (λ (l : List Bytes). (r : Bytes) → list_any (same r) l ≡ true → list_any (is_child r) l ≡ false) owns
       (childless s (pos 0) id true (counts_in s) sound real (λ q n there. ap (option_map (λ (x : Node). counts_record x (num_children s.tree q))) there)
-      (subst (IsStrictlySortedBy (slice_cmp nat_cmp)) (sym owns) nodes.0.rising) (λ e. absurd (true_false e)))
-    where
-      true_false : true ≡ false → ⊥
-      true_false e = cc
+      (subst (IsStrictlySortedBy (slice_cmp nat_cmp)) (sym owns) nodes.0.rising) (λ e. absurd (true≢false e)))
 
   once : are_distinct (changes ++ head_put p.triggers ∷ []) ≡ true
   once = with_head-distinct p.triggers changes (written-head alive id (counts_in s) ps) (end-distinct (counts_in s) ps no_children alive id (rising-apart ps nodes.0.rising))
@@ -154,4 +106,4 @@ module _ (alive : Bool) (id : ℤ) (v : View) (real : pos 1 ≤ℤ id) (kv : Kv)
   }
 
   pub end-taken : IsTaken p
-  end-taken = small-taken p written_once (subst IsSendable is_txn sendable)
+  end-taken = small-taken p written_once small

@@ -3,7 +3,7 @@ use Rattle.std.specs.BTreeMap.{is_at}
 use Rattle.std.specs.BTreeSet as set
 use Rattle.std.specs.Ordering.{nat_cmp}
 use Rattle.std.specs.Cmp.Lexicographic.{slice_cmp}
-use Rattle.zn_view.proofs.Names.{names-tie}
+use Rattle.ev_types.proofs.Names.{names-tie}
 use Rattle.zn_view.proofs.lacking.know.Goals as goal
 
 one-more : (b c : Bool) → cond b true c ≡ (c || b)

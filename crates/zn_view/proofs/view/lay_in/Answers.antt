@@ -1,4 +1,4 @@
-use Rattle.std.proofs.Common.{◌≡◌, ◌∙◌, sym, subst, List, length, ap, slice_set, arith, ◌<◌}
+use Rattle.std.proofs.Common.{◌≡◌, ◌∙◌, sym, subst, List, length, ap, slice_set, arith}
 use Rattle.std.specs.Prelude.{All}
 use Rattle.zn_view.specs.declared.snapshot.SeenKey.{SeenKey}
 use Rattle.zn_view.specs.Laying.{placed}
