@@ -60,13 +60,13 @@ not_true : (b : Bool) → not b ≡ true → b ≡ false
 not_true true h = absurd (true_false (sym h))
 not_true false h = refl
 
-unwritten : (k : Key) (ws : List Change) → list_any (writes_key k) ws ≡ false → last ws k ≡ None
+pub unwritten : (k : Key) (ws : List Change) → list_any (writes_key k) ws ≡ false → last ws k ≡ None
 unwritten k [] h = refl
 unwritten k (w ∷ ws) h =
     let both = or_false (same_key k w.key) (list_any (writes_key k) ws) h in
     (λ i. or_else (unwritten k ws both.1 i) (cond (both.0 i) (Some w.put) None))
 
-rest_distinct : (w : Change) (ws : List Change) → are_distinct (w ∷ ws) ≡ true → (list_any (writes_key w.key) ws ≡ false) × (are_distinct ws ≡ true)
+pub rest_distinct : (w : Change) (ws : List Change) → are_distinct (w ∷ ws) ≡ true → (list_any (writes_key w.key) ws ≡ false) × (are_distinct ws ≡ true)
 rest_distinct w ws h = let both = and_parts (not (list_any (writes_key w.key) ws)) (are_distinct ws) h in (not_true _ both.0, both.1)
 
 last_first : (k : Key) (c : Change) (o : Option (Option Put)) (b : Bool) → same_key k c.key ≡ b → (b ≡ true → o ≡ None) → (q : Option (Option Put)) → (b ≡ false → q ≡ None)
@@ -171,3 +171,33 @@ pub acts-laid : (ws cs : List Change) → with_acts (laid_view ws) (acts_of cs) 
 acts-laid ws [] = refl
 acts-laid ws (c ∷ cs) =
     ap (λ (v : View). with_acts v (acts_of cs)) (act_laid (laid_view ws) c.key c.put ∙ ap (λ (l : List SeenKey). record (laid_view ws) { keys = l }) (placed-seen ws c)) ∙ acts-laid (laid ws c) cs
+
+-- ---- what was laid is told by the view
+
+abbrev value_of : Option Kv → Option Put
+value_of None = None
+value_of (Some kv) = Some (record { value = kv.value; lease = kv.lease })
+
+value-found : (k : Key) (w : Option Put) → value_of (found_of k w) ≡ w
+value-found k None = refl
+value-found k (Some w) = refl
+
+seen-injective : (a b : Change) → seen_of a ≡ seen_of b → a ≡ b
+seen-injective a b e =
+    let key : a.key ≡ b.key = key_bytes-injective a.key b.key (ap (λ (x : SeenKey). x.key) e) in
+    let put : a.put ≡ b.put = sym (value-found a.key a.put) ∙ ap (λ (x : SeenKey). value_of x.found) e ∙ value-found b.key b.put in
+    λ i. record { key = key i; put = put i }
+
+map-injective : (us ws : List Change) → map seen_of us ≡ map seen_of ws → us ≡ ws
+map-injective [] [] e = refl
+map-injective [] (w ∷ ws) e = absurd (cc)
+map-injective (u ∷ us) [] e = absurd (cc)
+map-injective (u ∷ us) (w ∷ ws) e =
+    let both = cons_is (seen_of u) (seen_of w) (map seen_of us) (map seen_of ws) e in
+    (λ i. seen-injective u w both.0 i ∷ map-injective us ws both.1 i)
+  where
+    cons_is : (x y : SeenKey) (xs ys : List SeenKey) → x ∷ xs ≡ y ∷ ys → (x ≡ y) × (xs ≡ ys)
+    cons_is x y xs ys e = (cc, cc)
+
+pub laid-injective : (us ws : List Change) → laid_view us ≡ laid_view ws → us ≡ ws
+laid-injective us ws e = map-injective us ws (ap (λ (v : View). v.keys) e)

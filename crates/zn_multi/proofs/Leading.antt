@@ -40,13 +40,15 @@ use Rattle.zk_model.specs.Single.{effect, form_refusal, is_ephemeral, unless_ref
 use Rattle.zk_plain.proofs.MultiLaws.{parts_of-done}
 use Rattle.zx_base.specs.Maps.{Bytes}
 use Rattle.zn_layout.specs.Keys.{DataKey, CountsKey, SessionKey, LeaseKey}
-use Rattle.zn_view.specs.Lookups.{sees}
+use Rattle.zn_view.specs.Lookups.{HasSeen, sees}
 use Rattle.zn_updates.specs.declared.chosen.Chosen.TheVariants as chosen
 use Rattle.zn_updates.specs.declared.seen.SeenData.{SeenData}
 use Rattle.zn_updates.specs.Choices.{Refuse}
 use Rattle.zn_updates.specs.Deciding.{owner_seen}
 use Rattle.zn_updates.specs.Making.{IsDataSeen, chosen_of}
-use Rattle.zn_updates.specs.Parts.{IfData, IsKeptChange, IsPartChoice, IsPartSeen, part_content}
+use Rattle.zn_updates.specs.Parts.{IfData, IsKeptChange, IsNarrower, IsPartChoice, IsPartSeen, part_content}
+use Rattle.zn_updates.proofs.PartChoices.{near_is}
+use Rattle.zn_multi.proofs.Looking.{layered_narrower}
 use Rattle.zn_updates.specs.Seen.{ShowsData}
 use Rattle.zn_updates.proofs.Forms.{delete_refusal}
 use Rattle.zn_updates.proofs.Showing.{data-shown}
@@ -89,24 +91,25 @@ owner_shown z None (Some n) shown = absurd shown
 owner_shown z (Some x) None shown = absurd shown
 owner_shown z (Some x) (Some n) shown = owner_listed x.owner ∙ ap (λ (o : ℤ). cond (int_eq o (pos 0)) [] (o ∷ [])) (ap (λ (w : SeenData). w.owner) shown.is)
 
-not_done : (t : Tree) (id z : ℤ) (now : ℕ) (p : Part) (code : ℤ) (r : PartResult) (u : Tree) (g : List Trigger) → form_refusal p ≡ Some code → single t max_owned id p z now ≡ Done r u g → ⊥
+pub not_done : (t : Tree) (id z : ℤ) (now : ℕ) (p : Part) (code : ℤ) (r : PartResult) (u : Tree) (g : List Trigger) → form_refusal p ≡ Some code → single t max_owned id p z now ≡ Done r u g → ⊥
 unfolding single
 not_done t id z now p code r u g refused done =
     let bad : Refused code ≡ Done r u g = sym (ap (λ (o : Option ℤ). unless_refused o (effect t max_owned id p z now)) refused) ∙ done in cc
 
-touched_is : (v : View) (s : State) (id z : ℤ) (now : ℕ) (p : Part) (owner : Option ℤ) (r : PartResult) (u : Tree) (g : List Trigger) → Shows z v s → IsPartSeen id v p → IsTouched v id p owner → single s.tree max_owned id p z now ≡ Done r u g
+touched_is : (v near : View) → IsNarrower near v → (s : State) (id z : ℤ) (now : ℕ) (p : Part) (owner : Option ℤ) (r : PartResult) (u : Tree) (g : List Trigger) → Shows z near s → IsPartSeen id near p → IsTouched v id p owner → single s.tree max_owned id p z now ≡ Done r u g
     → option_to_list owner ≡ touched_by s.tree id p
-touched_is v s id z now (part.Create path d a f) owner r u g shown saw is done = ap option_to_list is ∙ list_if (is_ephemeral f) id
-touched_is v s id z now (part.Delete path x) owner r u g shown saw (None, inner, is) done = absurd (not_done s.tree id z now (part.Delete path x) bad_arguments r u g (delete_refusal path x false inner) done)
-touched_is v s id z now (part.Delete path x) owner r u g shown saw (Some p, inner, (w, data_is, is)) done =
-    let seen_data : IsDataSeen (sees v (DataKey path)) w = subst (λ (q : Bytes). IfData v q w) inner.0 data_is saw.node in
-    ap option_to_list is ∙ owner_shown z w (get s.tree path) (data-shown z v s shown path w seen_data)
-touched_is v s id z now (part.SetData path d x) owner r u g shown saw is done = ap option_to_list is
-touched_is v s id z now (part.Check path x) owner r u g shown saw is done = ap option_to_list is
+touched_is v near narrow s id z now (part.Create path d a f) owner r u g shown saw is done = ap option_to_list is ∙ list_if (is_ephemeral f) id
+touched_is v near narrow s id z now (part.Delete path x) owner r u g shown saw (None, inner, is) done = absurd (not_done s.tree id z now (part.Delete path x) bad_arguments r u g (delete_refusal path x false inner) done)
+touched_is v near narrow s id z now (part.Delete path x) owner r u g shown saw (Some p, inner, (w, data_is, is)) done =
+    let here : HasSeen near (DataKey path) = (saw (delete_refusal path x true inner.1)).node in
+    let seen_data : IsDataSeen (sees near (DataKey path)) w = near_is near v narrow (λ (o : Option (Option Kv)). IsDataSeen o w) (DataKey path) here (subst (λ (q : Bytes). IfData v q w) inner.0 data_is) in
+    ap option_to_list is ∙ owner_shown z w (get s.tree path) (data-shown z near s shown path w seen_data)
+touched_is v near narrow s id z now (part.SetData path d x) owner r u g shown saw is done = ap option_to_list is
+touched_is v near narrow s id z now (part.Check path x) owner r u g shown saw is done = ap option_to_list is
 
 -- ---- one part more
 
-behind_next : (rs : List PartResult) (gs : List Trigger) (ss : List ℤ) (r : PartResult) (g : List Trigger) (t : List ℤ) (x : Parts) → behind rs gs ss (then_parts r g t x) ≡ behind (rs ++ r ∷ []) (gs ++ g) (ss ++ t) x
+pub behind_next : (rs : List PartResult) (gs : List Trigger) (ss : List ℤ) (r : PartResult) (g : List Trigger) (t : List ℤ) (x : Parts) → behind rs gs ss (then_parts r g t x) ≡ behind (rs ++ r ∷ []) (gs ++ g) (ss ++ t) x
 behind_next rs gs ss r g t (StoppedAt k code) = ap (λ (n : ℕ). StoppedAt n code) (let e = length-append rs (r ∷ []) in omega (arith, e))
 behind_next rs gs ss r g t (PassedAll results u triggers touched) = λ i. PassedAll (sym (append_assoc rs (r ∷ []) results) i) u (sym (append_assoc gs g triggers) i) (sym (append_assoc ss t touched) i)
 
@@ -119,33 +122,33 @@ unfolding parts_of
 stopped_here t id z now p ps code e =
     ap (λ (o : Outcome). elim o as (λ x. Parts) [ Refused code ↦ StoppedAt 0 code | Done r u g ↦ then_parts r g (touched_by t id p) (parts_of u max_owned id ps z now) ]) e
 
-module _ (who : Who) (now : ℕ) (moment : now < 2 ^ 62) (v : View) (parts : List Part) (s : State) (z : ℤ) (sound : IsSound s) (shown : Shows z v s) (x : Session) (opened : session_at who.session s ≡ Some x) where
+module _ (who : Who) (now : ℕ) (moment : now < 2 ^ 62) (v near : View) (narrow : IsNarrower near v) (parts : List Part) (s : State) (z : ℤ) (sound : IsSound s) (shown : Shows z near s) (x : Session) (opened : session_at who.session s ≡ Some x) where
   abbrev Here : List Part → Progress → Type 0
   Here rest old = LeadsTo who.session now v parts rest old s z
 
-  over_shown : (rest : List Part) (old : Progress) (h : Here rest old) → Shows z (layered old.over v) (with_tree s h.tree)
-  over_shown rest old h = subst (λ (o : View). Shows z (layered o v) (with_tree s h.tree)) (sym h.over) (shows-laid z v h.changes s (with_tree s h.tree) shown h.fits h.once)
+  pub over_shown : (rest : List Part) (old : Progress) (h : Here rest old) → Shows z (layered old.over near) (with_tree s h.tree)
+  over_shown rest old h = subst (λ (o : View). Shows z (layered o near) (with_tree s h.tree)) (sym h.over) (shows-laid z near h.changes s (with_tree s h.tree) shown h.fits h.once)
 
-  module _ (p : Part) (ps : List Part) (old mid : Progress) (h : Here (p ∷ ps) old) (saw : IsPartSeen who.session (layered old.over v) p) (short : length (part_content p) ≤ max_frame) where
+  module _ (p : Part) (ps : List Part) (old mid : Progress) (h : Here (p ∷ ps) old) (saw : IsPartSeen who.session (layered old.over near) p) (short : length (part_content p) ≤ max_frame) where
     stops : (code : ℤ) → IsPartChoice p who now (layered old.over v) (chosen.Refused code) → parts_of s.tree max_owned who.session parts z now ≡ StoppedAt (length old.results) code
     stops code is =
-        let right = (is.chosen saw).right (with_tree s h.tree) z now moment h.sound (over_shown (p ∷ ps) old h) x opened in
+        let right = (is.chosen (layered old.over near) (layered_narrower old.over near v narrow) saw).right (with_tree s h.tree) z now moment h.sound (over_shown (p ∷ ps) old h) x opened in
         let refused : single h.tree max_owned who.session p z now ≡ Refused code = subst (λ (c : Choice). IsRight z (with_tree s h.tree) c (single h.tree max_owned who.session p z now)) (refuse_is (is.choice now) code is.is) right in
         h.runs ∙ ap (behind (map (own_result z) old.results) old.triggers old.touched) (stopped_here h.tree who.session z now p ps code refused)
         ∙ ap (λ (n : ℕ). StoppedAt n code) (let e = length-map old.results (own_result z) in omega (arith, e))
 
     module _ (is : IsStep p who now v old mid) where
-      outcome : IsOutcome z (with_tree s h.tree) is.changes is.told is.draft (single h.tree max_owned who.session p z now)
+      pub outcome : IsOutcome z (with_tree s h.tree) is.changes is.told is.draft (single h.tree max_owned who.session p z now)
       outcome = subst (λ (c : Choice). IsRight z (with_tree s h.tree) c (single h.tree max_owned who.session p z now)) is.is
-          ((is.chosen saw).right (with_tree s h.tree) z now moment h.sound (over_shown (p ∷ ps) old h) x opened)
+          ((is.chosen (layered old.over near) (layered_narrower old.over near v narrow) saw).right (with_tree s h.tree) z now moment h.sound (over_shown (p ∷ ps) old h) x opened)
 
-      results_are : map (own_result z) mid.results ≡ map (own_result z) old.results ++ own_result z is.draft ∷ []
+      pub results_are : map (own_result z) mid.results ≡ map (own_result z) old.results ++ own_result z is.draft ∷ []
       results_are = ap (map (own_result z)) is.results ∙ map-append (own_result z) old.results (is.draft ∷ [])
 
-      touched_are : mid.touched ≡ old.touched ++ touched_by h.tree who.session p
-      touched_are = is.touched ∙ ap (λ (l : List ℤ). old.touched ++ l) (touched_is (layered old.over v) (with_tree s h.tree) who.session z now p is.owner _ _ _ (over_shown (p ∷ ps) old h) saw is.owner_is outcome.done)
+      pub touched_are : mid.touched ≡ old.touched ++ touched_by h.tree who.session p
+      touched_are = is.touched ∙ ap (λ (l : List ℤ). old.touched ++ l) (touched_is (layered old.over v) (layered old.over near) (layered_narrower old.over near v narrow) (with_tree s h.tree) who.session z now p is.owner _ _ _ (over_shown (p ∷ ps) old h) saw is.owner_is outcome.done)
 
-      pub leads_on : Here ps mid
+      abbrev pub leads_on : Here ps mid
       leads_on = record {
         tree = outcome.tree;
         runs =
@@ -181,7 +184,7 @@ module _ (who : Who) (now : ℕ) (moment : now < 2 ^ 62) (v : View) (parts : Lis
   place_next : (old mid : Progress) (place : ℕ) (d : PartResult) → place ≡ length old.results → mid.results ≡ old.results ++ d ∷ [] → place + 1 ≡ length mid.results
   place_next old mid place d e is = let more = ap (λ (l : List PartResult). length l) is in let added = length-append old.results (d ∷ []) in omega (arith, e, more, added)
 
-  pub run_stops : (ps : List Part) (old : Progress) (place k : ℕ) (code : ℤ) (run : Runs who now v old place ps (Stopped k code)) → RunsSeen who now v old place ps (Stopped k code) run → AreShort ps → place ≡ length old.results → Here ps old
+  pub run_stops : (ps : List Part) (old : Progress) (place k : ℕ) (code : ℤ) (run : Runs who now v old place ps (Stopped k code)) → RunsSeen who now v near old place ps (Stopped k code) run → AreShort ps → place ≡ length old.results → Here ps old
       → parts_of s.tree max_owned who.session parts z now ≡ StoppedAt k code
   run_stops [] old place k code run saw short at h = absurd (not_passed old k code run)
   run_stops (p ∷ ps) old place k code (Stopped j other, one, rest) saw short at h =
@@ -191,24 +194,24 @@ module _ (who : Who) (now : ℕ) (moment : now < 2 ^ 62) (v : View) (parts : Lis
   run_stops (p ∷ ps) old place k code (Passed mid, one, rest) saw short at h =
       run_stops ps mid (place + 1) k code rest saw.1 (All-tail IsShortPart p ps short) (place_next old mid place one.draft at one.results) (leads_on p ps old mid h saw.0 (All-head IsShortPart p ps short) one)
 
-  pub run_passes : (ps : List Part) (old new : Progress) (place : ℕ) (run : Runs who now v old place ps (Passed new)) → RunsSeen who now v old place ps (Passed new) run → AreShort ps → Here ps old → Here [] new
+  pub run_passes : (ps : List Part) (old new : Progress) (place : ℕ) (run : Runs who now v old place ps (Passed new)) → RunsSeen who now v near old place ps (Passed new) run → AreShort ps → Here ps old → Here [] new
   run_passes [] old new place run saw short h = subst (Here []) (sym (passed_is new old run)) h
   run_passes (p ∷ ps) old new place (Stopped j other, one, rest) saw short h = absurd (not_stopped new j other rest)
   run_passes (p ∷ ps) old new place (Passed mid, one, rest) saw short h =
       run_passes ps mid new (place + 1) rest saw.1 (All-tail IsShortPart p ps short) (leads_on p ps old mid h saw.0 (All-head IsShortPart p ps short) one)
 
-  unchanged : (k : Key) → KeyFits z None k s (with_tree s s.tree)
+  pub unchanged : (k : Key) → KeyFits z None k s (with_tree s s.tree)
   unchanged HeadKey = λ o h. h
   unchanged (DataKey p) = λ o h. h
   unchanged (CountsKey p) = λ o h. h
   unchanged (SessionKey n) = λ o h. h
   unchanged (LeaseKey n) = λ o h. h
 
-  alone : (y : Parts) → y ≡ behind [] [] [] y
+  pub alone : (y : Parts) → y ≡ behind [] [] [] y
   alone (StoppedAt k code) = ap (λ (n : ℕ). StoppedAt n code) (omega arith)
   alone (PassedAll rs t gs ss) = refl
 
-  pub start : Here parts no_progress
+  abbrev pub start : Here parts no_progress
   start = record {
     tree = s.tree;
     runs = alone (parts_of s.tree max_owned who.session parts z now);
@@ -220,8 +223,8 @@ module _ (who : Who) (now : ℕ) (moment : now < 2 ^ 62) (v : View) (parts : Lis
     fits = record { each = unchanged };
   }
 
-  pub parts_stop : (k : ℕ) (code : ℤ) (run : Runs who now v no_progress 0 parts (Stopped k code)) → RunsSeen who now v no_progress 0 parts (Stopped k code) run → AreShort parts → parts_of s.tree max_owned who.session parts z now ≡ StoppedAt k code
+  pub parts_stop : (k : ℕ) (code : ℤ) (run : Runs who now v no_progress 0 parts (Stopped k code)) → RunsSeen who now v near no_progress 0 parts (Stopped k code) run → AreShort parts → parts_of s.tree max_owned who.session parts z now ≡ StoppedAt k code
   parts_stop k code run saw short = run_stops parts no_progress 0 k code run saw short refl start
 
-  pub parts_pass : (new : Progress) (run : Runs who now v no_progress 0 parts (Passed new)) → RunsSeen who now v no_progress 0 parts (Passed new) run → AreShort parts → Here [] new
+  pub parts_pass : (new : Progress) (run : Runs who now v no_progress 0 parts (Passed new)) → RunsSeen who now v near no_progress 0 parts (Passed new) run → AreShort parts → Here [] new
   parts_pass new run saw short = run_passes parts no_progress new 0 run saw short start

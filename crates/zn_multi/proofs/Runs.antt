@@ -17,7 +17,7 @@ use Rattle.zn_updates.specs.declared.chosen.Update.{Update}
 use Rattle.zn_updates.specs.Choices.{Choice, Refuse, Make}
 use Rattle.zn_updates.specs.Layers.{layered}
 use Rattle.zn_updates.specs.Making.{chosen_of}
-use Rattle.zn_updates.specs.Parts.{AreKept, IfChanges, IsKeptChange, IsPartChoice}
+use Rattle.zn_updates.specs.Parts.{AreKept, AreOwn, IfChanges, IfOwn, IsKeptChange, IsPartChoice}
 use Rattle.zk_model.specs.Limits.{max_parts}
 use Rattle.zk_model.specs.Paths.{is_path}
 use Rattle.zn_layout.specs.Records.{trigger_path, IsHeadRec}
@@ -42,12 +42,13 @@ kept_records : (cs : List Change) → All IsKeptChange cs → All PutsRecord (ac
 kept_records cs all = All-map PutsRecord act_of cs (All-weaker IsKeptChange (λ (c : Change). PutsRecord (act_of c)) (λ c h. put_record (key_bytes c.key) c.put h.written) cs all)
 
 -- the changes of an update
-pub record IsUpdate (u : Update) (c : Choice) : Type 0 where
+pub record IsUpdate (id : ℤ) (v : View) (p : Part) (u : Update) (c : Choice) : Type 0 where
   pub changes : List Change
   pub told : List Trigger
   pub draft : PartResult
   pub is : c ≡ Make changes told draft
   pub kept : AreKept changes told
+  pub own : AreOwn id v p changes
   pub same : u ≡ record { acts = acts_of changes; triggers = told; draft = draft }
 
 made_not_refused : (u : Update) (code : ℤ) → Made u ≡ Refused code → ⊥
@@ -56,13 +57,13 @@ made_not_refused u code e = cc
 made_same : (u w : Update) → Made u ≡ Made w → u ≡ w
 made_same u w e = cc
 
-update_of : (u : Update) (c : Choice) → Made u ≡ chosen_of c → IfChanges AreKept c → IsUpdate u c
-update_of u (Refuse code) is kept = absurd (made_not_refused u code is)
-update_of u (Make cs ts draft) is kept = record { changes = cs; told = ts; draft = draft; is = refl; kept = kept; same = made_same u _ is }
+update_of : (id : ℤ) (v : View) (p : Part) (u : Update) (c : Choice) → Made u ≡ chosen_of c → IfChanges AreKept c → IfOwn id v p c → IsUpdate id v p u c
+update_of id v p u (Refuse code) is kept own = absurd (made_not_refused u code is)
+update_of id v p u (Make cs ts draft) is kept own = record { changes = cs; told = ts; draft = draft; is = refl; kept = kept; own = own; same = made_same u _ is }
 
 module _ (p : Part) (who : Who) (now : ℕ) (v : View) (u : Update) (h : IsPartChoice p who now v (Made u)) where
-  pub update : IsUpdate u (h.choice now)
-  update = update_of u (h.choice now) h.is h.kept
+  pub update : IsUpdate who.session v p u (h.choice now)
+  update = update_of who.session v p u (h.choice now) h.is h.kept h.own
 
   pub update_records : All PutsRecord u.acts
   update_records = subst (λ (w : Update). All PutsRecord w.acts) (sym update.same) (kept_records update.changes update.kept.changes)
@@ -80,6 +81,7 @@ step p who now v old new u owner h touched over results triggers sessions =
       is = is.is;
       chosen = h.chosen;
       kept = is.kept;
+      own = is.own;
       owner = owner;
       owner_is = touched;
       over = over ∙ ap (λ (w : Update). with_acts old.over w.acts) is.same;

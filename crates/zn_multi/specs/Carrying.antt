@@ -18,7 +18,7 @@ use Rattle.zn_updates.specs.Choices.{Choice, Make}
 use Rattle.zn_updates.specs.Deciding.{owner_seen}
 use Rattle.zn_updates.specs.Forms.{IsInnerPath}
 use Rattle.zn_updates.specs.Layers.{IsChosen, layered}
-use Rattle.zn_updates.specs.Parts.{AreKept, IfData, IsPartChoice, IsPartSeen, part_content}
+use Rattle.zn_updates.specs.Parts.{AreKept, AreOwn, IfData, IsNarrower, IsPartChoice, IsPartSeen, part_content}
 use Rattle.zn_multi.specs.Laying.{with_acts}
 use Rattle.zn_multi.specs.declared.carrying.Carried.{Carried}
 use Rattle.zn_multi.specs.declared.carrying.Carried.TheVariants.{Stopped, Passed}
@@ -56,8 +56,9 @@ pub record IsStep (p : Part) (who : Who) (now : ℕ) (v : View) (old new : Progr
   pub draft : PartResult
   pub choice : ℕ → Choice
   pub is : choice now ≡ Make changes told draft
-  pub chosen : IsPartSeen who.session (layered old.over v) p → IsChosen p who (layered old.over v) choice
+  pub chosen : (near : View) → IsNarrower near (layered old.over v) → IsPartSeen who.session near p → IsChosen p who near choice
   pub kept : AreKept changes told
+  pub own : AreOwn who.session (layered old.over v) p changes
   pub owner : Option ℤ
   pub owner_is : IsTouched (layered old.over v) who.session p owner
   pub over : new.over ≡ with_acts old.over (acts_of changes)
@@ -76,8 +77,8 @@ abbrev pub Runs : Who → ℕ → View → Progress → ℕ → List Part → Ca
 Runs who now v old place [] c = c ≡ Passed old
 Runs who now v old place (p ∷ ps) c = (one : Carried) × IsCarriedOne p who now v old place one × (elim one [ Stopped k code ↦ c ≡ Stopped k code | Passed new ↦ Runs who now v new (place + 1) ps c ])
 
--- what each choice among them looks at was looked up, in the view or by the parts before
-abbrev pub RunsSeen : (who : Who) (now : ℕ) (v : View) (old : Progress) (place : ℕ) (ps : List Part) (c : Carried) → Runs who now v old place ps c → Type 0
-RunsSeen who now v old place [] c run = Unit {0}
-RunsSeen who now v old place (p ∷ ps) c (Stopped k code, one, rest) = IsPartSeen who.session (layered old.over v) p
-RunsSeen who now v old place (p ∷ ps) c (Passed new, one, rest) = IsPartSeen who.session (layered old.over v) p × RunsSeen who now v new (place + 1) ps c rest
+-- what each choice among them looks at was looked up, in a view that saw the same or less, or by the parts before
+abbrev pub RunsSeen : (who : Who) (now : ℕ) (v near : View) (old : Progress) (place : ℕ) (ps : List Part) (c : Carried) → Runs who now v old place ps c → Type 0
+RunsSeen who now v near old place [] c run = Unit {0}
+RunsSeen who now v near old place (p ∷ ps) c (Stopped k code, one, rest) = IsPartSeen who.session (layered old.over near) p
+RunsSeen who now v near old place (p ∷ ps) c (Passed new, one, rest) = IsPartSeen who.session (layered old.over near) p × RunsSeen who now v near new (place + 1) ps c rest

@@ -1,5 +1,5 @@
 -- What a multi is decided to be, by what its parts come to.
-use Rattle.std.specs.Prelude.{◌≡◌, ℕ, ℤ, pos, ◌+◌, ◌≤ℤ◌, List, [], ◌∷◌, ◌++◌, length, nat_lt, sum_by, Option, Some, None, MatchBool}
+use Rattle.std.specs.Prelude.{◌≡◌, ℕ, ℤ, pos, ◌+◌, ◌≤ℤ◌, List, [], ◌∷◌, ◌++◌, length, map, nat_lt, sum_by, Option, Some, None, MatchBool}
 use Rattle.std.specs.Ordering.{int_eq}
 use Rattle.ev_types.specs.declared.answer.Kv.{Kv}
 use Rattle.ev_types.specs.Reads.{read_key}
@@ -10,7 +10,7 @@ use Rattle.zk_model.specs.Codes.{bad_arguments}
 use Rattle.zk_model.specs.Limits.{max_load}
 use Rattle.zk_model.specs.Multi.{data_len, distinct, row_of}
 use Rattle.zn_layout.specs.Changes.{act_of, head_put}
-use Rattle.zn_layout.specs.Keys.{HeadKey, key_bytes}
+use Rattle.zn_layout.specs.Keys.{Key, HeadKey, key_bytes}
 use Rattle.zn_view.specs.declared.plan.Decision.{Decision}
 use Rattle.zn_view.specs.declared.plan.Decision.TheVariants.{Answered, Planned, Expired, Moved}
 use Rattle.zn_view.specs.declared.plan.Plan.{Plan}
@@ -18,9 +18,11 @@ use Rattle.zn_view.specs.declared.plan.Who.{Who}
 use Rattle.zn_view.specs.Asks.{again_of, guards_of, picked}
 use Rattle.zn_view.specs.Seen.{View}
 use Rattle.zx_base.specs.Maps.{Bytes}
+use Rattle.zn_updates.specs.KeysRead.{start_keys}
 use Rattle.zn_updates.specs.Parts.{IfPaths}
 use Rattle.zn_multi.specs.Carrying.{no_progress, Runs}
 use Rattle.zn_multi.specs.Laying.{written_acts}
+use Rattle.zn_multi.specs.Reading.{AreRead, each_new}
 use Rattle.zn_multi.specs.declared.carrying.Carried.{Carried}
 use Rattle.zn_multi.specs.declared.carrying.Carried.TheVariants.{Stopped, Passed}
 use Rattle.zn_multi.specs.declared.carrying.Progress.{Progress}
@@ -45,26 +47,30 @@ AreOwnedLoads v (id ∷ ids) n = (a b : ℕ) × IsOwnedLoad v id a × AreOwnedLo
 abbrev pub refused : ℤ → Decision
 refused code = Answered (reply.Refused code) None
 
--- Each key that was laid is written once, and the head is put last and then read. Some keys are guarded as the view saw them.
-pub record IsPlanOf (v : View) (p : Progress) (plan : Plan) : Type 0 where
-  pub keys : List Bytes
+-- the keys that the parts read, each once
+abbrev pub read_keys : ℤ → List Key → List Bytes
+read_keys id ks = each_new (map key_bytes (start_keys id ++ ks))
+
+-- Each key that was laid is written once, and the head is put last and then read. These keys are guarded as the view saw them.
+pub record IsPlanOn (v : View) (keys : List Bytes) (p : Progress) (plan : Plan) : Type 0 where
   pub guards : plan.guards ≡ guards_of (picked v keys)
   pub again : plan.again ≡ again_of (picked v keys)
   pub acts : plan.success ≡ (written_acts v p.over.keys ++ act_of (head_put p.triggers) ∷ []) ++ read_key (key_bytes HeadKey) ∷ []
   pub draft : plan.draft ≡ reply.Good (body.Parts p.results)
   pub triggers : plan.triggers ≡ p.triggers
 
-abbrev pub IsPlannedAs : View → Progress → Decision → Type 0
-IsPlannedAs v p d = (plan : Plan) × (d ≡ Planned plan) × IsPlanOf v p plan
+-- a plan that guards the keys that the parts read
+abbrev pub IsPlannedAs : ℤ → View → List Part → Progress → Decision → Type 0
+IsPlannedAs id v parts p d = (plan : Plan) × (d ≡ Planned plan) × (ks : List Key) × AreRead id v parts ks × IsPlanOn v (read_keys id ks) p plan
 
 -- the row of codes where a part is refused; else a refusal where the load is above the most; else a plan
-abbrev pub IsByParts : View → List Part → Carried → Decision → Type 0
-IsByParts v parts (Stopped place code) d = d ≡ Answered (reply.Good (body.Parts (row_of (length parts) place code))) None
-IsByParts v parts (Passed p) d = (n : ℕ) × AreOwnedLoads v (distinct p.touched) n × MatchBool (nat_lt max_load (sum_by data_len parts + n)) (d ≡ refused bad_arguments) (IsPlannedAs v p d)
+abbrev pub IsByParts : ℤ → View → List Part → Carried → Decision → Type 0
+IsByParts id v parts (Stopped place code) d = d ≡ Answered (reply.Good (body.Parts (row_of (length parts) place code))) None
+IsByParts id v parts (Passed p) d = (n : ℕ) × AreOwnedLoads v (distinct p.touched) n × MatchBool (nat_lt max_load (sum_by data_len parts + n)) (d ≡ refused bad_arguments) (IsPlannedAs id v parts p d)
 
 -- by what all parts come to, in turn
 abbrev pub IsInTurn : Who → ℕ → View → List Part → Decision → Type 0
-IsInTurn who now v parts d = (c : Carried) × Runs who now v no_progress 0 parts c × IsByParts v parts c d
+IsInTurn who now v parts d = (c : Carried) × Runs who now v no_progress 0 parts c × IsByParts who.session v parts c d
 
 -- by the record of the session's life first
 abbrev pub IsByLife : Who → ℕ → View → List Part → Decision → Option (Option Kv) → Type 0

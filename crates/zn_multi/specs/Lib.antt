@@ -1,4 +1,5 @@
 pub mod Laying
 pub mod Carrying
 pub mod Leading
+pub mod Reading
 pub mod Deciding

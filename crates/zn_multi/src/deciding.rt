@@ -5,8 +5,13 @@ ghost use Rattle.zk_model.specs.Codes.{bad_arguments};
 ghost use Rattle.zk_model.specs.Limits.{max_parts};
 ghost use Rattle.zn_layout.specs.Keys.{LeaseKey};
 ghost use Rattle.zn_layout.specs.Records.{IsHeadRec};
+ghost use Rattle.zk_model.specs.declared.request.Request.TheVariants as requests;
+ghost use Rattle.zn_view.specs.Asks.{WritesOnce};
+ghost use Rattle.zn_view.specs.Deciding.{IfPlanned, IsGood, IsTested};
 ghost use Rattle.zn_view.specs.Lookups.{HasSeen, sees};
-ghost use Rattle.zn_multi.specs.Deciding.{IsByLife, IsInTurn, IsPlanOf};
+ghost use Rattle.zn_view.specs.Needs.{IsWhole};
+ghost use Rattle.zn_view.specs.Views.{IsDecision};
+ghost use Rattle.zn_multi.specs.Deciding.{IsByLife, IsInTurn, IsPlanOn};
 ghost use Rattle.zn_multi.specs.Carrying.{AreShort};
 
 use crate::carrying::{Carried, Progress, carry_out};
@@ -36,7 +41,7 @@ fn refused(code: i32) -> Decision
 /// The plan of an update of all parts.
 fn plan(alloc: Global, view: &View, keys: &[Bytes], passed: Progress) -> Result<Plan, Memory>
     requires { IsHeadRec passed.triggers }
-    ensures { IfOk result (IsPlanOf view.now passed) }
+    ensures { IfOk result (IsPlanOn view.now keys.now passed) }
 {
     let head = HeadRec {
         triggers: passed.triggers,
@@ -109,7 +114,11 @@ fn decide_by_session(
 }
 
 /// Decides a multi of these parts on a view that lacks nothing which it reads: what [`needs_multi`](crate::needs_multi) names
-/// of that view is nothing. `now` is in milliseconds since 1970; the session's number is at least 1.
+/// of that view is nothing. `now` is in milliseconds since 1970, below 2^62; the session's number is at least 1.
+///
+/// Too many parts are refused. Otherwise the session has expired where the record of its life is not there, and has moved where
+/// that was put at another revision than `who.mine`; and otherwise the tree decides: the parts are carried out in turn. What is
+/// planned carries the update out, guards what the parts read, writes each key once, and is small enough for an etcd.
 pub fn decide_multi(
     alloc: Global,
     parts: &[Part],
@@ -120,7 +129,11 @@ pub fn decide_multi(
     requires moment { now < 2 ^ 62 }
     requires short { AreShort parts.now }
     requires real { pos 1 ≤ℤ who.session }
-    requires life { HasSeen view.now (LeaseKey (nat_abs who.session)) }
+    requires whole { IsWhole (requests.Multi parts.now) who view.now }
+    ensures decision { IfOk result (IsDecision (requests.Multi parts.now) who view.now) }
+    ensures tested { IfOk result (IsTested (requests.Multi parts.now) who view.now) }
+    ensures plan { IfOk result (IfPlanned (IsGood (requests.Multi parts.now) who now view.now)) }
+    ensures once { IfOk result (IfPlanned WritesOnce) }
     ensures life { IfOk result (λ d. length parts.now ≤ max_parts → IsByLife who now view.now parts.now d (sees view.now (LeaseKey (nat_abs who.session)))) }
     ensures many { IfOk result (λ d. max_parts < length parts.now → d ≡ Decision.Answered (Reply.Refused bad_arguments) None) }
 {

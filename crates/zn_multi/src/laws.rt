@@ -1,19 +1,24 @@
 //! The laws of multis. Each function does nothing, and its contract is the law.
 
-ghost use Rattle.std.specs.Prelude.{◌<◌, ◌^◌, ◌≡◌, ◌≤◌, ◌++◌, ℕ, ℤ, [], List, Some, true};
+ghost use Rattle.std.specs.Prelude.{◌<◌, ◌^◌, ◌≡◌, ◌≤◌, ◌++◌, ℕ, ℤ, [], length, List, Some, true};
 ghost use Rattle.zk_model.specs.declared.request.Part.{Part as AnyPart};
-ghost use Rattle.zk_model.specs.Limits.{max_owned};
+ghost use Rattle.zk_model.specs.declared.request.Request.TheVariants as requests;
+ghost use Rattle.zk_model.specs.Limits.{max_owned, max_parts};
 ghost use Rattle.zk_model.specs.Multi.{Stopped as StoppedAt, parts_of};
 ghost use Rattle.zk_transcript.specs.History.{Session, IsSound, session_at};
 ghost use Rattle.zn_view.specs.declared.plan.Who.{Who as AnyWho};
 ghost use Rattle.zn_multi.specs.Carrying.{no_progress, AreShort, Runs, RunsSeen};
 ghost use Rattle.zn_multi.specs.Leading.{LeadsTo};
+ghost use Rattle.zn_multi.specs.declared.carrying.Carried.{Carried as AnyCarried};
 ghost use Rattle.zn_multi.specs.declared.carrying.Carried.TheVariants.{Stopped, Passed};
 ghost use Rattle.zn_multi.specs.declared.carrying.Progress.{Progress as AnyProgress};
 ghost use Rattle.zk_transcript.specs.History.{State};
 ghost use Rattle.zn_layout.specs.Fits.{Fits};
+ghost use Rattle.zn_view.specs.Needs.{IsWhole};
 ghost use Rattle.zn_view.specs.Seen.{View as AnyView};
+ghost use Rattle.zk_model.specs.Znodes.{Tree};
 ghost use Rattle.zn_updates.specs.Layers.{Shows, layered};
+ghost use Rattle.zn_updates.specs.Parts.{IsNarrower};
 ghost use Rattle.zn_layout.specs.Changes.{Change, acts_of, are_distinct, last};
 ghost use Rattle.zn_layout.specs.Keys.{Key};
 ghost use Rattle.zn_multi.specs.Laying.{all_laid, laid_view, with_acts};
@@ -31,9 +36,21 @@ pub fn later_parts_see_earlier_ones()
     ensures { (z : ℤ) (v : AnyView) (ws : List Change) (s new : State) → Shows z v s → Fits z ws s new → are_distinct ws ≡ true → Shows z (layered (laid_view ws) v) new }
 {}
 
-/// What the parts come to on a view that shows a sound state, they come to in that state at any zxid: they stop at the same part
-/// with the same code, or pass, and the keys that were laid over the view are the changes to the state behind them.
+/// What the parts come to on a view they come to in each sound state of which the view shows what the parts look at, at any
+/// zxid: they stop at the same part with the same code, or pass, and the keys that were laid over the view are the changes to the
+/// state behind them. Of other keys the view may show what that state does not have.
 pub fn parts_are_carried_out_in_turn()
-    ensures stops { (who : AnyWho) (now : ℕ) (v : AnyView) (parts : List AnyPart) (s : State) (z : ℤ) (x : Session) (place : ℕ) (code : ℤ) (run : Runs who now v no_progress 0 parts (Stopped place code)) → RunsSeen who now v no_progress 0 parts (Stopped place code) run → now < 2 ^ 62 → AreShort parts → IsSound s → Shows z v s → session_at who.session s ≡ Some x → parts_of s.tree max_owned who.session parts z now ≡ StoppedAt place code }
-    ensures passes { (who : AnyWho) (now : ℕ) (v : AnyView) (parts : List AnyPart) (s : State) (z : ℤ) (x : Session) (p : AnyProgress) (run : Runs who now v no_progress 0 parts (Passed p)) → RunsSeen who now v no_progress 0 parts (Passed p) run → now < 2 ^ 62 → AreShort parts → IsSound s → Shows z v s → session_at who.session s ≡ Some x → LeadsTo who.session now v parts [] p s z }
+    ensures stops { (who : AnyWho) (now : ℕ) (v near : AnyView) (parts : List AnyPart) (s : State) (z : ℤ) (x : Session) (place : ℕ) (code : ℤ) (run : Runs who now v no_progress 0 parts (Stopped place code)) → RunsSeen who now v near no_progress 0 parts (Stopped place code) run → IsNarrower near v → now < 2 ^ 62 → AreShort parts → IsSound s → Shows z near s → session_at who.session s ≡ Some x → parts_of s.tree max_owned who.session parts z now ≡ StoppedAt place code }
+    ensures passes { (who : AnyWho) (now : ℕ) (v near : AnyView) (parts : List AnyPart) (s : State) (z : ℤ) (x : Session) (p : AnyProgress) (run : Runs who now v no_progress 0 parts (Passed p)) → RunsSeen who now v near no_progress 0 parts (Passed p) run → IsNarrower near v → now < 2 ^ 62 → AreShort parts → IsSound s → Shows z near s → session_at who.session s ≡ Some x → LeadsTo who.session now v parts [] p s z }
+{}
+
+/// Whether parts are refused, and which of them with which code, depends neither on the zxid nor on the moment.
+pub fn refusals_do_not_depend_on_the_moment()
+    ensures { (t : Tree) (limit : ℕ) (id : ℤ) (parts : List AnyPart) (z y : ℤ) (now other : ℕ) (place : ℕ) (code : ℤ) → parts_of t limit id parts z now ≡ StoppedAt place code → parts_of t limit id parts y other ≡ StoppedAt place code }
+{}
+
+/// A view of a sound state that lacks nothing which at most 24 parts read saw what each part looks at, also of nodes that the
+/// parts before it made.
+pub fn what_parts_look_at_was_seen()
+    ensures { (who : AnyWho) (now : ℕ) (v : AnyView) (parts : List AnyPart) (s : State) (z : ℤ) (x : Session) (c : AnyCarried) (run : Runs who now v no_progress 0 parts c) → length parts ≤ max_parts → IsWhole (requests.Multi parts) who v → now < 2 ^ 62 → AreShort parts → IsSound s → Shows z v s → session_at who.session s ≡ Some x → RunsSeen who now v v no_progress 0 parts c run }
 {}

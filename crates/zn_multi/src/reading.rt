@@ -1,8 +1,17 @@
 //! The keys that the parts of a multi read, as far as the view determines them.
 
-ghost use Rattle.std.specs.Prelude.{◌≡◌, ◌≤◌, ◌≤ℤ◌, ◌+◌, pos, length, IfOk, IfSome, IsTrue};
-ghost use Rattle.zk_model.specs.Limits.{max_creates, max_parts};
-ghost use Rattle.zk_model.specs.Paths.{is_path, is_sequence_prefix};
+ghost use Rattle.std.specs.Prelude.{◌≡◌, ◌≤◌, ◌<◌, ◌-◌, ◌^◌, ◌≤ℤ◌, ◌++◌, ◌∷◌, ℤ, [], List as ListOf, Some, None, pos, length, map, is_some, IfOk, IfSome, IsFalse, IsTrue, OnOk};
+ghost use Rattle.std.specs.List.{list_all, list_any};
+ghost use Rattle.zk_model.specs.declared.request.Part.TheVariants as parts;
+ghost use Rattle.zk_model.specs.Limits.{max_parts, max_path};
+ghost use Rattle.zk_model.specs.Paths.{is_path, is_sequence_prefix, parent as parent_of};
+ghost use Rattle.zx_base.specs.Maps.{Bytes as ByteList, same};
+ghost use Rattle.zn_layout.specs.Keys.{Key as AnyKey, DataKey, key_bytes};
+ghost use Rattle.zn_view.specs.Needs.{creates_after as creates_behind, with_made as creates_with};
+ghost use Rattle.zn_view.specs.Seen.{View as AnyView, seen};
+ghost use Rattle.zn_view.specs.Views.{about_parent, about_path, counts_of_parent};
+ghost use Rattle.zn_updates.specs.KeysRead.{start_keys as keys_of_each};
+ghost use Rattle.zn_multi.specs.Reading.{each_new, if_seen as made_if_seen, sequence_data, with_new, with_path as made_with, AreRead, IsCreateRead, IsDeleteRead, IsNodePath, IsNumberedPath, IsPartRead};
 
 use std::alloc::Global;
 use zk_model::{Acl, Part, Path};
@@ -17,18 +26,32 @@ use zx_base::{Bytes, Memory, Seq};
 /// The paths of the nodes that were made, in turn: none where the view does not determine them.
 type Made = Option<Seq<Path>>;
 
+/// The creates of a node once one node more is made.
+fn with_made(creates: Option<u32>, path: &Path, other: &Path) -> Option<u32>
+    requires { IfSome creates (λ n. n < 2 ^ 32 - 1) }
+    ensures { result ≡ creates_with path.now creates other.now }
+{
+    if other.bytes() == path.bytes() {
+        return Some(0);
+    }
+    if !other.is_child_of(path.bytes()) {
+        return creates;
+    }
+    match creates {
+        Some(creates) => Some(creates + 1),
+        None => None,
+    }
+}
+
 /// The creates of a node, after these nodes were made.
-fn creates_after(creates: Option<u32>, path: &Path, made: &[Path]) -> Option<u32> {
+fn creates_after(creates: Option<u32>, path: &Path, made: &[Path]) -> Option<u32>
+    requires few { length made.now ≤ max_parts }
+    requires within { IfSome creates (λ n. n ≤ 1073741823) }
+    ensures { result ≡ creates_behind creates path.now made.now }
+{
     let mut creates = creates;
     for other in made {
-        if other.bytes() == path.bytes() {
-            creates = Some(0);
-        } else if other.is_child_of(path.bytes()) {
-            creates = match creates {
-                Some(creates) => creates.checked_add(1),
-                None => None,
-            };
-        }
+        creates = with_made(creates, path, other);
     }
     creates
 }
@@ -43,7 +66,8 @@ fn numbered(
 ) -> Result<Option<Path>, Memory>
     requires prefix { IsTrue (is_sequence_prefix path.now) }
     requires parent { IsTrue (is_path parent.now) }
-    ensures { IfOk result (λ o. IfSome o (λ p. IsTrue (is_path p))) }
+    requires few { IfSome made.now (λ m. length m ≤ max_parts) }
+    ensures { IfOk result (IsNumberedPath view.now made.now path.now (Some parent.now)) }
 {
     let Some(made) = made else {
         return Ok(None);
@@ -56,8 +80,13 @@ fn numbered(
 }
 
 /// The paths that were made with one more behind them.
-fn with_path(made: Made, path: Option<Path>) -> Result<Made, Memory> {
-    let (Some(made), Some(path)) = (made, path) else {
+fn with_path(made: Made, path: Option<Path>) -> Result<Made, Memory>
+    ensures { IfOk result (λ next. next ≡ made_with made path) }
+{
+    let Some(made) = made else {
+        return Ok(None);
+    };
+    let Some(path) = path else {
         return Ok(None);
     };
     let mut made = made;
@@ -65,132 +94,219 @@ fn with_path(made: Made, path: Option<Path>) -> Result<Made, Memory> {
     Ok(Some(made))
 }
 
-/// The keys of a sequence node below a parent.
-fn push_sequence(
-    alloc: Global,
-    keys: &mut Seq<Bytes>,
+/// What a part reads, and the paths of the nodes that were made with that of its node.
+#[derive(Drop)]
+struct PartRead {
+    keys: Seq<Bytes>,
     made: Made,
-    path: &[u8],
-    parent: &Path,
-    view: &View,
-) -> Result<Made, Memory>
-    requires prefix { IsTrue (is_sequence_prefix path.now) }
-    requires parent { IsTrue (is_path parent.now) }
-{
-    let node = numbered(alloc, path, parent, &made, view)?;
-    if let Some(node) = &node {
-        keys.push(data_key(alloc, node.bytes())?)?;
-    }
-    with_path(made, node)
 }
 
-/// The key of a sequence node, once it is determined.
-fn push_own(
+/// Of a part whose form is refused. No part behind it is chosen.
+fn nothing_read(alloc: Global) -> PartRead
+    ensures keys { result.keys ≡ [] }
+    ensures made { result.made ≡ None }
+{
+    PartRead {
+        keys: Seq::new(alloc),
+        made: None,
+    }
+}
+
+/// The path of the node that a create makes.
+fn node_path(
     alloc: Global,
-    keys: &mut Seq<Bytes>,
-    made: Made,
     path: &[u8],
     named: Path,
     parent: &Option<Path>,
     sequential: bool,
+    made: &Made,
     view: &View,
-) -> Result<Made, Memory>
+) -> Result<Option<Path>, Memory>
     requires prefix { IsTrue sequential → IsTrue (is_sequence_prefix path.now) }
     requires parent { IfSome parent.now (λ q. IsTrue (is_path q)) }
+    requires named { IsFalse sequential → named ≡ path.now }
+    requires few { IfSome made.now (λ m. length m ≤ max_parts) }
+    ensures { IfOk result (IsNodePath view.now made.now sequential path.now parent.now) }
 {
     if !sequential {
-        return with_path(made, Some(named));
+        return Ok(Some(named));
     }
     match parent {
-        Some(parent) => push_sequence(alloc, keys, made, path, parent, view),
+        Some(parent) => numbered(alloc, path, parent, made, view),
         None => Ok(None),
     }
 }
 
-/// The keys of a create. The root has no parent, and is there.
-fn push_create(
+/// A node's parent. The root has none, and is there.
+fn push_parent(alloc: Global, keys: &mut Seq<Bytes>, parent: &Option<Path>) -> Result<(), Memory>
+    requires { IfSome parent.now (λ q. length q ≤ max_path) }
+    ensures { OnOk result (keys.new ≡ keys.old ++ map key_bytes (about_parent parent.now)) }
+{
+    match parent {
+        Some(parent) => push_node(alloc, keys, parent),
+        None => Ok(()),
+    }
+}
+
+/// The record of a sequence node, once its path is determined.
+fn push_sequence(
     alloc: Global,
     keys: &mut Seq<Bytes>,
+    node: &Option<Path>,
+    sequential: bool,
+) -> Result<(), Memory>
+    requires { IsTrue sequential → IfSome node.now (λ p. length p ≤ max_path) }
+    ensures { OnOk result (keys.new ≡ keys.old ++ map key_bytes (sequence_data sequential node.now)) }
+{
+    if !sequential {
+        return Ok(());
+    }
+    match node {
+        Some(node) => keys.push(data_key(alloc, node.bytes())?),
+        None => Ok(()),
+    }
+}
+
+/// What a create reads.
+fn read_named(
+    alloc: Global,
+    made: Made,
+    path: &[u8],
+    named: Path,
+    sequential: bool,
+    ephemeral: bool,
+    session: i64,
+    view: &View,
+) -> Result<PartRead, Memory>
+    requires real { pos 1 ≤ℤ session }
+    requires prefix { IsTrue sequential → IsTrue (is_sequence_prefix path.now) }
+    requires named { IsFalse sequential → named ≡ path.now }
+    requires few { IfSome made (λ m. length m ≤ max_parts) }
+    ensures { IfOk result (λ r. (own : ListOf AnyKey) × (r.keys ≡ map key_bytes own) × IsCreateRead session view.now made path.now sequential ephemeral (parent_of named) own r.made) }
+{
+    let parent = named.parent(alloc)?;
+    let mut keys = Seq::new(alloc);
+    push_parent(alloc, &mut keys, &parent)?;
+    push_data(alloc, &mut keys, path, sequential)?;
+    push_session(alloc, &mut keys, session, ephemeral)?;
+    let node = node_path(alloc, path, named, &parent, sequential, &made, view)?;
+    push_sequence(alloc, &mut keys, &node, sequential)?;
+    Ok(PartRead {
+        keys,
+        made: with_path(made, node)?,
+    })
+}
+
+fn read_create(
+    alloc: Global,
     made: Made,
     path: &[u8],
     acl: &[Acl],
     flags: i32,
     session: i64,
     view: &View,
-) -> Result<Made, Memory>
+) -> Result<PartRead, Memory>
     requires real { pos 1 ≤ℤ session }
+    requires few { IfSome made (λ m. length m ≤ max_parts) }
+    ensures { IfOk result (λ r. (content : ByteList) → IsPartRead session view.now made (parts.Create path.now content acl.now flags) r) }
 {
-    let named = match create_form(alloc, path, acl, flags)? {
-        Form::Valid(named) => named,
-        Form::Refused(_) => return Ok(None),
-    };
-    let parent = named.parent(alloc)?;
-    if let Some(parent) = &parent {
-        push_node(alloc, keys, parent)?;
+    match create_form(alloc, path, acl, flags)? {
+        Form::Valid(named) => read_named(
+            alloc,
+            made,
+            path,
+            named,
+            is_sequential(flags),
+            is_ephemeral(flags),
+            session,
+            view,
+        ),
+        Form::Refused(_) => Ok(nothing_read(alloc)),
     }
-    push_data(alloc, keys, path, is_sequential(flags))?;
-    push_session(alloc, keys, session, is_ephemeral(flags))?;
-    push_own(
-        alloc,
-        keys,
-        made,
-        path,
-        named,
-        &parent,
-        is_sequential(flags),
-        view,
-    )
 }
 
-fn push_delete(
-    alloc: Global,
-    keys: &mut Seq<Bytes>,
-    made: Made,
-    path: &[u8],
-    view: &View,
-) -> Result<Made, Memory> {
-    let Some(path) = inner_path(alloc, path)? else {
-        return Ok(None);
-    };
-    push_node(alloc, keys, &path)?;
-    if let Some(parent) = path.parent(alloc)? {
-        keys.push(counts_key(alloc, parent.bytes())?)?;
+/// The counts of a node's parent.
+fn push_counts_above(alloc: Global, keys: &mut Seq<Bytes>, path: &Path) -> Result<(), Memory>
+    requires { length path.now ≤ max_path }
+    ensures { OnOk result (keys.new ≡ keys.old ++ map key_bytes (counts_of_parent (parent_of path.now))) }
+{
+    match path.parent(alloc)? {
+        Some(parent) => keys.push(counts_key(alloc, parent.bytes())?),
+        None => Ok(()),
     }
-    push_owner(alloc, keys, owner_seen(alloc, view, &path)?)?;
-    Ok(made)
 }
 
-fn push_set(alloc: Global, keys: &mut Seq<Bytes>, made: Made, path: &[u8]) -> Result<Made, Memory> {
-    let Some(path) = read_path(alloc, path, false)? else {
-        return Ok(None);
-    };
-    push_node(alloc, keys, &path)?;
-    Ok(made)
+/// What a delete of a valid path reads.
+fn read_removal(alloc: Global, made: Made, path: &Path, view: &View) -> Result<PartRead, Memory>
+    requires valid { IsTrue (is_path path.now) }
+    requires short { length path.now ≤ max_path }
+    ensures { IfOk result (λ r. (own : ListOf AnyKey) × (r.keys ≡ map key_bytes own) × IsDeleteRead view.now made path.now own r.made) }
+{
+    let mut keys = Seq::new(alloc);
+    push_node(alloc, &mut keys, path)?;
+    push_counts_above(alloc, &mut keys, path)?;
+    push_owner(alloc, &mut keys, owner_seen(alloc, view, path)?)?;
+    Ok(PartRead { keys, made })
 }
 
-fn push_check(
-    alloc: Global,
-    keys: &mut Seq<Bytes>,
-    made: Made,
-    path: &[u8],
-) -> Result<Made, Memory> {
-    let Some(path) = read_path(alloc, path, false)? else {
-        return Ok(None);
-    };
+fn read_delete(alloc: Global, made: Made, path: &[u8], view: &View) -> Result<PartRead, Memory>
+    ensures { IfOk result (λ r. (id version : ℤ) → IsPartRead id view.now made (parts.Delete path.now version) r) }
+{
+    match inner_path(alloc, path)? {
+        Some(path) => read_removal(alloc, made, &path, view),
+        None => Ok(nothing_read(alloc)),
+    }
+}
+
+/// A node's record and counts.
+fn read_node(alloc: Global, made: Made, path: &Path) -> Result<PartRead, Memory>
+    requires { length path.now ≤ max_path }
+    ensures { IfOk result (λ r. (r.keys ≡ map key_bytes (about_path path.now)) × (r.made ≡ made)) }
+{
+    let mut keys = Seq::new(alloc);
+    push_node(alloc, &mut keys, path)?;
+    Ok(PartRead { keys, made })
+}
+
+fn read_set(alloc: Global, made: Made, path: &[u8]) -> Result<PartRead, Memory>
+    ensures { IfOk result (λ r. (id version : ℤ) (content : ByteList) (v : AnyView) → IsPartRead id v made (parts.SetData path.now content version) r) }
+{
+    match read_path(alloc, path, false)? {
+        Some(path) => read_node(alloc, made, &path),
+        None => Ok(nothing_read(alloc)),
+    }
+}
+
+/// A node's record.
+fn read_data(alloc: Global, made: Made, path: &Path) -> Result<PartRead, Memory>
+    requires { length path.now ≤ max_path }
+    ensures { IfOk result (λ r. (r.keys ≡ map key_bytes (DataKey path.now ∷ [])) × (r.made ≡ made)) }
+{
+    let mut keys = Seq::new(alloc);
     keys.push(data_key(alloc, path.bytes())?)?;
-    Ok(made)
+    Ok(PartRead { keys, made })
 }
 
-/// The keys of a part.
-fn push_part(
+fn read_check(alloc: Global, made: Made, path: &[u8]) -> Result<PartRead, Memory>
+    ensures { IfOk result (λ r. (id version : ℤ) (v : AnyView) → IsPartRead id v made (parts.Check path.now version) r) }
+{
+    match read_path(alloc, path, false)? {
+        Some(path) => read_data(alloc, made, &path),
+        None => Ok(nothing_read(alloc)),
+    }
+}
+
+/// What a part reads, after these nodes were made.
+fn read_part(
     alloc: Global,
-    keys: &mut Seq<Bytes>,
     made: Made,
     part: &Part,
     session: i64,
     view: &View,
-) -> Result<Made, Memory>
+) -> Result<PartRead, Memory>
     requires real { pos 1 ≤ℤ session }
+    requires few { IfSome made (λ m. length m ≤ max_parts) }
+    ensures { IfOk result (IsPartRead session view.now made part.now) }
 {
     match part {
         Part::Create {
@@ -198,9 +314,8 @@ fn push_part(
             acl,
             flags,
             ..
-        } => push_create(
+        } => read_create(
             alloc,
-            keys,
             made,
             path.as_slice(),
             acl.as_slice(),
@@ -208,26 +323,46 @@ fn push_part(
             session,
             view,
         ),
-        Part::Delete { path, .. } => push_delete(alloc, keys, made, path.as_slice(), view),
-        Part::SetData { path, .. } => push_set(alloc, keys, made, path.as_slice()),
-        Part::Check { path, .. } => push_check(alloc, keys, made, path.as_slice()),
+        Part::Delete { path, .. } => read_delete(alloc, made, path.as_slice(), view),
+        Part::SetData { path, .. } => read_set(alloc, made, path.as_slice()),
+        Part::Check { path, .. } => read_check(alloc, made, path.as_slice()),
     }
 }
 
-/// Whether all these keys from a place on were looked up.
-fn were_seen(view: &View, keys: &[Bytes], from: usize) -> bool {
-    let mut place = from;
-    while place < keys.len() {
-        if view.found(keys[place].as_slice()).is_none() {
+/// Whether all these keys were looked up.
+fn were_seen(view: &View, keys: &[Bytes]) -> bool
+    ensures { result ≡ list_all (λ k. is_some (seen view.now k)) keys.now }
+{
+    for key in keys {
+        if view.found(key.as_slice()).is_none() {
             return false;
         }
-        place += 1;
     }
     true
 }
 
-/// The keys of a multi's parts, behind the head and the record of the session's life. What follows from a part is named once
-/// the view shows all that the parts before read.
+/// Adds keys behind others.
+fn push_all(keys: &mut Seq<Bytes>, more: Seq<Bytes>) -> Result<(), Memory>
+    ensures { OnOk result (keys.new ≡ keys.old ++ more) }
+{
+    for key in more.into_vec() {
+        keys.push(key)?;
+    }
+    Ok(())
+}
+
+/// Adds what a part reads. What follows from later parts is determined once the view shows all of it.
+fn push_part(keys: &mut Seq<Bytes>, part: PartRead, view: &View) -> Result<Made, Memory>
+    ensures keys { OnOk result (keys.new ≡ keys.old ++ part.keys) }
+    ensures made { IfOk result (λ next. next ≡ made_if_seen (list_all (λ k. is_some (seen view.now k)) part.keys) part.made) }
+{
+    let PartRead { keys: own, made } = part;
+    let seen = were_seen(view, own.as_slice());
+    push_all(keys, own)?;
+    if seen { Ok(made) } else { Ok(None) }
+}
+
+/// The keys of a multi's parts, behind the head and the record of the session's life.
 pub(crate) fn keys_read(
     alloc: Global,
     parts: &[Part],
@@ -235,31 +370,42 @@ pub(crate) fn keys_read(
     view: &View,
 ) -> Result<Seq<Bytes>, Memory>
     requires real { pos 1 ≤ℤ session }
+    requires few { length parts.now ≤ max_parts }
+    ensures { IfOk result (λ keys. (ks : ListOf AnyKey) × AreRead session view.now parts.now ks × (keys ≡ map key_bytes (keys_of_each session ++ ks))) }
 {
     let mut keys = start_keys(alloc, session)?;
     let mut made = Some(Seq::new(alloc));
     for part in parts {
-        let from = keys.len();
-        made = push_part(alloc, &mut keys, made, part, session, view)?;
-        if !were_seen(view, keys.as_slice(), from) {
-            made = None;
-        }
+        let read = read_part(alloc, made, part, session, view)?;
+        made = push_part(&mut keys, read, view)?;
     }
     Ok(keys)
 }
 
 /// Whether a key stands among these.
-fn is_among(keys: &[Bytes], key: &Bytes) -> bool {
+fn is_among(keys: &[Bytes], key: &Bytes) -> bool
+    ensures { result ≡ list_any (λ k. same k key.now) keys.now }
+{
     keys.iter().any(|other| other.is(key.as_slice()))
 }
 
+/// Adds a key, unless it stands among these.
+fn push_new(keys: &mut Seq<Bytes>, key: Bytes) -> Result<(), Memory>
+    ensures { OnOk result (keys.new ≡ with_new keys.old key) }
+{
+    if is_among(keys.as_slice(), &key) {
+        return Ok(());
+    }
+    keys.push(key)
+}
+
 /// Each of these keys once.
-pub(crate) fn each_once(alloc: Global, keys: Seq<Bytes>) -> Result<Seq<Bytes>, Memory> {
+pub(crate) fn each_once(alloc: Global, keys: Seq<Bytes>) -> Result<Seq<Bytes>, Memory>
+    ensures { IfOk result (λ once. once ≡ each_new keys) }
+{
     let mut once = Seq::new(alloc);
     for key in keys.into_vec() {
-        if !is_among(once.as_slice(), &key) {
-            once.push(key)?;
-        }
+        push_new(&mut once, key)?;
     }
     Ok(once)
 }

@@ -1,9 +1,8 @@
 //! What a multi still has to look up.
 
-ghost use Rattle.std.specs.Prelude.{◌≡◌, ◌<◌, ◌≤ℤ◌, pos, length, List, [], IfOk};
-ghost use Rattle.zk_model.specs.Limits.{max_parts};
-ghost use Rattle.zn_view.specs.Lacking.{lacking as lacking_of};
-ghost use Rattle.zx_base.specs.Maps.{Bytes as ByteList};
+ghost use Rattle.std.specs.Prelude.{◌≤ℤ◌, pos, IfOk};
+ghost use Rattle.zk_model.specs.declared.request.Request.TheVariants as requests;
+ghost use Rattle.zn_view.specs.Needs.{AreNeeds};
 
 use crate::reading::keys_read;
 use std::alloc::Global;
@@ -22,8 +21,7 @@ pub fn needs_multi(
     view: &View,
 ) -> Result<Seq<Want>, Memory>
     requires real { pos 1 ≤ℤ who.session }
-    ensures lacking { IfOk result (λ ws. (keys : List ByteList) × (ws ≡ lacking_of view.now keys)) }
-    ensures many { IfOk result (λ ws. max_parts < length parts.now → ws ≡ []) }
+    ensures { IfOk result (AreNeeds (requests.Multi parts.now) who view.now) }
 {
     if MAX_PARTS < parts.len() {
         return Ok(Seq::new(alloc));
