@@ -3,7 +3,8 @@
 //! `transcripts/NAME.transcript` is a transcript, and `transcripts/NAME.verdict` its verdict, in the words of the command `judge`.
 //! Each is spelled from the records of zookeeper.jute and the rules of the Programmer's Guide, without this project's code; a
 //! name that has another in front is that transcript with one thing spoiled. Where `transcripts/NAME.script` stands beside, it is a
-//! script of which the transcript tells; nothing runs it yet. `count` says how many transcripts there are, so that none gets lost.
+//! script of which the transcript tells; nearly all of these scripts are examples of `replay` too, which runs them. `count` says how
+//! many transcripts there are, so that none gets lost.
 //!
 //! Nothing is written to standard output. What differs is told on standard error, and the status is then 1.
 #![tactic(auto)]

@@ -47,7 +47,7 @@ fn refusal_of_several(
     watches: &Watches,
     transaction: Transaction,
 ) -> Result<Option<Told>, Memory>
-    ensures { IfOk result (λ o. option_map told_of o ≡ refusal_of_several watches.now (several_as transaction)) }
+    ensures { IfOk result (λ o. (t : Nodes) → option_map told_of o ≡ refusal_of_several watches.now (several_as t transaction)) }
 {
     match transaction {
         Transaction::Denied(code) => Ok(Some(refused(alloc, watches, code)?)),

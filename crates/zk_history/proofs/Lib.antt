@@ -1,5 +1,6 @@
 pub mod SessionLaws
 pub mod Counts
+pub mod Fitting
 pub mod Marks
 pub mod Looking
 pub mod Kept

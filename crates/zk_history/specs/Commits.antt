@@ -3,8 +3,9 @@ use Rattle.std.specs.Prelude.{ℤ, List, Option, None, option_map}
 use Rattle.zk_model.specs.declared.reply.Body.{Body}
 use Rattle.zk_model.specs.Znodes.{Tree}
 use Rattle.zk_plain.specs.Edits.{edited_if}
+use Rattle.zk_plain.specs.Writes.{written_all}
 use Rattle.zk_history.specs.declared.outcome.Change.{Change}
-use Rattle.zk_history.specs.declared.outcome.Change.TheVariants.{Edited, Replaced}
+use Rattle.zk_history.specs.declared.outcome.Change.TheVariants.{Edited, Written}
 use Rattle.zk_history.specs.declared.outcome.Commit.{Commit as Answer}
 use Rattle.zk_transcript.specs.declared.transcript.UpdateKind.{UpdateKind}
 use Rattle.zk_transcript.specs.declared.transcript.UpdateKind.TheVariants.{Asked}
@@ -14,7 +15,7 @@ use Rattle.zk_transcript.specs.History.{Commit, State, asked_commit}
 
 abbrev pub changed : Tree → Change → Tree
 changed t (Edited e) = edited_if t e
-changed t (Replaced u) = u
+changed t (Written ws) = written_all t ws
 
 -- of a request that was planned on this tree
 abbrev pub commit_of : Tree → Answer → Commit

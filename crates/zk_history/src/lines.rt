@@ -16,12 +16,10 @@ use crate::session::Session;
 use crate::state::State;
 use std::alloc::Global;
 use zk_model::Body;
+use zk_model::limit::MAX_OWNED;
 use zk_plain::{Fault, Turn, begin};
 use zk_transcript::{TranscriptLine, UpdateKind, UpdateRec};
 use zx_base::{Memory, Seq};
-
-/// The most ephemeral nodes that a session may own.
-const MAX_OWNED: usize = 40;
 
 /// The last moment that the times of a node hold, in milliseconds.
 const MAX_LONG: u64 = 9223372036854775807;

@@ -5,14 +5,16 @@ ghost use Rattle.zk_history.specs.Commits.{changed};
 
 use std::alloc::Global;
 use zk_model::{Body, Trigger};
-use zk_plain::{Edit, Tree};
+use zk_plain::{Edit, Tree, Write};
 use zx_base::{Memory, Seq};
 
 /// What becomes of a tree.
 #[derive(Debug, Drop)]
 pub enum Change {
+    /// What a single request planned.
     Edited(Option<Edit>),
-    Replaced(Tree),
+    /// What the parts of a transaction wrote, in order.
+    Written(Seq<Write>),
 }
 
 impl Change {
@@ -26,7 +28,11 @@ impl Change {
                 next.carry_out_if(alloc, edit)?;
                 Ok(next)
             }
-            Change::Replaced(next) => Ok(next),
+            Change::Written(writes) => {
+                let mut next = tree;
+                next.write_all(alloc, writes)?;
+                Ok(next)
+            }
         }
     }
 }

@@ -59,18 +59,18 @@ fn commit_single(
 
 /// What a transaction does, where all its parts succeed.
 fn all_done(transaction: Transaction) -> Option<Commit>
-    ensures { (t : Nodes) → option_map (commit_of t) result ≡ commit_several (several_as transaction) }
+    ensures { (t : Nodes) → option_map (commit_of t) result ≡ commit_several (several_as t transaction) }
 {
     match transaction {
         Transaction::Denied(_) => None,
         Transaction::Codes(_) => None,
         Transaction::All {
             results,
-            tree,
+            writes,
             triggers,
         } => Some(Commit {
             response: Body::Parts(results),
-            change: Change::Replaced(tree),
+            change: Change::Written(writes),
             triggers,
         }),
     }

@@ -6,6 +6,7 @@ ghost use Rattle.zk_transcript.specs.History.{granted_timeout, new_session, or_n
 use std::alloc::Global;
 use std::marker::Model;
 use zk_model::ConnectRequest;
+use zk_model::limit::{MAX_TIMEOUT, MIN_TIMEOUT};
 use zx_base::{Bytes, Memory};
 
 #[derive(Debug, Drop)]
@@ -29,11 +30,6 @@ impl Model for Session {
 
     ghost view = { λ s. record { passwd = s.passwd; timeout = s.timeout; connection = s.connection; attached = s.attached; lapsed = s.lapsed } };
 }
-
-/// The range of the timeouts that are granted, in milliseconds.
-const MIN_TIMEOUT: i32 = 4000;
-
-const MAX_TIMEOUT: i32 = 40000;
 
 /// A requested timeout, brought into the service's range. Both are in milliseconds.
 fn granted_timeout(asked: i32) -> i32

@@ -14,11 +14,6 @@ use Rattle.zk_judge.specs.declared.walker.Step.{Step}
 use Rattle.zk_judge.specs.declared.walker.Fired.{Fired}
 use Rattle.zk_judge.specs.declared.queues.Taken.{Taken}
 use Rattle.zk_judge.specs.declared.answers.Ending.{Ending}
-use denote.Ref.{Bor}
-
--- a frame's place and its bytes
-abbrev pub placed_bytes : ℕ × Bor (List ℕ) → ℕ × List ℕ
-placed_bytes x = (x.0, x.1.now)
 
 abbrev pub frame_as : FrameRead → Frame
 frame_as read.NoHeader = NoHeader

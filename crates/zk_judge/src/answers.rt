@@ -18,12 +18,10 @@ use std::alloc::Global;
 use zk_answers::{Told, Watches, tree_reply};
 use zk_history::State;
 use zk_model::code::{SESSION_EXPIRED, SESSION_MOVED};
+use zk_model::limit::MAX_OWNED;
 use zk_model::{Body, Reply};
 use zk_transcript::{TranscriptLine, UpdateKind, UpdateRec};
 use zx_base::{Memory, Seq};
-
-/// The most ephemeral nodes that a session may own.
-const MAX_OWNED: usize = 40;
 
 /// What is told, and whether no request is answered behind it.
 #[derive(Drop)]

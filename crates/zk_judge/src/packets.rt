@@ -6,7 +6,7 @@ ghost use Rattle.zk_jute.specs.Packets.{notice_packet as notice_packet_of, reply
 ghost use Rattle.zk_transcript.specs.Walks.{due_notices, packets, packets_from};
 ghost use Rattle.zk_least.specs.LeastWalk.{behind, next_reply as next_reply_of, zxid_in as zxid_in_of};
 ghost use Rattle.zk_least.specs.LeastMoments.{code_in as code_in_of};
-ghost use Rattle.zk_judge.specs.Seen.{placed_bytes};
+ghost use Rattle.zk_history.specs.Shown.{placed_bytes};
 ghost use Rattle.zk_least.specs.LeastQueues.{is_apart as is_apart_of, is_front as is_front_of};
 
 use std::alloc::Global;

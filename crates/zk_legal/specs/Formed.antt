@@ -1,5 +1,5 @@
 -- Formed transcripts: each line stands where a run of the service can have written it, whatever the tree.
-use Rattle.std.specs.Prelude.{ℕ, ℤ, ◌+◌, Bool, true, false, not, ◌&&◌, List, [], ◌∷◌, length, nat_le, ◌==◌, is_some, if◌then◌else◌}
+use Rattle.std.specs.Prelude.{ℕ, ◌+◌, Bool, true, false, not, ◌&&◌, List, [], ◌∷◌, length, nat_le, ◌==◌, is_some, if◌then◌else◌}
 use Rattle.std.specs.Ordering.{int_eq}
 use Rattle.zk_transcript.specs.declared.transcript.UpdateKind.{UpdateKind}
 use Rattle.zk_transcript.specs.declared.transcript.UpdateKind.TheVariants.{Session as NewSession, Attach, Asked, Closed}
@@ -7,7 +7,6 @@ use Rattle.zk_transcript.specs.declared.transcript.TranscriptLine.{TranscriptLin
 use Rattle.zk_transcript.specs.declared.transcript.TranscriptLine.TheVariants as line
 use Rattle.zk_transcript.specs.History.{State, opening, first_shown}
 use Rattle.zk_transcript.specs.Conversations.{close_shown}
-use Rattle.zk_transcript.specs.Legal.{Attachment}
 use Rattle.zk_model.specs.Limits.{max_frame}
 
 unfoldable pub is_opened : List TranscriptLine → ℕ → Bool
@@ -48,11 +47,3 @@ is_formed_line before s (line.Send c bytes) = is_opened before c && not (is_clos
 is_formed_line before s (line.Close c end) = not (is_closed before c)
 is_formed_line before s (line.Update u) = is_kind_formed before u.kind
 is_formed_line before s (line.Lapse revision id) = true
-
--- ---- attachments as pairs of a zxid and a session
-
-abbrev pub attachment_of : ℤ × ℤ → Attachment
-attachment_of a = record { zxid = a.0; session = a.1 }
-
-abbrev pub placed_attachment : ℕ × (ℤ × ℤ) → ℕ × Attachment
-placed_attachment x = (x.0, attachment_of x.1)

@@ -6,7 +6,6 @@
 //! the lines before it is looked up in tables.
 #![tactic(auto)]
 
-mod attaching;
 mod counts;
 mod formed;
 mod history;
@@ -15,7 +14,6 @@ mod laws;
 mod legal;
 mod order;
 
-pub use attaching::attach_of;
 pub use history::history_fault;
 pub use laws::{
     frames_without_fault_are_fresh, lines_in_order_are_ordered, lines_without_fault_are_legal,

@@ -16,7 +16,7 @@ on_ok (Ok x) f h = f h
 on_ok (Err e) f h = tt
 
 -- a node that is taken out and put back changed
-insert-remove : (t : Tree) (q : Bytes) (n : Node) → insert (remove t q) q n ≡ insert t q n
+pub insert-remove : (t : Tree) (q : Bytes) (n : Node) → insert (remove t q) q n ≡ insert t q n
 insert-remove t q n = ext _ _ (λ k. ⊎_elim
     (λ (e : k ≡ q). ap (get (insert (remove t q) q n)) e ∙ get-insert_same (remove t q) q n ∙ sym (ap (get (insert t q n)) e ∙ get-insert_same t q n))
     (λ (a : k ≢ q). get-insert_other (remove t q) q k n a ∙ get-remove_other t q k a ∙ sym (get-insert_other t q k n a))
@@ -37,32 +37,26 @@ insert-remove_both t p q n = ext _ _ (λ k. ⊎_elim
 
 -- ---- the parent's count of creates
 
-pub counted-absent : (t u : Tree) (q at : Bytes) (creates zxid : ℤ) → at ≡ q → u ≡ remove t at → None ≡ get t at → u ≡ counted_create t q creates zxid (get t q)
-counted-absent t u q at creates zxid is removes none =
-    let missing : None ≡ get t q = none ∙ ap (get t) is in
-    removes ∙ ap (remove t) is ∙ remove-absent t q (sym missing) ∙ ap (counted_create t q creates zxid) missing
+pub counted-absent : (t u : Tree) (q : Bytes) (creates zxid : ℤ) → u ≡ remove t q → None ≡ get t q → u ≡ counted_create t q creates zxid (get t q)
+counted-absent t u q creates zxid removes none = removes ∙ remove-absent t q (sym none) ∙ ap (counted_create t q creates zxid) none
 
-pub counted-there : (t u v : Tree) (q at : Bytes) (creates zxid : ℤ) (up : Node) → at ≡ q → u ≡ remove t at → Some up ≡ get t at
+pub counted-there : (t u v : Tree) (q : Bytes) (creates zxid : ℤ) (up : Node) → u ≡ remove t q → Some up ≡ get t q
     → v ≡ insert u q (record up { pzxid = zxid; creates = creates }) → v ≡ counted_create t q creates zxid (get t q)
-counted-there t u v q at creates zxid up is removes there puts =
-    puts ∙ ap (λ (x : Tree). insert x q (record up { pzxid = zxid; creates = creates })) (removes ∙ ap (remove t) is)
-    ∙ insert-remove t q (record up { pzxid = zxid; creates = creates }) ∙ ap (counted_create t q creates zxid) (there ∙ ap (get t) is)
+counted-there t u v q creates zxid up removes there puts =
+    puts ∙ ap (λ (x : Tree). insert x q (record up { pzxid = zxid; creates = creates })) removes
+    ∙ insert-remove t q (record up { pzxid = zxid; creates = creates }) ∙ ap (counted_create t q creates zxid) there
 
 -- ---- removals
 
 removed_at : (t : Tree) (p q : Bytes) (zxid : ℤ) (o : Option Node) → parent p ≡ Some q → o ≡ get t q → removed_under t p zxid (Some q) o ≡ removed t p zxid
 removed_at t p q zxid o is there = ap (removed_under t p zxid (Some q)) there ∙ ap (λ (x : Option Bytes). removed_under t p zxid x (at_parent t x)) (sym is)
 
-pub removed-orphan : (t u : Tree) (p at : Bytes) (zxid : ℤ) → parent p ≡ None → at ≡ p → u ≡ remove t at → u ≡ removed t p zxid
-removed-orphan t u p at zxid is same removes = removes ∙ ap (remove t) same ∙ ap (λ (x : Option Bytes). removed_under t p zxid x (at_parent t x)) (sym is)
+pub removed-alone : (t u v : Tree) (p q : Bytes) (zxid : ℤ) → parent p ≡ Some q → u ≡ remove t q → None ≡ get t q → v ≡ remove u p → v ≡ removed t p zxid
+removed-alone t u v p q zxid is takes none removes =
+    removes ∙ ap (λ (x : Tree). remove x p) (takes ∙ remove-absent t q (sym none)) ∙ removed_at t p q zxid None is none
 
-pub removed-alone : (t u v : Tree) (p at q up_at : Bytes) (zxid : ℤ) → parent p ≡ Some q → up_at ≡ q → at ≡ p → u ≡ remove t up_at → None ≡ get t up_at → v ≡ remove u at → v ≡ removed t p zxid
-removed-alone t u v p at q up_at zxid is same_up same takes none removes =
-    let missing : None ≡ get t q = none ∙ ap (get t) same_up in
-    removes ∙ ap (remove u) same ∙ ap (λ (x : Tree). remove x p) (takes ∙ ap (remove t) same_up ∙ remove-absent t q (sym missing)) ∙ removed_at t p q zxid None is missing
-
-pub removed-below : (t u v w : Tree) (p at q up_at : Bytes) (zxid : ℤ) (up : Node) → parent p ≡ Some q → up_at ≡ q → at ≡ p → u ≡ remove t up_at → Some up ≡ get t up_at → v ≡ remove u at
+pub removed-below : (t u v w : Tree) (p q : Bytes) (zxid : ℤ) (up : Node) → parent p ≡ Some q → u ≡ remove t q → Some up ≡ get t q → v ≡ remove u p
     → w ≡ insert v q (record up { pzxid = zxid }) → w ≡ removed t p zxid
-removed-below t u v w p at q up_at zxid up is same_up same takes there removes puts =
-    puts ∙ ap (λ (x : Tree). insert x q (record up { pzxid = zxid })) (removes ∙ ap (remove u) same ∙ ap (λ (x : Tree). remove x p) (takes ∙ ap (remove t) same_up))
-    ∙ insert-remove_both t p q (record up { pzxid = zxid }) ∙ removed_at t p q zxid (Some up) is (there ∙ ap (get t) same_up)
+removed-below t u v w p q zxid up is takes there removes puts =
+    puts ∙ ap (λ (x : Tree). insert x q (record up { pzxid = zxid })) (removes ∙ ap (λ (x : Tree). remove x p) takes)
+    ∙ insert-remove_both t p q (record up { pzxid = zxid }) ∙ removed_at t p q zxid (Some up) is there

@@ -13,6 +13,7 @@ use Rattle.zk_plain.specs.declared.multi.Transaction.TheVariants as answers
 use Rattle.zk_model.specs.Limits.{max_load}
 use Rattle.zk_model.specs.Znodes.{Tree}
 use Rattle.zk_plain.specs.Edits.{edited_if}
+use Rattle.zk_plain.specs.Writes.{written_all}
 
 -- of a request that was planned on this tree
 abbrev pub outcome_of : Tree → Answer → Outcome
@@ -24,19 +25,20 @@ abbrev pub IsRead : Option Bytes → Bool → Bytes → Type 0
 IsRead None sequential text = is_valid sequential text ≡ false
 IsRead (Some path) sequential text = (path ≡ tested sequential text) × (is_valid sequential text ≡ true)
 
-abbrev pub parts_as : Chain → Parts
-parts_as (chain.Stopped place code) = Stopped place code
-parts_as (chain.Passed results tree triggers touched) = Passed results.items tree triggers.items touched.items
+-- of parts whose writes are made in this tree
+abbrev pub parts_as : Tree → Chain → Parts
+parts_as t (chain.Stopped place code) = Stopped place code
+parts_as t (chain.Passed results writes triggers touched) = Passed results.items (written_all t writes.items) triggers.items touched.items
 
 abbrev pub IsPlacedBelow : Chain → ℕ → Type 0
 IsPlacedBelow (chain.Stopped place code) n = place < n
-IsPlacedBelow (chain.Passed results tree triggers touched) n = ⊤
+IsPlacedBelow (chain.Passed results writes triggers touched) n = ⊤
 
 -- a load that is not above the most
 abbrev pub within : ℕ → Option ℕ
 within n = if nat_le n max_load then Some n else None
 
-abbrev pub several_as : Transaction → Several
-several_as (answers.Denied code) = Denied code
-several_as (answers.Codes row) = Codes row
-several_as (answers.All results tree triggers) = AllDone results tree triggers
+abbrev pub several_as : Tree → Transaction → Several
+several_as t (answers.Denied code) = Denied code
+several_as t (answers.Codes row) = Codes row
+several_as t (answers.All results writes triggers) = AllDone results (written_all t writes) triggers

@@ -14,6 +14,7 @@ ghost use Rattle.zk_plain.specs.Outcomes.{outcome_of};
 ghost use Rattle.zk_model.specs.Limits.{max_creates};
 ghost use Rattle.zk_model.specs.Access.{is_open_acl};
 
+use crate::draft::Draft;
 use crate::edit::Edit;
 use crate::fault::Fault;
 use crate::outcome::Outcome;
@@ -91,10 +92,10 @@ fn counted(creates: i32) -> Result<i32, Fault>
     }
 }
 
-fn has_most(alloc: Global, tree: &Tree, limit: usize, session: i64) -> Result<bool, Memory>
-    ensures { IfOk result (λ most. most ≡ nat_le limit (length (owned tree.now session))) }
+fn has_most(tree: &Draft, limit: usize, session: i64) -> bool
+    ensures { result ≡ nat_le limit (length (owned tree.now session)) }
 {
-    Ok(limit <= tree.owned(alloc, session)?.len())
+    limit <= tree.num_owned(session)
 }
 
 fn is_full_by(creates: i32, ephemeral: bool, most: bool) -> bool
@@ -104,21 +105,17 @@ fn is_full_by(creates: i32, ephemeral: bool, most: bool) -> bool
 }
 
 /// Whether the parent or the session can have no more.
-fn is_full(
-    alloc: Global,
-    tree: &Tree,
-    turn: &Turn,
-    flags: i32,
-    parent: &Node,
-) -> Result<bool, Memory>
-    ensures { IfOk result (λ full. full ≡ is_full tree.now turn.now.limit turn.now.session flags parent.now) }
+fn is_full(tree: &Draft, turn: &Turn, flags: i32, parent: &Node) -> bool
+    ensures { result ≡ is_full tree.now turn.now.limit turn.now.session flags parent.now }
 {
-    let ephemeral = is_ephemeral(flags);
-    if !ephemeral {
-        return Ok(is_full_by(parent.creates, false, false));
+    if !is_ephemeral(flags) {
+        return is_full_by(parent.creates, false, false);
     }
-    let most = has_most(alloc, tree, turn.limit, turn.session)?;
-    Ok(is_full_by(parent.creates, true, most))
+    is_full_by(
+        parent.creates,
+        true,
+        has_most(tree, turn.limit, turn.session),
+    )
 }
 
 fn is_owned_by(flags: i32, session: i64) -> i64
@@ -158,7 +155,7 @@ fn made(
 /// A create that nothing refuses.
 fn create_allowed(
     alloc: Global,
-    tree: &Tree,
+    tree: &Draft,
     turn: &Turn,
     flags: i32,
     content: &[u8],
@@ -180,7 +177,7 @@ fn create_allowed(
 /// A create of a node that is not there.
 fn create_absent(
     alloc: Global,
-    tree: &Tree,
+    tree: &Draft,
     turn: &Turn,
     flags: i32,
     content: &[u8],
@@ -195,7 +192,7 @@ fn create_absent(
     if up.owner != 0 {
         return Ok(Outcome::Refused(NO_CHILDREN_FOR_EPHEMERALS));
     }
-    if is_full(alloc, tree, turn, flags, up)? {
+    if is_full(tree, turn, flags, up) {
         return Ok(Outcome::Refused(SYSTEM_ERROR));
     }
     Ok(create_allowed(alloc, tree, turn, flags, content, parent, up, path)?)
@@ -204,7 +201,7 @@ fn create_absent(
 /// A create under a parent that is there.
 fn create_node(
     alloc: Global,
-    tree: &Tree,
+    tree: &Draft,
     turn: &Turn,
     flags: i32,
     content: &[u8],
@@ -237,7 +234,7 @@ fn made_path(alloc: Global, flags: i32, text: &[u8], named: Path, up: &Node) -> 
 
 fn create_under(
     alloc: Global,
-    tree: &Tree,
+    tree: &Draft,
     turn: &Turn,
     flags: i32,
     content: &[u8],
@@ -262,7 +259,7 @@ fn create_under(
 /// A create whose text is valid.
 pub fn create(
     alloc: Global,
-    tree: &Tree,
+    tree: &Draft,
     turn: &Turn,
     flags: i32,
     content: &[u8],

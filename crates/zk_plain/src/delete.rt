@@ -5,9 +5,9 @@ ghost use Rattle.std.specs.FinMap.{get};
 ghost use Rattle.zk_model.specs.Single.{delete, matches, removal};
 ghost use Rattle.zk_plain.specs.Outcomes.{outcome_of};
 
+use crate::draft::Draft;
 use crate::edit::Edit;
 use crate::outcome::Outcome;
-use crate::tree::Tree;
 use std::alloc::Global;
 use zk_model::code::{BAD_VERSION, NO_NODE, NOT_EMPTY};
 use zk_model::{PartResult, Path, Trigger};
@@ -35,7 +35,7 @@ fn removal(alloc: Global, path: &Path) -> Result<Seq<Trigger>, Memory>
 
 pub fn delete(
     alloc: Global,
-    tree: &Tree,
+    tree: &Draft,
     path: Path,
     version: i32,
     zxid: i64,

@@ -42,7 +42,7 @@ impl Tree {
     ) -> Result<(), Memory>
         ensures { OnOk result (self.new ≡ counted_create self.old path creates zxid (get self.old path)) }
     {
-        let Some(up) = self.take(path.bytes()) else {
+        let Some(up) = self.take(alloc, &path)? else {
             return Ok(());
         };
         let mut counted = up;
@@ -56,11 +56,11 @@ impl Tree {
         ensures { OnOk result (self.new ≡ removed self.old path.now zxid) }
     {
         let Some(parent) = path.parent(alloc)? else {
-            self.take(path.bytes());
+            self.take(alloc, path)?;
             return Ok(());
         };
-        let up = self.take(parent.bytes());
-        self.take(path.bytes());
+        let up = self.take(alloc, &parent)?;
+        self.take(alloc, path)?;
         let Some(up) = up else {
             return Ok(());
         };

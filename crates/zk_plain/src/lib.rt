@@ -4,29 +4,35 @@
 //! of this crate the load of a multi and its row of codes alone; a judge of transcripts runs the definitions by it.
 #![tactic(auto)]
 
+mod alone;
 mod create;
 mod delete;
+mod draft;
+mod drafting;
 mod edit;
 mod fault;
+mod groups;
 mod laws;
 mod multi;
 mod node;
 mod outcome;
+mod paths;
 mod requests;
 mod stats;
 mod tree;
 mod turn;
 mod update;
+mod write;
 
+pub use alone::{single, single_check, single_create, single_delete, single_set_data};
 pub use create::{begin, is_create_mode, is_open_acl, is_sequential};
 pub use edit::Edit;
 pub use fault::Fault;
 pub use laws::sound_trees_fit;
 pub use multi::{Transaction, data_load, distinct, path_load, row_of, several};
 pub use outcome::Outcome;
-pub use requests::{
-    read_path, single, single_check, single_create, single_delete, single_set_data,
-};
+pub use requests::read_path;
 pub use stats::stat;
 pub use tree::Tree;
 pub use turn::Turn;
+pub use write::Write;

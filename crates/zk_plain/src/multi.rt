@@ -5,17 +5,21 @@ ghost use Rattle.std.specs.FinMap.{get};
 ghost use Rattle.std.specs.Option.{option_to_list};
 ghost use Rattle.zk_model.specs.declared.reply.PartResult.TheVariants.{Code};
 ghost use Rattle.zk_model.specs.Multi.{data_len, distinct, load, row_of, several, parts_of, then_parts, touched_by, owner_list};
-ghost use Rattle.zk_model.specs.Znodes.{owned};
+ghost use Rattle.zk_model.specs.Znodes.{Tree as Nodes, owned};
 ghost use Rattle.zk_plain.specs.Faults.{BeyondUnless, StaysWithin};
 ghost use Rattle.zk_plain.specs.Outcomes.{parts_as, IsPlacedBelow, several_as, within};
+ghost use Rattle.zk_plain.specs.Writes.{AreTold, written_all};
 ghost use Rattle.zk_model.specs.Limits.{max_load};
 
 use crate::create::is_ephemeral;
+use crate::draft::Draft;
+use crate::drafting::carried_out_if;
 use crate::fault::Fault;
 use crate::outcome::Outcome;
 use crate::requests::single;
 use crate::tree::Tree;
 use crate::turn::Turn;
+use crate::write::Write;
 use std::alloc::Global;
 use std::collections::BTreeSet;
 use zk_model::code::{BAD_ARGUMENTS, OK, RUNTIME_INCONSISTENCY};
@@ -32,14 +36,14 @@ pub enum Parts {
     },
     Passed {
         results: Vec<PartResult>,
-        tree: Tree,
+        writes: Vec<Write>,
         triggers: Vec<Trigger>,
         /// The sessions whose nodes were made or removed, as they come.
         touched: Vec<i64>,
     },
 }
 
-fn owner(tree: &Tree, path: &[u8]) -> Option<i64>
+fn owner(tree: &Draft, path: &[u8]) -> Option<i64>
     ensures { option_to_list result ≡ owner_list (get tree.now path.now) }
 {
     match tree.get(path) {
@@ -49,7 +53,7 @@ fn owner(tree: &Tree, path: &[u8]) -> Option<i64>
 }
 
 /// The session whose node a part makes or removes.
-fn touched_by(tree: &Tree, session: i64, part: &Part) -> Option<i64>
+fn touched_by(tree: &Draft, session: i64, part: &Part) -> Option<i64>
     ensures { option_to_list result ≡ touched_by tree.now session part.now }
 {
     match part {
@@ -95,7 +99,7 @@ fn passed_on(
     later: Parts,
 ) -> Result<Parts, Memory>
     requires { IsPlacedBelow later 18446744073709551615 }
-    ensures { IfOk result (λ p. parts_as p ≡ then_parts outcome triggers (option_to_list touched) (parts_as later)) }
+    ensures { IfOk result (λ p. (t : Nodes) → parts_as t p ≡ then_parts outcome triggers (option_to_list touched) (parts_as t later)) }
 {
     match later {
         Parts::Stopped { place, code } => Ok(Parts::Stopped {
@@ -104,43 +108,50 @@ fn passed_on(
         }),
         Parts::Passed {
             results,
-            tree,
+            writes,
             triggers: more,
             touched: others,
         } => Ok(Parts::Passed {
             results: joined(listed(alloc, outcome)?, results)?,
-            tree,
+            writes,
             triggers: joined(triggers.into_vec(), more)?,
             touched: joined(listed_if(alloc, touched)?, others)?,
         }),
     }
 }
 
-/// What the parts make of the tree in turn. It recurs once a part.
+/// What the parts make in turn of the tree with these writes. It recurs once a part, and a part looks at each write of those
+/// before it.
 #[tactic(auto, unfolding(zk_model::specs::Multi::parts_of))]
-fn parts_of(alloc: Global, tree: Tree, turn: &Turn, parts: &[Part]) -> Result<Parts, Fault>
-    ensures ok { IfOk result (λ p. parts_as p ≡ parts_of tree turn.now.limit turn.now.session parts.now turn.now.zxid turn.now.moment) }
+fn parts_of(
+    alloc: Global,
+    tree: &Tree,
+    writes: Vec<Write>,
+    turn: &Turn,
+    parts: &[Part],
+) -> Result<Parts, Fault>
+    requires { AreTold tree.now writes.items }
+    ensures ok { IfOk result (λ p. parts_as tree.now p ≡ parts_of (written_all tree.now writes.items) turn.now.limit turn.now.session parts.now turn.now.zxid turn.now.moment) }
     ensures within { IfOk result (λ p. IsPlacedBelow p (length parts.now)) }
-    ensures beyond { IfErr result (BeyondUnless (StaysWithin tree turn.now.limit turn.now.session parts.now turn.now.zxid turn.now.moment)) }
+    ensures beyond { IfErr result (BeyondUnless (StaysWithin (written_all tree.now writes.items) turn.now.limit turn.now.session parts.now turn.now.zxid turn.now.moment)) }
 {
     match parts {
         [] => Ok(Parts::Passed {
             results: Vec::new(alloc),
-            tree,
+            writes,
             triggers: Vec::new(alloc),
             touched: Vec::new(alloc),
         }),
-        [first, rest @ ..] => match single(alloc, &tree, turn, first)? {
+        [first, rest @ ..] => match single(alloc, &Draft::after(tree, &writes), turn, first)? {
             Outcome::Refused(code) => Ok(Parts::Stopped { place: 0, code }),
             Outcome::Done {
                 result: outcome,
                 edit,
                 triggers,
             } => {
-                let touched = touched_by(&tree, turn.session, first);
-                let mut next = tree;
-                next.carry_out_if(alloc, edit)?;
-                let later = parts_of(alloc, next, turn, rest)?;
+                let touched = touched_by(&Draft::after(tree, &writes), turn.session, first);
+                let next = carried_out_if(alloc, tree, writes, edit)?;
+                let later = parts_of(alloc, tree, next, turn, rest)?;
                 Ok(passed_on(alloc, outcome, triggers, touched, later)?)
             }
         },
@@ -259,7 +270,8 @@ pub enum Transaction {
     Codes(Seq<PartResult>),
     All {
         results: Seq<PartResult>,
-        tree: Tree,
+        /// The changes of the tree, in order.
+        writes: Seq<Write>,
         triggers: Seq<Trigger>,
     },
 }
@@ -272,17 +284,17 @@ pub fn several(
     turn: &Turn,
     parts: &[Part],
 ) -> Result<Transaction, Fault>
-    ensures ok { IfOk result (λ s. several_as s ≡ several tree.now turn.now.limit turn.now.session parts.now turn.now.zxid turn.now.moment) }
+    ensures ok { IfOk result (λ s. several_as tree.now s ≡ several tree.now turn.now.limit turn.now.session parts.now turn.now.zxid turn.now.moment) }
     ensures beyond { IfErr result (BeyondUnless (StaysWithin tree.now turn.now.limit turn.now.session parts.now turn.now.zxid turn.now.moment)) }
 {
-    match parts_of(alloc, tree.copy(alloc)?, turn, parts)? {
+    match parts_of(alloc, tree, Vec::new(alloc), turn, parts)? {
         Parts::Stopped { place, code } => {
             let row = row_of(alloc, parts.len(), place, code)?;
             Ok(Transaction::Codes(Seq::from_vec(row)))
         }
         Parts::Passed {
             results,
-            tree: next,
+            writes,
             triggers,
             touched,
         } => {
@@ -291,7 +303,7 @@ pub fn several(
             }
             Ok(Transaction::All {
                 results: Seq::from_vec(results),
-                tree: next,
+                writes: Seq::from_vec(writes),
                 triggers: Seq::from_vec(triggers),
             })
         }

@@ -1,4 +1,4 @@
-//! One request that may be part of a transaction.
+//! One request that may be part of a transaction, on the tree that the parts before it left.
 
 #![tactic(auto, unfolding(zk_model::specs::Single::single, zk_model::specs::Single::form_refusal, zk_model::specs::Single::effect))]
 
@@ -12,9 +12,9 @@ ghost use Rattle.zk_model.specs.Limits.{max_frame};
 
 use crate::create::{create, is_create_mode, is_open_acl, is_sequential};
 use crate::delete::delete;
+use crate::draft::Draft;
 use crate::fault::Fault;
 use crate::outcome::Outcome;
-use crate::tree::Tree;
 use crate::turn::Turn;
 use crate::update::{check, set_data};
 use std::alloc::Global;
@@ -33,10 +33,10 @@ pub fn read_path(alloc: Global, text: &[u8], sequential: bool) -> Result<Option<
     }
 }
 
-/// A create as the only request (Programmer's Guide, "ZNodes", "Sequence Nodes -- Unique Naming").
+/// A create (Programmer's Guide, "ZNodes", "Sequence Nodes -- Unique Naming").
 pub fn single_create(
     alloc: Global,
-    tree: &Tree,
+    tree: &Draft,
     turn: &Turn,
     text: &[u8],
     content: &[u8],
@@ -58,10 +58,10 @@ pub fn single_create(
     Ok(create(alloc, tree, turn, flags, content, text, named)?)
 }
 
-/// A delete as the only request.
+/// A delete.
 pub fn single_delete(
     alloc: Global,
-    tree: &Tree,
+    tree: &Draft,
     turn: &Turn,
     text: &[u8],
     version: i32,
@@ -76,10 +76,10 @@ pub fn single_delete(
     }
 }
 
-/// A setData as the only request.
+/// A setData.
 pub fn single_set_data(
     alloc: Global,
-    tree: &Tree,
+    tree: &Draft,
     turn: &Turn,
     text: &[u8],
     content: &[u8],
@@ -94,10 +94,10 @@ pub fn single_set_data(
     }
 }
 
-/// A check as the only request, which changes nothing.
+/// A check, which changes nothing.
 pub fn single_check(
     alloc: Global,
-    tree: &Tree,
+    tree: &Draft,
     turn: &Turn,
     text: &[u8],
     version: i32,
@@ -111,7 +111,7 @@ pub fn single_check(
 }
 
 /// What one request makes of the tree.
-pub fn single(alloc: Global, tree: &Tree, turn: &Turn, part: &Part) -> Result<Outcome, Fault>
+pub fn single(alloc: Global, tree: &Draft, turn: &Turn, part: &Part) -> Result<Outcome, Fault>
     ensures ok { IfOk result (λ o. outcome_of tree.now o ≡ single tree.now turn.now.limit turn.now.session part.now turn.now.zxid turn.now.moment) }
     ensures beyond { IfErr result (BeyondUnless (IsWithin tree.now × (data_len part.now ≤ max_frame))) }
 {

@@ -11,11 +11,11 @@ ghost use Rattle.zk_plain.specs.Outcomes.{outcome_of};
 ghost use Rattle.zk_model.specs.Limits.{max_frame};
 
 use crate::delete::matches;
+use crate::draft::Draft;
 use crate::edit::Edit;
 use crate::fault::Fault;
 use crate::outcome::Outcome;
 use crate::stats::stat;
-use crate::tree::Tree;
 use crate::turn::Turn;
 use std::alloc::Global;
 use zk_model::code::{BAD_VERSION, NO_NODE, SYSTEM_ERROR};
@@ -48,7 +48,7 @@ fn with_content(alloc: Global, node: &Node, content: &[u8], turn: &Turn) -> Resu
 }
 
 /// The outcome of a write that nothing refuses.
-fn written(alloc: Global, tree: &Tree, path: Path, node: Node) -> Result<Outcome, Fault>
+fn written(alloc: Global, tree: &Draft, path: Path, node: Node) -> Result<Outcome, Fault>
     ensures ok { IfOk result (λ o. outcome_of tree.now o ≡ Done (results.Set (stat_of tree.now path node)) (insert tree.now path node) (trigger.Changed path ∷ [])) }
     ensures beyond { IfErr result (BeyondUnless (IsCounted node (num_children tree.now path))) }
 {
@@ -64,7 +64,7 @@ fn written(alloc: Global, tree: &Tree, path: Path, node: Node) -> Result<Outcome
 
 pub fn set_data(
     alloc: Global,
-    tree: &Tree,
+    tree: &Draft,
     turn: &Turn,
     path: Path,
     content: &[u8],
@@ -86,7 +86,7 @@ pub fn set_data(
     Ok(written(alloc, tree, path, changed)?)
 }
 
-pub fn check(alloc: Global, tree: &Tree, path: Path, version: i32) -> Result<Outcome, Memory>
+pub fn check(alloc: Global, tree: &Draft, path: Path, version: i32) -> Result<Outcome, Memory>
     ensures { IfOk result (λ o. outcome_of tree.now o ≡ check tree.now version (get tree.now path)) }
 {
     let Some(node) = tree.get(path.bytes()) else {

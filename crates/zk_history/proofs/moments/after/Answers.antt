@@ -6,8 +6,9 @@ use Rattle.zk_transcript.specs.History.{State, after, change}
 use Rattle.zk_transcript.proofs.Appending.{after-push}
 use Rattle.zk_plain.proofs.FaultLaws.{beyond-weaker}
 use Rattle.zk_plain.specs.Faults.{BeyondUnless}
-use Rattle.zk_history.specs.Fits.{AllFit, Fits, IsCountable}
+use Rattle.zk_history.specs.Fits.{Fits, IsCountable}
 use Rattle.zk_history.proofs.Counts.{change-updates}
+use Rattle.zk_history.proofs.Fitting.{line-fits}
 use Rattle.zk_history.proofs.Looking.{front}
 use Rattle.zk_history.proofs.moments.after.Goals as goal
 
@@ -28,10 +29,6 @@ loop-line-preserved c =
       over = c.in_ok-past.ensures.all ∙ c.loop-line.invariant.over;
     }
 
-fits : (lines before : List TranscriptLine) (l : TranscriptLine) (rest : List TranscriptLine) (s : State) → s.updates < 18446744073709551615 → s ≡ after before → lines ≡ before ++ l ∷ rest
-    → AllFit lines → IsCountable s × Fits before s l
-fits lines before l rest s few reached split all = (few, subst (λ (x : State). Fits before x l) (sym reached) (all before l rest split))
-
 pub returns-in_err-state-clause-beyond : goal.returns-in_err-state-clause-beyond
 returns-in_err-state-clause-beyond c =
     let lines : List TranscriptLine = c.args.lines.now in
@@ -42,5 +39,5 @@ returns-in_err-state-clause-beyond c =
     let before = front c.loop-line.past.len k c.loop-line.past.all.now lines c.loop-line.invariant.place c.loop-line.invariant.over in
     let few : c.loop-line.state.updates < 18446744073709551615 = grind (arith, c.loop-line.invariant.few, c.loop-line-test.true) in
     let beyond = subst (λ (b : List TranscriptLine). BeyondUnless (IsCountable c.loop-line.state × Fits b c.loop-line.state line) c.in_err-state.field-0.0) before c.in_err-state.ensures.beyond in
-    let weaker = beyond-weaker _ _ c.in_err-state.field-0.0 (fits lines (take k lines) line (drop (k + 1) lines) c.loop-line.state few c.loop-line.invariant.reached split) beyond in
+    let weaker = beyond-weaker _ _ c.in_err-state.field-0.0 (line-fits lines (take k lines) line (drop (k + 1) lines) c.loop-line.state few c.loop-line.invariant.reached split) beyond in
     grind (arith, common_steps)

@@ -7,8 +7,8 @@ use Rattle.zk_transcript.specs.History.{State, after, change}
 use Rattle.zk_transcript.proofs.Appending.{after-push}
 use Rattle.zk_plain.proofs.FaultLaws.{beyond-weaker}
 use Rattle.zk_history.specs.Commits.{response_to}
-use Rattle.zk_history.specs.Fits.{AllFit, Fits, IsCountable}
 use Rattle.zk_history.proofs.Counts.{change-updates}
+use Rattle.zk_history.proofs.Fitting.{line-fits}
 use Rattle.zk_history.proofs.Looking.{front}
 use Rattle.zk_history.proofs.cursor.Cursor.advanced.Goals as goal
 
@@ -34,10 +34,6 @@ returns-clause-response c = λ l h.
     c.in_ok-state.ensures.response ∙ ap (λ (s : State). response_to before s line) c.args.self.reached
     ∙ ap (λ (x : TranscriptLine). response_to before (after before) x) (c.line_at-line.ensures ∙ get_or_from_slice_get c.args.self.past.all.now c.args.self.past.len l line h)
 
-fits : (lines before : List TranscriptLine) (l : TranscriptLine) (rest : List TranscriptLine) (s : State) → s.updates < 18446744073709551615 → s ≡ after before → lines ≡ before ++ l ∷ rest
-    → AllFit lines → IsCountable s × Fits before s l
-fits lines before l rest s few reached split all = (few, subst (λ (x : State). Fits before x l) (sym reached) (all before l rest split))
-
 pub returns-in_err-state-clause-beyond : goal.returns-in_err-state-clause-beyond
 returns-in_err-state-clause-beyond c =
     let all : List TranscriptLine = c.args.self.past.all.now in
@@ -46,5 +42,5 @@ returns-in_err-state-clause-beyond c =
     let split : all ≡ take k all ++ line ∷ drop (k + 1) all =
     sym (take-append-drop k all) ∙ ap (λ (x : List TranscriptLine). take k all ++ x) (drop_more all k line c.requires ∙ ap (λ (x : TranscriptLine). x ∷ drop (k + 1) all) (sym c.line_at-line.ensures)) in
     let few : c.args.self.state.updates < 18446744073709551615 = grind (arith, c.args.self.few, c.requires) in
-    let weaker = beyond-weaker _ _ c.in_err-state.field-0.0 (fits all (take k all) line (drop (k + 1) all) c.args.self.state few c.args.self.reached split) c.in_err-state.ensures.beyond in
+    let weaker = beyond-weaker _ _ c.in_err-state.field-0.0 (line-fits all (take k all) line (drop (k + 1) all) c.args.self.state few c.args.self.reached split) c.in_err-state.ensures.beyond in
     grind (arith, common_steps)

@@ -1,15 +1,18 @@
-use Rattle.std.proofs.Common.{◌++◌, ap, sym, ◌∙◌, map, List}
-use Rattle.std.specs.Map.{values_of}
+use Rattle.std.proofs.Common.{◌≡◌, ap, sym, ◌∙◌, subst, map, List, Some, None, IfOk}
+use Rattle.std.specs.Option.{option_copied}
 use Rattle.zx_base.specs.Maps.{Bytes}
-use Rattle.zk_model.specs.Paths.{is_child, last_name}
-use Rattle.zk_model.specs.Znodes.{Tree, child_names}
-use Rattle.zk_plain.proofs.EntryLaws.{keys-retain, names_where}
+use Rattle.zk_model.specs.Paths.{last_name}
+use Rattle.zk_plain.proofs.GroupLaws.{family-children, keys-empty}
 use Rattle.zk_plain.proofs.tree.Tree.child_names.Goals as goal
 
-pub loop-at-init : goal.loop-at-init
-loop-at-init c =
-    let child = is_child c.args.path.now in
-    ap (λ (ns : List Bytes). ns ++ names_where child c.into_iter-at-iterator.result) c.new-names.ensures.items
-    ∙ ap (names_where child) (c.into_iter-at-iterator.ensures.into_iter_gives ∙ c.values-at-items.ensures.rest)
-    ∙ ap (map last_name) (sym (keys-retain child (values_of c.self.inside.nodes.entries) c.self.invariant.0))
-    ∙ ap (λ (t : Tree). child_names t c.args.path.now) c.self.view_is
+pub returns-in-Some : goal.returns-in-Some
+returns-in-Some c =
+    subst (λ (ps : List Bytes). IfOk c.names.result (λ v. v ≡ map last_name ps))
+    (family-children c.self.inside.nodes c.args.self.now c.self.inside.families c.args.path.now (Some c.in-Some.children.now) c.self.invariant.0 c.self.view_is
+    (ap (λ o. option_copied o) (sym c.in-Some.is) ∙ c.get.ensures)) c.names.ensures
+
+pub returns-in-None : goal.returns-in-None
+returns-in-None c =
+    c.new.ensures ∙ ap (map last_name) (sym (keys-empty (Unit {0}))
+    ∙ family-children c.self.inside.nodes c.args.self.now c.self.inside.families c.args.path.now None c.self.invariant.0 c.self.view_is
+    (ap (λ o. option_copied o) (sym c.in-None.is) ∙ c.get.ensures))

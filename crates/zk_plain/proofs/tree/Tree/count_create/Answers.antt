@@ -4,12 +4,11 @@ use Rattle.zk_plain.proofs.EditLaws.{on_ok, counted-absent, counted-there}
 use Rattle.zk_plain.proofs.tree.Tree.count_create.Goals as goal
 
 pub returns-in_default : goal.returns-in_default
-returns-in_default c =
-    counted-absent c.args.self.now c.take.new.self c.args.path c.bytes.result.now c.args.creates c.args.zxid c.bytes.ensures c.take.ensures.tree (sym c.in_default.is ∙ c.take.ensures.node)
+returns-in_default c = counted-absent c.args.self.now c.take.new.self c.args.path c.args.creates c.args.zxid c.in_ok-up.ensures.tree (sym c.in_default.is ∙ c.in_ok-up.ensures.node)
 
 pub returns : goal.returns
 returns c =
     let zxid : to_z w64 (of_z w64 c.args.zxid) ≡ c.args.zxid = to_z-of_z w64 c.args.zxid c.ranges.zxid in
     let creates : to_z w32 (of_z w32 c.args.creates) ≡ c.args.creates = to_z-of_z w32 c.args.creates c.ranges.creates in
-    on_ok c.put.result (counted-there c.args.self.now c.take.new.self c.put.new.self c.args.path c.bytes.result.now c.args.creates c.args.zxid c.in-Some.up c.bytes.ensures c.take.ensures.tree
-    (sym c.in-Some.is ∙ c.take.ensures.node)) (rw creates at (rw zxid at c.put.ensures))
+    on_ok c.put.result (counted-there c.args.self.now c.take.new.self c.put.new.self c.args.path c.args.creates c.args.zxid c.in-Some.up c.in_ok-up.ensures.tree
+    (sym c.in-Some.is ∙ c.in_ok-up.ensures.node)) (rw creates at (rw zxid at c.put.ensures))

@@ -1,8 +1,5 @@
-use Rattle.std.proofs.Common.{ap, ◌∙◌}
-use Rattle.std.specs.Map.{values_of}
-use Rattle.zk_plain.specs.Entries.{tree_of}
-use Rattle.zk_plain.proofs.EntryLaws.{empty-tree}
+use Rattle.zk_plain.proofs.GroupLaws.{families-none, owners-none}
 use Rattle.zk_plain.proofs.tree.Tree.new.Goals as goal
 
-pub returns : goal.returns
-returns c = ap (λ es. tree_of (values_of es)) c.new.ensures.empty ∙ empty-tree
+pub invariant_of-result : goal.invariant_of-result
+invariant_of-result c = (families-none c.new.result c.new-2.result c.new.ensures c.new-2.ensures, owners-none c.new.result c.new-3.result c.new.ensures c.new-3.ensures.empty)

@@ -1,21 +1,16 @@
-use Rattle.std.proofs.Common.{◌≡◌, ap, sym, ◌∙◌, length, arith}
-use Rattle.std.specs.FinMap.Entries.{where_key}
-use Rattle.std.specs.Map.{values_of}
-use Rattle.zk_model.specs.Paths.{is_child}
-use Rattle.zk_model.specs.Znodes.{Tree, num_children}
-use Rattle.zk_plain.specs.Entries.{order, Entries}
-use Rattle.zk_plain.proofs.EntryLaws.{len-retain}
+use Rattle.std.proofs.Common.{ap, sym, ◌∙◌, Some, None}
+use Rattle.std.specs.Option.{option_copied}
+use Rattle.std.specs.FinMap.{len-empty}
+use Rattle.zk_plain.specs.Entries.{order}
+use Rattle.zk_plain.proofs.GroupLaws.{family-len}
 use Rattle.zk_plain.proofs.tree.Tree.num_children.Goals as goal
 
-pub loop-at-init : goal.loop-at-init
-loop-at-init c =
-    let child = is_child c.args.path.now in
-    let counts : length (where_key order child c.into_iter-at-iterator.result) ≡ num_children c.args.self.now c.args.path.now =
-    ap (λ (x : Entries). length (where_key order child x)) (c.into_iter-at-iterator.ensures.into_iter_gives ∙ c.values-at-items.ensures.rest)
-    ∙ sym (len-retain child (values_of c.self.inside.nodes.entries) c.self.invariant.0)
-    ∙ ap (λ (t : Tree). num_children t c.args.path.now) c.self.view_is in
-    let all : length c.into_iter-at-iterator.result ≡ length c.values-at-items.result = ap (λ (x : Entries). length x) c.into_iter-at-iterator.ensures.into_iter_gives in
-    record {
-      counted = omega (arith, counts);
-      few = omega (arith, all, c.values-at-items.ensures.len, c.values-at-items.ensures.fits);
-    }
+pub returns-in-Some-clause-count : goal.returns-in-Some-clause-count
+returns-in-Some-clause-count c =
+    c.len.ensures.len ∙ family-len c.self.inside.nodes c.args.self.now c.self.inside.families c.args.path.now (Some c.in-Some.children.now) c.self.invariant.0 c.self.view_is
+    (ap (λ o. option_copied o) (sym c.in-Some.is) ∙ c.get.ensures)
+
+pub returns-in-None-clause-count : goal.returns-in-None-clause-count
+returns-in-None-clause-count c =
+    sym (len-empty order (Unit {0})) ∙ family-len c.self.inside.nodes c.args.self.now c.self.inside.families c.args.path.now None c.self.invariant.0 c.self.view_is
+    (ap (λ o. option_copied o) (sym c.in-None.is) ∙ c.get.ensures)

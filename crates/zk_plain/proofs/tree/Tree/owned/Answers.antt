@@ -1,26 +1,19 @@
-use Rattle.std.proofs.Common.{◌++◌, ap, sym, ◌∙◌, List, ℤ, w64, to_z, of_z, append-nil}
+use Rattle.std.proofs.Common.{◌≡◌, ap, sym, ◌∙◌, subst, List, Some, None, IfOk, w64, to_z, of_z}
 use Rattle.std.proofs.lemmas.Int.{to_z-of_z}
-use Rattle.std.specs.FinMap.{get, keys, retain_keys}
-use Rattle.std.specs.Map.{values_of}
+use Rattle.std.specs.Option.{option_copied}
 use Rattle.zx_base.specs.Maps.{Bytes}
-use Rattle.zk_model.specs.Znodes.{Tree, owned, is_owner}
-use Rattle.zk_plain.specs.Entries.{Entries}
-use Rattle.zk_plain.proofs.EntryLaws.{keys-retain, paths_where}
+use Rattle.zk_model.specs.Znodes.{owned}
+use Rattle.zk_plain.proofs.GroupLaws.{owner-owned, keys-empty}
 use Rattle.zk_plain.proofs.tree.Tree.owned.Goals as goal
 
-pub loop-at-init : goal.loop-at-init
-loop-at-init c =
-    let id : ℤ = to_z w64 (of_z w64 c.args.session) in
-    let test = λ (p : Bytes). is_owner id (get c.args.self.now p) in
-    ap (λ (ps : List Bytes). ps ++ paths_where test c.into_iter-at-iterator.result) c.new-paths.ensures.items
-    ∙ ap (paths_where test) (c.into_iter-at-iterator.ensures.into_iter_gives ∙ c.values-at-items.ensures.rest)
-    ∙ sym (keys-retain test (values_of c.self.inside.nodes.entries) c.self.invariant.0)
-    ∙ ap (λ (t : Tree). keys (retain_keys t test)) c.self.view_is
+pub returns-in-Some : goal.returns-in-Some
+returns-in-Some c =
+    subst (λ (ps : List Bytes). IfOk c.paths.result (λ v. v.items ≡ ps))
+    (owner-owned c.self.inside.nodes c.args.self.now c.self.inside.owners (to_z w64 (of_z w64 c.args.session)) (Some c.in-Some.nodes.now) c.self.invariant.1 c.self.view_is
+    (ap (λ o. option_copied o) (sym c.in-Some.is) ∙ c.get.ensures.value) ∙ ap (owned c.args.self.now) (to_z-of_z w64 c.args.session c.ranges.session)) c.paths.ensures
 
-pub returns : goal.returns
-returns c =
-    let id : ℤ = to_z w64 (of_z w64 c.args.session) in
-    sym (append-nil c.loop-at.paths.items)
-    ∙ ap (λ (es : Entries). c.loop-at.paths.items ++ paths_where (λ (p : Bytes). is_owner id (get c.args.self.now p)) es) (sym c.in-None.ensures.steps.0)
-    ∙ c.loop-at.invariant
-    ∙ ap (owned c.args.self.now) (to_z-of_z w64 c.args.session c.ranges.session)
+pub returns-in-None : goal.returns-in-None
+returns-in-None c =
+    c.new.ensures.items ∙ sym (keys-empty (Unit {0}))
+    ∙ owner-owned c.self.inside.nodes c.args.self.now c.self.inside.owners (to_z w64 (of_z w64 c.args.session)) None c.self.invariant.1 c.self.view_is
+    (ap (λ o. option_copied o) (sym c.in-None.is) ∙ c.get.ensures.value) ∙ ap (owned c.args.self.now) (to_z-of_z w64 c.args.session c.ranges.session)
