@@ -1,8 +1,9 @@
 #!/usr/bin/env bash
 # How long a judgement takes, and how much memory: transcripts of N writes and their replies on 16 connections, and one read with a
 # watch for each eight writes, whose notice is told later. Once the writes are of 64 nodes, so that the tree is small; once
-# they are creates of N nodes below 16 others. Prints seconds and peak kilobytes, and fails where a transcript is not judged lawful
-# or a peak is above its bound. Of time it asserts nothing.
+# they are creates of N nodes below 16 others; and once, of these, each eighth is the first part of a transaction, of which the
+# second part fails or does not in turn. Prints seconds and peak kilobytes, and fails where a transcript is not judged lawful or a
+# peak is above its bound. Of time it asserts nothing.
 set -eu
 here=$(cd "$(dirname "$0")/.." && pwd)
 program=$here/crates/zetcd/out/zetcd
@@ -10,7 +11,7 @@ program=$here/crates/zetcd/out/zetcd
 work=$(mktemp -d)
 trap 'rm -rf "$work"' EXIT
 
-transcript() { # transcript KIND N: N writes, of `sets` or of `creates`
+transcript() { # transcript KIND N: N writes, of `sets`, of `creates` or of `multis`
   python3 - "$@" <<'P'
 import struct, sys
 kind, writes = sys.argv[1], int(sys.argv[2])
@@ -62,10 +63,7 @@ def reply(c, body):
 def create(c, path):
     frame(c, 1, text(path) + text(b"x" * 32) + acl + struct.pack(">i", 0))
     update(c)
-    parent = tree[path.rpartition(b"/")[0] or b"/"]
-    parent.creates, parent.children, parent.pzxid = parent.creates + 1, parent.children + 1, zxid
-    tree[path] = Node(b"x" * 32, zxid, now)
-    fire(path, 1)
+    made(path)
     reply(c, text(path))
 
 def set_data(c, path, data):
@@ -75,6 +73,24 @@ def set_data(c, path, data):
     node.data, node.version, node.mzxid, node.mtime = data, node.version + 1, zxid, now
     fire(path, 3)
     reply(c, node.stat())
+
+def made(path):
+    parent = tree[path.rpartition(b"/")[0] or b"/"]
+    parent.creates, parent.children, parent.pzxid = parent.creates + 1, parent.children + 1, zxid
+    tree[path] = Node(b"x" * 32, zxid, now)
+    fire(path, 1)
+
+def multi(c, path, version):
+    """A create, and a check of the parent's version, which is 0: carried out, or refused as a whole with BadVersion."""
+    parent = path.rpartition(b"/")[0]
+    header = struct.pack(">iBi", 1, 0, -1) + text(path) + text(b"x" * 32) + acl + struct.pack(">i", 0)
+    frame(c, 14, header + struct.pack(">iBi", 13, 0, -1) + text(parent) + struct.pack(">i", version) + struct.pack(">iBi", -1, 1, -1))
+    if version == 0:
+        update(c)
+        made(path)
+        reply(c, struct.pack(">iBi", 1, 0, 0) + text(path) + struct.pack(">iBi", 13, 0, 0) + struct.pack(">iBi", -1, 1, -1))
+    else:
+        reply(c, b"".join(struct.pack(">iBii", -1, 0, code, code) for code in (0, -103)) + struct.pack(">iBi", -1, 1, -1))
 
 def get_data(c, path):
     frame(c, 4, text(path) + b"\1")
@@ -96,7 +112,9 @@ for n in range(writes):
     c = turn(n)
     if n < CONNECTIONS:
         create(c, b"/n%02d" % c)
-    elif kind == "creates" or n < 64:
+    elif kind == "multis" and n % 8 == 3:
+        multi(c, b"/n%02d/%07d" % (c, n), n // 8 % 2)
+    elif kind != "sets" or n < 64:
         create(c, b"/n%02d/%07d" % (c, n))
     else:
         set_data(c, b"/n%02d" % turn(n * 7), b"%032d" % n)
@@ -124,7 +142,7 @@ sys.exit(0 if good else 1)
 P
 }
 
-for kind in sets creates; do
+for kind in sets creates multis; do
   for n in 1000 10000 50000; do
     transcript "$kind" "$n" >"$work/transcript"
     measure "$n $kind" 400000

@@ -1,9 +1,8 @@
 #!/usr/bin/env bash
-# How long a replay takes, and how much memory: N creates and N reads on one connection, and scripts of tick lines, which
-# show that reading a script is linear and keeps one line. Prints seconds and peak kilobytes, and fails where a peak is above
-# its bound or a status is another one. Of time it asserts nothing. A peak is never below that of the Python that starts the
-# program, some 14,000 kB.
-# The store of this stage folds its revisions at each ask, so creates and reads cost N * N.
+# How long a replay takes, and how much memory: N settled requests (half of them creates, half of them reads) on 1 and on 16
+# connections, and scripts of tick lines, which show that reading a script is linear and keeps one line. Prints seconds and peak
+# kilobytes, and fails where a peak is above its bound or a status is another one. Of time it asserts nothing. A peak is never below
+# that of the Python that starts the program, some 14,000 kB.
 set -eu
 here=$(cd "$(dirname "$0")/.." && pwd)
 program=$here/crates/zetcd/out/zetcd
@@ -11,18 +10,24 @@ program=$here/crates/zetcd/out/zetcd
 work=$(mktemp -d)
 trap 'rm -rf "$work"' EXIT
 
-creates() { # creates N: a script of N creates of /nNNNNN, each read back
-  python3 - "$1" <<'P'
+requests() { # requests N CONNECTIONS: a script of N requests, each settled, that go round the connections
+  python3 - "$1" "$2" <<'P'
 import sys
-n = int(sys.argv[1])
+n, connections = int(sys.argv[1]), int(sys.argv[2])
 acl = "00000001" "0000001f" "00000005" "776f726c64" "00000006" "616e796f6e65"
-print("open 1 1 0000000000000011 " + "aa" * 16)
+connect = "00000000" + "00" * 8 + "00007530" + "00" * 8 + "00000010" + "00" * 16 + "00"
+for c in range(1, connections + 1):
+    print("open %d 1 %016x %s" % (c, c, "aa" * 16))
+    print("frame %d %s" % (c, connect))
+    print("settle %d" % c)
 for i in range(n):
-    path = b"/n%05d" % i
+    c, path = 1 + i // 2 % connections, b"/n%05d" % (i // 2)
     p = "%08x" % len(path) + path.hex()
-    print("frame 1 %08x00000001%s0000000178%s00000000" % (2 * i + 1, p, acl))
-    print("frame 1 %08x00000004%s00" % (2 * i + 2, p))
-print("settle 1")
+    if i % 2 == 0:
+        print("frame %d %08x00000001%s0000000178%s00000000" % (c, i + 1, p, acl))
+    else:
+        print("frame %d %08x00000004%s00" % (c, i + 1, p))
+    print("settle %d" % c)
 P
 }
 
@@ -55,9 +60,11 @@ sys.exit(0 if good else 1)
 P
 }
 
-for n in 250 500 1000; do
-  creates "$n" >"$work/script"
-  measure "$n creates and reads" "$work/script" 0 20480
+for connections in 1 16; do
+  for n in 1000 2000 4000; do
+    requests "$n" "$connections" >"$work/script"
+    measure "$n requests on $connections" "$work/script" 0 65536
+  done
 done
 for n in 10000000 50000000; do
   ticks "$n" >"$work/script"

@@ -7,7 +7,9 @@
 //!   whole and in pieces of several sizes.
 //! - `runs/NAME.run`: a run of its own, with other words, faults, idle turns, or an input that is too long for a file
 //!   ([`Run`](crate::run::Run) has its lines).
-//! - `count`: how many examples there are, so that none gets lost.
+//!
+//! The transcript of each script is judged too: all of them are lawful. `count` says how many comparisons there are, so that none
+//! gets lost.
 //!
 //! Nothing is written to standard output. What differs is told on standard error, and the status is then 1.
 #![tactic(auto)]
@@ -19,7 +21,7 @@ mod run;
 use crate::compare::first_difference;
 use crate::files::{bytes_of, exists, names_in, number_of};
 use crate::run::Run;
-use anyhow::Result;
+use anyhow::{Result, bail};
 use std::env;
 use std::process::ExitCode;
 use std::rt::Files;
@@ -48,6 +50,7 @@ fn main(rt: HostRuntime) -> Result<ExitCode> {
         failed: 0,
     };
     files_of(&rt, root, "replay", "script", "transcript", &mut tally)?;
+    judged(&rt, root, &mut tally)?;
     files_of(&rt, root, "show", "stream", "lines", &mut tally)?;
     files_of(&rt, root, "judge", "transcript", "verdict", &mut tally)?;
     runs_of(&rt, root, &mut tally)?;
@@ -122,6 +125,42 @@ fn problem_of<R: Files + AllocGlobal>(
         }
     }
     Ok(None)
+}
+
+/// Judges the transcript of each script.
+fn judged(rt: &HostRuntime, root: &str, tally: &mut Tally) -> Result<()> {
+    let folder = format!(in rt.alloc(); "{root}/replay")?;
+    for name in &names_in(rt, folder.as_str())? {
+        let path = format!(in rt.alloc(); "{folder}/{name}.transcript")?;
+        match verdict_on(rt, path.as_str()) {
+            Ok(None) => tally.passed = tally.passed.saturating_add(1),
+            Ok(Some(verdict)) => {
+                eprintln!(rt; "replay/{name} is judged {verdict}")?;
+                tally.failed = tally.failed.saturating_add(1);
+            }
+            Err(error) => {
+                eprintln!(rt; "replay/{name}: {error}")?;
+                tally.failed = tally.failed.saturating_add(1);
+            }
+        }
+    }
+    Ok(())
+}
+
+/// The verdict on a transcript, where it is not that it is lawful.
+fn verdict_on<R: Files + AllocGlobal>(rt: &R, path: &str) -> Result<Option<String>> {
+    let alloc = rt.alloc();
+    let text = bytes_of(rt, path)?;
+    let mut source = MemSource::new(text, Vec::new(alloc), Vec::new(alloc));
+    let mut out = MemSink::new(alloc, Vec::new(alloc));
+    let status = zetcd(alloc, &["judge"], &mut source, &mut out).number();
+    if status == 0 && first_difference(out.bytes(), b"lawful\n").is_none() {
+        return Ok(None);
+    }
+    match str::from_utf8(out.bytes()) {
+        Ok(verdict) => Ok(Some(format!(in alloc; "{verdict}, with status {status}")?)),
+        Err(_) => bail!("the verdict is no text"),
+    }
 }
 
 /// Carries out each run of the folder `runs`.

@@ -6,14 +6,14 @@ use Rattle.std.proofs.lemmas.List.Elements.{All-contains}
 use Rattle.zt_text.specs.declared.script.Happening.{Happening}
 use Rattle.zt_text.specs.declared.script.Unread.{Unread}
 use Rattle.zt_text.specs.declared.script.Why.{Why}
-use Rattle.zp_alone.specs.Runs.{Run, why_not}
+use Rattle.zp_world.specs.Applying.{RefusesFor}
 use Rattle.zetcd_cmd.specs.Replayed.{IsReplayed, IsStopped, IsCutShort, IsOver, StandsAgainst}
 use Rattle.zt_text.specs.Faults.{done_text, fault_text, unread_text, why_text}
 use Rattle.zt_text.specs.Transcripts.{transcript_text}
 use Rattle.zx_outside.specs.Counts.{InputCounts}
 use Rattle.zx_outside.specs.Reading.{Gives}
 use Rattle.zx_outside.specs.Writing.{Takes}
-use Rattle.zp_alone.specs.World.{World}
+use Rattle.zp_happen.specs.Worlds.{World}
 use Rattle.zetcd_cmd.specs.declared.report.End.{End}
 use Rattle.zetcd_cmd.specs.declared.report.End.TheVariants as end
 use Rattle.zetcd_cmd.specs.declared.script.Script.{Script}
@@ -26,45 +26,43 @@ use Rattle.zetcd_cmd.specs.Reporting.{ending_text, status_after}
 use Rattle.zetcd_cmd.specs.Scripting.{HasNoLineFeed, Stands, IsApplied, IsHalted, IsAgainst, EndsEarly}
 use Rattle.zx_outside.proofs.Streams.{append_known-nil}
 use Rattle.zetcd_cmd.proofs.Progress.{script-lines}
-
--- the lines of the run are those of the world
-lines_written : (run : Run) (w : World) (last : List ℕ) → run.lines ≡ w.lines → transcript_text w.lines ++ last ≡ transcript_text run.lines ++ last
-lines_written run w last same = ap (λ ls. transcript_text ls ++ last) (sym same)
+use Rattle.zetcd_cmd.proofs.Reaching.{reached-claims}
 
 replayed : (input : List ℕ) (s : Script) → IsApplied input s → IsReplayed input (transcript_text s.world.lines ++ done_text)
 replayed input s a = record {
   happenings = a.happenings;
-  run = a.reached.run;
+  ticks = a.reached.ticks;
+  world = s.world;
   read = a.read;
   runs = a.reached.runs;
-  one_run = a.reached.one_run;
-  written = lines_written a.reached.run s.world done_text a.reached.lines;
+  one_run = reached-claims a.happenings s.world a.reached;
+  written = refl;
 }
 
 -- ---- stopped
 
-fault_unread : (w : World) (run : Run) (n : ℕ) (later : List Happening) (end : Option (ℕ × Unread)) (why : Unread) → IsAgainst w n later end (stop.Unread why) → StandsAgainst run n later end (unread_text why)
-fault_unread w run n [] end why against = (why, against, refl)
-fault_unread w run n (h ∷ later) end why against = absurd against
+fault_unread : (w : World) (n : ℕ) (later : List Happening) (end : Option (ℕ × Unread)) (why : Unread) → IsAgainst w n later end (stop.Unread why) → StandsAgainst w n later end (unread_text why)
+fault_unread w n [] end why against = (why, against, refl)
+fault_unread w n (h ∷ later) end why against = absurd against
 
-fault_refused : (w : World) (run : Run) (n : ℕ) (later : List Happening) (end : Option (ℕ × Unread)) (why : Why) → run.lines ≡ w.lines → run.clock ≡ w.clock →
-    IsAgainst w n later end (stop.Refused why) → StandsAgainst run n later end (why_text why)
-fault_refused w run n [] end why lines clock against = absurd against
-fault_refused w run n (h ∷ later) end why lines clock against = (why, ap (λ ls. why_not ls run.clock h) lines ∙ ap (λ m. why_not w.lines m h) clock ∙ against, refl)
+fault_refused : (w : World) (n : ℕ) (later : List Happening) (end : Option (ℕ × Unread)) (why : Why) → IsAgainst w n later end (stop.Refused why) → StandsAgainst w n later end (why_text why)
+fault_refused w n [] end why against = absurd against
+fault_refused w n (h ∷ later) end why against = (why, against, refl)
 
 stopped_unread : (input : List ℕ) (s : Script) (n : ℕ) (why : Unread) → n ≡ s.line → IsHalted input s (stop.Unread why) → IsStopped input (transcript_text s.world.lines ++ fault_text n (unread_text why)) n
 stopped_unread input s n why is halted = record {
   before = halted.before;
   later = halted.later;
   end = halted.end;
-  run = halted.reached.run;
+  ticks = halted.reached.ticks;
+  world = s.world;
   read = halted.read;
   number = is ∙ halted.number;
   runs = halted.reached.runs;
-  one_run = halted.reached.one_run;
+  one_run = reached-claims halted.before s.world halted.reached;
   why = unread_text why;
-  because = fault_unread s.world halted.reached.run n halted.later halted.end why (subst (λ (m : ℕ). IsAgainst s.world m halted.later halted.end (stop.Unread why)) (sym is) halted.against);
-  written = lines_written halted.reached.run s.world (fault_text n (unread_text why)) halted.reached.lines;
+  because = fault_unread s.world n halted.later halted.end why (subst (λ (m : ℕ). IsAgainst s.world m halted.later halted.end (stop.Unread why)) (sym is) halted.against);
+  written = refl;
 }
 
 stopped_refused : (input : List ℕ) (s : Script) (n : ℕ) (why : Why) → n ≡ s.line → IsHalted input s (stop.Refused why) → IsStopped input (transcript_text s.world.lines ++ fault_text n (why_text why)) n
@@ -72,15 +70,16 @@ stopped_refused input s n why is halted = record {
   before = halted.before;
   later = halted.later;
   end = halted.end;
-  run = halted.reached.run;
+  ticks = halted.reached.ticks;
+  world = s.world;
   read = halted.read;
   number = is ∙ halted.number;
   runs = halted.reached.runs;
-  one_run = halted.reached.one_run;
+  one_run = reached-claims halted.before s.world halted.reached;
   why = why_text why;
-  because = fault_refused s.world halted.reached.run n halted.later halted.end why halted.reached.lines halted.reached.clock
+  because = fault_refused s.world n halted.later halted.end why
       (subst (λ (m : ℕ). IsAgainst s.world m halted.later halted.end (stop.Refused why)) (sym is) halted.against);
-  written = lines_written halted.reached.run s.world (fault_text n (why_text why)) halted.reached.lines;
+  written = refl;
 }
 
 -- from what holds of the bytes that were read, and of these with any behind them
@@ -123,11 +122,12 @@ cut_short input s st =
       short = st.read.short;
       room = omega arith;
       happenings = st.read.happenings;
-      run = st.read.reached.run;
+      ticks = st.read.reached.ticks;
+      world = s.world;
       read = script-lines input s st;
       runs = st.read.reached.runs;
-      one_run = st.read.reached.one_run;
-      written = lines_written st.read.reached.run s.world [] st.read.reached.lines ∙ append-nil (transcript_text st.read.reached.run.lines);
+      one_run = reached-claims st.read.happenings s.world st.read.reached;
+      written = append-nil (transcript_text s.world.lines);
     }
 
 -- ---- all that there is to write

@@ -2,7 +2,9 @@ pub mod Endings
 pub mod Fronts
 pub mod Headlines
 pub mod Judgements
+pub mod Offers
 pub mod Progress
+pub mod Reaching
 pub mod Reports
 pub mod ScriptLaws
 pub mod Showings

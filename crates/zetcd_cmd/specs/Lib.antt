@@ -5,6 +5,8 @@ pub mod Scripting
 pub mod Reporting
 pub mod Ending
 pub mod Streaming
+pub mod Claims
+pub mod Reached
 pub mod Replayed
 pub mod Judged
 pub mod Judging

@@ -6,21 +6,26 @@ use Rattle.zt_text.specs.declared.script.Unread.{Unread}
 use Rattle.zt_text.specs.Scripts.{script, IsWholeLines, max_line, max_script}
 use Rattle.zt_text.specs.Transcripts.{transcript_text}
 use Rattle.zt_text.specs.Faults.{why_text, unread_text, done_text, fault_text}
-use Rattle.zp_alone.specs.Runs.{Run, Runs, IsOneRun, why_not}
+use Rattle.zk_transcript.specs.Legal.{Tick}
+use Rattle.zp_happen.specs.Runs.{Runs}
+use Rattle.zp_happen.specs.Worlds.{World}
+use Rattle.zp_world.specs.Applying.{RefusesFor}
+use Rattle.zetcd_cmd.specs.Claims.{IsOneRun}
 
 -- The whole input is a script, and the output is the transcript of a run to which exactly its happenings were applied.
 pub record IsReplayed (input output : List ℕ) : Type 0 where
   pub happenings : List Happening
-  pub run : Run
+  pub ticks : List Tick
+  pub world : World
   pub read : script input ≡ (happenings, None)
-  pub runs : Runs happenings run
-  pub one_run : IsOneRun run
-  pub written : output ≡ transcript_text run.lines ++ done_text
+  pub runs : Runs happenings ticks world
+  pub one_run : IsOneRun ticks world.lines
+  pub written : output ≡ transcript_text world.lines ++ done_text
 
 -- what stands against the next line: its happening isn't possible, or it can't be read
-abbrev pub StandsAgainst : Run → ℕ → List Happening → Option (ℕ × Unread) → List ℕ → Type 0
-StandsAgainst r n (h ∷ hs) end text = (w : Why) × (why_not r.lines r.clock h ≡ Some w) × (text ≡ why_text w)
-StandsAgainst r n [] end text = (u : Unread) × (end ≡ Some (n, u)) × (text ≡ unread_text u)
+abbrev pub StandsAgainst : World → ℕ → List Happening → Option (ℕ × Unread) → List ℕ → Type 0
+StandsAgainst w n (h ∷ hs) end text = (why : Why) × RefusesFor w h why × (text ≡ why_text why)
+StandsAgainst w n [] end text = (u : Unread) × (end ≡ Some (n, u)) × (text ≡ unread_text u)
 
 -- Line n of the input is the first that can't be read or isn't possible, and the output is the transcript of the lines
 -- before it, with that fault.
@@ -28,14 +33,15 @@ pub record IsStopped (input output : List ℕ) (n : ℕ) : Type 0 where
   pub before : List Happening
   pub later : List Happening
   pub end : Option (ℕ × Unread)
-  pub run : Run
+  pub ticks : List Tick
+  pub world : World
   pub read : script input ≡ (before ++ later, end)
   pub number : n ≡ length before + 1
-  pub runs : Runs before run
-  pub one_run : IsOneRun run
+  pub runs : Runs before ticks world
+  pub one_run : IsOneRun ticks world.lines
   pub why : List ℕ
-  pub because : StandsAgainst run n later end why
-  pub written : output ≡ transcript_text run.lines ++ fault_text n why
+  pub because : StandsAgainst world n later end why
+  pub written : output ≡ transcript_text world.lines ++ fault_text n why
 
 -- What was read of line n and of the input tells that this line is over: it has its line feed, or more bytes than a line may
 -- have, or the input has more than a script may have.
@@ -60,8 +66,9 @@ pub record IsCutShort (input output : List ℕ) : Type 0 where
   pub short : length rest ≤ max_line
   pub room : length input ≤ max_script
   pub happenings : List Happening
-  pub run : Run
+  pub ticks : List Tick
+  pub world : World
   pub read : script lines ≡ (happenings, None)
-  pub runs : Runs happenings run
-  pub one_run : IsOneRun run
-  pub written : output ≡ transcript_text run.lines
+  pub runs : Runs happenings ticks world
+  pub one_run : IsOneRun ticks world.lines
+  pub written : output ≡ transcript_text world.lines

@@ -19,7 +19,8 @@ pub const ROOM: usize = 65_536;
 
 /// Runs a script to its end, or to the first line that cannot be read or is not possible, and writes the transcript.
 ///
-/// The time is linear in the script and the transcript; one unfinished line, the world and its transcript are kept.
+/// Reading and writing take time linear in the script and the transcript, and each ask as much as the store has changes; one
+/// unfinished line, the world and its transcript are kept.
 pub fn replay<I: Source, O: Sink>(alloc: Global, input: &mut I, out: &mut O) -> Status
     ensures told { Did (Replays result (I.ended input.new) (I.left input.new)) (I.given input.old) (I.given input.new) (I.left input.old) (I.left input.new) (O.taken out.old) (O.taken out.new) }
     ensures read { result ≡ Status.ReadFault → Failed (I.counts input.old) (I.counts input.new) }

@@ -7,7 +7,7 @@ ghost use Rattle.zetcd_cmd.specs.Scripting.{HasNoLineFeed, IsFirstLine, Plays, H
 
 use std::alloc::Global;
 use zk_transcript::TranscriptLine;
-use zp_alone::{Alone, ApplyFault};
+use zp_world::{ApplyFault, World};
 use zt_text::{MAX_LINE, MAX_SCRIPT, Unread, Why, read_line};
 use zx_base::Memory;
 
@@ -28,7 +28,7 @@ pub enum Stop {
 #[derive(Drop)]
 pub struct Script {
     alloc: Global,
-    world: Alone,
+    world: World,
     /// What came of the line that is not whole yet.
     pending: Vec<u8>,
     /// The number of that line, from 1.
@@ -42,7 +42,7 @@ impl Script {
     pub fn new(alloc: Global) -> Result<Script, Memory>
         ensures { IfOk result (λ s. Stands [] s) }
     {
-        let world = Alone::new(alloc)?;
+        let world = World::new(alloc)?;
         Ok(Script {
             alloc,
             world,
@@ -177,7 +177,7 @@ fn keep(pending: &mut Vec<u8>, bytes: &[u8]) -> Result<(), Stop>
 }
 
 /// Reads a line, and applies what it says.
-fn apply_line(alloc: Global, line: &[u8], world: &mut Alone) -> Result<(), Stop>
+fn apply_line(alloc: Global, line: &[u8], world: &mut World) -> Result<(), Stop>
     ensures ok { OnOk result (Plays line.now world.old world.new) }
     ensures err { IfErr result (λ stop. Halts line.now world.old stop world.new) }
 {

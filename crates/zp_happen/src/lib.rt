@@ -1,5 +1,5 @@
 //! What one line of a script does to a world: one etcd, a clock, and the connections and reapers of all proxies, with the
-//! transcript of what happened. Definitions alone, which no program meets yet; `zp_whole` says what holds of every world that a
+//! transcript of what happened. Definitions alone, which `zp_world` meets; `zp_whole` says what holds of every world that a
 //! script leads to.
 //!
 //! In `specs/`, in reading order: `Worlds` (what there is), `Kinds` (what update an ask makes), `Entries` (what a connection takes of each update), `Faults` (`fault`: the first

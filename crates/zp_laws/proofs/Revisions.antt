@@ -83,7 +83,7 @@ unfolding store_at
 put-at s a k kv h = elim (keys_from-at 1 empty (take a s.revisions) k kv h) [ inl p ↦ p | inr e ↦ absurd (none_some (sym (get-empty (slice_cmp nat_cmp) k) ∙ e)) ]
 
 -- at a later revision a key is as it was, or was put since
-since-at : (s : Store) (a b : ℕ) (k : Bytes) (kv : Kv) → a ≤ b → get (store_at s b) k ≡ Some kv
+pub since-at : (s : Store) (a b : ℕ) (k : Bytes) (kv : Kv) → a ≤ b → get (store_at s b) k ≡ Some kv
     → ((n : ℕ) × (length (take a s.revisions) < n) × (kv.mod_revision ≡ pos n)) ⊎ (get (store_at s a) k ≡ Some kv)
 unfolding store_at
 since-at s a b k kv le h =

@@ -1,0 +1,17 @@
+-- The worlds that the lines of a script lead to.
+use Rattle.std.specs.List.{AllByRecursion}
+use Rattle.std.specs.Prelude.{All, List}
+use Rattle.zk_transcript.specs.Legal.{Tick}
+use Rattle.zp_happen.specs.Runs.{Runs}
+use Rattle.zp_happen.specs.Worlds.{World}
+use Rattle.zp_whole.specs.Accounting.{IsWithinCounts, OffersSession}
+use Rattle.zt_text.specs.Transcripts.{IsWellFormed}
+use Rattle.zt_text.specs.declared.script.Happening.{Happening}
+
+-- these happenings lead to this world
+pub record Reached (happenings : List Happening) (w : World) : Type 0 where
+  pub ticks : List Tick
+  pub runs : Runs happenings ticks w
+  pub offers : All OffersSession happenings
+  pub within : IsWithinCounts w
+  pub formed : AllByRecursion IsWellFormed w.lines

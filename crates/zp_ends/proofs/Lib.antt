@@ -1,0 +1,17 @@
+pub mod Places
+pub mod Coming
+pub mod Answered
+pub mod Truths
+pub mod Carried
+pub mod Reaps
+pub mod Lasting
+pub mod Entered
+pub mod Sizes
+pub mod Bytes
+pub mod Enough
+pub mod Ending
+pub mod Homes
+pub mod Staying
+pub mod Shown
+pub mod Open
+pub mod Arriving

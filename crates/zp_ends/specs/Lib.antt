@@ -1,0 +1,5 @@
+pub mod Looks
+pub mod Lines
+pub mod Bytes
+pub mod Settling
+pub mod Staying

@@ -1,0 +1,20 @@
+//! What a settle comes to. It carries out and answers what a connection or a reaper has out, and takes the entries that a reply
+//! waits for, until nothing is left: so many lines at most, since nobody else acts meanwhile. A frame asks for a keepalive and a
+//! look at its session, looks up each key that it reads once, and asks for one transaction, whose guards then hold. What was
+//! looked up before the settle may be of an earlier state; then its plan fails once, and all of it is looked up anew.
+//!
+//! In `specs/`: `Looks` (how much a request looks up, and how many asks a frame takes), `Lines` (how many lines are left at
+//! most), `Bytes` (the bytes of the frames that came), `Settling` (a settle ends), `Staying` (a connection stays open). In
+//! `proofs/` by topic: `Places` (each look-up has its place), `Coming` (the asks that are still to come), `Answered`, `Carried`
+//! (an answer comes, an ask is carried out), `Truths` (a plan on the present is carried out), `Reaps`, `Entered` (an entry brings
+//! the cursor on), `Lasting` (a line leaves fewer), `Sizes` (what a frame looks up is bounded by its bytes), `Bytes`, `Enough`
+//! (the bound is enough), `Ending`; `Homes` (a life that is there now was there since the attachment), `Shown` (each answer shows
+//! it), `Staying`, `Open`, `Arriving`.
+#![tactic(auto)]
+
+mod laws;
+
+pub use laws::{
+    a_settle_comes_to_its_end, attached_connections_stay_open, every_settle_ends,
+    the_bytes_of_frames_are_counted,
+};

@@ -1,0 +1,101 @@
+-- What a connection awaits, by what it wants.
+use Rattle.std.proofs.Common.{◌≡◌, ℕ, refl, sym, ap, ◌∙◌, Bool, true, false, cond}
+use Rattle.std.specs.Prelude.{Option, Some, None, List, ℤ, pos, negsuc, ◌+ℤ◌}
+use Rattle.std.specs.Option.{option_and_then}
+use Rattle.ev_types.specs.declared.answer.Answer.{Answer}
+use Rattle.ev_types.specs.declared.ask.Ask.{Ask}
+use Rattle.zk_model.specs.Watches.{is_unarmed}
+use Rattle.zp_happen.specs.Entries.{cursor_at, cursor_of, cursor_wanted, entry_behind}
+use Rattle.zp_happen.specs.Faults.{flight_at}
+use Rattle.zp_happen.specs.Worlds.{Conn, Connection, World, conn_at}
+use Rattle.zn_layout.specs.declared.entry.Entry.{Entry}
+use Rattle.zp_ledger.specs.Entering.{AreNumbered}
+use Rattle.zp_step.specs.Laws.{end_by}
+use Rattle.zp_step.proofs.Shutting.{ends-named}
+use Rattle.zp_step.specs.Stages.{Core, Stage, Unconnected, Connecting, Ready, KeepingAlive, Checking, Reading, Committing, Waiting, Shut, asked_of, is_shut, wanted_in, wants_of}
+use Rattle.zp_step.specs.Steps.{IsFit, Steps, awaits_entry}
+use Rattle.zp_step.specs.declared.action.Action.{Action}
+use Rattle.zp_step.specs.declared.input.Input.{Input}
+use Rattle.zp_step.specs.declared.input.Input.TheVariants as input
+use Rattle.zp_step.specs.declared.wants.Wants.{Wants}
+use Rattle.zp_step.specs.declared.wants.Wants.TheVariants as wants
+use Rattle.zs_session.specs.Answering.{IsAwaited}
+use Rattle.zx_base.proofs.Options.{none_some, some_none, some_is}
+use Rattle.zp_world.specs.Flying.{IsEnd, IsNoFrame, IsUnconnected}
+
+IsNext : Core → Wants → ℤ → Type 0
+IsNext core w cursor = (awaits_entry w ≡ true) × (cursor ≡ core.cursor)
+
+ready-next : (core : Core) (b : Bool) (cursor : ℤ) → cursor_wanted (cond b wants.Frame (wants.FrameOrEntry core.cursor)) ≡ Some cursor → IsNext core (cond b wants.Frame (wants.FrameOrEntry core.cursor)) cursor
+unfolding IsNext
+ready-next core true cursor h = absurd (none_some h)
+ready-next core false cursor h = (refl, sym (some_is h))
+
+stage-next : (core : Core) (s : Stage) (cursor : ℤ) → cursor_wanted (wanted_in core s) ≡ Some cursor → IsNext core (wanted_in core s) cursor
+unfolding IsNext
+stage-next core (Unconnected fresh) cursor h = absurd (none_some h)
+stage-next core (Connecting connect) cursor h = absurd (none_some h)
+stage-next core Ready cursor h = (let n = ready-next core (is_unarmed core.watches) cursor h in n)
+stage-next core (KeepingAlive frame) cursor h = absurd (none_some h)
+stage-next core (Checking frame) cursor h = absurd (none_some h)
+stage-next core (Reading xid r v ws) cursor h = absurd (none_some h)
+stage-next core (Committing xid r v p m) cursor h = absurd (none_some h)
+stage-next core (Waiting p) cursor h = (refl, sym (some_is h))
+stage-next core Shut cursor h = absurd (none_some h)
+
+pub awaits-next : (core : Core) (cursor : ℤ) → cursor_wanted (wants_of core) ≡ Some cursor → awaits_entry (wants_of core) ≡ true
+unfolding IsNext
+awaits-next core cursor h = (stage-next core core.stage cursor h).0
+
+pub cursor-is : (core : Core) (cursor : ℤ) → cursor_wanted (wants_of core) ≡ Some cursor → cursor ≡ core.cursor
+unfolding IsNext
+cursor-is core cursor h = (stage-next core core.stage cursor h).1
+
+-- ---- before its connect a connection takes framed input but its end
+
+unconnected-stage : (core : Core) (s : Stage) → IsUnconnected s → (asked_of core.who s ≡ None) × (awaits_entry (wanted_in core s) ≡ false)
+unconnected-stage core (Unconnected fresh) u = (refl, refl)
+unconnected-stage core (Connecting connect) u = absurd u
+unconnected-stage core Ready u = absurd u
+unconnected-stage core (KeepingAlive frame) u = absurd u
+unconnected-stage core (Checking frame) u = absurd u
+unconnected-stage core (Reading xid r v ws) u = absurd u
+unconnected-stage core (Committing xid r v p m) u = absurd u
+unconnected-stage core (Waiting p) u = absurd u
+unconnected-stage core Shut u = absurd u
+
+not-awaited : (o : Option Ask) (a : Answer) → o ≡ None → IsAwaited o (Some a) → ⊥
+not-awaited None a e h = h
+not-awaited (Some q) a e h = some_none e
+
+true-false : true ≡ false → ⊥
+true-false e = cc
+
+ends-unconnected : (core : Core) (x : Input) → IsUnconnected core.stage → IsFit core x → IsNoFrame x → IsEnd x
+ends-unconnected core (input.Frame bytes) u fit framed = absurd framed
+ends-unconnected core (input.Answer a) u fit framed = absurd (not-awaited _ a (unconnected-stage core core.stage u).0 fit)
+ends-unconnected core input.Failed u fit framed = (_, refl)
+ends-unconnected core (input.Entry e) u fit framed = absurd (true-false (sym fit.awaited ∙ (unconnected-stage core core.stage u).1))
+ends-unconnected core (input.BadLength place n) u fit framed = (_, refl)
+ends-unconnected core (input.Lagged cursor floor) u fit framed = (_, refl)
+ends-unconnected core input.FeedClosed u fit framed = (_, refl)
+ends-unconnected core (input.ClientEnd place) u fit framed = (_, refl)
+
+pub begun-behind : (old new : Core) (x : Input) (now frames : ℕ) (out : List Action) → is_shut old.stage ≡ false → (frames ≡ 0 → IsUnconnected old.stage) → IsFit old x → IsNoFrame x → Steps old x now new out
+    → is_shut new.stage ≡ false → frames ≡ 0 → IsUnconnected new.stage
+begun-behind old new x now frames out live begun fit framed steps after zero =
+    let e = ends-unconnected old x (begun zero) fit framed in
+    let q = ends-named old new x e.0 now out live e.1 steps in
+    absurd (true-false (sym (ap is_shut q.0) ∙ after))
+
+-- ---- the connection of a number
+
+pub cursor-wanted : (w : World) (c : ℕ) (x : Conn) (core : Core) (cursor : ℤ) → conn_at c w ≡ Some x → x.actor ≡ Connection core → cursor_at c w ≡ Some cursor → cursor_wanted (wants_of core) ≡ Some cursor
+cursor-wanted w c x core cursor there is at = sym (ap (option_and_then (λ (y : Conn). cursor_of y.actor)) there ∙ ap cursor_of is) ∙ at
+
+pub flight-none : (w : World) (c : ℕ) (x : Conn) → conn_at c w ≡ Some x → flight_at c w ≡ None → x.flight ≡ None
+flight-none w c x there none = sym (ap (option_and_then (λ (y : Conn). y.flight)) there) ∙ none
+
+pub next-number : (es : List Entry) (cursor : ℤ) (e : Entry) → AreNumbered es → entry_behind es cursor ≡ Some e → e.number ≡ cursor +ℤ pos 1
+next-number es (pos n) e numbered h = (numbered n e h).number
+next-number es (negsuc n) e numbered h = absurd (none_some h)

@@ -1,0 +1,299 @@
+-- Frames come to a connection, one after the other.
+use Rattle.std.proofs.Common.{◌≡◌, ℕ, ◌+◌, ◌++◌, refl, sym, ap, ◌∙◌, subst, Bool, true, false, List, [], ◌∷◌, inl, inr, length, ◌<◌, arith}
+use Rattle.std.proofs.lemmas.List.Elements.{All-nil, All-tail}
+use Rattle.std.specs.Prelude.{◌==◌, ◌⊎◌, All, Option, Some, None, Result, Ok, Err, OnOk, ℤ, MatchBool, not, if◌then◌else◌}
+use Rattle.zx_base.proofs.Options.{none_some, some_none, some_is}
+use Rattle.zk_transcript.specs.declared.transcript.TranscriptLine.{TranscriptLine}
+use Rattle.zk_transcript.specs.declared.transcript.TranscriptLine.TheVariants.{Frame as FrameLine}
+use Rattle.zk_wire.specs.Cutting.{Stream}
+use Rattle.zt_text.specs.declared.script.Why.{Why}
+use Rattle.zt_text.specs.declared.script.Why.TheVariants as why
+use Rattle.zp_happen.specs.Arriving.{Arrives, EndsBadly, FramesArrive, frame_lines, shown_frame}
+use Rattle.zp_happen.specs.Faults.{connection_fault, if_fails}
+use Rattle.zp_happen.specs.Handing.{Handed}
+use Rattle.zp_happen.specs.StepOutcomes.{StepOutcome, acts_all, leaves}
+use Rattle.zp_happen.specs.Kinds.{kind_asked}
+use Rattle.zp_happen.specs.Worlds.{Actor, Closed, Conn, Conns, Connection, Reaper, World, behind_step, conn_at, is_closed, is_open_conn, is_reaper, with_conn, zxid_at}
+use Rattle.zp_happen.specs.declared.flight.Flight.{Flight}
+use Rattle.zp_core.specs.Held.{IsBuiltIn}
+use Rattle.zk_jute.specs.Requests.{read_request}
+use Rattle.zp_happen.specs.Unbuilt.{is_multi}
+use Rattle.zp_happen.specs.declared.flight.Flight.TheVariants.{Out, Carried, Denied}
+use Rattle.zp_step.specs.declared.action.Action.{Action}
+use Rattle.zp_step.specs.Steps.{Steps}
+use Rattle.zp_step.specs.Stages.{Core, Stage, Unconnected, Connecting, Ready, KeepingAlive, Checking, Reading, Committing, Waiting, Shut, counted_up, is_shut}
+use Rattle.zp_step.specs.declared.input.Input.{Input}
+use Rattle.zp_step.specs.declared.input.Input.TheVariants as input
+use Rattle.zp_world.proofs.Apart.{conn-inserted, conn-left, insert-removed, insert-twice}
+use Rattle.zp_world.specs.Doing.{Stepped, left, seated, without}
+use Rattle.zp_world.specs.Flying.{IsBuiltFrame, IsFitFlight, IsFlyingOf, IsUnconnected}
+use Rattle.zp_world.specs.Taking.{IsConnectionAt, IsCutFor, IsLeft, IsServing, Takes, left_next, shown}
+use Rattle.zp_world.specs.declared.activity.Seat.{Seat}
+
+-- ---- a step of what is held apart is one of what stands in its world
+
+leaves-shown : (c : ℕ) (w : World) (seat : Seat) (actor : Actor) (flight : Option Flight) (bytes : List ℕ) (a : Actor) (o : StepOutcome)
+    → leaves c (shown c (without c w) (zxid_at w.store) seat bytes) (left_next seat) a o ≡ leaves c (shown_frame c w (seated seat actor flight) bytes) (record (seated seat actor flight) { frames = counted_up (seat.frames + 1) }) a o
+leaves-shown c w seat actor flight bytes a o =
+    let x : Conn = record (seated seat actor flight) { frames = counted_up (seat.frames + 1) } in
+    let y : Conn = record (left_next seat) { actor = a; flight = o.flight } in
+    let lines : List TranscriptLine = w.lines ++ FrameLine c seat.frames (zxid_at w.store) bytes ∷ [] in
+    ap (λ (m : Conns). record w { conns = m; lines = lines ++ o.lines; strays = w.strays ++ o.strays }) (insert-removed w.conns c y ∙ sym (insert-twice w.conns c x y))
+
+handed-seated : (c : ℕ) (w w' : World) (core : Core) (seat : Seat) (flight : Option Flight) (bytes : List ℕ) (behind : List (List ℕ))
+    → Stepped c (frame_lines c (counted_up (seat.frames + 1)) (zxid_at w.store) behind) (shown c (without c w) (zxid_at w.store) seat bytes) (left_next seat) core flight (input.Frame bytes) w'
+    → Handed c (frame_lines c (counted_up (seat.frames + 1)) (zxid_at w.store) behind) (shown_frame c w (seated seat (Connection core) flight) bytes) (input.Frame bytes) w'
+handed-seated c w w' core seat flight bytes behind s =
+    let x : Conn = record (seated seat (Connection core) flight) { frames = counted_up (seat.frames + 1) } in
+    record {
+      conn = x;
+      core = core;
+      found = conn-inserted c w x;
+      serving = refl;
+      next = s.next;
+      out = s.out;
+      stepped = s.stepped;
+      result = s.result ∙ leaves-shown c w seat (Connection core) flight bytes (behind_step s.next) (acts_all c (kind_asked c (Connection s.next)) (frame_lines c (counted_up (seat.frames + 1)) (zxid_at w.store) behind) flight s.out);
+    }
+
+pub handed-frame : (c : ℕ) (w w' : World) (x : Conn) (core : Core) (seat : Seat) (flight : Option Flight) (zxid : ℤ) (bytes : List ℕ) (behind : List (List ℕ)) → seated seat (Connection core) flight ≡ x → zxid ≡ zxid_at w.store
+    → Stepped c (frame_lines c (counted_up (seat.frames + 1)) zxid behind) (shown c (without c w) zxid seat bytes) (left_next seat) core flight (input.Frame bytes) w'
+    → Handed c (frame_lines c (counted_up (x.frames + 1)) (zxid_at w.store) behind) (shown_frame c w x bytes) (input.Frame bytes) w'
+handed-frame c w w' x core seat flight zxid bytes behind is same s =
+    subst (λ (y : Conn). Handed c (frame_lines c (counted_up (y.frames + 1)) (zxid_at w.store) behind) (shown_frame c w y bytes) (input.Frame bytes) w') is
+    (handed-seated c w w' core seat flight bytes behind
+    (subst (λ (z : ℤ). Stepped c (frame_lines c (counted_up (seat.frames + 1)) z behind) (shown c (without c w) z seat bytes) (left_next seat) core flight (input.Frame bytes) w') same s))
+
+-- ---- a connection stays one
+
+no-reaper : (core : Core) → is_reaper (behind_step core) ≡ false
+no-reaper core = go (is_shut core.stage)
+  where
+    go : (b : Bool) → is_reaper (if b then Closed else Connection core) ≡ false
+    go true = refl
+    go false = refl
+
+pub handed-connection : (c : ℕ) (behind : List TranscriptLine) (w w' : World) (i : Input) → Handed c behind w i w' → IsConnectionAt c w' × (zxid_at w'.store ≡ zxid_at w.store)
+handed-connection c behind w w' i h =
+    let o : StepOutcome = acts_all c (kind_asked c (Connection h.next)) behind h.conn.flight h.out in (
+      record {
+        conn = record h.conn { actor = behind_step h.next; flight = o.flight };
+        found = ap (conn_at c) h.result ∙ conn-left c w h.conn (behind_step h.next) o;
+        served = no-reaper h.next;
+      },
+      ap (λ (v : World). zxid_at v.store) h.result,
+    )
+
+pub arrived-connection : (frames : List (List ℕ)) (c : ℕ) (w w' : World) → IsConnectionAt c w → FramesArrive c w frames w' → IsConnectionAt c w'
+arrived-connection [] c w w' at same = subst (IsConnectionAt c) (sym same) at
+arrived-connection (frame ∷ more) c w w' at (x, mid, there, handed, rest) =
+    let stays = (handed-connection c _ _ mid _ handed).0 in
+    elim (is_open_conn (conn_at c mid)) as (λ b. MatchBool b (FramesArrive c mid more w') (w' ≡ mid) → IsConnectionAt c w') [
+      | true ↦ λ arrives. arrived-connection more c mid w' stays arrives
+      | false ↦ λ same. subst (IsConnectionAt c) (sym same) stays
+    ] rest
+
+-- ---- one frame, and those behind it
+
+pub serving-next : (c : ℕ) (zxid : ℤ) (w w' : World) (x : Conn) (frame : List ℕ) (behind left : List (List ℕ)) → zxid ≡ zxid_at w.store → Takes c w x frame behind w' left → IsServing c zxid left w'
+serving-next c zxid w w' x frame behind left same t =
+    let stays = handed-connection c _ _ w' _ t.handed in
+    let at = stays.0 in
+    record {
+      conn = at.conn;
+      found = at.found;
+      served = at.served;
+      none = λ closed. t.rest ∙ ap (λ (o : Option Conn). if is_open_conn o then behind else []) at.found ∙ ap (λ (b : Bool). if not b then behind else []) closed;
+      zxid_is = same ∙ sym stays.1;
+    }
+
+pub arrives-next : (c : ℕ) (w mid w' : World) (x : Conn) (frame : List ℕ) (behind left : List (List ℕ)) → conn_at c w ≡ Some x → Takes c w x frame behind mid left → FramesArrive c mid left w' → FramesArrive c w (frame ∷ behind) w'
+arrives-next c w mid w' x frame behind left there t arrives = (x, mid, there, t.handed, go (is_open_conn (conn_at c mid)) t.rest)
+  where
+    go : (b : Bool) → left ≡ (if b then behind else []) → MatchBool b (FramesArrive c mid behind w') (w' ≡ mid)
+    go true e = subst (λ (fs : List (List ℕ)). FramesArrive c mid fs w') e arrives
+    go false e = subst (λ (fs : List (List ℕ)). FramesArrive c mid fs w') e arrives
+
+-- a frame comes to an open connection alone
+pub serving-open : (c : ℕ) (zxid : ℤ) (frame : List ℕ) (more : List (List ℕ)) (w : World) → IsServing c zxid (frame ∷ more) w → (x : Conn) × (core : Core) × (conn_at c w ≡ Some x) × (x.actor ≡ Connection core)
+serving-open c zxid frame more w s = go s.conn.actor refl s.served s.none
+  where
+    go : (a : Actor) → s.conn.actor ≡ a → is_reaper a ≡ false → (is_closed a ≡ true → frame ∷ more ≡ []) → (x : Conn) × (core : Core) × (conn_at c w ≡ Some x) × (x.actor ≡ Connection core)
+    go (Connection core) e served none = (s.conn, core, s.found, e)
+    go (Reaper reap) e served none = absurd (cc)
+    go Closed e served none = absurd (let f = none refl in cc)
+
+pub serving-first : (c : ℕ) (zxid : ℤ) (frames : List (List ℕ)) (w : World) (x : Conn) (core : Core) → conn_at c w ≡ Some x → x.actor ≡ Connection core → zxid ≡ zxid_at w.store → IsServing c zxid frames w
+serving-first c zxid frames w x core there is same = record {
+  conn = x;
+  found = there;
+  served = ap is_reaper is;
+  none = λ closed. absurd (let f : false ≡ true = sym (ap is_closed is) ∙ closed in cc);
+  zxid_is = same;
+}
+
+-- ---- all frames of a loop
+
+-- these frames came to a world, and those that are left come to the world that they led to
+pub record AreComing (c : ℕ) (zxid : ℤ) (start : World) (frames : List (List ℕ)) (now : World) (left : List (List ℕ)) : Type 0 where
+  pub built : All IsBuiltFrame left
+  pub go : IsServing c zxid frames start → IsServing c zxid left now × ((w' : World) → FramesArrive c now left w' → FramesArrive c start frames w')
+
+pub coming-first : (c : ℕ) (zxid : ℤ) (w : World) (frames : List (List ℕ)) → All IsBuiltFrame frames → AreComing c zxid w frames w frames
+coming-first c zxid w frames built = record { built = built; go = λ s. (s, λ w' arrives. arrives) }
+
+pub built-left : (frames left : List (List ℕ)) → All IsBuiltFrame frames → IsLeft frames left → All IsBuiltFrame left
+built-left frames left built (inl same) = subst (All IsBuiltFrame) (sym same) built
+built-left frames left built (inr none) = subst (All IsBuiltFrame) (sym none) (All-nil IsBuiltFrame)
+
+pub coming-next : (c : ℕ) (zxid : ℤ) (start now next : World) (frames : List (List ℕ)) (frame : List ℕ) (behind left : List (List ℕ)) → AreComing c zxid start frames now (frame ∷ behind) → IsLeft behind left
+    → ((x : Conn) (core : Core) → conn_at c now ≡ Some x → x.actor ≡ Connection core → zxid ≡ zxid_at now.store → Takes c now x frame behind next left) → AreComing c zxid start frames next left
+coming-next c zxid start now next frames frame behind left coming is_left takes = record {
+  built = built-left behind left (All-tail IsBuiltFrame frame behind coming.built) is_left;
+  go = λ s.
+      let so_far = coming.go s in
+      let open_one = serving-open c zxid frame behind now so_far.0 in
+      let t = takes open_one.0 open_one.1 open_one.2 open_one.3 so_far.0.zxid_is in
+      (serving-next c zxid now next open_one.0 frame behind left so_far.0.zxid_is t, λ w' arrives. so_far.1 w' (arrives-next c now next w' open_one.0 frame behind left open_one.2 t arrives));
+}
+
+-- fewer are left each time
+pub fewer : (all behind left : List (List ℕ)) (frame : List ℕ) → all ≡ frame ∷ behind → IsLeft behind left → length left < length all
+fewer all behind left frame is (inl same) = omega (arith, ap length is, ap length same)
+fewer all behind left frame is (inr none) = omega (arith, ap length is, ap length none)
+
+pub coming-end : (c : ℕ) (zxid : ℤ) (start now : World) (frames : List (List ℕ)) → AreComing c zxid start frames now [] → IsServing c zxid frames start → FramesArrive c start frames now
+coming-end c zxid start now frames coming s = (coming.go s).1 now refl
+
+-- the connect, and those behind it
+pub connect-comes : (c : ℕ) (zxid : ℤ) (w mid w' : World) (x : Conn) (frame : List ℕ) (behind left : List (List ℕ)) → conn_at c w ≡ Some x → zxid ≡ zxid_at w.store → Takes c w x frame behind mid left
+    → (IsServing c zxid left mid → FramesArrive c mid left w') → FramesArrive c w (frame ∷ behind) w'
+connect-comes c zxid w mid w' x frame behind left there same t come = arrives-next c w mid w' x frame behind left there t (come (serving-next c zxid w mid x frame behind left same t))
+
+-- ---- all that came at once
+
+-- the test that there is an open connection, of what was looked up
+abbrev reaper_of : Option Conn → Bool
+reaper_of o = elim o [ None ↦ false | Some x ↦ is_reaper x.actor ]
+
+abbrev fault_of : Option Conn → Bool → Option Why
+fault_of o reaper = elim o [ None ↦ Some why.NoSuchConnection | Some x ↦ if_fails (is_closed x.actor) why.ConnectionClosed (if_fails reaper why.NotAConnection None) ]
+
+possible-of : (c : ℕ) (w : World) (o : Option Conn) → conn_at c w ≡ o → connection_fault c w None ≡ None → fault_of o (reaper_of o) ≡ None
+possible-of c w o there possible = subst (λ (p : Option Conn). fault_of p (reaper_of p) ≡ None) there possible
+
+pub connection-found : (c : ℕ) (w : World) → connection_fault c w None ≡ None → (x : Conn) × (conn_at c w ≡ Some x)
+connection-found c w possible = go (conn_at c w) refl
+  where
+    go : (o : Option Conn) → conn_at c w ≡ o → (x : Conn) × (conn_at c w ≡ Some x)
+    go None e = absurd (some_none (possible-of c w None e possible))
+    go (Some x) e = (x, e)
+
+pub connection-there : (c : ℕ) (w : World) (x : Conn) → connection_fault c w None ≡ None → conn_at c w ≡ Some x → (core : Core) × (x.actor ≡ Connection core)
+connection-there c w x possible there = go x.actor refl (possible-of c w (Some x) there possible)
+  where
+    go : (a : Actor) → x.actor ≡ a → if_fails (is_closed a) why.ConnectionClosed (if_fails (is_reaper a) why.NotAConnection None) ≡ None → (core : Core) × (x.actor ≡ Connection core)
+    go (Connection core) e p = (core, e)
+    go (Reaper reap) e p = absurd (some_none p)
+    go Closed e p = absurd (some_none p)
+
+pub all-arrive : (c : ℕ) (zxid : ℤ) (w kept mid w' : World) (x : Conn) (bytes : List ℕ) (first : Bool) (frames : List (List ℕ)) (bad : Option ℤ) (stream : Stream)
+    → connection_fault c w None ≡ None → conn_at c w ≡ Some x → IsCutFor x bytes first frames bad stream → zxid ≡ zxid_at w.store → kept ≡ with_conn w c (record x { stream = stream })
+    → ((y : Conn) (core : Core) → conn_at c kept ≡ Some y → y.actor ≡ Connection core → first ≡ (y.frames == 0) → zxid ≡ zxid_at kept.store → FramesArrive c kept frames mid)
+    → (IsConnectionAt c mid → EndsBadly c mid stream.place bad w') → Arrives c w bytes w'
+all-arrive c zxid w kept mid w' x bytes first frames bad stream possible there cut same is come ends =
+    let y : Conn = record x { stream = stream } in
+    let core = connection-there c w x possible there in
+    let at : conn_at c kept ≡ Some y = ap (conn_at c) is ∙ conn-inserted c w y in
+    let arrives = come y core.0 at core.1 cut.is_first (same ∙ sym (ap (λ (v : World). zxid_at v.store) is)) in
+    let served : IsConnectionAt c kept = record { conn = y; found = at; served = ap is_reaper core.1 } in
+    record {
+      conn = x;
+      found = there;
+      frames = frames;
+      bad = bad;
+      stream = stream;
+      cuts = cut.cuts;
+      mid = mid;
+      arrive = subst (λ (v : World). FramesArrive c v frames mid) is arrives;
+      ends = ends (arrived-connection frames c kept mid served arrives);
+    }
+
+-- ---- what a step by a frame takes
+
+behind-connect : (P : Type 0) (frames : ℕ) → (frames ≡ 0 → ⊥) → (frames ≡ 0) ⊎ P → P
+behind-connect P frames begun (inl none) = absurd (begun none)
+behind-connect P frames begun (inr p) = p
+
+pub built-in : (bytes : List ℕ) (stage : Stage) (frames : ℕ) → (frames ≡ 0 → IsUnconnected stage) → (frames ≡ 0) ⊎ (is_multi (read_request bytes) ≡ false) → IsBuiltIn bytes stage
+built-in bytes (Unconnected fresh) frames begun built = tt
+built-in bytes (Connecting connect) frames begun built = behind-connect (is_multi (read_request bytes) ≡ false) frames begun built
+built-in bytes Ready frames begun built = behind-connect (is_multi (read_request bytes) ≡ false) frames begun built
+built-in bytes (KeepingAlive frame) frames begun built = behind-connect (is_multi (read_request bytes) ≡ false) frames begun built
+built-in bytes (Checking frame) frames begun built = behind-connect (is_multi (read_request bytes) ≡ false) frames begun built
+built-in bytes (Reading xid r v ws) frames begun built = behind-connect (is_multi (read_request bytes) ≡ false) frames begun built
+built-in bytes (Committing xid r v p m) frames begun built = behind-connect (is_multi (read_request bytes) ≡ false) frames begun built
+built-in bytes (Waiting p) frames begun built = behind-connect (is_multi (read_request bytes) ≡ false) frames begun built
+built-in bytes Shut frames begun built = behind-connect (is_multi (read_request bytes) ≡ false) frames begun built
+
+pub fit-flying : (core : Core) (flight : Option Flight) → IsFlyingOf core flight → IsFitFlight flight
+fit-flying core None h = tt
+fit-flying core (Some (Out x)) h = h.fit
+fit-flying core (Some (Carried a)) h = tt
+fit-flying core (Some Denied) h = tt
+
+-- what is left of it behind the step
+pub left-behind : (c : ℕ) (w w' : World) (x : Conn) (next : Core) (o : StepOutcome) (left behind : List (List ℕ)) → left ≡ (if is_shut next.stage then [] else behind) → w' ≡ leaves c w x (behind_step next) o
+    → left ≡ (if is_open_conn (conn_at c w') then behind else [])
+left-behind c w w' x next o left behind is result =
+    is ∙ go (is_shut next.stage) ∙ sym (ap (λ (p : Option Conn). if is_open_conn p then behind else []) (ap (conn_at c) result ∙ conn-left c w x (behind_step next) o))
+  where
+    go : (b : Bool) → (if b then [] else behind) ≡ (if not (is_closed (if b then Closed else Connection next)) then behind else [])
+    go true = refl
+    go false = refl
+
+-- (a zxid is as the callee has it)
+pub stepped-frame : (c : ℕ) (w w' : World) (seat : Seat) (core next : Core) (flight : Option Flight) (zxid z : ℤ) (bytes given : List ℕ) (behind : List (List ℕ)) (now : ℕ) (out : List Action) → z ≡ zxid → now ≡ w.clock → given ≡ bytes
+    → Steps core (input.Frame bytes) now next out
+    → w' ≡ leaves c (shown c w z seat given) (left_next seat) (behind_step next) (acts_all c (kind_asked c (Connection next)) (frame_lines c (counted_up (seat.frames + 1)) z behind) flight out)
+    → Stepped c (frame_lines c (counted_up (seat.frames + 1)) zxid behind) (shown c w zxid seat bytes) (left_next seat) core flight (input.Frame bytes) w'
+stepped-frame c w w' seat core next flight zxid z bytes given behind now out is at same steps result = record {
+  next = next;
+  out = out;
+  stepped = subst (λ (n : ℕ). Steps core (input.Frame bytes) n next out) at steps;
+  result = result
+      ∙ ap (λ (b : List ℕ). leaves c (shown c w z seat b) (left_next seat) (behind_step next) (acts_all c (kind_asked c (Connection next)) (frame_lines c (counted_up (seat.frames + 1)) z behind) flight out)) same
+      ∙ ap (λ (y : ℤ). leaves c (shown c w y seat bytes) (left_next seat) (behind_step next) (acts_all c (kind_asked c (Connection next)) (frame_lines c (counted_up (seat.frames + 1)) y behind) flight out)) is;
+}
+
+pub acted-on : (c : ℕ) (w mid w' : World) (seat next : Seat) (core : Core) (flight : Option Flight) (zxid z : ℤ) (bytes : List ℕ) (behind : List (List ℕ)) (out : List Action) (index : ℕ) → z ≡ zxid → index ≡ seat.frames
+    → mid ≡ record w { lines = w.lines ++ FrameLine c index z bytes ∷ [] } → left next ≡ left_next seat
+    → w' ≡ leaves c mid (left next) (behind_step core) (acts_all c (kind_asked c (Connection core)) (frame_lines c next.frames z behind) flight out)
+    → w' ≡ leaves c (shown c w zxid seat bytes) (left_next seat) (behind_step core) (acts_all c (kind_asked c (Connection core)) (frame_lines c (counted_up (seat.frames + 1)) zxid behind) flight out)
+acted-on c w mid w' seat next core flight zxid z bytes behind out index is_zxid at is same result =
+    result
+    ∙ ap (λ (v : World). leaves c v (left next) (behind_step core) (acts_all c (kind_asked c (Connection core)) (frame_lines c next.frames z behind) flight out)) (is ∙ ap (λ (i : ℕ). record w { lines = w.lines ++ FrameLine c i z bytes ∷ [] }) at)
+    ∙ ap (λ (x : Conn). leaves c (shown c w z seat bytes) x (behind_step core) (acts_all c (kind_asked c (Connection core)) (frame_lines c x.frames z behind) flight out)) same
+    ∙ ap (λ (y : ℤ). leaves c (shown c w y seat bytes) (left_next seat) (behind_step core) (acts_all c (kind_asked c (Connection core)) (frame_lines c (counted_up (seat.frames + 1)) y behind) flight out)) is_zxid
+
+pub on-ok-both : {T E P Q R : Type 0} (r : Result T E) → OnOk r P → OnOk r Q → (P → Q → R) → OnOk r R
+on-ok-both (Ok x) p q f = f p q
+on-ok-both (Err e) p q f = tt
+
+pub is-left : (b : Bool) (old new : List (List ℕ)) → new ≡ (if b then old else []) → IsLeft old new
+is-left true old new e = inl e
+is-left false old new e = inr e
+
+-- one that was held apart takes a frame
+pub takes-apart : (c : ℕ) (w apart w' : World) (x y : Conn) (seat : Seat) (role : Actor) (core : Core) (flight : Option Flight) (zxid : ℤ) (bytes : List ℕ) (behind left : List (List ℕ)) → conn_at c w ≡ Some x → conn_at c w ≡ Some y
+    → seated seat role flight ≡ y → role ≡ Connection core → apart ≡ without c w → zxid ≡ zxid_at w.store
+    → left ≡ (if is_open_conn (conn_at c w') then behind else [])
+    → Stepped c (frame_lines c (counted_up (seat.frames + 1)) zxid behind) (shown c apart zxid seat bytes) (left_next seat) core flight (input.Frame bytes) w' → Takes c w x bytes behind w' left
+takes-apart c w apart w' x y seat role core flight zxid bytes behind left there taken is serves at same rest s =
+    let one : y ≡ x = some_is (sym taken ∙ there) in
+    let sits : seated seat (Connection core) flight ≡ x = ap (λ (a : Actor). seated seat a flight) (sym serves) ∙ is ∙ one in
+    record {
+      handed = handed-frame c w w' x core seat flight zxid bytes behind sits same
+          (subst (λ (v : World). Stepped c (frame_lines c (counted_up (seat.frames + 1)) zxid behind) (shown c v zxid seat bytes) (left_next seat) core flight (input.Frame bytes) w') at s);
+      rest = rest;
+    }

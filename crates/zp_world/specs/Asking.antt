@@ -1,0 +1,27 @@
+-- What an ask does to a world's store, and what is shown of it.
+use Rattle.std.specs.Prelude.{◌≡◌, ℤ, Option, Some, None, MatchBool}
+use Rattle.std.specs.Ordering.{int_eq}
+use Rattle.ev_types.specs.Denials.{carry}
+use Rattle.ev_types.specs.Store.{Store}
+use Rattle.ev_types.specs.declared.answer.Answer.{Answer}
+use Rattle.ev_types.specs.declared.ask.Ask.{Ask}
+use Rattle.zk_transcript.specs.declared.transcript.UpdateKind.{UpdateKind}
+use Rattle.zp_happen.specs.Carrying.{ShowsUpdate}
+use Rattle.zp_happen.specs.Worlds.{World, zxid_at}
+use Rattle.zp_happen.specs.declared.flight.Asking.{Asking}
+use Rattle.zp_happen.specs.declared.flight.Flight.{Flight}
+use Rattle.zp_happen.specs.declared.flight.Flight.TheVariants.{Out}
+
+-- what is still to be carried out
+abbrev pub asked_out : Option Flight → Option Asking
+asked_out (Some (Out x)) = Some x
+asked_out _ = None
+
+-- the store carries an ask out, or denies it and stays
+abbrev pub Asks : World → Ask → Option Answer → World → Type 0
+Asks w q None w' = (carry w.store q ≡ None) × (w' ≡ w)
+Asks w q (Some a) w' = (s : Store) × (carry w.store q ≡ Some (s, a)) × (w' ≡ record w { store = s })
+
+-- where the head was put at another zxid before, there was an update
+abbrev pub Shows : World → ℤ → Option UpdateKind → World → Type 0
+Shows w before kind w' = MatchBool (int_eq before (zxid_at w.store)) (w' ≡ w) (ShowsUpdate w w.store kind w')

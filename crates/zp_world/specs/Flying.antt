@@ -1,0 +1,124 @@
+-- What is known of an ask from the moment at which it was asked until its answer is delivered: the store takes it, and its answer is
+-- one that its asker awaits.
+use Rattle.std.specs.Prelude.{◌≡◌, ◌≢◌, ◌⊎◌, ℕ, ℤ, pos, ◌≤ℤ◌, ◌≤◌, false, List, length, Option, Some, None, IfSome, All}
+use Rattle.ev_store.specs.Asks.{IsGrantable}
+use Rattle.ev_types.specs.declared.answer.Answer.{Answer}
+use Rattle.ev_types.specs.declared.ask.Ask.{Ask}
+use Rattle.zk_jute.specs.Requests.{read_request}
+use Rattle.zk_model.specs.Limits.{max_frame}
+use Rattle.zk_transcript.specs.declared.transcript.Cause.{Cause}
+use Rattle.zk_transcript.specs.declared.transcript.UpdateKind.{UpdateKind}
+use Rattle.zk_transcript.specs.declared.transcript.UpdateKind.TheVariants as kind
+use Rattle.zp_happen.specs.declared.flight.Asking.{Asking}
+use Rattle.zp_happen.specs.declared.flight.Flight.{Flight}
+use Rattle.zp_happen.specs.declared.flight.Flight.TheVariants.{Out, Carried, Denied}
+use Rattle.zp_happen.specs.Unbuilt.{is_multi}
+use Rattle.zp_happen.specs.Worlds.{Actor, Connection, Reaper, Closed}
+use Rattle.zp_step.specs.Laws.{end_by}
+use Rattle.zp_step.specs.Stages.{Core, Stage, Unconnected, asked_of, is_shut}
+use Rattle.zp_step.specs.declared.input.Input.{Input}
+use Rattle.zp_step.specs.declared.input.Input.TheVariants as input
+use Rattle.zs_reap.specs.Steps.{IsAsked, IsOfTxn, IsTxn}
+use Rattle.zs_reap.specs.declared.reap.Reap.{Reap}
+use Rattle.zs_session.specs.Answering.{IsAnswerTo, IsAwaited}
+use Rattle.zt_text.specs.Transcripts.{IsWellFormedKind}
+
+-- ---- an ask
+
+-- a session's number is at least 1
+abbrev pub HasSession : UpdateKind → Type 0
+HasSession (kind.Session id c) = pos 1 ≤ℤ id
+HasSession (kind.Attach id c) = pos 1 ≤ℤ id
+HasSession (kind.Closed id c i) = pos 1 ≤ℤ id
+HasSession (kind.Reaped id) = pos 1 ≤ℤ id
+HasSession _ = Unit {0}
+
+-- a store takes it, and the line of its update has one reading
+pub record IsFit (x : Asking) : Type 0 where
+  pub grantable : IsGrantable x.ask
+  pub formed : IfSome x.kind IsWellFormedKind
+
+abbrev pub AreFit : List (Option Asking) → Type 0
+AreFit xs = All (λ (x : Option Asking). IfSome x IsFit) xs
+
+abbrev pub IsFitFlight : Option Flight → Type 0
+IsFitFlight (Some (Out x)) = IsFit x
+IsFitFlight _ = Unit {0}
+
+-- what came of an ask that was out
+abbrev pub IsCarried : Ask → Flight → Type 0
+IsCarried q (Out x) = ⊥
+IsCarried q (Carried a) = IsAnswerTo q a
+IsCarried q Denied = Unit {0}
+
+-- ---- of a connection
+
+-- it is the one of the connection's stage
+pub record IsOut (core : Core) (x : Asking) : Type 0 where
+  pub asked : asked_of core.who core.stage ≡ Some x.ask
+  pub fit : IsFit x
+
+abbrev pub IsFlyingOf : Core → Option Flight → Type 0
+IsFlyingOf core None = Unit {0}
+IsFlyingOf core (Some (Out x)) = IsOut core x
+IsFlyingOf core (Some (Carried a)) = IsAwaited (asked_of core.who core.stage) (Some a)
+IsFlyingOf core (Some Denied) = asked_of core.who core.stage ≢ None
+
+-- ---- of a reaper
+
+pub record IsReapOut (reap : Reap) (x : Asking) : Type 0 where
+  pub asked : IsAsked reap.phase
+  pub txn : IsTxn x.ask
+  pub fit : IsFit x
+
+abbrev pub IsReapFlying : Reap → Option Flight → Type 0
+IsReapFlying reap None = Unit {0}
+IsReapFlying reap (Some (Out x)) = IsReapOut reap x
+IsReapFlying reap (Some (Carried a)) = IsAsked reap.phase × IsOfTxn a
+IsReapFlying reap (Some Denied) = Unit {0}
+
+-- ---- of either; one that has closed keeps no core
+
+-- its first frame is its connect
+abbrev pub IsUnconnected : Stage → Type 0
+IsUnconnected (Unconnected fresh) = Unit {0}
+IsUnconnected _ = ⊥
+
+pub record IsServed (core : Core) (frames : ℕ) (flight : Option Flight) : Type 0 where
+  pub live : is_shut core.stage ≡ false
+  pub flies : IsFlyingOf core flight
+  pub begun : frames ≡ 0 → IsUnconnected core.stage
+
+abbrev pub IsActive : Actor → ℕ → Option Flight → Type 0
+IsActive (Connection core) frames flight = IsServed core frames flight
+IsActive (Reaper reap) frames flight = IsReapFlying reap flight
+IsActive Closed frames flight = IsFitFlight flight
+
+-- an answer or a failure may come
+pub record IsAsking (core : Core) (frames : ℕ) : Type 0 where
+  pub live : is_shut core.stage ≡ false
+  pub asked : asked_of core.who core.stage ≢ None
+  pub begun : frames ≡ 0 → IsUnconnected core.stage
+
+abbrev pub MayFail : Actor → ℕ → Type 0
+MayFail (Connection core) frames = IsAsking core frames
+MayFail _ frames = Unit {0}
+
+-- ---- what is handed in
+
+-- an input that ends a connection in any of its stages
+abbrev pub IsEnd : Input → Type 0
+IsEnd x = (why : Cause) × (end_by x ≡ Some why)
+
+-- what is out stays out at an end alone
+abbrev pub LeavesFree : Option Flight → Input → Type 0
+LeavesFree flight x = (flight ≡ None) ⊎ IsEnd x
+
+abbrev pub IsNoFrame : Input → Type 0
+IsNoFrame (input.Frame bytes) = ⊥
+IsNoFrame _ = Unit {0}
+
+-- a frame behind the connect
+pub record IsBuiltFrame (bytes : List ℕ) : Type 0 where
+  pub short : length bytes ≤ max_frame
+  pub built : is_multi (read_request bytes) ≡ false

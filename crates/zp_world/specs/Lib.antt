@@ -1,0 +1,10 @@
+pub mod Flying
+pub mod Leaving
+pub mod Activities
+pub mod Doing
+pub mod Adding
+pub mod Framing
+pub mod Taking
+pub mod Moving
+pub mod Asking
+pub mod Applying

@@ -1,0 +1,63 @@
+-- Frames come to a connection, with others behind them.
+use Rattle.std.specs.Prelude.{◌≡◌, ◌⊎◌, ◌==◌, ℕ, ◌+◌, ℤ, Bool, true, false, List, [], ◌∷◌, ◌++◌, if◌then◌else◌, Option, Some, Result, Ok, Err}
+use Rattle.zk_transcript.specs.declared.transcript.TranscriptLine.TheVariants.{Frame as FrameLine}
+use Rattle.zk_wire.specs.Cutting.{Stream}
+use Rattle.zp_happen.specs.Arriving.{Arrives, Cuts, frame_lines, shown_frame}
+use Rattle.zp_happen.specs.Handing.{Handed}
+use Rattle.zp_happen.specs.Unbuilt.{HasMulti}
+use Rattle.zp_happen.specs.Worlds.{Conn, World, conn_at, is_closed, is_open_conn, is_reaper, zxid_at}
+use Rattle.zp_step.specs.Stages.{counted_up}
+use Rattle.zp_step.specs.declared.input.Input.TheVariants as input
+use Rattle.zp_world.specs.Doing.{left}
+use Rattle.zp_world.specs.declared.activity.Seat.{Seat}
+use Rattle.zp_world.specs.declared.fault.ApplyFault.{ApplyFault}
+use Rattle.zp_world.specs.declared.fault.ApplyFault.TheVariants.{NotPossible, Memory}
+use Rattle.zt_text.specs.declared.script.Why.TheVariants as why
+
+-- ---- one frame
+
+-- the frame is shown, of a connection that is held apart
+abbrev pub shown : ℕ → World → ℤ → Seat → List ℕ → World
+shown c w zxid seat bytes = record w { lines = w.lines ++ FrameLine c seat.frames zxid bytes ∷ [] }
+
+-- its seat behind the frame
+abbrev pub left_next : Seat → Conn
+left_next seat = record (left seat) { frames = counted_up (seat.frames + 1) }
+
+-- it is shown and handed in; where that closes the connection, those behind it are shown before its end
+pub record Takes (c : ℕ) (w : World) (x : Conn) (bytes : List ℕ) (behind : List (List ℕ)) (w' : World) (left_behind : List (List ℕ)) : Type 0 where
+  pub handed : Handed c (frame_lines c (counted_up (x.frames + 1)) (zxid_at w.store) behind) (shown_frame c w x bytes) (input.Frame bytes) w'
+  pub rest : left_behind ≡ (if is_open_conn (conn_at c w') then behind else [])
+
+-- those behind it are left, or none is
+abbrev pub IsLeft : List (List ℕ) → List (List ℕ) → Type 0
+IsLeft old new = (new ≡ old) ⊎ (new ≡ [])
+
+-- ---- several
+
+-- there is a connection of this number, open or closed
+pub record IsConnectionAt (c : ℕ) (w : World) : Type 0 where
+  pub conn : Conn
+  pub found : conn_at c w ≡ Some conn
+  pub served : is_reaper conn.actor ≡ false
+
+-- these frames may come to it: where it is closed there are none. The zxid is the last update's
+pub record IsServing (c : ℕ) (zxid : ℤ) (frames : List (List ℕ)) (w : World) : Type 0 where
+  pub conn : Conn
+  pub found : conn_at c w ≡ Some conn
+  pub served : is_reaper conn.actor ≡ false
+  pub none : is_closed conn.actor ≡ true → frames ≡ []
+  pub zxid_is : zxid ≡ zxid_at w.store
+
+-- ---- what came at once
+
+-- it is cut so; whether the first frame is the connect
+pub record IsCutFor (x : Conn) (bytes : List ℕ) (first : Bool) (frames : List (List ℕ)) (bad : Option ℤ) (stream : Stream) : Type 0 where
+  pub cuts : Cuts x.stream bytes frames bad stream
+  pub is_first : first ≡ (x.frames == 0)
+
+-- it arrives, or it is refused, since one of its frames asks for a multi
+abbrev pub Receives : ℕ → World → List ℕ → Result (Unit {0}) ApplyFault → World → Type 0
+Receives c w bytes (Ok x) w' = Arrives c w bytes w'
+Receives c w bytes (Err (NotPossible cause)) w' = (cause ≡ why.NotBuilt) × HasMulti c w bytes × (w' ≡ w)
+Receives c w bytes (Err Memory) w' = Unit {0}

@@ -1,0 +1,87 @@
+//! All connections and reapers, by their numbers.
+
+ghost use Rattle.std.specs.Prelude.{◌≡◌, IfOk, OnOk};
+ghost use Rattle.std.specs.Option.{option_map};
+ghost use Rattle.std.specs.FinMap.{get, insert, remove, empty};
+ghost use Rattle.zp_world.specs.Activities.{AreWithin, open_numbers};
+
+use crate::activity::Activity;
+use std::alloc::Global;
+use std::collections::BTreeMap;
+use std::marker::Model;
+use zx_base::Memory;
+
+/// Connections and reapers, open and closed. Contracts see a finite map.
+#[derive(Drop)]
+pub struct Activities {
+    by_number: BTreeMap<u32, Activity>,
+}
+
+impl Model for Activities {
+    ghost use Rattle.std.specs.Coded.{codes, coded_ℕ};
+    ghost use Rattle.std.specs.FinMap as map;
+    ghost use Rattle.zw_watch.specs.Armed.{coded_watches};
+    ghost use Rattle.zp_happen.specs.Worlds.{Conn, Conns};
+
+    ghost Value = { Conns };
+
+    ghost coded = { map.code coded_ℕ (Prim.hlevel (codes, coded_watches)) };
+
+    ghost use Rattle.zp_world.specs.Activities.{AreWithin};
+
+    ghost view = { λ a. map.from_entries a.by_number.entries };
+
+    ghost invariant = { λ a. AreWithin (map.from_entries a.by_number.entries) };
+}
+
+impl Activities {
+    pub fn new(alloc: Global) -> Activities
+        ensures { result ≡ empty }
+    {
+        Activities {
+            by_number: BTreeMap::new(alloc),
+        }
+    }
+
+    /// Proof only: no count of frames is at its end.
+    pub fn are_within(&self)
+        ensures { AreWithin self.now }
+    {
+        let _ = &self.by_number;
+    }
+
+    pub fn get(&self, number: u32) -> Option<&Activity>
+        ensures { option_map (λ x. x.now) result ≡ get self.now number }
+    {
+        self.by_number.get(&number)
+    }
+
+    /// Takes the activity of a number out, to be put back.
+    pub fn take(&mut self, number: u32) -> Option<Activity>
+        ensures taken { result ≡ get self.old number }
+        ensures left { self.new ≡ remove self.old number }
+    {
+        self.by_number.remove(&number)
+    }
+
+    pub fn put(&mut self, number: u32, activity: Activity) -> Result<(), Memory>
+        ensures { OnOk result (self.new ≡ insert self.old number activity) }
+    {
+        activity.know();
+        self.by_number.insert(number, activity)?;
+        Ok(())
+    }
+
+    /// The numbers of those that are open at a proxy, in rising order.
+    pub fn open_at(&self, alloc: Global, proxy: u32) -> Result<Vec<u32>, Memory>
+        ensures { IfOk result (λ numbers. numbers.items ≡ open_numbers proxy self.now) }
+    {
+        let mut numbers = Vec::new(alloc);
+        for (number, activity) in self.by_number.iter() {
+            if activity.is_open_at(proxy) {
+                numbers.push(*number)?;
+            }
+        }
+        Ok(numbers)
+    }
+}

@@ -1,0 +1,422 @@
+//! A connection opens, and bytes of its client arrive.
+
+ghost use Rattle.std.specs.Prelude.{◌≡◌, ◌+◌, ◌++◌, ◌∷◌, ◌≤◌, ◌≤ℤ◌, ◌⊎◌, ◌==◌, ◌<◌, ◌^◌, ℕ, List, drop, if◌then◌else◌, pos, true, false, length, slice_get, [], IfOk, OnOk, All, Some, None};
+ghost use Rattle.std.specs.Vec.Iter.{into_iter_items};
+ghost use Rattle.zk_jute.specs.Requests.{read_request as request_of};
+ghost use Rattle.zk_model.specs.Limits.{max_frame, max_moment};
+ghost use Rattle.zk_transcript.specs.declared.transcript.TranscriptLine.TheVariants.{Frame as FrameLine};
+ghost use Rattle.zp_happen.specs.Arriving.{Arrives, EndsBadly, FramesArrive, frame_lines};
+ghost use Rattle.zp_happen.specs.Effects.{opened};
+ghost use Rattle.zp_happen.specs.Faults.{connection_fault};
+ghost use Rattle.zp_happen.specs.Unbuilt.{is_multi};
+ghost use Rattle.zp_happen.specs.Worlds.{Conn, Connection, behind_step, conn_at, is_open_conn, with_conn, zxid_at};
+ghost use Rattle.zp_core.specs.Held.{IsBuiltIn};
+ghost use Rattle.zp_happen.specs.Kinds.{kind_asked};
+ghost use Rattle.zp_happen.specs.StepOutcomes.{acts_all, leaves};
+ghost use Rattle.zp_step.specs.Stages.{Core as AnyCore, counted_up, is_shut};
+ghost use Rattle.zp_step.specs.Steps.{Steps};
+ghost use Rattle.zp_step.specs.declared.input.Input.TheVariants as input;
+ghost use Rattle.zp_world.specs.Activities.{actor_of};
+ghost use Rattle.zp_world.specs.Doing.{Stepped, left};
+ghost use Rattle.zp_world.specs.Flying.{IsActive, IsBuiltFrame, IsFitFlight, IsServed};
+ghost use Rattle.zp_world.specs.Leaving.{Leaves};
+ghost use Rattle.zp_world.specs.Taking.{IsCutFor, IsConnectionAt, IsLeft, IsServing, Receives, Takes, left_next, shown};
+
+use crate::activity::{Activity, Actor, Seat};
+use crate::fault::{ApplyFault, refused};
+use crate::formed::{are_bytes, is_number, is_signed};
+use crate::inbox::{Cut, Inbox};
+use crate::world::World;
+use std::alloc::Global;
+use std::vec::IntoIter;
+use zk_model::Request;
+use zk_transcript::TranscriptLine;
+use zk_wire::{WireFault, read_request};
+use zp_core::Core;
+use zp_happen::Flight;
+use zp_step::{Action, Fresh, Input};
+use zt_text::Why;
+use zx_base::{Bytes, Memory};
+
+impl World {
+    /// A connection opens at a proxy, with what a new session of it would be made with.
+    pub(crate) fn open(
+        &mut self,
+        connection: u32,
+        proxy: u32,
+        id: i64,
+        passwd: [u8; 16],
+    ) -> Result<(), Memory>
+        requires { pos 1 ≤ℤ id }
+        ensures { OnOk result (self.new ≡ opened self.old connection proxy id passwd) }
+    {
+        are_bytes(&passwd);
+        self.transcript.push(TranscriptLine::Open {
+            connection,
+            proxy,
+            id,
+            passwd,
+        })?;
+        let activity = Activity {
+            seat: Seat::new(self.alloc, proxy),
+            actor: Actor::Connection(Core::new(self.alloc, Fresh { id, passwd })),
+            flight: None,
+        };
+        self.activities.put(connection, activity)
+    }
+
+    /// What came is shown and handed in, unless one of the frames asks for a multi. `first`: the first of the frames is the connect.
+    pub(crate) fn receive(
+        &mut self,
+        connection: u32,
+        cut: Cut,
+        first: bool,
+    ) -> Result<(), ApplyFault>
+        requires short { All (λ frame. length frame ≤ max_frame) cut.frames.items }
+        requires open { connection_fault connection self.old None ≡ None }
+        ensures { (bytes : List ℕ) → ((x : Conn) → conn_at connection self.old ≡ Some x → IsCutFor x bytes first cut.frames.items cut.bad cut.inbox) → Receives connection self.old bytes result self.new }
+    {
+        if has_multi(self.alloc, behind_connect(cut.frames.as_slice(), first))? {
+            return Err(refused(Why::NotBuilt));
+        }
+        self.arrive(connection, cut, first)?;
+        Ok(())
+    }
+
+    /// What came is shown and handed in, frame by frame. `first`: the first of the frames is the connect.
+    fn arrive(&mut self, connection: u32, cut: Cut, first: bool) -> Result<(), Memory>
+        requires short { All (λ frame. length frame ≤ max_frame) cut.frames.items }
+        requires built { All IsBuiltFrame (drop (if first then 1 else 0) cut.frames.items) }
+        requires open { connection_fault connection self.old None ≡ None }
+        ensures { OnOk result ((x : Conn) (bytes : List ℕ) → conn_at connection self.old ≡ Some x → IsCutFor x bytes first cut.frames.items cut.bad cut.inbox → Arrives connection self.old bytes self.new) }
+    {
+        let zxid = self.last_zxid()?;
+        let Cut { frames, bad, inbox } = cut;
+        let place = inbox.place();
+        self.keep(connection, inbox)?;
+        self.take_all(connection, first, zxid, frames)?;
+        self.take_length(connection, place, bad)
+    }
+
+    /// What is left of a connection's stream is kept.
+    fn keep(&mut self, connection: u32, inbox: Inbox) -> Result<(), Memory>
+        ensures { OnOk result ((x : Conn) → conn_at connection self.old ≡ Some x → self.new ≡ with_conn self.old connection (record x { stream = inbox })) }
+    {
+        let Some(activity) = self.activities.take(connection) else {
+            return Ok(());
+        };
+        let Activity {
+            seat,
+            actor,
+            flight,
+        } = activity;
+        let seat = Seat {
+            proxy: seat.proxy,
+            inbox,
+            frames: seat.frames,
+        };
+        self.activities.put(
+            connection,
+            Activity {
+                seat,
+                actor,
+                flight,
+            },
+        )
+    }
+
+    /// All frames come, in order.
+    fn take_all(
+        &mut self,
+        connection: u32,
+        first: bool,
+        zxid: i64,
+        frames: Vec<Bytes>,
+    ) -> Result<(), Memory>
+        requires short { All (λ frame. length frame ≤ max_frame) frames.items }
+        requires built { All IsBuiltFrame (drop (if first then 1 else 0) frames.items) }
+        ensures { OnOk result ((x : Conn) (core : AnyCore) → conn_at connection self.old ≡ Some x → x.actor ≡ Connection core → first ≡ (x.frames == 0) → zxid ≡ zxid_at self.old.store → FramesArrive connection self.old frames.items self.new) }
+    {
+        let mut frames = frames.into_iter();
+        if !first {
+            return self.take_frames(connection, zxid, frames);
+        }
+        let Some(frame) = frames.next() else {
+            return Ok(());
+        };
+        self.take_connect(connection, zxid, frame, &mut frames)?;
+        self.take_frames(connection, zxid, frames)
+    }
+
+    /// Frames come, none of which is the connect.
+    fn take_frames(
+        &mut self,
+        connection: u32,
+        zxid: i64,
+        frames: IntoIter<Bytes>,
+    ) -> Result<(), Memory>
+        requires { All IsBuiltFrame (into_iter_items frames) }
+        ensures { OnOk result (IsServing connection zxid (into_iter_items frames) self.old → FramesArrive connection self.old (into_iter_items frames) self.new) }
+    {
+        let mut frames = frames;
+        while let Some(frame) = frames.next() {
+            self.take_frame(connection, zxid, frame, &mut frames)?;
+        }
+        Ok(())
+    }
+
+    /// A length out of range, if any, comes behind the frames.
+    fn take_length(&mut self, connection: u32, place: u64, bad: Option<i32>) -> Result<(), Memory>
+        ensures { OnOk result (IsConnectionAt connection self.old → EndsBadly connection self.old place bad self.new) }
+    {
+        match bad {
+            Some(length) => {
+                if self.is_open(connection) {
+                    self.hand(connection, &Input::BadLength { place, length })
+                } else {
+                    Ok(())
+                }
+            }
+            None => Ok(()),
+        }
+    }
+
+    fn is_open(&self, connection: u32) -> bool
+        ensures { result ≡ is_open_conn (conn_at connection self.now) }
+    {
+        match self.activities.get(connection) {
+            Some(activity) => !activity.is_closed(),
+            None => false,
+        }
+    }
+
+    /// The first frame comes, with others behind it.
+    fn take_connect(
+        &mut self,
+        connection: u32,
+        zxid: i64,
+        bytes: Bytes,
+        behind: &mut IntoIter<Bytes>,
+    ) -> Result<(), Memory>
+        requires { length bytes ≤ max_frame }
+        ensures left { OnOk result (IsLeft (into_iter_items behind.old) (into_iter_items behind.new)) }
+        ensures takes { OnOk result ((x : Conn) (core : AnyCore) → conn_at connection self.old ≡ Some x → x.actor ≡ Connection core → x.frames ≡ 0 → zxid ≡ zxid_at self.old.store → Takes connection self.old x bytes (into_iter_items behind.old) self.new (into_iter_items behind.new)) }
+    {
+        let Some(activity) = self.activities.take(connection) else {
+            return Ok(());
+        };
+        let Activity {
+            seat,
+            actor,
+            flight,
+        } = activity;
+        match actor {
+            Actor::Connection(core) => {
+                if seat.frames.number() == 0 {
+                    self.step_by_frame(connection, seat, core, flight, zxid, bytes, behind)
+                } else {
+                    let actor = Actor::Connection(core);
+                    self.activities.put(
+                        connection,
+                        Activity {
+                            seat,
+                            actor,
+                            flight,
+                        },
+                    )
+                }
+            }
+            Actor::Reaper(_) | Actor::Closed => self.activities.put(
+                connection,
+                Activity {
+                    seat,
+                    actor,
+                    flight,
+                },
+            ),
+        }
+    }
+
+    /// A later frame comes, with others behind it.
+    fn take_frame(
+        &mut self,
+        connection: u32,
+        zxid: i64,
+        bytes: Bytes,
+        behind: &mut IntoIter<Bytes>,
+    ) -> Result<(), Memory>
+        requires { IsBuiltFrame bytes }
+        ensures left { OnOk result (IsLeft (into_iter_items behind.old) (into_iter_items behind.new)) }
+        ensures takes { OnOk result ((x : Conn) (core : AnyCore) → conn_at connection self.old ≡ Some x → x.actor ≡ Connection core → zxid ≡ zxid_at self.old.store → Takes connection self.old x bytes (into_iter_items behind.old) self.new (into_iter_items behind.new)) }
+    {
+        let Some(activity) = self.activities.take(connection) else {
+            return Ok(());
+        };
+        let Activity {
+            seat,
+            actor,
+            flight,
+        } = activity;
+        match actor {
+            Actor::Connection(core) => {
+                self.step_by_frame(connection, seat, core, flight, zxid, bytes, behind)
+            }
+            Actor::Reaper(_) | Actor::Closed => self.activities.put(
+                connection,
+                Activity {
+                    seat,
+                    actor,
+                    flight,
+                },
+            ),
+        }
+    }
+
+    /// A connection takes a step by a frame, which is shown before what it does.
+    fn step_by_frame(
+        &mut self,
+        connection: u32,
+        seat: Seat,
+        core: Core,
+        flight: Option<Flight>,
+        zxid: i64,
+        bytes: Bytes,
+        behind: &mut IntoIter<Bytes>,
+    ) -> Result<(), Memory>
+        requires served { IsServed core seat.frames flight }
+        requires short { length bytes ≤ max_frame }
+        requires built { (seat.frames ≡ 0) ⊎ (is_multi (request_of bytes) ≡ false) }
+        ensures behind { OnOk result (into_iter_items behind.new ≡ (if is_open_conn (conn_at connection self.new) then into_iter_items behind.old else [])) }
+        ensures done { OnOk result (Stepped connection (frame_lines connection (counted_up (seat.frames + 1)) zxid (into_iter_items behind.old)) (shown connection self.old zxid seat bytes) (left_next seat) core flight (input.Frame bytes) self.new) }
+    {
+        let mut core = core;
+        let stepped = step_with(self.alloc, &mut core, bytes, self.clock)?;
+        self.act_on_frame(connection, seat, core, flight, stepped, zxid, behind)
+    }
+
+    /// The frame is shown, and what the step by it does is done.
+    fn act_on_frame(
+        &mut self,
+        connection: u32,
+        seat: Seat,
+        core: Core,
+        flight: Option<Flight>,
+        stepped: SteppedFrame,
+        zxid: i64,
+        behind: &mut IntoIter<Bytes>,
+    ) -> Result<(), Memory>
+        requires leaves { Leaves flight core stepped.out.items }
+        requires fit { IsFitFlight flight }
+        ensures behind { OnOk result (into_iter_items behind.new ≡ (if is_shut core.stage then [] else into_iter_items behind.old)) }
+        ensures done { OnOk result (self.new ≡ leaves connection (shown connection self.old zxid seat stepped.bytes) (left_next seat) (behind_step core) (acts_all connection (kind_asked connection (Connection core)) (frame_lines connection (counted_up (seat.frames + 1)) zxid (into_iter_items behind.old)) flight stepped.out.items)) }
+    {
+        let SteppedFrame { bytes, out } = stepped;
+        self.show_frame(connection, seat.frames.number(), zxid, bytes)?;
+        let seat = seat_behind(seat)?;
+        self.act(connection, seat, core, flight, out, zxid, behind)
+    }
+
+    /// A frame is shown.
+    fn show_frame(
+        &mut self,
+        connection: u32,
+        index: u64,
+        zxid: i64,
+        bytes: Bytes,
+    ) -> Result<(), Memory>
+        ensures { OnOk result (self.new ≡ record self.old { lines = self.old.lines ++ FrameLine connection index zxid bytes ∷ [] }) }
+    {
+        are_bytes(bytes.as_slice());
+        is_number(index);
+        is_signed(zxid);
+        self.transcript.push(TranscriptLine::Frame {
+            connection,
+            index,
+            zxid,
+            bytes,
+        })
+    }
+}
+
+/// These frames without the connect, where the first of them is it.
+fn behind_connect(frames: &[Bytes], first: bool) -> &[Bytes]
+    ensures { result.now ≡ drop (if first then 1 else 0) frames.now }
+{
+    if first && !frames.is_empty() {
+        &frames[1..]
+    } else {
+        frames
+    }
+}
+
+/// A frame that a connection took, and what it does then.
+#[derive(Drop)]
+struct SteppedFrame {
+    bytes: Bytes,
+    out: Vec<Action>,
+}
+
+/// The step of a connection by a frame.
+fn step_with(alloc: Global, core: &mut Core, bytes: Bytes, now: u64) -> Result<SteppedFrame, Memory>
+    requires short { length bytes ≤ max_frame }
+    requires built { IsBuiltIn bytes core.old.stage }
+    requires moment { now < 2 ^ 62 }
+    ensures bytes { IfOk result (λ stepped. stepped.bytes ≡ bytes) }
+    ensures steps { IfOk result (λ stepped. Steps core.old (input.Frame bytes) now core.new stepped.out.items) }
+{
+    let input = Input::Frame(bytes);
+    let out = core.step(&input, now)?;
+    Ok(SteppedFrame {
+        bytes: frame_in(alloc, input),
+        out,
+    })
+}
+
+/// The seat of a connection behind a frame.
+fn seat_behind(seat: Seat) -> Result<Seat, Memory>
+    ensures same { IfOk result (λ next. left next ≡ left_next seat) }
+    ensures frames { IfOk result (λ next. next.frames ≡ counted_up (seat.frames + 1)) }
+{
+    let frames = seat.frames.next()?;
+    Ok(Seat {
+        proxy: seat.proxy,
+        inbox: seat.inbox,
+        frames,
+    })
+}
+
+/// The bytes of a frame that was handed in.
+fn frame_in(alloc: Global, taken: Input) -> Bytes
+    ensures { (bytes : List ℕ) → taken ≡ input.Frame bytes → result ≡ bytes }
+{
+    match taken {
+        Input::Frame(bytes) => bytes,
+        _other => Bytes::new(alloc),
+    }
+}
+
+/// Whether one of these frames asks for a multi.
+fn has_multi(alloc: Global, frames: &[Bytes]) -> Result<bool, Memory>
+    requires { All (λ frame. length frame ≤ max_frame) frames.now }
+    ensures none { IfOk result (λ b. b ≡ false → All IsBuiltFrame frames.now) }
+    ensures one { IfOk result (λ b. b ≡ true → (place : ℕ) × (frame : List ℕ) × (slice_get frames.now place ≡ Some frame) × (is_multi (request_of frame) ≡ true)) }
+{
+    for frame in frames {
+        if asks_for_multi(alloc, frame.as_slice())? {
+            return Ok(true);
+        }
+    }
+    Ok(false)
+}
+
+fn asks_for_multi(alloc: Global, frame: &[u8]) -> Result<bool, Memory>
+    requires { length frame.now ≤ max_frame }
+    ensures { IfOk result (λ b. b ≡ is_multi (request_of frame.now)) }
+{
+    match read_request(alloc, frame) {
+        Ok((_, Request::Multi { .. })) => Ok(true),
+        Ok(_) => Ok(false),
+        Err(WireFault::Memory) => Err(Memory),
+        Err(_) => Ok(false),
+    }
+}

@@ -1,0 +1,44 @@
+//! Why a happening was not applied.
+
+ghost use Rattle.std.specs.Prelude.{◌≡◌};
+
+use std::alloc::AllocFailed;
+use zt_text::Why;
+use zx_base::Memory;
+
+#[derive(Clone, Copy, Debug, PartialEq, Eq)]
+pub enum ApplyFault {
+    /// It is not possible in this world, which stays as it was.
+    NotPossible { why: Why },
+    /// Nothing is said of the world after this: its owner ends.
+    Memory,
+}
+
+impl From<Memory> for ApplyFault {
+    ghost use Rattle.std.specs.Prelude.{◌≡◌};
+    ghost use Rattle.zp_world.specs.declared.fault.ApplyFault.TheVariants.{Memory};
+
+    ghost from_gives = { λ _ e. e ≡ Memory };
+
+    fn from(_refused: Memory) -> ApplyFault {
+        ApplyFault::Memory
+    }
+}
+
+impl<T: Drop> From<AllocFailed<T>> for ApplyFault {
+    ghost use Rattle.std.specs.Prelude.{◌≡◌};
+    ghost use Rattle.zp_world.specs.declared.fault.ApplyFault.TheVariants.{Memory};
+
+    ghost from_gives = { λ _ e. e ≡ Memory };
+
+    fn from(_refused: AllocFailed<T>) -> ApplyFault {
+        ApplyFault::Memory
+    }
+}
+
+/// That it is not possible, for this cause.
+pub(crate) fn refused(why: Why) -> ApplyFault
+    ensures { result ≡ ApplyFault.NotPossible why }
+{
+    ApplyFault::NotPossible { why }
+}

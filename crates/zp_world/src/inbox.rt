@@ -1,0 +1,155 @@
+//! The bytes of a client's stream that are no whole frame yet.
+
+ghost use Rattle.std.specs.Prelude.{◌≡◌, ◌+◌, ◌≤◌, min, nat_lt, length, sum_by, IfOk, All};
+ghost use Rattle.zk_jute.specs.Frames.{bad_length};
+ghost use Rattle.zk_jute.specs.JuteWriting.{with_length};
+ghost use Rattle.zk_model.specs.Limits.{max_frame};
+ghost use Rattle.zp_happen.specs.Arriving.{Cuts};
+ghost use Rattle.zk_wire.specs.Cutting.{Stands, unread};
+ghost use Rattle.zp_step.specs.Stages.{counted_up};
+ghost use Rattle.zp_world.specs.Framing.{framed_size};
+
+use std::alloc::Global;
+use std::marker::Model;
+use zk_wire::{CutFault, Cutter};
+use zx_base::{Bytes, Memory};
+
+/// What of a stream is no whole frame yet, and how many bytes came before that.
+#[derive(Debug, Drop)]
+pub struct Inbox {
+    alloc: Global,
+    /// At 2^64 - 1 it stays.
+    place: u64,
+    rest: Vec<u8>,
+}
+
+impl Model for Inbox {
+    ghost use Rattle.zk_wire.specs.Cutting.{Stream};
+
+    ghost Value = { Stream };
+
+    ghost view = { λ i. record { place = i.place; rest = i.rest.items } };
+}
+
+/// What came with some bytes.
+#[derive(Debug, Drop)]
+pub struct Cut {
+    /// The frames that are whole with them.
+    pub frames: Vec<Bytes>,
+    /// The length behind those, where it is out of range.
+    pub bad: Option<i32>,
+    /// What is left.
+    pub inbox: Inbox,
+}
+
+impl Inbox {
+    /// Nothing came.
+    pub fn new(alloc: Global) -> Inbox
+        ensures { result ≡ unread }
+    {
+        Inbox {
+            alloc,
+            place: 0,
+            rest: Vec::new(alloc),
+        }
+    }
+
+    /// Whether bytes of a frame came that is not whole.
+    pub fn has_part(&self) -> bool
+        ensures { result ≡ nat_lt 0 (length self.now.rest) }
+    {
+        0 < self.rest.len()
+    }
+
+    /// How many bytes came before what is no whole frame.
+    pub fn place(&self) -> u64
+        ensures { result ≡ self.now.place }
+    {
+        self.place
+    }
+
+    /// How many bytes came.
+    pub fn end(&self) -> u64
+        ensures { result ≡ counted_up (self.now.place + length self.now.rest) }
+    {
+        self.place.saturating_add(self.rest.len() as u64)
+    }
+
+    /// A whole frame comes, with its length, where no part of one is there.
+    pub fn with_frame(&self, bytes: Bytes) -> Result<Cut, Memory>
+        requires size { length bytes ≤ max_frame }
+        requires none { length self.now.rest ≡ 0 }
+        ensures cuts { IfOk result (λ cut. Cuts self.now (with_length bytes) cut.frames.items cut.bad cut.inbox) }
+        ensures short { IfOk result (λ cut. All (λ frame. length frame ≤ max_frame) cut.frames.items) }
+    {
+        let size = 4 + bytes.len() as u64;
+        let mut frames = Vec::new(self.alloc);
+        frames.push(bytes)?;
+        Ok(Cut {
+            frames,
+            bad: None,
+            inbox: Inbox {
+                alloc: self.alloc,
+                place: self.place.saturating_add(size),
+                rest: Vec::new(self.alloc),
+            },
+        })
+    }
+
+    /// These bytes come.
+    pub fn with(&self, bytes: &[u8]) -> Result<Cut, Memory>
+        ensures cuts { IfOk result (λ cut. Cuts self.now bytes.now cut.frames.items cut.bad cut.inbox) }
+        ensures short { IfOk result (λ cut. All (λ frame. length frame ≤ max_frame) cut.frames.items) }
+    {
+        let mut stream = Vec::from_slice(self.alloc, self.rest.as_slice())?;
+        stream.extend_from_slice(bytes)?;
+        let mut cutter = Cutter::new(self.alloc);
+        let frames = frames_in(self.alloc, &mut cutter, stream.as_slice())?;
+        let bad = bad_length_in(&mut cutter)?;
+        let used = size_of_all(frames.as_slice()).min(stream.len());
+        let rest = Vec::from_slice(self.alloc, &stream[used..])?;
+        Ok(Cut {
+            frames,
+            bad,
+            inbox: Inbox {
+                alloc: self.alloc,
+                place: self.place.saturating_add(used as u64),
+                rest,
+            },
+        })
+    }
+}
+
+/// The whole frames from the front of a stream of which nothing came yet.
+fn frames_in(alloc: Global, cutter: &mut Cutter, stream: &[u8]) -> Result<Vec<Bytes>, Memory>
+    requires { cutter.old ≡ unread }
+    ensures { IfOk result (λ frames. Stands stream.now frames.items cutter.new) }
+{
+    match cutter.take(stream) {
+        Ok(frames) => Ok(frames),
+        Err(CutFault::BadLength { .. }) => Ok(Vec::new(alloc)),
+        Err(CutFault::Memory) => Err(Memory),
+    }
+}
+
+/// The length at the front of what is left, where it is out of range.
+fn bad_length_in(cutter: &mut Cutter) -> Result<Option<i32>, Memory>
+    ensures { IfOk result (λ bad. bad ≡ bad_length cutter.old.rest) }
+{
+    match cutter.take(&[]) {
+        Ok(_) => Ok(None),
+        Err(CutFault::BadLength { length, .. }) => Ok(Some(length)),
+        Err(CutFault::Memory) => Err(Memory),
+    }
+}
+
+/// The bytes of these frames, with their lengths.
+fn size_of_all(frames: &[Bytes]) -> usize
+    ensures { result ≡ min (sum_by framed_size frames.now) usize.MAX }
+{
+    let mut size: usize = 0;
+    for frame in frames {
+        size = size.saturating_add(4).saturating_add(frame.len());
+    }
+    size
+}

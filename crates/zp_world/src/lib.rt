@@ -1,0 +1,41 @@
+//! The service as one deterministic world, which a script drives: one etcd, a clock, and the connections and reapers of all proxies.
+//!
+//! A [`World`] begins with the store's first update, the root at moment 0. What happens is applied to it one [`Happening`] at a
+//! time. An ask, its carrying out and its answer are three happenings, so a script may put them in any order, lose an answer,
+//! or carry out an ask whose asker has ended. Each happening leaves its lines in the world's transcript, [`World::lines`]. One
+//! that is not possible is refused by its cause and changes nothing; so is, by the cause `not built`, a frame that asks for a
+//! multi.
+//!
+//! What each line of a script does is said in `zp_happen`: `fault`, which tests it makes, and `Happens`, what it leaves. A
+//! connection is a [`Core`](zp_core::Core), a reaper a [`Reaper`](zs_reap::Reaper): a world only carries what they ask to the
+//! store and hands them what they wait for. It does not look into a request, but to tell a multi from the others.
+//!
+//! A happening costs what its own lines and its asks cost: what was written is never copied or read again, and a connection is
+//! found by its number in the logarithm of their count. Bytes that come in pieces are copied once more with each piece until
+//! their frame is whole.
+//!
+//! In `specs/`: `Flying` (what is known of an ask until its answer is delivered), `Activities` (a number's activity as `zp_happen`
+//! sees it), `Doing` (a step of what is held apart from its world), `Applying` (what `apply` answers).
+//!
+//! [`Happening`]: zt_text::Happening
+#![tactic(auto)]
+
+mod activities;
+mod activity;
+mod arriving;
+mod carrying;
+mod delivering;
+mod ending;
+mod fault;
+mod formed;
+mod frames;
+mod head;
+mod inbox;
+mod lines;
+mod refusals;
+mod settling;
+mod strays;
+mod world;
+
+pub use fault::ApplyFault;
+pub use world::World;

@@ -1,0 +1,210 @@
+//! The first test of a line that fails.
+
+ghost use Rattle.std.specs.Prelude.{◌≡◌, ◌∷◌, pos, length, nat_lt, is_some, is_none, Some, None, not, IfOk, IfErr, IfNone};
+ghost use Rattle.ev_types.specs.Store.{Change};
+ghost use Rattle.zk_model.specs.Limits.{max_frame};
+ghost use Rattle.zp_happen.specs.Entries.{cursor_at, next_entry, is_lagging};
+ghost use Rattle.zp_happen.specs.Faults.{new_fault, open_fault, connection_fault, carry_fault, ask_fault, entry_fault, if_fails, has_part, flight_at, is_to_carry_out, left_at};
+ghost use Rattle.zp_happen.specs.Worlds.{conn_at};
+
+use crate::activity::Activity;
+use crate::world::World;
+use zk_model::limit::MAX_FRAME;
+use zp_happen::Flight;
+use zt_text::Why;
+
+/// How many of the newest entries are kept.
+pub(crate) const MAX_KEPT: u64 = 4_096;
+
+impl World {
+    /// A number that was never used.
+    pub(crate) fn new_why(&self, number: u32) -> Option<Why>
+        ensures { result ≡ new_fault number self.now None }
+    {
+        match self.activities.get(number) {
+            Some(_) => Some(Why::NumberInUse),
+            None => None,
+        }
+    }
+
+    /// There is one of this number, and it is open.
+    pub(crate) fn open_why(&self, number: u32) -> Option<Why>
+        ensures { result ≡ open_fault number self.now None }
+    {
+        match self.activities.get(number) {
+            None => Some(Why::NoSuchConnection),
+            Some(activity) if activity.is_closed() => Some(Why::ConnectionClosed),
+            Some(_) => None,
+        }
+    }
+
+    /// And it is no reaper.
+    pub(crate) fn connection_why(&self, number: u32) -> Option<Why>
+        ensures { result ≡ connection_fault number self.now None }
+    {
+        match self.activities.get(number) {
+            None => Some(Why::NoSuchConnection),
+            Some(activity) if activity.is_closed() => Some(Why::ConnectionClosed),
+            Some(activity) if activity.is_reaper() => Some(Why::NotAConnection),
+            Some(_) => None,
+        }
+    }
+
+    /// A whole frame of this size may come.
+    pub(crate) fn frame_why(&self, number: u32, size: usize) -> Option<Why>
+        ensures { result ≡ connection_fault number self.now (if_fails (has_part (conn_at number self.now)) Why.FrameOpen (if_fails (nat_lt max_frame size) Why.TooLong None)) }
+    {
+        if let Some(why) = self.connection_why(number) {
+            return Some(why);
+        }
+        match self.activities.get(number) {
+            Some(activity) if activity.has_part() => Some(Why::FrameOpen),
+            Some(_) | None => {
+                if MAX_FRAME < size {
+                    Some(Why::TooLong)
+                } else {
+                    None
+                }
+            }
+        }
+    }
+
+    /// An ask is out.
+    pub(crate) fn ask_why(&self, number: u32) -> Option<Why>
+        ensures { result ≡ ask_fault number self.now None }
+    {
+        match self.activities.get(number) {
+            None => Some(Why::NoSuchConnection),
+            Some(activity) if activity.is_closed() => Some(Why::ConnectionClosed),
+            Some(activity) => match activity.flight() {
+                None => Some(Why::NoRequestOut),
+                Some(_) => None,
+            },
+        }
+    }
+
+    /// And it is not carried out.
+    pub(crate) fn carry_why(&self, number: u32) -> Option<Why>
+        ensures { result ≡ carry_fault number self.now }
+    {
+        match self.activities.get(number) {
+            None => Some(Why::NoSuchConnection),
+            Some(activity) if activity.is_closed() => Some(Why::ConnectionClosed),
+            Some(activity) => match activity.flight() {
+                None => Some(Why::NoRequestOut),
+                Some(Flight::Out(_)) => None,
+                Some(Flight::Carried(_) | Flight::Denied) => Some(Why::AlreadyCarriedOut),
+            },
+        }
+    }
+
+    /// And it is carried out.
+    pub(crate) fn answer_why(&self, number: u32) -> Option<Why>
+        ensures { result ≡ ask_fault number self.now (if_fails (is_to_carry_out (flight_at number self.now)) Why.NotCarriedOut None) }
+    {
+        match self.activities.get(number) {
+            None => Some(Why::NoSuchConnection),
+            Some(activity) if activity.is_closed() => Some(Why::ConnectionClosed),
+            Some(activity) => match activity.flight() {
+                None => Some(Why::NoRequestOut),
+                Some(Flight::Out(_)) => Some(Why::NotCarriedOut),
+                Some(Flight::Carried(_) | Flight::Denied) => None,
+            },
+        }
+    }
+
+    /// A stray of this number is left.
+    pub(crate) fn stray_why(&self, number: u32) -> Option<Why>
+        ensures { result ≡ if_fails (is_none (left_at number self.now.strays)) Why.NoSuchStray None }
+    {
+        if self.strays.has(number) {
+            None
+        } else {
+            Some(Why::NoSuchStray)
+        }
+    }
+
+    /// Whether an entry is behind the cursor of a connection.
+    pub(crate) fn has_entry(&self, number: u32) -> bool
+        ensures { result ≡ is_some (next_entry number self.now) }
+    {
+        let Some(cursor) = self.cursor_of(number) else {
+            return false;
+        };
+        match usize::try_from(cursor) {
+            Ok(place) => place < self.entries.len(),
+            Err(_) => false,
+        }
+    }
+
+    /// The number of the last entry that a connection took, where it waits for the next one.
+    pub(crate) fn cursor_of(&self, number: u32) -> Option<i64>
+        ensures { result ≡ cursor_at number self.now }
+    {
+        match self.activities.get(number) {
+            Some(activity) => activity.cursor(),
+            None => None,
+        }
+    }
+
+    /// Whether something is out.
+    fn has_flight(&self, number: u32) -> bool
+        ensures { result ≡ is_some (flight_at number self.now) }
+    {
+        match self.activities.get(number) {
+            Some(activity) => activity.flight().is_some(),
+            None => false,
+        }
+    }
+
+    /// An entry may be taken.
+    pub(crate) fn entry_why(&self, number: u32) -> Option<Why>
+        ensures { result ≡ entry_fault number self.now None }
+    {
+        match self.connection_why(number) {
+            Some(why) => Some(why),
+            None => {
+                if self.has_flight(number) {
+                    Some(Why::RequestOut)
+                } else if self.has_entry(number) {
+                    None
+                } else {
+                    Some(Why::NoEntry)
+                }
+            }
+        }
+    }
+
+    /// And more are behind it than are kept.
+    pub(crate) fn lag_why(&self, number: u32) -> Option<Why>
+        ensures { result ≡ entry_fault number self.now (if_fails (not (is_lagging number self.now)) Why.NoLag None) }
+    {
+        match self.entry_why(number) {
+            Some(why) => Some(why),
+            None => {
+                if self.is_lagging(number) {
+                    None
+                } else {
+                    Some(Why::NoLag)
+                }
+            }
+        }
+    }
+
+    /// Whether more entries are behind the cursor than are kept.
+    fn is_lagging(&self, number: u32) -> bool
+        ensures { result ≡ is_lagging number self.now }
+    {
+        let Some(cursor) = self.cursor_of(number) else {
+            return false;
+        };
+        let last = self.entries.len() as u64;
+        match u64::try_from(cursor) {
+            Ok(cursor) => cursor + MAX_KEPT < last,
+            Err(_) => match u64::try_from(cursor + MAX_KEPT as i64) {
+                Ok(floor) => floor < last,
+                Err(_) => true,
+            },
+        }
+    }
+}
