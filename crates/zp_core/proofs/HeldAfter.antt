@@ -3,7 +3,7 @@ use Rattle.std.proofs.Common.{◌≡◌, ℕ, ◌+◌, ℤ, pos, ◌≤◌, Bool
 use Rattle.std.specs.Prelude.{Option, Some, None, All, MatchBool, if◌then◌else◌}
 use Rattle.std.specs.Ordering.{int_eq}
 use Rattle.std.specs.Arc.{arc_value}
-use Rattle.std.proofs.lemmas.List.Elements.{All-head, All-push, All-weaker}
+use Rattle.std.proofs.lemmas.List.Elements.{All-push, All-weaker}
 use Rattle.ev_types.specs.declared.answer.ActAns.{ActAns}
 use Rattle.ev_types.specs.declared.answer.Answer.{Answer}
 use Rattle.ev_types.specs.declared.answer.Answer.TheVariants as answer
@@ -16,13 +16,11 @@ use Rattle.zk_model.specs.Limits.{max_frame}
 use Rattle.zk_model.specs.Watches.{Watches, no_watches}
 use Rattle.zk_model.specs.declared.connect.ConnectRequest.{ConnectRequest}
 use Rattle.zk_model.specs.declared.request.Request.{Request}
-use Rattle.zk_model.specs.declared.request.Request.TheVariants as req
 use Rattle.zk_transcript.specs.Answers.{Told, plain_reply, xid_of}
 use Rattle.zk_transcript.specs.Walks.{has_header, is_auth_refusal}
 use Rattle.zk_transcript.specs.declared.transcript.Cause.{Cause}
 use Rattle.zk_transcript.specs.declared.transcript.Cause.TheVariants as cause
 use Rattle.zn_layout.specs.declared.entry.Entry.{Entry}
-use Rattle.zn_updates.specs.Deciding.{content_in}
 use Rattle.zn_view.specs.Adding.{at_revision}
 use Rattle.zn_view.specs.Asks.{with_part, with_parts}
 use Rattle.zn_view.specs.Lookups.{found_at}
@@ -53,24 +51,13 @@ use Rattle.zp_step.specs.Replies.{Is, closed_by, is_due, replied, stage_behind, 
 use Rattle.zp_step.specs.Stages.{Core, Pending, Stage, Unconnected, Connecting, Ready, KeepingAlive, Checking, Reading, Committing, Waiting, Shut, asked_of, counted_up, is_shut, seen_by}
 use Rattle.zp_step.specs.Steps.{Answers, Comes, Handles, IsFit, counted, queued}
 use Rattle.zp_step.specs.Taking.{Takes, TakesReadable, end_of_plain, plainly}
-use Rattle.zp_happen.specs.Unbuilt.{is_multi as asks_multi}
-use Rattle.zp_core.specs.Held.{IsBuilt, IsBuiltIn, IsFrame, IsHeld, IsHeldIn, IsReal, IsRequest, IsServing, is_multi}
+use Rattle.zp_core.specs.Held.{IsFrame, IsHeld, IsHeldIn, IsReal, IsRequest, IsServing}
 
 -- ---- a request that came in a frame
 
-single : (xid : ℤ) (r : Request) → asks_multi (Asks xid r) ≡ false → is_multi r ≡ false
-single xid (req.Multi parts) h = h
-single xid _ h = refl
-
-content-short : (r : Request) (n : ℕ) → All (λ content. length content ≤ n) (contents_of r) → length (content_in r) ≤ n
-content-short (req.Create p d a f) n h = All-head (λ content. length content ≤ n) d [] h
-content-short (req.SetData p d v) n h = All-head (λ content. length content ≤ n) d [] h
-content-short _ n h = omega arith
-
 pub request-of : (bytes : List ℕ) (xid : ℤ) (r : Request) → IsFrame bytes → read_request bytes ≡ Asks xid r → IsRequest r
 request-of bytes xid r f read = record {
-  built = single xid r (ap asks_multi (sym read) ∙ f.built);
-  short = content-short r max_frame (All-weaker (λ content. length content ≤ length bytes) (λ content. length content ≤ max_frame) (λ content le. omega (arith, f.short)) (contents_of r) (contents_within bytes xid r read));
+  short = All-weaker (λ content. length content ≤ length bytes) (λ content. length content ≤ max_frame) (λ content le. omega (arith, f.short)) (contents_of r) (contents_within bytes xid r read);
 }
 
 -- ---- the revision of a view
@@ -237,22 +224,22 @@ module _ (c : Core) (frames : All IsFrame c.waiting) (now : ℕ) (c' : Core) (ou
       subst (λ b. MatchBool b (Unit {0}) (IsServing d)) (sym (ap is_shut at ∙ shut))
       (record { frames = All-push IsFrame c.waiting bytes frames f; stage = subst (IsHeldIn c.who.session) (sym at) k })
 
-  later-held : (s : Stage) → c.stage ≡ s → is_shut s ≡ false → IsHeldIn c.who.session s → (bytes : List ℕ) → length bytes ≤ max_frame → asks_multi (read_request bytes) ≡ false → (b : Bool)
+  later-held : (s : Stage) → c.stage ≡ s → is_shut s ≡ false → IsHeldIn c.who.session s → (bytes : List ℕ) → length bytes ≤ max_frame → (b : Bool)
       → has_header (read_request bytes) ≡ b → MatchBool b (Is (queued c bytes, []) c' out) (Is (closed_by c (cause.NoHeader c.taken)) c' out) → IsHeld c'
-  later-held s at shut k bytes short built true headed h =
-      is-held (queued c bytes, []) c' out h (queued-held s at shut k bytes (record { short = short; headed = headed; built = built }))
-  later-held s at shut k bytes short built false headed h = is-held (closed_by c (cause.NoHeader c.taken)) c' out h tt
+  later-held s at shut k bytes short true headed h =
+      is-held (queued c bytes, []) c' out h (queued-held s at shut k bytes (record { short = short; headed = headed }))
+  later-held s at shut k bytes short false headed h = is-held (closed_by c (cause.NoHeader c.taken)) c' out h tt
 
-  comes-held : (s : Stage) → c.stage ≡ s → is_shut s ≡ false → IsHeldIn c.who.session s → (bytes : List ℕ) → length bytes ≤ max_frame → IsBuiltIn bytes s → Comes c bytes now c' out s → IsHeld c'
-  comes-held (Unconnected fresh) at shut k bytes short built h = opens-held (counted c bytes) c.taken fresh now c' out (read_connect bytes) frames k h
-  comes-held (Connecting connect) at shut k bytes short built h = later-held (Connecting connect) at shut k bytes short built (has_header (read_request bytes)) refl h
-  comes-held Ready at shut k bytes short built h = later-held Ready at shut k bytes short built (has_header (read_request bytes)) refl h
-  comes-held (KeepingAlive f) at shut k bytes short built h = later-held (KeepingAlive f) at shut k bytes short built (has_header (read_request bytes)) refl h
-  comes-held (Checking f) at shut k bytes short built h = later-held (Checking f) at shut k bytes short built (has_header (read_request bytes)) refl h
-  comes-held (Reading xid r v ws) at shut k bytes short built h = later-held (Reading xid r v ws) at shut k bytes short built (has_header (read_request bytes)) refl h
-  comes-held (Committing xid r v p moment) at shut k bytes short built h = later-held (Committing xid r v p moment) at shut k bytes short built (has_header (read_request bytes)) refl h
-  comes-held (Waiting p) at shut k bytes short built h = later-held (Waiting p) at shut k bytes short built (has_header (read_request bytes)) refl h
-  comes-held Shut at shut k bytes short built h = absurd (cc)
+  comes-held : (s : Stage) → c.stage ≡ s → is_shut s ≡ false → IsHeldIn c.who.session s → (bytes : List ℕ) → length bytes ≤ max_frame → Comes c bytes now c' out s → IsHeld c'
+  comes-held (Unconnected fresh) at shut k bytes short h = opens-held (counted c bytes) c.taken fresh now c' out (read_connect bytes) frames k h
+  comes-held (Connecting connect) at shut k bytes short h = later-held (Connecting connect) at shut k bytes short (has_header (read_request bytes)) refl h
+  comes-held Ready at shut k bytes short h = later-held Ready at shut k bytes short (has_header (read_request bytes)) refl h
+  comes-held (KeepingAlive f) at shut k bytes short h = later-held (KeepingAlive f) at shut k bytes short (has_header (read_request bytes)) refl h
+  comes-held (Checking f) at shut k bytes short h = later-held (Checking f) at shut k bytes short (has_header (read_request bytes)) refl h
+  comes-held (Reading xid r v ws) at shut k bytes short h = later-held (Reading xid r v ws) at shut k bytes short (has_header (read_request bytes)) refl h
+  comes-held (Committing xid r v p moment) at shut k bytes short h = later-held (Committing xid r v p moment) at shut k bytes short (has_header (read_request bytes)) refl h
+  comes-held (Waiting p) at shut k bytes short h = later-held (Waiting p) at shut k bytes short (has_header (read_request bytes)) refl h
+  comes-held Shut at shut k bytes short h = absurd (cc)
 
 still-held : (c : Core) (e : Entry) (s : Stage) → c.stage ≡ s → is_shut s ≡ false → IsServing c → IsHeld (entered c e).0
 still-held c e s at shut k =
@@ -270,16 +257,16 @@ told-held c e (Reading xid r v ws) at shut k = still-held c e (Reading xid r v w
 told-held c e (Committing xid r v p moment) at shut k = still-held c e (Committing xid r v p moment) at shut k
 told-held c e Shut at shut k = absurd (cc)
 
-pub handles-held : (c : Core) (x : Input) (now : ℕ) (c' : Core) (out : List Action) → is_shut c.stage ≡ false → IsHeld c → IsFit c x → IsBuilt c x → Handles c x now c' out → IsHeld c'
-handles-held c (input.Frame bytes) now c' out shut held fit built h =
+pub handles-held : (c : Core) (x : Input) (now : ℕ) (c' : Core) (out : List Action) → is_shut c.stage ≡ false → IsHeld c → IsFit c x → Handles c x now c' out → IsHeld c'
+handles-held c (input.Frame bytes) now c' out shut held fit h =
     let k = open-held c shut held in
-    comes-held c k.frames now c' out c.stage refl shut k.stage bytes fit built h
-handles-held c (input.Answer a) now c' out shut held fit built h =
+    comes-held c k.frames now c' out c.stage refl shut k.stage bytes fit h
+handles-held c (input.Answer a) now c' out shut held fit h =
     let k = open-held c shut held in
     answers-held c k.frames now c' out c.stage k.stage a fit h
-handles-held c (input.Entry e) now c' out shut held fit built h = is-held (told_entry c (arc_value e)) c' out h (told-held c (arc_value e) c.stage refl shut (open-held c shut held))
-handles-held c input.Failed now c' out shut held fit built h = is-held (closed_by c cause.LinkFault) c' out h tt
-handles-held c (input.BadLength place length) now c' out shut held fit built h = is-held (closed_by c (cause.BadLength place length)) c' out h tt
-handles-held c (input.Lagged cursor floor) now c' out shut held fit built h = is-held (closed_by c (cause.Lagged cursor floor)) c' out h tt
-handles-held c input.FeedClosed now c' out shut held fit built h = is-held (closed_by c cause.FeedClosed) c' out h tt
-handles-held c (input.ClientEnd place) now c' out shut held fit built h = is-held (closed_by c (cause.ClientEnd place)) c' out h tt
+handles-held c (input.Entry e) now c' out shut held fit h = is-held (told_entry c (arc_value e)) c' out h (told-held c (arc_value e) c.stage refl shut (open-held c shut held))
+handles-held c input.Failed now c' out shut held fit h = is-held (closed_by c cause.LinkFault) c' out h tt
+handles-held c (input.BadLength place length) now c' out shut held fit h = is-held (closed_by c (cause.BadLength place length)) c' out h tt
+handles-held c (input.Lagged cursor floor) now c' out shut held fit h = is-held (closed_by c (cause.Lagged cursor floor)) c' out h tt
+handles-held c input.FeedClosed now c' out shut held fit h = is-held (closed_by c cause.FeedClosed) c' out h tt
+handles-held c (input.ClientEnd place) now c' out shut held fit h = is-held (closed_by c (cause.ClientEnd place)) c' out h tt

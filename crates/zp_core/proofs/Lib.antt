@@ -1,3 +1,4 @@
+pub mod Contents
 pub mod Restaged
 pub mod HeldAfter
 pub mod GoingOn

@@ -1,12 +1,11 @@
 //! What a request still has to look up, and the asks of a look and of a plan.
 
-ghost use Rattle.std.specs.Prelude.{◌≡◌, ◌≤ℤ◌, ◌∷◌, [], pos, false, IfOk, take};
+ghost use Rattle.std.specs.Prelude.{◌≡◌, ◌≤ℤ◌, ◌∷◌, [], pos, IfOk, take};
 ghost use Rattle.zn_view.specs.Asks.{reading as reading_of, transaction as transaction_of};
 ghost use Rattle.zn_view.specs.Needs.{AreNeeds};
 ghost use Rattle.zp_step.specs.Looking.{asks_for, decided, max_ranges};
 ghost use Rattle.zp_step.specs.Replies.{Is};
 ghost use Rattle.zp_step.specs.declared.action.Action.TheVariants as action;
-ghost use Rattle.zp_core.specs.Held.{is_multi};
 ghost use Rattle.zp_core.specs.Meanings.{Leads, ready};
 ghost use Rattle.zn_view.specs.declared.plan.Decision.TheVariants as decision;
 
@@ -16,6 +15,7 @@ use crate::stage::{Commit, Stage};
 use ev_types::{Ask, TxnReq};
 use std::alloc::Global;
 use zk_model::Request;
+use zn_multi::needs_multi;
 use zn_ops::needs as single_needs;
 use zn_view::{Plan, View, Want, Who, ranges, reading};
 use zp_step::Action;
@@ -33,12 +33,12 @@ pub(crate) fn needs(
     who: Who,
     view: &View,
 ) -> Result<Seq<Want>, Memory>
-    requires built { is_multi request.now ≡ false }
     requires real { pos 1 ≤ℤ who.session }
     ensures { IfOk result (AreNeeds request.now who view.now) }
 {
     match request {
         Request::Close => needs_close(alloc, who, view),
+        Request::Multi { parts } => needs_multi(alloc, parts.as_slice(), who, view),
         _ => single_needs(alloc, request, who, view),
     }
 }

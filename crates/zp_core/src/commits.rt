@@ -1,15 +1,13 @@
 //! What follows the answer to a plan's transaction.
 
-ghost use Rattle.std.specs.Prelude.{◌≡◌, ◌≤◌, ◌≤ℤ◌, length, pos, false, IfOk, ◌<◌, ◌^◌};
-ghost use Rattle.zk_model.specs.Limits.{max_frame};
-ghost use Rattle.zn_updates.specs.Deciding.{content_in};
+ghost use Rattle.std.specs.Prelude.{◌≡◌, ◌≤ℤ◌, pos, false, IfOk, ◌<◌, ◌^◌};
 ghost use Rattle.zn_view.specs.Adding.{AreNumbers};
 ghost use Rattle.zn_view.specs.Seen.{IsCount};
 ghost use Rattle.zn_view.specs.Asks.{transaction};
 ghost use Rattle.zs_session.specs.Answering.{IsAnswerTo};
 ghost use Rattle.zp_step.specs.Plans.{CommitAnswered, Committed, end_behind as end_of, finishes};
 ghost use Rattle.zp_step.specs.Replies.{Is, waits};
-ghost use Rattle.zp_core.specs.Held.{is_multi};
+ghost use Rattle.zp_core.specs.Held.{IsRequest};
 ghost use Rattle.zp_core.specs.Meanings.{Leads, plan_of, ready};
 
 use crate::client::Client;
@@ -79,10 +77,9 @@ fn look_again(
     revision: i64,
     parts: &[ActAns],
 ) -> Result<Move, Memory>
-    requires built { is_multi request ≡ false }
+    requires request { IsRequest request }
     requires real { pos 1 ≤ℤ client.old.who.session }
     requires moment { now < 2 ^ 62 }
-    requires short { length (content_in request) ≤ max_frame }
     requires revision { IsCount revision }
     requires numbers { AreNumbers parts.now }
     ensures { IfOk result (Leads (λ c out. Committed (ready client.old) xid request (plan_of commit) now c out revision false parts.now) client.new) }
@@ -105,10 +102,9 @@ fn commit_at(
     succeeded: bool,
     parts: &[ActAns],
 ) -> Result<Move, Memory>
-    requires built { is_multi request ≡ false }
+    requires request { IsRequest request }
     requires real { pos 1 ≤ℤ client.old.who.session }
     requires moment { now < 2 ^ 62 }
-    requires short { length (content_in request) ≤ max_frame }
     requires revision { IsCount revision }
     requires numbers { AreNumbers parts.now }
     ensures { IfOk result (Leads (λ c out. Committed (ready client.old) xid request (plan_of commit) now c out revision succeeded parts.now) client.new) }
@@ -130,10 +126,9 @@ pub(crate) fn committed(
     answer: &Answer,
 ) -> Result<Move, Memory>
     requires awaited { IsAnswerTo (transaction (plan_of commit)) answer.now }
-    requires built { is_multi request ≡ false }
+    requires request { IsRequest request }
     requires real { pos 1 ≤ℤ client.old.who.session }
     requires moment { now < 2 ^ 62 }
-    requires short { length (content_in request) ≤ max_frame }
     ensures { IfOk result (Leads (λ c out. CommitAnswered (ready client.old) xid request (plan_of commit) now c out answer.now) client.new) }
 {
     match answer {

@@ -1,14 +1,12 @@
 //! What is decided on a view that lacks nothing.
 
-ghost use Rattle.std.specs.Prelude.{◌≡◌, ◌≤◌, ◌≤ℤ◌, [], length, pos, false, None, IfOk, ◌<◌, ◌^◌};
-ghost use Rattle.zk_model.specs.Limits.{max_frame};
-ghost use Rattle.zn_updates.specs.Deciding.{content_in};
+ghost use Rattle.std.specs.Prelude.{◌≡◌, ◌≤ℤ◌, [], pos, IfOk, ◌<◌, ◌^◌};
 ghost use Rattle.zn_view.specs.Needs.{AreNeeds};
 ghost use Rattle.zn_view.specs.Views.{IsDecision};
 ghost use Rattle.zn_view.specs.Deciding.{IsTested};
 ghost use Rattle.zp_step.specs.Looking.{IsBacked, change_by, decided, expired, moved, pending};
 ghost use Rattle.zp_step.specs.Replies.{Is};
-ghost use Rattle.zp_core.specs.Held.{is_multi};
+ghost use Rattle.zp_core.specs.Held.{IsRequest};
 ghost use Rattle.zp_core.specs.Meanings.{Leads, change_of, pending_of, ready};
 
 use crate::asks::ask_plan;
@@ -20,6 +18,7 @@ use std::alloc::Global;
 use zk_model::code::{SESSION_EXPIRED, SESSION_MOVED};
 use zk_model::{Reply, Request};
 use zk_transcript::Cause;
+use zn_multi::decide_multi;
 use zn_ops::decide as decide_single;
 use zn_reads::seen_paths;
 use zn_view::{Arm, Decision, View, Who};
@@ -34,10 +33,9 @@ pub(crate) fn decide(
     now: u64,
     view: &View,
 ) -> Result<Decision, Memory>
-    requires built { is_multi request.now ≡ false }
+    requires request { IsRequest request.now }
     requires real { pos 1 ≤ℤ who.session }
     requires moment { now < 2 ^ 62 }
-    requires short { length (content_in request.now) ≤ max_frame }
     requires whole { AreNeeds request.now who view.now [] }
     ensures tested { IfOk result (IsTested request.now who view.now) }
     ensures right { IfOk result (IsDecision request.now who view.now) }
@@ -45,6 +43,7 @@ pub(crate) fn decide(
 {
     match request {
         Request::Close => plan_close(alloc, who, view),
+        Request::Multi { parts } => decide_multi(alloc, parts.as_slice(), who, now, view),
         _ => decide_single(alloc, request, who, now, view),
     }
 }

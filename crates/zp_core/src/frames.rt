@@ -54,7 +54,7 @@ fn take_request(
     request: Request,
     now: u64,
 ) -> Result<Move, Memory>
-    requires asked { IsRequest request }
+    requires request { IsRequest request }
     requires real { pos 1 ≤ℤ client.old.who.session }
     requires moment { now < 2 ^ 62 }
     ensures { IfOk result (Leads (λ c out. TakesReadable (ready client.old) now c out (Asks xid request) (plain_request no_watches request)) client.new) }

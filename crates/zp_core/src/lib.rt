@@ -7,9 +7,9 @@
 //! Want of memory ends the connection: it is shut then, and nothing of that step is told. A packet whose length does not fit
 //! its int counts as want of memory, since no memory of a client holds it.
 //!
-//! In `specs/`, in reading order: `Meanings` (what the code keeps, as the definition's data), `Held` (what each core keeps,
-//! and which frames may be handed in until a multi is built), `Going` (how a step goes on with the frames that wait). In
-//! `proofs/`, `HeldAfter` shows that a step keeps it, and `Restaged` that most of a step does not look at the stage.
+//! In `specs/`, in reading order: `Meanings` (what the code keeps, as the definition's data), `Held` (what each core keeps),
+//! `Going` (how a step goes on with the frames that wait). In `proofs/`, `HeldAfter` shows that a step keeps it, and `Restaged`
+//! that most of a step does not look at the stage.
 //!
 //! A frame is copied once, where it is handed in. The transaction of a plan is asked as it was planned, and not copied.
 #![tactic(auto)]

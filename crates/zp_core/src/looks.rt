@@ -1,10 +1,8 @@
 //! The next ask of a request, or its decision.
 
-ghost use Rattle.std.specs.Prelude.{◌≡◌, ◌≤◌, ◌≤ℤ◌, length, pos, false, IfOk, ◌<◌, ◌^◌};
-ghost use Rattle.zk_model.specs.Limits.{max_frame};
-ghost use Rattle.zn_updates.specs.Deciding.{content_in};
+ghost use Rattle.std.specs.Prelude.{◌≤ℤ◌, pos, IfOk, ◌<◌, ◌^◌};
 ghost use Rattle.zp_step.specs.Looking.{Looks};
-ghost use Rattle.zp_core.specs.Held.{is_multi};
+ghost use Rattle.zp_core.specs.Held.{IsRequest};
 ghost use Rattle.zp_core.specs.Meanings.{Leads, ready};
 
 use crate::asks::{ask_for, needs};
@@ -25,10 +23,9 @@ pub(crate) fn look(
     view: View,
     now: u64,
 ) -> Result<Move, Memory>
-    requires built { is_multi request ≡ false }
+    requires request { IsRequest request }
     requires real { pos 1 ≤ℤ client.old.who.session }
     requires moment { now < 2 ^ 62 }
-    requires short { length (content_in request) ≤ max_frame }
     ensures { IfOk result (Leads (Looks (ready client.old) xid request view now) client.new) }
 {
     let lacking = needs(alloc, &request, client.who, &view)?;

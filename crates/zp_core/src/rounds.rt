@@ -1,15 +1,13 @@
 //! What follows the answer to a round of a request.
 
-ghost use Rattle.std.specs.Prelude.{◌≡◌, ◌≤◌, ◌≤ℤ◌, length, pos, true, false, IfOk, ◌<◌, ◌^◌};
-ghost use Rattle.zk_model.specs.Limits.{max_frame};
-ghost use Rattle.zn_updates.specs.Deciding.{content_in};
+ghost use Rattle.std.specs.Prelude.{◌≡◌, ◌≤ℤ◌, pos, true, IfOk, ◌<◌, ◌^◌};
 ghost use Rattle.zn_view.specs.Adding.{AreNumbers, IsOtherRevision, at_revision};
 ghost use Rattle.zn_view.specs.Seen.{IsCount};
 ghost use Rattle.zn_view.specs.Asks.{reading as reading_of};
 ghost use Rattle.ev_types.specs.declared.answer.Answer.TheVariants as answers;
 ghost use Rattle.zs_session.specs.Answering.{IsAnswerTo};
 ghost use Rattle.zp_step.specs.Plans.{ReadOn};
-ghost use Rattle.zp_core.specs.Held.{is_multi};
+ghost use Rattle.zp_core.specs.Held.{IsRequest};
 ghost use Rattle.zp_core.specs.Meanings.{Leads, ready};
 
 use crate::client::Client;
@@ -47,10 +45,9 @@ fn read_at(
     revision: i64,
     parts: &[ActAns],
 ) -> Result<Move, Memory>
-    requires built { is_multi request ≡ false }
+    requires request { IsRequest request }
     requires real { pos 1 ≤ℤ client.old.who.session }
     requires moment { now < 2 ^ 62 }
-    requires short { length (content_in request) ≤ max_frame }
     requires first { IsCount view.revision }
     requires revision { IsCount revision }
     requires numbers { AreNumbers parts.now }
@@ -77,10 +74,9 @@ pub(crate) fn read_on(
     answer: &Answer,
 ) -> Result<Move, Memory>
     requires awaited { IsAnswerTo (reading_of view.revision asked.now) answer.now }
-    requires built { is_multi request ≡ false }
+    requires request { IsRequest request }
     requires real { pos 1 ≤ℤ client.old.who.session }
     requires moment { now < 2 ^ 62 }
-    requires short { length (content_in request) ≤ max_frame }
     requires first { IsCount view.revision }
     ensures { IfOk result (Leads (λ c out. ReadOn (ready client.old) xid request view asked.now now c out answer.now) client.new) }
 {

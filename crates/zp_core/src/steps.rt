@@ -4,7 +4,7 @@ ghost use Rattle.std.specs.Prelude.{◌≡◌, ◌≤ℤ◌, pos, true, false, I
 ghost use Rattle.zp_step.specs.Stages.{is_shut, new_core, wants_of};
 ghost use Rattle.zp_step.specs.Steps.{IsFit, MayTake, Steps, StepsOpen};
 ghost use Rattle.zp_happen.specs.Kinds.{kind_in_stage};
-ghost use Rattle.zp_core.specs.Held.{IsBuilt, IsHeld};
+ghost use Rattle.zp_core.specs.Held.{IsHeld};
 ghost use Rattle.zp_core.specs.Meanings.{Leads, core_of, stage_of};
 
 use crate::client::Client;
@@ -32,7 +32,6 @@ fn step_open(
     requires held { IsHeld (core_of client.old (stage_of stage)) }
     requires opened { is_shut (stage_of stage) ≡ false }
     requires fit { IsFit (core_of client.old (stage_of stage)) input.now }
-    requires built { IsBuilt (core_of client.old (stage_of stage)) input.now }
     requires moment { now < 2 ^ 62 }
     ensures ok { IfOk result (Leads (StepsOpen (core_of client.old (stage_of stage)) input.now now) client.new) }
     ensures held { IfOk result (λ m. IsHeld (core_of client.new (stage_of m.stage))) }
@@ -126,11 +125,10 @@ impl Core {
         asked_in(connection, &self.client, &self.stage)
     }
 
-    /// Takes an input at a moment in milliseconds since 1970, and answers with what the connection does then. A frame that asks
-    /// for a multi is not handed in behind the first one. Without memory the connection is shut, and nothing is done.
+    /// Takes an input at a moment in milliseconds since 1970, and answers with what the connection does then. Without memory the
+    /// connection is shut, and nothing is done.
     pub fn step(&mut self, input: &Input, now: u64) -> Result<Vec<Action>, Memory>
         requires may { MayTake self.old input.now }
-        requires built { IsBuilt self.old input.now }
         requires moment { now < 2 ^ 62 }
         ensures ok { IfOk result (λ out. Steps self.old input.now now self.new out.items) }
         ensures shut { OnErr result (is_shut self.new.stage ≡ true) }

@@ -10,7 +10,7 @@ use Rattle.zp_core.proofs.steps.step_open.Goals as goal
 pub go_on-requires-clause-held : goal.go_on-requires-clause-held
 go_on-requires-clause-held c =
     handles-held (core_of c.args.client.now (stage_of c.args.stage)) c.args.input.now c.args.now (core_of c.handle.new.client (stage_of (c.in_ok-handled.handled).stage)) (c.in_ok-handled.handled).actions
-    c.requires.opened c.requires.held c.requires.fit c.requires.built c.in_ok-handled.ensures
+    c.requires.opened c.requires.held c.requires.fit c.in_ok-handled.ensures
 
 pub returns-clause-ok : goal.returns-clause-ok
 returns-clause-ok c =
@@ -31,4 +31,4 @@ returns-clause-held c =
     let mid = core_of c.handle.new.client (stage_of (c.in_ok-handled.handled).stage) in
     let goes : GoesOn c.args.now mid c.into_vec-actions.result.items (core_of c.go_on.new.client (stage_of c.go_on.new.stage)) c.go_on.new.actions.items = c.in_ok-go_on.ensures in
     goes-held c.args.now mid (core_of c.go_on.new.client (stage_of c.go_on.new.stage)) goes.later goes.goes
-    (handles-held core c.args.input.now c.args.now mid (c.in_ok-handled.handled).actions c.requires.opened c.requires.held c.requires.fit c.requires.built c.in_ok-handled.ensures)
+    (handles-held core c.args.input.now c.args.now mid (c.in_ok-handled.handled).actions c.requires.opened c.requires.held c.requires.fit c.in_ok-handled.ensures)
