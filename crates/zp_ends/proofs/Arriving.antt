@@ -119,7 +119,7 @@ acts-still ls behind c kind (action.Close why ∷ out) o h =
 
 -- ---- frames come
 
-one-stays : (c : ℕ) (w mid : World) (x : Conn) (f : List ℕ) (fs : List (List ℕ)) → conn_at c w ≡ Some x → Handed c (frame_lines c (counted_up (x.frames + 1)) (zxid_at w.store) fs) (shown_frame c w x f) (input.Frame f) mid
+pub one-stays : (c : ℕ) (w mid : World) (x : Conn) (f : List ℕ) (fs : List (List ℕ)) → conn_at c w ≡ Some x → Handed c (frame_lines c (counted_up (x.frames + 1)) (zxid_at w.store) fs) (shown_frame c w x f) (input.Frame f) mid
     → has_header (read_request f) ≡ true → closes_behind (read_request f) ≡ false → StaysOpen c w → StaysOpen c mid
 one-stays c w mid x f fs found hd header k s =
     let w1 = shown_frame c w x f in

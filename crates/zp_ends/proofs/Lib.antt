@@ -15,3 +15,11 @@ pub mod Staying
 pub mod Shown
 pub mod Open
 pub mod Arriving
+pub mod Room
+pub mod Few
+pub mod Onward
+pub mod Roomy
+pub mod Sessions
+pub mod Begun
+pub mod Ongoing
+pub mod Undisturbed

@@ -62,7 +62,7 @@ use Rattle.zp_ends.specs.Staying.{IsAttachedHere, IsDenied, IsLasting, IsLasting
 
 -- ---- what lasts is open, and attached
 
-lasting-served : (st : Stage) → IsLastingIn st → is_served st ≡ true
+pub lasting-served : (st : Stage) → IsLastingIn st → is_served st ≡ true
 lasting-served (Unconnected fresh) h = absurd h
 lasting-served (Connecting x) h = absurd h
 lasting-served Ready h = refl
@@ -89,7 +89,7 @@ here-as lines lines' who who' same e h = subst (IsAttachedHere lines') (sym same
 
 -- ---- its own updates leave its session
 
-asked-sessions : (before : List TranscriptLine) (s : State) (z id : ℤ) (c i m : ℕ) → session_at id (updated before s z (Asked c i m)) ≡ session_at id s
+pub asked-sessions : (before : List TranscriptLine) (s : State) (z id : ℤ) (c i m : ℕ) → session_at id (updated before s z (Asked c i m)) ≡ session_at id s
 unfolding updated
 asked-sessions before s z id c i m = go (asked_commit before s z c i m)
   where
@@ -169,7 +169,7 @@ module _ (w w' : World) (c : ℕ) (s : StaysOpen c w) (k : IsAccounted w) where
 
   -- ---- an answer
 
-  answer-stays : (a : Answer) → s.conn.flight ≡ Some (Carried a) → Handed c [] (with_conn w c (record (s.conn) { flight = None })) (input.Answer a) w' → StaysOpen c w'
+  pub answer-stays : (a : Answer) → s.conn.flight ≡ Some (Carried a) → Handed c [] (with_conn w c (record (s.conn) { flight = None })) (input.Answer a) w' → StaysOpen c w'
   unfolding serves
   answer-stays a flight hd =
       let is_conn : record (s.conn) { flight = None } ≡ hd.conn = some_is (sym (conn-here w c (record (s.conn) { flight = None })) ∙ hd.found) in
@@ -212,7 +212,7 @@ module _ (w w' : World) (c : ℕ) (s : StaysOpen c w) (k : IsAccounted w) where
       let who = who-same w c s.conn s.core hd.next (input.Entry x) hd.out k s.there s.actor served (subst (λ y. IsTrueEntry w.lines s.core y) (sym is) t) stepped in
       step-stays w w' c (input.Entry x) hd lasting (who ∙ ap (λ (q : Core). q.who) is_core) (subst (λ (q : Core). IsAttachedHere w.lines q.who) is_core s.here)
 
-  taken-stays : (e : Entry) (i : Input) → next_entry c w ≡ Some e → IsEntry e i → Handed c [] w i w' → StaysOpen c w'
+  pub taken-stays : (e : Entry) (i : Input) → next_entry c w ≡ Some e → IsEntry e i → Handed c [] w i w' → StaysOpen c w'
   taken-stays e (input.Entry x) next is hd = entry-stays e x next is hd
   taken-stays e (input.Frame b) next is hd = absurd is
   taken-stays e (input.Answer a) next is hd = absurd is

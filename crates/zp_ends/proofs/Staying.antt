@@ -78,7 +78,7 @@ Shows who (Reading xid r v ws) (answer.Txn z b parts) = IsForTree r × AreRecord
 Shows who (Committing xid r v p m) (answer.Txn z b parts) = IsForTree r × CommitShows who p z parts b
 Shows who _ a = Unit {0}
 
-or-both : (a b : Bool) → (a || b) ≡ false → (a ≡ false) × (b ≡ false)
+pub or-both : (a b : Bool) → (a || b) ≡ false → (a ≡ false) × (b ≡ false)
 or-both true b h = absurd (true-false h)
 or-both false b h = (refl, h)
 

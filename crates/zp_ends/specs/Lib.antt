@@ -3,3 +3,4 @@ pub mod Lines
 pub mod Bytes
 pub mod Settling
 pub mod Staying
+pub mod Undisturbed

@@ -37,7 +37,7 @@ ends_conn c p (line.Cut d) = c == d
 ends_conn c p (line.Refuse d) = c == d
 ends_conn c p (line.Lag d) = c == d
 ends_conn c p (line.End d) = c == d
-ends_conn c p (line.Restart q) = p == q
+ends_conn c p (line.Restart q) = q == p
 ends_conn c p _ = false
 
 -- a line of a transcript that takes its session from a connection: another one is attached to it, or it lapses

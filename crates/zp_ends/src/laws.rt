@@ -2,6 +2,7 @@
 
 ghost use Rattle.zp_ends.specs.Staying.{FramesLeaveOpen, SettlesOpen};
 ghost use Rattle.zp_ends.specs.Settling.{EndsByItsBound, EverySettleEnds, FirstCounts, KeepsCounts, SettlesToItsEnd};
+ghost use Rattle.zp_ends.specs.Undisturbed.{UndisturbedStayOpen};
 
 /// A settle comes to its end: where it may do as many lines as are left at most, nothing is left to do behind it. So may it by
 /// its bound, where the bytes of frames are counted and the bound is below 2^64 - 1.
@@ -28,4 +29,12 @@ pub fn every_settle_ends()
 pub fn attached_connections_stay_open()
     ensures settle { SettlesOpen }
     ensures frames { FramesLeaveOpen }
+{}
+
+/// An attached connection stays open in every run of a script, whatever other connections do: where, since its attachment, no line
+/// cuts or refuses its ask, makes it lag, ends its client or restarts its proxy, its session does not lapse and is attached to no
+/// other connection, its bytes have no length out of range, each of its frames has a header and none is a closeSession or an
+/// authentication that is refused, and where the store has room for a further revision.
+pub fn undisturbed_connections_stay_open()
+    ensures { UndisturbedStayOpen }
 {}
