@@ -116,7 +116,7 @@ abbrev shown_if : Bool → ℕ → ℕ
 shown_if true n = n
 shown_if false n = 0
 
-ended-out : (out : List Action) → is_end out ≡ true → out ≡ []
+pub ended-out : (out : List Action) → is_end out ≡ true → out ≡ []
 ended-out [] h = refl
 ended-out (x ∷ out) h = absurd (true-false (sym h))
 

@@ -307,48 +307,63 @@ tick-onward c w w' n e = onward-to c w (record w { clock = n }) w' e (stored-onw
 open-onward : (w : World) (c p : ℕ) (id : ℤ) (passwd : List ℕ) → Onward c w (opened w c p id passwd)
 open-onward w c p id passwd = with-onward w c (new_conn p (Connection (new_core (record { id = id; passwd = passwd })))) (Open c p id passwd ∷ []) (opened w c p id passwd) refl refl refl
 
+-- ---- settle
+
+pub settling-onward : (c : ℕ) (w w' : World) (h : Happening) → Settling c w h → Does w h w' → Onward c w w'
+settling-onward c w w' _ carries h = exec-onward w w' c h
+settling-onward c w w' _ answers h = delivers-onward w w' c (flight_at c w) h
+settling-onward c w w' _ (enters idle) h = enters-onward w w' c (next_entry c w) h
+
+pub settles-onward : (n c : ℕ) (w w' : World) → Settles n c w w' → Onward c w w'
+settles-onward zero c w w' h = onward-same c w w' h
+settles-onward (suc n) c w w' h = go (settling c w) refl (λ mid. settles-onward n c mid w') h
+  where
+    go : (o : Option Happening) → settling c w ≡ o → ((mid : World) → Settles n c mid w' → Onward c mid w') → SettlesOn n c w w' o → Onward c w w'
+    go None e later g = onward-same c w w' g
+    go (Some x) e later (mid, does, rest) = onward-then c w mid w' (settling-onward c w mid x (settling-is c w x e) does) (later mid rest)
+
 -- ---- each line
 
--- the number that a line names, but a restart and a settle
-abbrev pub DoesOn : World → Happening → World → Type 0
-DoesOn w (line.Open c p id passwd) w' = Onward c w w'
-DoesOn w (line.Frame c bytes) w' = Onward c w w'
-DoesOn w (line.Arrive c bytes) w' = Onward c w w'
-DoesOn w (line.Exec c) w' = Onward c w w'
-DoesOn w (line.Answer c) w' = Onward c w w'
-DoesOn w (line.Cut c) w' = Onward c w w'
-DoesOn w (line.Refuse c) w' = Onward c w w'
-DoesOn w (line.Stray k) w' = (c : ℕ) → Onward c w w'
-DoesOn w (line.Entry c) w' = Onward c w w'
-DoesOn w (line.Lag c) w' = Onward c w w'
-DoesOn w (line.End c) w' = Onward c w w'
-DoesOn w (line.Restart p) w' = Grows w w'
-DoesOn w (line.Lapse id) w' = (c : ℕ) → Onward c w w'
-DoesOn w (line.Foreign k v) w' = (c : ℕ) → Onward c w w'
-DoesOn w (line.Reap c p id) w' = Onward c w w'
-DoesOn w (line.Tick n) w' = (c : ℕ) → Onward c w w'
-DoesOn w (line.Settle c) w' = ⊥
+-- it moves the number that it names; a restart moves those of its proxy
+abbrev pub EffectOn : World → Happening → World → Type 0
+EffectOn w (line.Open c p id passwd) w' = Onward c w w'
+EffectOn w (line.Frame c bytes) w' = Onward c w w'
+EffectOn w (line.Arrive c bytes) w' = Onward c w w'
+EffectOn w (line.Exec c) w' = Onward c w w'
+EffectOn w (line.Answer c) w' = Onward c w w'
+EffectOn w (line.Cut c) w' = Onward c w w'
+EffectOn w (line.Refuse c) w' = Onward c w w'
+EffectOn w (line.Stray k) w' = (c : ℕ) → Onward c w w'
+EffectOn w (line.Entry c) w' = Onward c w w'
+EffectOn w (line.Lag c) w' = Onward c w w'
+EffectOn w (line.End c) w' = Onward c w w'
+EffectOn w (line.Restart p) w' = Grows w w'
+EffectOn w (line.Lapse id) w' = (c : ℕ) → Onward c w w'
+EffectOn w (line.Foreign k v) w' = (c : ℕ) → Onward c w w'
+EffectOn w (line.Reap c p id) w' = Onward c w w'
+EffectOn w (line.Tick n) w' = (c : ℕ) → Onward c w w'
+EffectOn w (line.Settle c) w' = Onward c w w'
 
-pub does-on : (w w' : World) (h : Happening) → Does w h w' → DoesOn w h w'
-does-on w w' (line.Open c p id passwd) h = onward-to c w (opened w c p id passwd) w' h (open-onward w c p id passwd)
-does-on w w' (line.Frame c bytes) h = arrives-onward c w w' (with_length bytes) h
-does-on w w' (line.Arrive c bytes) h = arrives-onward c w w' bytes h
-does-on w w' (line.Exec c) h = exec-onward w w' c h
-does-on w w' (line.Answer c) h = delivers-onward w w' c (flight_at c w) h
-does-on w w' (line.Cut c) (x, there, h) = failure-onward w w' c x x.actor h
-does-on w w' (line.Refuse c) (x, there, h) = onward-then c w (landed c w) w' (landed-onward w c) (failure-onward (landed c w) w' c x x.actor h)
-does-on w w' (line.Stray k) h = λ c. stray-onward c w w' k h
-does-on w w' (line.Entry c) h = enters-onward w w' c (next_entry c w) h
-does-on w w' (line.Lag c) h = lags-onward w w' c (cursor_at c w) h
-does-on w w' (line.End c) h = ends-onward w w' c (conn_at c w) h
-does-on w w' (line.Restart p) h = subst (Grows w) (sym h) (restart-grows p w)
-does-on w w' (line.Lapse id) h = λ c. lapse-onward c w w' id (lapse w.store id) refl h
-does-on w w' (line.Foreign k v) h = λ c. put-onward c w w' k v (foreign w.store k v) refl h
-does-on w w' (line.Reap c p id) h = reaps-onward w w' c (new_reaper p id) (new_reap id) None h
-does-on w w' (line.Tick n) h = λ c. tick-onward c w w' (w.clock + n) h
-does-on w w' (line.Settle c) h = absurd h
+pub effect-on : (w w' : World) (h : Happening) → Effect w h w' → EffectOn w h w'
+effect-on w w' (line.Open c p id passwd) h = onward-to c w (opened w c p id passwd) w' h (open-onward w c p id passwd)
+effect-on w w' (line.Frame c bytes) h = arrives-onward c w w' (with_length bytes) h
+effect-on w w' (line.Arrive c bytes) h = arrives-onward c w w' bytes h
+effect-on w w' (line.Exec c) h = exec-onward w w' c h
+effect-on w w' (line.Answer c) h = delivers-onward w w' c (flight_at c w) h
+effect-on w w' (line.Cut c) (x, there, h) = failure-onward w w' c x x.actor h
+effect-on w w' (line.Refuse c) (x, there, h) = onward-then c w (landed c w) w' (landed-onward w c) (failure-onward (landed c w) w' c x x.actor h)
+effect-on w w' (line.Stray k) h = λ c. stray-onward c w w' k h
+effect-on w w' (line.Entry c) h = enters-onward w w' c (next_entry c w) h
+effect-on w w' (line.Lag c) h = lags-onward w w' c (cursor_at c w) h
+effect-on w w' (line.End c) h = ends-onward w w' c (conn_at c w) h
+effect-on w w' (line.Restart p) h = subst (Grows w) (sym h) (restart-grows p w)
+effect-on w w' (line.Lapse id) h = λ c. lapse-onward c w w' id (lapse w.store id) refl h
+effect-on w w' (line.Foreign k v) h = λ c. put-onward c w w' k v (foreign w.store k v) refl h
+effect-on w w' (line.Reap c p id) h = reaps-onward w w' c (new_reaper p id) (new_reap id) None h
+effect-on w w' (line.Tick n) h = λ c. tick-onward c w w' (w.clock + n) h
+effect-on w w' (line.Settle c) h = settles-onward (max_settling c w) c w w' h
 
-on-grows : (w w' : World) (h : Happening) → DoesOn w h w' → Grows w w'
+on-grows : (w w' : World) (h : Happening) → EffectOn w h w' → Grows w w'
 on-grows w w' (line.Open c p id passwd) o = o.grows
 on-grows w w' (line.Frame c bytes) o = o.grows
 on-grows w w' (line.Arrive c bytes) o = o.grows
@@ -365,44 +380,10 @@ on-grows w w' (line.Lapse id) o = (o 0).grows
 on-grows w w' (line.Foreign k v) o = (o 0).grows
 on-grows w w' (line.Reap c p id) o = o.grows
 on-grows w w' (line.Tick n) o = (o 0).grows
-on-grows w w' (line.Settle c) o = absurd o
-
-pub does-grows : (w w' : World) (h : Happening) → Does w h w' → Grows w w'
-does-grows w w' h d = on-grows w w' h (does-on w w' h d)
-
--- ---- settle
-
-pub settling-onward : (c : ℕ) (w w' : World) (h : Happening) → Settling c w h → Does w h w' → Onward c w w'
-settling-onward c w w' _ carries h = exec-onward w w' c h
-settling-onward c w w' _ answers h = delivers-onward w w' c (flight_at c w) h
-settling-onward c w w' _ (enters idle) h = enters-onward w w' c (next_entry c w) h
-
-pub settles-onward : (n c : ℕ) (w w' : World) → Settles n c w w' → Onward c w w'
-settles-onward zero c w w' h = onward-same c w w' h
-settles-onward (suc n) c w w' h = go (settling c w) refl (λ mid. settles-onward n c mid w') h
-  where
-    go : (o : Option Happening) → settling c w ≡ o → ((mid : World) → Settles n c mid w' → Onward c mid w') → SettlesOn n c w w' o → Onward c w w'
-    go None e later g = onward-same c w w' g
-    go (Some x) e later (mid, does, rest) = onward-then c w mid w' (settling-onward c w mid x (settling-is c w x e) does) (later mid rest)
+on-grows w w' (line.Settle c) o = o.grows
 
 pub effect-grows : (w w' : World) (h : Happening) → Effect w h w' → Grows w w'
-effect-grows w w' (line.Settle c) h = (settles-onward (max_settling c w) c w w' h).grows
-effect-grows w w' (line.Open c p id passwd) h = does-grows w w' (line.Open c p id passwd) h
-effect-grows w w' (line.Frame c bytes) h = does-grows w w' (line.Frame c bytes) h
-effect-grows w w' (line.Arrive c bytes) h = does-grows w w' (line.Arrive c bytes) h
-effect-grows w w' (line.Exec c) h = does-grows w w' (line.Exec c) h
-effect-grows w w' (line.Answer c) h = does-grows w w' (line.Answer c) h
-effect-grows w w' (line.Cut c) h = does-grows w w' (line.Cut c) h
-effect-grows w w' (line.Refuse c) h = does-grows w w' (line.Refuse c) h
-effect-grows w w' (line.Stray n) h = does-grows w w' (line.Stray n) h
-effect-grows w w' (line.Entry c) h = does-grows w w' (line.Entry c) h
-effect-grows w w' (line.Lag c) h = does-grows w w' (line.Lag c) h
-effect-grows w w' (line.End c) h = does-grows w w' (line.End c) h
-effect-grows w w' (line.Restart p) h = does-grows w w' (line.Restart p) h
-effect-grows w w' (line.Lapse id) h = does-grows w w' (line.Lapse id) h
-effect-grows w w' (line.Foreign k v) h = does-grows w w' (line.Foreign k v) h
-effect-grows w w' (line.Reap c p id) h = does-grows w w' (line.Reap c p id) h
-effect-grows w w' (line.Tick n) h = does-grows w w' (line.Tick n) h
+effect-grows w w' h e = on-grows w w' h (effect-on w w' h e)
 
 pub runs-grow : (w w' : World) (hs : List Happening) (ticks : List Tick) → RunsFrom w hs ticks w' → Grows w w'
 runs-grow w w' [] ticks (none, same) = grows-same w w' same

@@ -26,7 +26,7 @@ use Rattle.zt_text.specs.declared.script.Happening.TheVariants as line
 use Rattle.zt_text.specs.declared.script.Happening.{Happening}
 use Rattle.zx_base.proofs.Options.{none_some, some_is}
 use Rattle.zp_laws.proofs.Ending.{steps_end_well}
-use Rattle.zp_laws.specs.Ending.{closes, ends_well, is_end}
+use Rattle.zp_laws.specs.Ending.{closes, ends_well}
 use Rattle.zp_laws.specs.Frames.{is_served}
 use Rattle.zp_step.proofs.Shutting.{ends-named, goes-still, shut-for-good, steps-open}
 use Rattle.zp_step.specs.Entries.{entered, then_reply}
@@ -63,8 +63,9 @@ use Rattle.zp_whole.proofs.Running.{Settling, SettlesOn, answers, carries, enter
 use Rattle.zp_whole.specs.Accounting.{IsAccounted, IsWithinCounts, OffersSession}
 use Rattle.zp_whole.specs.Connecting.{IsInStage}
 use Rattle.zp_whole.specs.Connections.{IsServing}
+use Rattle.zp_ends.proofs.Bytes.{ended-out}
 use Rattle.zp_ends.proofs.Few.{few-steps}
-use Rattle.zp_ends.proofs.Onward.{Grows, Later, carried-on, carry-later, does-grows}
+use Rattle.zp_ends.proofs.Onward.{Grows, Later, carried-on, carry-later, effect-grows}
 use Rattle.zp_ends.proofs.Room.{AsksFew, IsOfScript, carries-out, serving-allowed}
 
 -- ---- an open connection
@@ -133,15 +134,11 @@ closed-roomy w c x o r = leaves-roomy w c x Closed o (λ core e. absurd (closed-
 
 -- ---- a step
 
-out-none : (out : List Action) → is_end out ≡ true → out ≡ []
-out-none [] h = refl
-out-none (a ∷ out) h = absurd (true-false (sym h))
-
 -- what is denied behind it was denied before, and nothing was asked
 acts-denied : (c : ℕ) (kind : Option UpdateKind) (behind : List TranscriptLine) (out : List Action) (o : StepOutcome) → ends_well out ≡ true → closes out ≡ false → (fold (acts c kind behind) o out).flight ≡ Some Denied → o.flight ≡ Some Denied
 acts-denied c kind behind [] o h k e = e
 acts-denied c kind behind (action.Send bytes ∷ out) o h k e = acts-denied c kind behind out (acts c kind behind o (action.Send bytes)) h k e
-acts-denied c kind behind (action.Ask a ∷ out) o h k e = absurd (out-denied (record { ask = a; kind = kind }) (ap (λ l. (fold (acts c kind behind) (acts c kind behind o (action.Ask a)) l).flight) (sym (out-none out h)) ∙ e))
+acts-denied c kind behind (action.Ask a ∷ out) o h k e = absurd (out-denied (record { ask = a; kind = kind }) (ap (λ l. (fold (acts c kind behind) (acts c kind behind o (action.Ask a)) l).flight) (sym (ended-out out h)) ∙ e))
   where
     out-denied : (x : Asking) → Some (Out x) ≡ Some Denied → ⊥
     out-denied x f = cc
@@ -429,43 +426,12 @@ put-conns : (w w' : World) (o : Option Store) → PutTo w w' o → w'.conns ≡ 
 put-conns w w' None h = absurd h
 put-conns w w' (Some s) h = ap (λ (v : World). v.conns) h
 
--- ---- each line
-
-new-at : (s : Store) (p : ℕ) (fresh : Fresh) (core : Core) → Connection (new_core fresh) ≡ Connection core → IsRoomyAt s (new_conn p (Connection (new_core fresh))) core
-new-at s p fresh core e = record {
-  few = subst (λ (d : Core). AsksFew d.stage) (core-same (new_core fresh) core e) tt;
-  busy = λ denied. absurd (none_some denied);
-  full = λ served denied. absurd (none_some denied);
-}
-
-does-roomy : (w w' : World) (h : Happening) → Does w h w' → IsAccounted w → IsRoomy w → IsRoomy w'
-does-roomy w w' (line.Open c p id passwd) h k r =
-    let fresh : Fresh = record { id = id; passwd = passwd } in
-    let t = with-roomy w c (new_conn p (Connection (new_core fresh))) (λ core e. new-at w.store p fresh core e) r in
-    roomy-to (opened w c p id passwd) w' h (record { store = t.store; conns = t.conns })
-does-roomy w w' (line.Frame c bytes) h k r = arrives-roomy c w w' (with_length bytes) h r
-does-roomy w w' (line.Arrive c bytes) h k r = arrives-roomy c w w' bytes h r
-does-roomy w w' (line.Exec c) h k r = exec-roomy w w' c h k r
-does-roomy w w' (line.Answer c) h k r = delivers-roomy w w' c (flight_at c w) h r
-does-roomy w w' (line.Cut c) (x, there, h) k r = failure-roomy w w' c x x.actor h r
-does-roomy w w' (line.Refuse c) (x, there, h) k r = failure-roomy (landed c w) w' c x x.actor h (landed-roomy w c r)
-does-roomy w w' (line.Stray n) h k r = stray-roomy w w' n h r
-does-roomy w w' (line.Entry c) h k r = enters-roomy w w' c (next_entry c w) h r
-does-roomy w w' (line.Lag c) h k r = lags-roomy w w' c (cursor_at c w) h r
-does-roomy w w' (line.End c) h k r = ends-roomy w w' c (conn_at c w) h r
-does-roomy w w' (line.Restart p) h k r = roomy-to (restarted p w) w' h (stopped-roomy p w (entries w.conns) r)
-does-roomy w w' (line.Lapse id) h k r = put-roomy w w' (lapse-conns w w' id (lapse w.store id) h) (does-grows w w' (line.Lapse id) h) r
-does-roomy w w' (line.Foreign key v) h k r = put-roomy w w' (put-conns w w' (foreign w.store key v) h) (does-grows w w' (line.Foreign key v) h) r
-does-roomy w w' (line.Reap c p id) h k r = reaps-roomy w w' c (new_reaper p id) (new_reap id) None h r
-does-roomy w w' (line.Tick n) h k r = put-roomy w w' (ap (λ (v : World). v.conns) h) (does-grows w w' (line.Tick n) h) r
-does-roomy w w' (line.Settle c) h k r = absurd h
-
 -- ---- settle
 
 settling-roomy : (c : ℕ) (w w' : World) (h : Happening) → Settling c w h → Does w h w' → IsAccounted w → IsRoomy w → IsRoomy w'
-settling-roomy c w w' _ carries h k r = does-roomy w w' (line.Exec c) h k r
-settling-roomy c w w' _ answers h k r = does-roomy w w' (line.Answer c) h k r
-settling-roomy c w w' _ (enters idle) h k r = does-roomy w w' (line.Entry c) h k r
+settling-roomy c w w' _ carries h k r = exec-roomy w w' c h k r
+settling-roomy c w w' _ answers h k r = delivers-roomy w w' c (flight_at c w) h r
+settling-roomy c w w' _ (enters idle) h k r = enters-roomy w w' c (next_entry c w) h r
 
 settling-accounted : (c : ℕ) (w w' : World) (h : Happening) → Settling c w h → Does w h w' → IsAccounted w → IsAccounted w'
 settling-accounted c w w' _ carries h k = exec-accounted w w' c h k
@@ -482,24 +448,36 @@ settles-roomy (suc n) c w w' h k r = go (settling c w) refl (λ mid. settles-roo
         let s = settling-is c w x e in
         later mid rest (settling-accounted c w mid x s does k) (settling-roomy c w mid x s does k r)
 
+-- ---- each line
+
+new-at : (s : Store) (p : ℕ) (fresh : Fresh) (core : Core) → Connection (new_core fresh) ≡ Connection core → IsRoomyAt s (new_conn p (Connection (new_core fresh))) core
+new-at s p fresh core e = record {
+  few = subst (λ (d : Core). AsksFew d.stage) (core-same (new_core fresh) core e) tt;
+  busy = λ denied. absurd (none_some denied);
+  full = λ served denied. absurd (none_some denied);
+}
+
 effect-roomy : (w w' : World) (h : Happening) → Effect w h w' → IsAccounted w → IsRoomy w → IsRoomy w'
+effect-roomy w w' (line.Open c p id passwd) h k r =
+    let fresh : Fresh = record { id = id; passwd = passwd } in
+    let t = with-roomy w c (new_conn p (Connection (new_core fresh))) (λ core e. new-at w.store p fresh core e) r in
+    roomy-to (opened w c p id passwd) w' h (record { store = t.store; conns = t.conns })
+effect-roomy w w' (line.Frame c bytes) h k r = arrives-roomy c w w' (with_length bytes) h r
+effect-roomy w w' (line.Arrive c bytes) h k r = arrives-roomy c w w' bytes h r
+effect-roomy w w' (line.Exec c) h k r = exec-roomy w w' c h k r
+effect-roomy w w' (line.Answer c) h k r = delivers-roomy w w' c (flight_at c w) h r
+effect-roomy w w' (line.Cut c) (x, there, h) k r = failure-roomy w w' c x x.actor h r
+effect-roomy w w' (line.Refuse c) (x, there, h) k r = failure-roomy (landed c w) w' c x x.actor h (landed-roomy w c r)
+effect-roomy w w' (line.Stray n) h k r = stray-roomy w w' n h r
+effect-roomy w w' (line.Entry c) h k r = enters-roomy w w' c (next_entry c w) h r
+effect-roomy w w' (line.Lag c) h k r = lags-roomy w w' c (cursor_at c w) h r
+effect-roomy w w' (line.End c) h k r = ends-roomy w w' c (conn_at c w) h r
+effect-roomy w w' (line.Restart p) h k r = roomy-to (restarted p w) w' h (stopped-roomy p w (entries w.conns) r)
+effect-roomy w w' (line.Lapse id) h k r = put-roomy w w' (lapse-conns w w' id (lapse w.store id) h) (effect-grows w w' (line.Lapse id) h) r
+effect-roomy w w' (line.Foreign key v) h k r = put-roomy w w' (put-conns w w' (foreign w.store key v) h) (effect-grows w w' (line.Foreign key v) h) r
+effect-roomy w w' (line.Reap c p id) h k r = reaps-roomy w w' c (new_reaper p id) (new_reap id) None h r
+effect-roomy w w' (line.Tick n) h k r = put-roomy w w' (ap (λ (v : World). v.conns) h) (effect-grows w w' (line.Tick n) h) r
 effect-roomy w w' (line.Settle c) h k r = settles-roomy (max_settling c w) c w w' h k r
-effect-roomy w w' (line.Open c p id passwd) h k r = does-roomy w w' (line.Open c p id passwd) h k r
-effect-roomy w w' (line.Frame c bytes) h k r = does-roomy w w' (line.Frame c bytes) h k r
-effect-roomy w w' (line.Arrive c bytes) h k r = does-roomy w w' (line.Arrive c bytes) h k r
-effect-roomy w w' (line.Exec c) h k r = does-roomy w w' (line.Exec c) h k r
-effect-roomy w w' (line.Answer c) h k r = does-roomy w w' (line.Answer c) h k r
-effect-roomy w w' (line.Cut c) h k r = does-roomy w w' (line.Cut c) h k r
-effect-roomy w w' (line.Refuse c) h k r = does-roomy w w' (line.Refuse c) h k r
-effect-roomy w w' (line.Stray n) h k r = does-roomy w w' (line.Stray n) h k r
-effect-roomy w w' (line.Entry c) h k r = does-roomy w w' (line.Entry c) h k r
-effect-roomy w w' (line.Lag c) h k r = does-roomy w w' (line.Lag c) h k r
-effect-roomy w w' (line.End c) h k r = does-roomy w w' (line.End c) h k r
-effect-roomy w w' (line.Restart p) h k r = does-roomy w w' (line.Restart p) h k r
-effect-roomy w w' (line.Lapse id) h k r = does-roomy w w' (line.Lapse id) h k r
-effect-roomy w w' (line.Foreign key v) h k r = does-roomy w w' (line.Foreign key v) h k r
-effect-roomy w w' (line.Reap c p id) h k r = does-roomy w w' (line.Reap c p id) h k r
-effect-roomy w w' (line.Tick n) h k r = does-roomy w w' (line.Tick n) h k r
 
 pub happens-roomy : (w w' : World) (h : Happening) → Happens w h w' → IsAccounted w → IsRoomy w → IsRoomy w'
 happens-roomy w w' h p k r = effect-roomy w w' h p.effect k r

@@ -25,7 +25,7 @@ use Rattle.zp_whole.proofs.Numbers.{either-number, same-number}
 use Rattle.zp_whole.proofs.Running.{number-free, runs-grown, within-before}
 use Rattle.zp_whole.specs.Accounting.{IsWithinCounts, OffersSession}
 use Rattle.zp_ends.proofs.Ongoing.{IsEndedBadly, IsOpenAt, answer-open, arrives-open, entry-open, exec-open, settles-open}
-use Rattle.zp_ends.proofs.Onward.{Grows, Onward, does-on, effect-grows, grows-then, restart-still, runs-grow, settles-onward}
+use Rattle.zp_ends.proofs.Onward.{Grows, Onward, effect-grows, effect-on, grows-then, restart-still, runs-grow}
 use Rattle.zp_ends.proofs.Room.{and-false}
 use Rattle.zp_ends.proofs.Roomy.{IsKept, every-run-kept, happens-kept}
 use Rattle.zp_ends.specs.Undisturbed.{HasMildFrames, UndisturbedStayOpen, bad_at, ends_conn, takes_session}
@@ -60,23 +60,23 @@ module _ (c : ℕ) (w w' : World) (x : Conn) (there : conn_at c w ≡ Some x) wh
 
     closed-stays : (h : Happening) → fault w h ≡ None → Effect w h w' → conn_at c w' ≡ conn_at c w
     unfolding fault
-    closed-stays (line.Open d p id passwd) free h = others d (free-apart d (number-free (conn_at d w) free)) (does-on w w' (line.Open d p id passwd) h)
-    closed-stays (line.Frame d bytes) free h = others d (live-apart d _ free) (does-on w w' (line.Frame d bytes) h)
-    closed-stays (line.Arrive d bytes) free h = others d (live-apart d _ free) (does-on w w' (line.Arrive d bytes) h)
-    closed-stays (line.Exec d) free h = others d (live-apart d _ free) (does-on w w' (line.Exec d) h)
-    closed-stays (line.Answer d) free h = others d (live-apart d _ free) (does-on w w' (line.Answer d) h)
-    closed-stays (line.Cut d) free h = others d (live-apart d _ free) (does-on w w' (line.Cut d) h)
-    closed-stays (line.Refuse d) free h = others d (live-apart d _ free) (does-on w w' (line.Refuse d) h)
-    closed-stays (line.Entry d) free h = others d (live-apart d _ free) (does-on w w' (line.Entry d) h)
-    closed-stays (line.Lag d) free h = others d (live-apart d _ free) (does-on w w' (line.Lag d) h)
-    closed-stays (line.End d) free h = others d (live-apart d _ free) (does-on w w' (line.End d) h)
-    closed-stays (line.Settle d) free h = others d (live-apart d _ free) (settles-onward (max_settling d w) d w w' h)
-    closed-stays (line.Reap d p id) free h = others d (free-apart d (number-free (conn_at d w) free)) (does-on w w' (line.Reap d p id) h)
+    closed-stays (line.Open d p id passwd) free h = others d (free-apart d (number-free (conn_at d w) free)) (effect-on w w' (line.Open d p id passwd) h)
+    closed-stays (line.Frame d bytes) free h = others d (live-apart d _ free) (effect-on w w' (line.Frame d bytes) h)
+    closed-stays (line.Arrive d bytes) free h = others d (live-apart d _ free) (effect-on w w' (line.Arrive d bytes) h)
+    closed-stays (line.Exec d) free h = others d (live-apart d _ free) (effect-on w w' (line.Exec d) h)
+    closed-stays (line.Answer d) free h = others d (live-apart d _ free) (effect-on w w' (line.Answer d) h)
+    closed-stays (line.Cut d) free h = others d (live-apart d _ free) (effect-on w w' (line.Cut d) h)
+    closed-stays (line.Refuse d) free h = others d (live-apart d _ free) (effect-on w w' (line.Refuse d) h)
+    closed-stays (line.Entry d) free h = others d (live-apart d _ free) (effect-on w w' (line.Entry d) h)
+    closed-stays (line.Lag d) free h = others d (live-apart d _ free) (effect-on w w' (line.Lag d) h)
+    closed-stays (line.End d) free h = others d (live-apart d _ free) (effect-on w w' (line.End d) h)
+    closed-stays (line.Settle d) free h = others d (live-apart d _ free) (effect-on w w' (line.Settle d) h)
+    closed-stays (line.Reap d p id) free h = others d (free-apart d (number-free (conn_at d w) free)) (effect-on w w' (line.Reap d p id) h)
     closed-stays (line.Restart q) free h = ap (conn_at c) h ∙ restart-still q c w x there (ap (λ b. (q == x.proxy) && not b) closed ∙ and-false (q == x.proxy))
-    closed-stays (line.Stray n) free h = away (does-on w w' (line.Stray n) h)
-    closed-stays (line.Lapse id) free h = away (does-on w w' (line.Lapse id) h)
-    closed-stays (line.Foreign k v) free h = away (does-on w w' (line.Foreign k v) h)
-    closed-stays (line.Tick n) free h = away (does-on w w' (line.Tick n) h)
+    closed-stays (line.Stray n) free h = away (effect-on w w' (line.Stray n) h)
+    closed-stays (line.Lapse id) free h = away (effect-on w w' (line.Lapse id) h)
+    closed-stays (line.Foreign k v) free h = away (effect-on w w' (line.Foreign k v) h)
+    closed-stays (line.Tick n) free h = away (effect-on w w' (line.Tick n) h)
 
 ended-stays : (c : ℕ) (n : ℤ) (w w' : World) (h : Happening) → Happens w h w' → IsEndedBadly c n w → IsEndedBadly c n w'
 ended-stays c n w w' h p e = record { conn = e.conn; there = closed-stays c w w' e.conn e.there (ap is_closed e.closed) h p.possible p.effect ∙ e.there; closed = e.closed; bad = e.bad }
@@ -110,25 +110,25 @@ module _ (c p : ℕ) (place : ℕ) (own : Attachment) (last : World) (kept : Non
 
     effect-open : (h : Happening) → fault w h ≡ None → Effect w h w' → ends_conn c p h ≡ false → IsOpenAt c p w'
     unfolding fault
-    effect-open (line.Open d q id passwd) free h calm = fresh d (number-free (conn_at d w) free) (does-on w w' (line.Open d q id passwd) h)
-    effect-open (line.Reap d q id) free h calm = fresh d (number-free (conn_at d w) free) (does-on w w' (line.Reap d q id) h)
-    effect-open (line.Frame d bytes) free h calm = by-number d (does-on w w' (line.Frame d bytes) h) (arrives d (with_length bytes) h)
-    effect-open (line.Arrive d bytes) free h calm = by-number d (does-on w w' (line.Arrive d bytes) h) (arrives d bytes h)
-    effect-open (line.Exec d) free h calm = by-number d (does-on w w' (line.Exec d) h) (λ e. exec-open c p place own last kept mild room w w' g k attached o (subst (λ n. Executes n w w') e h))
-    effect-open (line.Answer d) free h calm = by-number d (does-on w w' (line.Answer d) h) (λ e. answer-open c p place own last kept mild room w w' g k attached o (subst (λ n. Delivers n w w' (flight_at n w)) e h))
-    effect-open (line.Entry d) free h calm = by-number d (does-on w w' (line.Entry d) h) (λ e. entry-open c p place own last kept mild room w w' g k attached o (subst (λ n. EntersBy n w w' (next_entry n w)) e h))
-    effect-open (line.Settle d) free h calm = by-number d (settles-onward (max_settling d w) d w w' h) (λ e. settles-open c p place own last kept mild room (max_settling c w) w w' (subst (λ n. Settles (max_settling n w) n w w') e h) g' k attached o)
-    effect-open (line.Cut d) free h calm = by-number d (does-on w w' (line.Cut d) h) (spared d calm)
-    effect-open (line.Refuse d) free h calm = by-number d (does-on w w' (line.Refuse d) h) (spared d calm)
-    effect-open (line.Lag d) free h calm = by-number d (does-on w w' (line.Lag d) h) (spared d calm)
-    effect-open (line.End d) free h calm = by-number d (does-on w w' (line.End d) h) (spared d calm)
+    effect-open (line.Open d q id passwd) free h calm = fresh d (number-free (conn_at d w) free) (effect-on w w' (line.Open d q id passwd) h)
+    effect-open (line.Reap d q id) free h calm = fresh d (number-free (conn_at d w) free) (effect-on w w' (line.Reap d q id) h)
+    effect-open (line.Frame d bytes) free h calm = by-number d (effect-on w w' (line.Frame d bytes) h) (arrives d (with_length bytes) h)
+    effect-open (line.Arrive d bytes) free h calm = by-number d (effect-on w w' (line.Arrive d bytes) h) (arrives d bytes h)
+    effect-open (line.Exec d) free h calm = by-number d (effect-on w w' (line.Exec d) h) (λ e. exec-open c p place own last kept mild room w w' g k attached o (subst (λ n. Executes n w w') e h))
+    effect-open (line.Answer d) free h calm = by-number d (effect-on w w' (line.Answer d) h) (λ e. answer-open c p place own last kept mild room w w' g k attached o (subst (λ n. Delivers n w w' (flight_at n w)) e h))
+    effect-open (line.Entry d) free h calm = by-number d (effect-on w w' (line.Entry d) h) (λ e. entry-open c p place own last kept mild room w w' g k attached o (subst (λ n. EntersBy n w w' (next_entry n w)) e h))
+    effect-open (line.Settle d) free h calm = by-number d (effect-on w w' (line.Settle d) h) (λ e. settles-open c p place own last kept mild room (max_settling c w) w w' (subst (λ n. Settles (max_settling n w) n w w') e h) g' k attached o)
+    effect-open (line.Cut d) free h calm = by-number d (effect-on w w' (line.Cut d) h) (spared d calm)
+    effect-open (line.Refuse d) free h calm = by-number d (effect-on w w' (line.Refuse d) h) (spared d calm)
+    effect-open (line.Lag d) free h calm = by-number d (effect-on w w' (line.Lag d) h) (spared d calm)
+    effect-open (line.End d) free h calm = by-number d (effect-on w w' (line.End d) h) (spared d calm)
     effect-open (line.Restart q) free h calm =
         let others_proxy : is_open_at q o.conn ≡ false = ap (λ n. (q == n) && not (is_closed o.conn.actor)) o.proxy ∙ ap (λ b. b && not (is_closed o.conn.actor)) calm in
         still-open (ap (conn_at c) h ∙ restart-still q c w o.conn o.there others_proxy)
-    effect-open (line.Stray n) free h calm = still-open (away c w w' o.conn o.there (does-on w w' (line.Stray n) h))
-    effect-open (line.Lapse id) free h calm = still-open (away c w w' o.conn o.there (does-on w w' (line.Lapse id) h))
-    effect-open (line.Foreign key v) free h calm = still-open (away c w w' o.conn o.there (does-on w w' (line.Foreign key v) h))
-    effect-open (line.Tick n) free h calm = still-open (away c w w' o.conn o.there (does-on w w' (line.Tick n) h))
+    effect-open (line.Stray n) free h calm = still-open (away c w w' o.conn o.there (effect-on w w' (line.Stray n) h))
+    effect-open (line.Lapse id) free h calm = still-open (away c w w' o.conn o.there (effect-on w w' (line.Lapse id) h))
+    effect-open (line.Foreign key v) free h calm = still-open (away c w w' o.conn o.there (effect-on w w' (line.Foreign key v) h))
+    effect-open (line.Tick n) free h calm = still-open (away c w w' o.conn o.there (effect-on w w' (line.Tick n) h))
 
   unended : bad_at c last ≡ None → (n : ℤ) → IsEndedBadly c n last → ⊥
   unended none n e = none_some (sym none ∙ ap (option_and_then (λ (x : Conn). bad_length x.stream.rest)) e.there ∙ e.bad)

@@ -40,7 +40,7 @@ ends_conn c p (line.End d) = c == d
 ends_conn c p (line.Restart q) = q == p
 ends_conn c p _ = false
 
--- a line of a transcript that takes its session from a connection: another one is attached to it, or it lapses
+-- a line of a transcript that takes its session from a connection: the session is attached to another one, or lapses
 abbrev pub takes_in : ℤ → UpdateKind → Bool
 takes_in id (Attach other c) = int_eq id other
 takes_in id _ = false
@@ -60,16 +60,19 @@ bad_at c w = option_and_then (λ (x : Conn). bad_length x.stream.rest) (conn_at 
 
 -- ---- the law
 
--- These lines led from w, where c was attached, to w', and none of all that was among them; nor has there been any of it since c's own
--- line. The store has room for a further revision.
+-- nothing of all that happened to c since its attachment; these lines led from w, where it was attached, to w'
 pub record IsUndisturbed (c : ℕ) (w : World) (a : IsAttachedAt c w) (hs : List Happening) (w' : World) : Type 0 where
+  -- these lines have no cut, refuse, lag or end of it, and no restart of its proxy
   pub script : All (λ h. ends_conn c a.conn.proxy h ≡ false) hs
+  -- behind its own line, its session has no lapse and no later Attach
   pub session : (k : ℕ) (l : TranscriptLine) → a.place < k → slice_get w'.lines k ≡ Some l → takes_session a.own.session l ≡ false
+  -- its bytes have no frame without a header, no closeSession and no authentication that is refused, and no length out of range
   pub frames : HasMildFrames c w'.lines
   pub lengths : bad_at c w' ≡ None
+  -- and the store is not at its last revision
   pub room : revision w'.store <ℤ last_revision
 
--- it is open in w' still
+-- then it is open still
 abbrev pub UndisturbedStayOpen : Type 0
 UndisturbedStayOpen = (before hs : List Happening) (ticks later : List Tick) (w w' : World) (c : ℕ) → All OffersSession before → All OffersSession hs → IsWithinCounts w' → Runs before ticks w → RunsFrom w hs later w' → (a : IsAttachedAt c w) → IsUndisturbed c w a hs w'
     → is_open_conn (conn_at c w') ≡ true
