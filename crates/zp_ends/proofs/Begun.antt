@@ -1,6 +1,6 @@
 -- Nothing that an open connection with a session has at work ends it, where its session lives and its frames are mild.
 use Rattle.std.proofs.Common.{◌≡◌, ℕ, ◌+◌, ◌<◌, ◌≤◌, List, [], ◌∷◌, drop, length, take, take-append-drop, refl, sym, ap, ◌∙◌, subst, arith, Bool, true, false, ℤ}
-use Rattle.std.specs.Prelude.{Option, Some, None, ◌&&◌, ◌==◌, if◌then◌else◌, is_some, slice_get}
+use Rattle.std.specs.Prelude.{Option, Some, None, ◌==◌, if◌then◌else◌, is_some, slice_get}
 use Rattle.std.proofs.lemmas.Bool.{and_parts}
 use Rattle.std.proofs.lemmas.Bool.Decides.{nat_tests}
 use Rattle.ev_types.specs.Store.{Store}
@@ -12,7 +12,7 @@ use Rattle.zk_model.specs.declared.request.Request.{Request}
 use Rattle.zk_transcript.proofs.Attachments.{NoneBehind}
 use Rattle.zk_transcript.proofs.Placed.{first_place-shown, is_legal-at}
 use Rattle.zk_transcript.specs.Answers.{Told, limit_in, plain_reply, session_refusal, session_seen}
-use Rattle.zk_transcript.specs.History.{after, frame_shown, state_at, when}
+use Rattle.zk_transcript.specs.History.{after, frame_shown, state_at}
 use Rattle.zk_transcript.specs.Legal.{is_legal, is_next_zxid, may_update}
 use Rattle.zk_transcript.specs.Walks.{at_start, closes_session, looked as looks_told, own_update, own_update_in, own_update_shown, response_at, seen_told, told_as_of, told_response, with_end}
 use Rattle.zk_transcript.specs.declared.transcript.Cause.{Cause}
@@ -34,7 +34,7 @@ use Rattle.zp_whole.proofs.Kept.{true-false}
 use Rattle.zp_whole.proofs.Numbers.{number-same}
 use Rattle.zp_whole.specs.Bounds.{attachment}
 use Rattle.zp_whole.specs.Connections.{IsServing}
-use Rattle.zp_ends.proofs.Sessions.{close-frame, held-at, may-close, mild-front, placed-mild}
+use Rattle.zp_ends.proofs.Sessions.{close-frame, held-at, may-close, mild-front, placed-mild, when-both}
 use Rattle.zp_ends.proofs.Staying.{or-both}
 use Rattle.zp_ends.specs.Staying.{AreLasting, IsLasting, IsLastingIn, closes_behind, is_close, refuses}
 use Rattle.zp_ends.specs.Undisturbed.{HasMildFrames, takes_session}
@@ -55,14 +55,6 @@ with_end-is : (over : Bool) (o : Option Told) (b : Bool) (t : Told) → with_end
 with_end-is over None b t h = absurd (none_some h)
 with_end-is over (Some x) b t h = ap (λ (p : Bool × Told). p.0) (some_is h)
 
-own-when : (c d i j : ℕ) (u v : UpdateRec) → when ((c == d) && (i == j)) u ≡ Some v → (c ≡ d) × (i ≡ j) × (u ≡ v)
-own-when c d i j u v h = go (c == d) (i == j) refl refl h
-  where
-    go : (a b : Bool) → (c == d) ≡ a → (i == j) ≡ b → when (a && b) u ≡ Some v → (c ≡ d) × (i ≡ j) × (u ≡ v)
-    go true true e f g = (number-same c d e, number-same i j f, some_is g)
-    go true false e f g = absurd (none_some g)
-    go false b e f g = absurd (none_some g)
-
 module _ (s : Store) (lines : List TranscriptLine) (c : ℕ) (core : Core) (flight : Option Flight) (legal : is_legal lines ≡ true) (k : IsServing s lines c core flight) (kept : NoneBehind (takes_session core.who.session) k.place lines) (mild : HasMildFrames c lines) where
   front-mild : (n : ℕ) → HasMildFrames c (take n lines)
   front-mild n = mild-front c (take n lines) (drop n lines) (subst (HasMildFrames c) (sym (take-append-drop n lines)) mild)
@@ -77,15 +69,15 @@ module _ (s : Store) (lines : List TranscriptLine) (c : ℕ) (core : Core) (flig
 
   -- no update of its closes its session
   own-not : (i place : ℕ) (z : ℤ) (kind : UpdateKind) (u : UpdateRec) → slice_get lines place ≡ Some (Update (record { zxid = z; kind = kind })) → own_update_in c i (record { zxid = z; kind = kind }) kind ≡ Some u → closes_session u.kind ≡ false
-  own-not i place z (Asked d j now) u at h = ap (λ (v : UpdateRec). closes_session v.kind) (sym (own-when c d i j (record { zxid = z; kind = Asked d j now }) u h).2)
+  own-not i place z (Asked d j now) u at h = ap (λ (v : UpdateRec). closes_session v.kind) (sym (when-both (c == d) (i == j) (record { zxid = z; kind = Asked d j now }) u h).2)
   own-not i place z (Closed id d j) u at h =
-      let w = own-when c d i j (record { zxid = z; kind = Closed id d j }) u h in
+      let w = when-both (c == d) (i == j) (record { zxid = z; kind = Closed id d j }) u h in
       let may = (and_parts (may_update (take place lines) (state_at lines place) z (Closed id d j)) (is_next_zxid (state_at lines place) z) (is_legal-at lines place (Update (record { zxid = z; kind = Closed id d j })) legal at)).0 in
       let m = may-close (take place lines) (state_at lines place) z id d j may in
       let f = close-frame d j (take place lines) m.closes in
       let p = first_place-shown (frame_shown d j) 0 (take place lines) f.0 f.1 in
       let above : 1 ≤ j = grind (arith, nat_tests, m.index) in
-      absurd (true-false (sym f.2 ∙ (placed-mild d j p.0 (take place lines) f.0 (subst (λ n. HasMildFrames n (take place lines)) w.0 (front-mild place)) p.1 above).1))
+      absurd (true-false (sym f.2 ∙ (placed-mild d j p.0 (take place lines) f.0 (subst (λ n. HasMildFrames n (take place lines)) (number-same c d w.0) (front-mild place)) p.1 above).1))
   own-not i place z (Begin now) u at h = absurd (none_some h)
   own-not i place z (NewSession id d) u at h = absurd (none_some h)
   own-not i place z (Attach id d) u at h = absurd (none_some h)

@@ -48,7 +48,7 @@ get-front xs ys k x e = slice_get-front xs ys k (slice_get_within xs k x e) ∙ 
 pub mild-front : (c : ℕ) (xs ys : List TranscriptLine) → HasMildFrames c (xs ++ ys) → HasMildFrames c xs
 mild-front c xs ys h k i z bytes e least = h k i z bytes (get-front xs ys k (FrameLine c i z bytes) e) least
 
-when-both : (a b : Bool) (x y : List ℕ) → when (a && b) x ≡ Some y → (a ≡ true) × (b ≡ true) × (x ≡ y)
+pub when-both : {A : Type 0} (a b : Bool) (x y : A) → when (a && b) x ≡ Some y → (a ≡ true) × (b ≡ true) × (x ≡ y)
 when-both true true x y h = (refl, refl, some_is h)
 when-both true false x y h = absurd (none_some h)
 when-both false b x y h = absurd (none_some h)
