@@ -5,3 +5,4 @@ pub mod FaultLaws
 pub mod GroupLaws
 pub mod MultiLaws
 pub mod StoredEntries
+pub mod WholeTrees

@@ -1,10 +1,11 @@
 -- When a number is beyond its field: in no tree of a run, and for no data that a frame carries.
-use Rattle.std.specs.Prelude.{◌≡◌, ◌≤◌, ◌≤ℤ◌, ℕ, ℤ, pos, ⊤, List, [], ◌∷◌, Some, length}
+use Rattle.std.specs.Prelude.{◌≡◌, ◌≤◌, ◌≤ℤ◌, ℕ, ℤ, pos, ⊤, List, [], ◌∷◌, Some, None, length}
 use Rattle.std.specs.FinMap.{get}
 use Rattle.zx_base.specs.Maps.{Bytes}
 use Rattle.zk_model.specs.declared.node.Node.{Node}
 use Rattle.zk_model.specs.declared.request.Part.{Part}
 use Rattle.zk_model.specs.Multi.{data_len}
+use Rattle.zk_model.specs.Paths.{parent}
 use Rattle.zk_model.specs.Single.{Outcome, Refused, Done, single}
 use Rattle.zk_model.specs.Znodes.{Tree, num_children}
 use Rattle.zk_plain.specs.declared.fault.Fault.{Fault}
@@ -19,6 +20,15 @@ pub record IsCounted (n : Node) (children : ℕ) : Type 0 where
 
 abbrev pub IsWithin : Tree → Type 0
 IsWithin t = (p : Bytes) (n : Node) → get t p ≡ Some n → IsCounted n (num_children t p)
+
+-- nothing stands below a path where nothing is
+abbrev pub IsClosed : Tree → Type 0
+IsClosed t = (p q : Bytes) → parent p ≡ Some q → get t q ≡ None → get t p ≡ None
+
+-- what each request keeps of a tree, so that its numbers stay within their fields
+pub record IsWhole (t : Tree) : Type 0 where
+  pub closed : IsClosed t
+  pub within : IsWithin t
 
 -- want of memory, or the numbers are not such
 abbrev pub BeyondUnless : Type 0 → Fault → Type 0

@@ -23,6 +23,7 @@ use crate::write::Write;
 use std::alloc::Global;
 use std::collections::BTreeSet;
 use zk_model::code::{BAD_ARGUMENTS, OK, RUNTIME_INCONSISTENCY};
+use zk_model::limit::MAX_LOAD;
 use zk_model::{Part, PartResult, Path, Trigger};
 use zx_base::{Memory, Seq};
 
@@ -157,9 +158,6 @@ fn parts_of(
         },
     }
 }
-
-/// The most bytes of a transaction's data and paths.
-const MAX_LOAD: usize = 1000000;
 
 /// A sum, unless it is above the most.
 fn add_within(sum: Option<usize>, more: usize) -> Option<usize>

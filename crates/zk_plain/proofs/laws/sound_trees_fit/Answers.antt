@@ -1,4 +1,8 @@
+use Rattle.zk_plain.proofs.WholeTrees.{sound-whole, sound-within}
 use Rattle.zk_plain.proofs.laws.sound_trees_fit.Goals as goal
 
-pub returns : goal.returns
-returns c = λ s sound p n there. let counted = sound.counted p n there in record { counted = counted.counted; creates = counted.most; small = sound.small p n there }
+pub returns-clause-fit : goal.returns-clause-fit
+returns-clause-fit c = λ s sound. sound-within s.sessions s.tree sound
+
+pub returns-clause-whole : goal.returns-clause-whole
+returns-clause-whole c = λ s sound. sound-whole s.sessions s.tree sound

@@ -1,0 +1,5 @@
+use Rattle.zk_plain.proofs.WholeTrees.{parts-within}
+use Rattle.zk_plain.proofs.laws.parts_fit.Goals as goal
+
+pub returns : goal.returns
+returns c = λ t parts whole small limit session zxid moment. parts-within limit session zxid moment t parts whole small
