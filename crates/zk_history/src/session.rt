@@ -1,7 +1,7 @@
 //! Open sessions (Programmer's Guide, "ZooKeeper Sessions").
 
 ghost use Rattle.std.specs.Prelude.{◌≡◌, [], pos, option_map, IfOk, true};
-ghost use Rattle.zk_transcript.specs.History.{granted_timeout, new_session, or_nothing};
+ghost use Rattle.zk_transcript.specs.History.{new_session, or_nothing};
 
 use std::alloc::Global;
 use std::marker::Model;
@@ -31,19 +31,6 @@ impl Model for Session {
     ghost view = { λ s. record { passwd = s.passwd; timeout = s.timeout; connection = s.connection; attached = s.attached; lapsed = s.lapsed } };
 }
 
-/// A requested timeout, brought into the service's range. Both are in milliseconds.
-fn granted_timeout(asked: i32) -> i32
-    ensures { result ≡ granted_timeout asked }
-{
-    if asked < MIN_TIMEOUT {
-        MIN_TIMEOUT
-    } else if MAX_TIMEOUT < asked {
-        MAX_TIMEOUT
-    } else {
-        asked
-    }
-}
-
 /// The password that a connection offered, if its opening is shown.
 fn offered(alloc: Global, opened: Option<(i64, [u8; 16])>) -> Result<Bytes, Memory>
     ensures { IfOk result (λ passwd. passwd ≡ or_nothing [] (option_map (λ o. o.1) opened)) }
@@ -68,7 +55,8 @@ fn asked_timeout(asked: &Option<ConnectRequest>) -> i32
 }
 
 impl Session {
-    /// A session that begins, by what the transcript shows of its connection.
+    /// A session that begins, by what the transcript shows of its connection. The timeout that its connect asked for is brought
+    /// into the service's range.
     pub fn new(
         alloc: Global,
         opened: Option<(i64, [u8; 16])>,
@@ -80,7 +68,7 @@ impl Session {
     {
         Ok(Session {
             passwd: offered(alloc, opened)?,
-            timeout: granted_timeout(asked_timeout(asked)),
+            timeout: MAX_TIMEOUT.min(MIN_TIMEOUT.max(asked_timeout(asked))),
             connection,
             attached: zxid,
             lapsed: false,

@@ -1,5 +1,5 @@
 use Rattle.std.proofs.Common.{ap, sym, ◌∙◌}
-use Rattle.std.specs.Prelude.{ℕ, List, ℤ, Option, option_map, Some}
+use Rattle.std.specs.Prelude.{ℤ, Option, option_map}
 use Rattle.zk_transcript.specs.Legal.{Attachment, attach_shown}
 use Rattle.zk_history.specs.Shown.{attachment_of}
 use Rattle.zk_history.specs.Pasts.{lines_of}

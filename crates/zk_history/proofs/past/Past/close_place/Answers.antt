@@ -1,5 +1,5 @@
 use Rattle.std.proofs.Common.{ap, sym, ◌∙◌}
-use Rattle.std.specs.Prelude.{ℕ, List, ℤ, Option, option_map, Some}
+use Rattle.std.specs.Prelude.{ℕ, Option, option_map, Some}
 use Rattle.zk_transcript.specs.Conversations.{close_shown}
 use Rattle.zk_history.specs.Pasts.{lines_of}
 use Rattle.zk_history.specs.Shown.{close_mark, is_mark}

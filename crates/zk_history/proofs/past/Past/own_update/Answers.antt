@@ -1,5 +1,5 @@
 use Rattle.std.proofs.Common.{ap, sym, ◌∙◌}
-use Rattle.std.specs.Prelude.{ℕ, List, ℤ, Option, option_map, Some}
+use Rattle.std.specs.Prelude.{Option, option_map}
 use Rattle.zk_transcript.specs.Walks.{own_update_shown}
 use Rattle.zk_transcript.specs.declared.transcript.UpdateRec.{UpdateRec}
 use Rattle.zk_history.specs.Pasts.{lines_of}

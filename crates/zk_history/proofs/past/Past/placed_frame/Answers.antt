@@ -1,5 +1,5 @@
 use Rattle.std.proofs.Common.{ap, sym, ◌∙◌}
-use Rattle.std.specs.Prelude.{ℕ, List, ℤ, Option, option_map, Some}
+use Rattle.std.specs.Prelude.{ℕ, List, Option, option_map}
 use Rattle.zk_transcript.specs.History.{frame_shown}
 use denote.Ref.{Bor}
 use Rattle.zk_history.specs.Pasts.{lines_of}
