@@ -27,7 +27,7 @@ frames_of-push c (x ∷ ls) l =
       | false ↦ frames_of-push c ls l
     ]
 
-frames-few : (c : ℕ) (ls : List TranscriptLine) → frames_of c ls ≤ length ls
+pub frames-few : (c : ℕ) (ls : List TranscriptLine) → frames_of c ls ≤ length ls
 frames-few c [] = omega arith
 frames-few c (x ∷ ls) = elim (is_frame_of c x) as (λ b. (if b then frames_of c ls + 1 else frames_of c ls) ≤ length (x ∷ ls)) [
   | true ↦ omega (arith, frames-few c ls)

@@ -9,7 +9,7 @@ use Rattle.zk_transcript.specs.Legal.{begins, is_begin, is_in_order, is_legal, i
 use Rattle.zk_legal.specs.Formed.{has_begun}
 use Rattle.zk_legal.specs.Faults.{comes_after_begin, has_event, history_fault, history_fault_from, is_history_line, or_empty, order_fault, order_fault_from}
 
-legal-line : (before : List TranscriptLine) (s : State) (l : TranscriptLine) → is_history_line before s l ≡ true → is_legal_line before s l ≡ true
+pub legal-line : (before : List TranscriptLine) (s : State) (l : TranscriptLine) → is_history_line before s l ≡ true → is_legal_line before s l ≡ true
 unfolding is_history_line
 legal-line before s l holds = grind (arith, common_steps)
 

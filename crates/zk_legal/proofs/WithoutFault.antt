@@ -1,9 +1,9 @@
 -- What the lines of a transcript show whose history has no fault: zxids from 0 on, frames with the last zxid before them, and no
 -- packet to a connection that was not opened.
-use Rattle.std.proofs.Common.{◌≡◌, ℕ, zero, suc, ℤ, pos, ◌+◌, Bool, true, false, ◌&&◌, ◌==◌, inl, inr, List, [], ◌∷◌, ◌++◌, take, Option, Some, None, refl, ap, sym, ◌∙◌, subst, append_assoc, append-nil, eqb-true, arith}
+use Rattle.std.proofs.Common.{◌≡◌, ℕ, zero, suc, ℤ, pos, ◌+◌, Bool, true, false, ◌==◌, List, [], ◌∷◌, ◌++◌, take, Option, Some, None, refl, ap, sym, ◌∙◌, subst, append_assoc, append-nil, eqb-true, arith}
 use Rattle.std.specs.Prelude.{◌≤ℤ◌, int_le, is_some, slice_get, if◌then◌else◌}
 use Rattle.std.specs.Ordering.{int_eq}
-use Rattle.std.proofs.lemmas.Bool.{and_parts, cases_Bool}
+use Rattle.std.proofs.lemmas.Bool.{and_parts}
 use Rattle.std.proofs.lemmas.Bool.Decides.{nat_tests}
 use Rattle.std.proofs.lemmas.Int.{ints}
 use Rattle.std.proofs.lemmas.Grind.{common_steps}
@@ -11,19 +11,19 @@ use Rattle.zk_transcript.specs.declared.transcript.UpdateRec.{UpdateRec}
 use Rattle.zk_transcript.specs.declared.transcript.TranscriptLine.{TranscriptLine}
 use Rattle.zk_transcript.specs.declared.transcript.TranscriptLine.TheVariants as line
 use Rattle.zk_transcript.specs.Conversations.{IsShownFresh, IsSilentUnopened}
-use Rattle.zk_transcript.specs.History.{State, after, change, nothing_yet, opening, open_shown, state_at}
-use Rattle.zk_transcript.specs.Walks.{Due, packets, packets_from}
+use Rattle.zk_transcript.specs.History.{State, after, change, nothing_yet, opening, open_shown}
+use Rattle.zk_transcript.specs.Walks.{Due, packets_from}
 use Rattle.zk_transcript.proofs.Appending.{after-push}
 use Rattle.zk_transcript.proofs.Histories.{first_shown-push}
-use Rattle.zk_legal.specs.Formed.{has_begun, is_closed, is_formed_line, is_opened}
+use Rattle.zk_legal.specs.Formed.{is_formed_line, is_opened}
 use Rattle.zk_legal.specs.Faults.{history_fault, history_fault_from, is_history_line, is_in_range, is_moment}
 use Rattle.zk_legal.proofs.NoFault.{first, no_fault}
 
-formed-line : (before : List TranscriptLine) (s : State) (l : TranscriptLine) → is_history_line before s l ≡ true → is_formed_line before s l ≡ true
+pub formed-line : (before : List TranscriptLine) (s : State) (l : TranscriptLine) → is_history_line before s l ≡ true → is_formed_line before s l ≡ true
 unfolding is_history_line
 formed-line before s l holds = grind (arith, common_steps)
 
-range-line : (before : List TranscriptLine) (s : State) (l : TranscriptLine) → is_history_line before s l ≡ true → is_in_range l ≡ true
+pub range-line : (before : List TranscriptLine) (s : State) (l : TranscriptLine) → is_history_line before s l ≡ true → is_in_range l ≡ true
 unfolding is_history_line
 range-line before s l holds = grind (arith, common_steps)
 

@@ -1,17 +1,14 @@
 -- The first line at which a transcript is no run of the service: by its form and its updates, and by the order of each
 -- connection's requests.
-use Rattle.std.specs.Prelude.{ℕ, ◌+◌, Bool, true, false, ◌&&◌, ◌||◌, List, [], ◌∷◌, ◌++◌, length, nat_le, int_le, pos, Option, Some, None, if◌then◌else◌}
+use Rattle.std.specs.Prelude.{◌≡◌, ℕ, ◌+◌, Bool, true, false, ◌&&◌, ◌||◌, List, [], ◌∷◌, ◌++◌, length, nat_le, int_le, pos, Option, Some, None, if◌then◌else◌}
+use Rattle.zk_model.specs.Limits.{max_moment}
 use Rattle.zk_transcript.specs.declared.transcript.UpdateKind.{UpdateKind}
 use Rattle.zk_transcript.specs.declared.transcript.UpdateKind.TheVariants.{Begin, Asked}
 use Rattle.zk_transcript.specs.declared.transcript.TranscriptLine.{TranscriptLine}
 use Rattle.zk_transcript.specs.declared.transcript.TranscriptLine.TheVariants as line
-use Rattle.zk_transcript.specs.History.{State, nothing_yet, change}
+use Rattle.zk_transcript.specs.History.{State, after, nothing_yet, change}
 use Rattle.zk_transcript.specs.Legal.{is_begin, is_legal_line, is_in_order}
 use Rattle.zk_legal.specs.Formed.{has_begun, is_formed_line}
-
--- the greatest moment of the clock, in milliseconds
-abbrev pub max_moment : ℕ
-max_moment = 9000000000000000
 
 abbrev pub is_moment : UpdateKind → Bool
 is_moment (Begin now) = nat_le now max_moment
@@ -36,6 +33,11 @@ is_history_line before s l = is_formed_line before s l && comes_after_begin s l 
 abbrev pub history_fault_from : List TranscriptLine → State → List TranscriptLine → Option ℕ
 history_fault_from before s [] = None
 history_fault_from before s (l ∷ ls) = if is_history_line before s l then history_fault_from (before ++ l ∷ []) (change before s l) ls else Some (length before + 1)
+
+-- lines without a fault so far, and the state that they lead to
+pub record IsRunTo (before : List TranscriptLine) (s : State) : Type 0 where
+  pub faultless : history_fault_from [] nothing_yet before ≡ None
+  pub reached : s ≡ after before
 
 abbrev pub is_event : TranscriptLine → Bool
 is_event (line.Update u) = true

@@ -1,3 +1,5 @@
 pub mod Counted
 pub mod Formed
 pub mod Faults
+pub mod Passwords
+pub mod Short

@@ -1,17 +1,18 @@
 //! The first line that no run of the service can have written there.
 
 ghost use Rattle.std.specs.Prelude.{◌≡◌, [], IfOk};
+ghost use Rattle.zk_history.specs.Fits.{Fits, IsCountable};
 ghost use Rattle.zk_transcript.specs.History.{change as change_of, nothing_yet};
 ghost use Rattle.zk_transcript.specs.Legal.{is_begin as is_begin_of};
 ghost use Rattle.zk_history.specs.Pasts.{lines_of};
 ghost use Rattle.zk_legal.specs.Counted.{AreCounts};
-ghost use Rattle.zk_legal.specs.Faults.{comes_after_begin as comes_after_begin_of, has_event as has_event_of, history_fault as history_fault_of, history_fault_from, is_event as is_event_of, is_history_line as is_history_line_of, is_in_range as is_in_range_of, is_moment as is_moment_of};
+ghost use Rattle.zk_legal.specs.Faults.{IsRunTo, comes_after_begin as comes_after_begin_of, has_event as has_event_of, history_fault as history_fault_of, history_fault_from, is_event as is_event_of, is_history_line as is_history_line_of, is_in_range as is_in_range_of, is_moment as is_moment_of};
 
 use crate::counts::Counts;
 use crate::formed::{has_begun, is_formed_line};
 use crate::legal::is_legal_line;
 use std::alloc::Global;
-use zk_history::{Past, State, change};
+use zk_history::{Fault, Past, State, change};
 use zk_model::limit::MAX_MOMENT;
 use zk_transcript::{TranscriptLine, UpdateKind};
 use zx_base::Memory;
@@ -64,7 +65,8 @@ fn is_history_line(
     state: &State,
     line: &TranscriptLine,
 ) -> Result<bool, Memory>
-    requires { AreCounts (lines_of before.now) counts.now }
+    requires counts { AreCounts (lines_of before.now) counts.now }
+    requires run { IsRunTo (lines_of before.now) state.now }
     ensures { IfOk result (λ b. b ≡ is_history_line_of (lines_of before.now) state.now line.now) }
 {
     if is_formed_line(before, counts, state, line)
@@ -99,18 +101,20 @@ fn has_event(lines: &[TranscriptLine]) -> bool
     false
 }
 
-/// The state after a line. Without memory, and where a number is beyond its field, there is no answer.
+/// The state after a line that a run can have written.
 fn changed(
     alloc: Global,
     before: &Past,
     state: State,
     line: &TranscriptLine,
 ) -> Result<State, Memory>
+    requires { IsCountable state × Fits (lines_of before.now) state line.now }
     ensures { IfOk result (λ s. s ≡ change_of (lines_of before.now) state line.now) }
 {
     match change(alloc, before, state, line) {
         Ok(state) => Ok(state),
-        Err(_) => Err(Memory),
+        Err(Fault::Memory) => Err(Memory),
+        Err(Fault::Beyond) => unreachable!(),
     }
 }
 
@@ -133,8 +137,7 @@ fn first_fault(alloc: Global, lines: &[TranscriptLine]) -> Result<Option<u64>, M
 }
 
 /// The number of the first line, from 1, at which the transcript is not formed or its update could not be made; behind the last
-/// line, where there is neither an update nor a lapse. Without memory, and where a count of the tree is beyond its field, as in
-/// no run, there is no answer.
+/// line, where there is neither an update nor a lapse.
 #[tactic(auto, unfolding(crate::specs::Faults::history_fault))]
 pub fn history_fault(alloc: Global, lines: &[TranscriptLine]) -> Result<Option<u64>, Memory>
     ensures { IfOk result (λ n. n ≡ history_fault_of lines.now) }

@@ -1,13 +1,16 @@
 //! Updates that the service could make in the state before them.
 
-ghost use Rattle.std.specs.Prelude.{◌≡◌, ◌&&◌, is_none, is_some, IfOk};
-ghost use Rattle.zk_transcript.specs.History.{asked_commit as asked_commit_of, attached, frame as frame_of, opening as opening_of, session_at};
+ghost use Rattle.std.specs.Prelude.{◌≡◌, ◌≤◌, ◌&&◌, true, is_none, is_some, IfOk};
+ghost use Rattle.zk_model.specs.Limits.{max_moment};
+ghost use Rattle.zk_transcript.specs.History.{asked_commit as asked_commit_of, attached, frame as frame_of, opening as opening_of, request as request_of, session_at, session_of};
 ghost use Rattle.zk_transcript.specs.Legal.{asks_anew as asks_anew_of, is_close as is_close_of, is_id as is_id_of, is_lapsed as is_lapsed_of, is_legal_line as is_legal_line_of, is_live as is_live_of, is_live_as as is_live_as_of, is_next_zxid as is_next_zxid_of, is_resumed_by as is_resumed_by_of, is_small_frame as is_small_frame_of, is_within_parts as is_within_parts_of, may_attach as may_attach_of, may_update as may_update_of, offers as offers_of};
 ghost use Rattle.zk_transcript.specs.declared.transcript.UpdateKind.TheVariants as kind;
+ghost use Rattle.zk_history.specs.Fits.{AskedFits, IsMoment};
 ghost use Rattle.zk_history.specs.Pasts.{lines_of};
+ghost use Rattle.zk_legal.specs.Faults.{IsRunTo, is_in_range, is_moment};
 
 use std::alloc::Global;
-use zk_history::{Past, State, attached_to, planned_commit};
+use zk_history::{Fault, Past, State, attached_to, planned_commit};
 use zk_model::limit::{MAX_FRAME, MAX_PARTS};
 use zk_model::{ConnectRequest, Request};
 use zk_transcript::{TranscriptLine, UpdateKind};
@@ -178,7 +181,7 @@ fn may_attach_session(
     Ok(is_resumed_by(id, &asked, state) && may_attach(before, connection, zxid, &asked))
 }
 
-/// Whether a request does something. Without memory, and where a number is beyond its field, there is no answer.
+/// Whether a request does something.
 fn is_committed(
     alloc: Global,
     before: &Past,
@@ -188,12 +191,14 @@ fn is_committed(
     index: u64,
     now: u64,
 ) -> Result<bool, Memory>
+    requires { IsMoment now × AskedFits state.now.tree (session_of (lines_of before.now) connection state.now) (request_of connection index (lines_of before.now)) zxid now }
     ensures { IfOk result (λ b. b ≡ is_some (asked_commit_of (lines_of before.now) state.now zxid connection index now)) }
 {
     match planned_commit(alloc, before, state, zxid, connection, index, now) {
         Ok(None) => Ok(false),
         Ok(Some(_)) => Ok(true),
-        Err(_) => Err(Memory),
+        Err(Fault::Memory) => Err(Memory),
+        Err(Fault::Beyond) => unreachable!(),
     }
 }
 
@@ -208,6 +213,8 @@ fn may_ask(
     index: u64,
     now: u64,
 ) -> Result<bool, Memory>
+    requires run { IsRunTo (lines_of before.now) state.now }
+    requires moment { now ≤ max_moment }
     ensures { IfOk result (λ b. b ≡ may_update_of (lines_of before.now) state.now zxid (kind.Asked connection index now)) }
 {
     let asked = before.request(alloc, connection, index)?;
@@ -254,6 +261,8 @@ fn may_update(
     zxid: i64,
     kind: UpdateKind,
 ) -> Result<bool, Memory>
+    requires run { IsRunTo (lines_of before.now) state.now }
+    requires moment { is_moment kind ≡ true }
     ensures { IfOk result (λ b. b ≡ may_update_of (lines_of before.now) state.now zxid kind) }
 {
     match kind {
@@ -292,12 +301,17 @@ pub fn is_legal_line(
     state: &State,
     line: &TranscriptLine,
 ) -> Result<bool, Memory>
+    requires run { IsRunTo (lines_of before.now) state.now }
+    requires range { is_in_range line.now ≡ true }
     ensures { IfOk result (λ b. b ≡ is_legal_line_of (lines_of before.now) state.now line.now) }
 {
     match line {
         TranscriptLine::Update(update) => {
-            let may = may_update(alloc, before, state, update.zxid, update.kind)?;
-            Ok(may && is_next_zxid(state, update.zxid))
+            if is_next_zxid(state, update.zxid) {
+                may_update(alloc, before, state, update.zxid, update.kind)
+            } else {
+                Ok(false)
+            }
         }
         _ => Ok(true),
     }

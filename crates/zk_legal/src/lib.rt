@@ -17,6 +17,8 @@ mod order;
 pub use history::history_fault;
 pub use laws::{
     frames_without_fault_are_fresh, lines_in_order_are_ordered, lines_without_fault_are_legal,
-    lines_without_fault_have_zxids, unopened_connections_are_silent,
+    lines_without_fault_have_zxids, numbers_without_fault_fit,
+    sessions_without_fault_have_passwords, unopened_connections_are_silent,
+    updates_without_fault_are_short,
 };
 pub use order::order_fault;

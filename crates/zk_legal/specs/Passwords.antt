@@ -1,0 +1,8 @@
+-- The passwords that connections offer for new sessions (ZooKeeper's `ConnectRequest`).
+use Rattle.std.specs.Prelude.{◌≡◌, ℕ, ℤ, List, length, Some}
+use Rattle.zk_transcript.specs.declared.transcript.TranscriptLine.{TranscriptLine}
+use Rattle.zk_transcript.specs.History.{opening}
+
+-- each has 16 bytes
+abbrev pub OfferPasswords : List TranscriptLine → Type 0
+OfferPasswords lines = (c : ℕ) (o : ℤ × List ℕ) → opening c lines ≡ Some o → length o.1 ≡ 16
