@@ -39,7 +39,7 @@ AskedFits t _ _ zxid now = ⊤
 
 abbrev pub UpdateFits : List TranscriptLine → State → ℤ → UpdateKind → Type 0
 UpdateFits before s zxid (Begin now) = IsMoment now
-UpdateFits before s zxid (Asked c i now) = IsMoment now × AskedFits s.tree (session_of before c s) (request c i before) zxid now
+UpdateFits before s zxid (Asked c i now) = IsMoment now × AskedFits s.tree (session_of c s) (request c i before) zxid now
 UpdateFits before s zxid _ = ⊤
 
 -- a line that stands behind these and meets this state

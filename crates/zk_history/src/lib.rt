@@ -22,8 +22,8 @@ mod zxids;
 
 pub use cursor::Cursor;
 pub use effects::Effects;
-pub use lines::{Applied, apply, attached_to, change, planned_commit};
-pub use moments::{after, asked_commit, state_at};
+pub use lines::{Applied, apply, change, planned_commit};
+pub use moments::{after, state_at};
 pub use outcome::{Change, Commit};
 pub use past::Past;
 pub use requests::commit;

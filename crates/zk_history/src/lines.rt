@@ -2,7 +2,7 @@
 
 ghost use Rattle.std.specs.Prelude.{◌≡◌, ℕ, List, None, option_map, IfOk, IfErr};
 ghost use Rattle.zk_transcript.specs.declared.transcript.UpdateKind.TheVariants as kind;
-ghost use Rattle.zk_transcript.specs.History.{State, attached as attached_as, attached_anew, asked_commit, change, committed, lapsed_in, request, session_at, session_of, updated};
+ghost use Rattle.zk_transcript.specs.History.{State, attached_anew, asked_commit, change, committed, lapsed_in, request, session_at, session_of, updated};
 ghost use Rattle.zk_plain.specs.Faults.{BeyondUnless};
 ghost use Rattle.zk_history.specs.Commits.{commit_of, response_in, response_to};
 ghost use Rattle.zk_history.specs.Pasts.{lines_of};
@@ -43,21 +43,11 @@ fn turn(session: i64, zxid: i64, moment: u64) -> Result<Turn, Fault>
     })
 }
 
-/// The session that a connection acts for behind these lines, and whether it has lapsed: 0 where they show no connect of it.
-pub fn attached_to(before: &Past, connection: u32, state: &State) -> Option<(i64, bool)>
-    ensures { result ≡ option_map (λ e. (e.0, e.1.lapsed)) (attached_as (lines_of before.now) connection state.now) }
-{
-    match before.frame(connection, 0) {
-        Some(_) => state.attached_to(connection),
-        None => Some((0, false)),
-    }
-}
-
 /// The session that the requests of a connection are made under.
-fn session_of(before: &Past, connection: u32, state: &State) -> Option<i64>
-    ensures { result ≡ session_of (lines_of before.now) connection state.now }
+fn session_of(connection: u32, state: &State) -> Option<i64>
+    ensures { result ≡ session_of connection state.now }
 {
-    let (session, _) = attached_to(before, connection, state)?;
+    let (session, _) = state.attached_to(connection)?;
     Some(session)
 }
 
@@ -136,9 +126,9 @@ pub fn planned_commit(
     moment: u64,
 ) -> Result<Option<Commit>, Fault>
     ensures ok { IfOk result (λ o. option_map (commit_of state.now.tree) o ≡ asked_commit (lines_of before.now) state.now zxid connection index moment) }
-    ensures beyond { IfErr result (BeyondUnless (IsMoment moment × AskedFits state.now.tree (session_of (lines_of before.now) connection state.now) (request connection index (lines_of before.now)) zxid moment)) }
+    ensures beyond { IfErr result (BeyondUnless (IsMoment moment × AskedFits state.now.tree (session_of connection state.now) (request connection index (lines_of before.now)) zxid moment)) }
 {
-    let Some(session) = session_of(before, connection, state) else {
+    let Some(session) = session_of(connection, state) else {
         return Ok(None);
     };
     let Some(asked) = before.request(alloc, connection, index)? else {
@@ -199,7 +189,7 @@ fn asked(
 ) -> Result<Applied, Fault>
     ensures ok { IfOk result (λ a. a.state ≡ updated (lines_of before.now) state zxid (kind.Asked connection index moment)) }
     ensures response { IfOk result (λ a. a.response ≡ response_in (lines_of before.now) state zxid (kind.Asked connection index moment)) }
-    ensures beyond { IfErr result (BeyondUnless (IsCountable state × IsMoment moment × AskedFits state.tree (session_of (lines_of before.now) connection state) (request connection index (lines_of before.now)) zxid moment)) }
+    ensures beyond { IfErr result (BeyondUnless (IsCountable state × IsMoment moment × AskedFits state.tree (session_of connection state) (request connection index (lines_of before.now)) zxid moment)) }
 {
     let done = planned_commit(alloc, before, &state, zxid, connection, index, moment)?;
     Ok(committed(alloc, state, zxid, done)?)

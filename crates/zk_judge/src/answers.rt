@@ -3,8 +3,8 @@
 ghost use Rattle.std.specs.Prelude.{◌≡◌, ◌<◌, Some, length, option_map, slice_get, IfOk, IfSome};
 ghost use Rattle.zk_transcript.specs.declared.transcript.TranscriptLine.TheVariants.{Update};
 ghost use Rattle.zk_model.specs.declared.reply.Reply.TheVariants as reply;
-ghost use Rattle.zk_transcript.specs.History.{after};
-ghost use Rattle.zk_transcript.specs.Answers.{limit_in, plain_reply as plain_reply_of, session_refusal as session_refusal_of, session_seen};
+ghost use Rattle.zk_transcript.specs.History.{after, session_at};
+ghost use Rattle.zk_transcript.specs.Answers.{limit_in, plain_reply as plain_reply_of, session_refusal as session_refusal_of};
 ghost use Rattle.zk_transcript.specs.Walks.{closes_session as closes_session_of, looked as looked_of, response_at as response_at_of, told_as_of as told_as_of_of, told_by_state as told_by_state_of};
 ghost use Rattle.zk_answers.specs.Outcomes.{told_of};
 ghost use Rattle.zk_judge.specs.Fronts.{IsFront};
@@ -32,11 +32,8 @@ pub struct Ending {
 
 /// The refusal of the session test.
 fn session_refusal(party: Party, state: &State) -> Option<i32>
-    ensures { option_map reply.Refused result ≡ session_refusal_of party.connection (session_seen state.now party.connection party.session) }
+    ensures { option_map reply.Refused result ≡ session_refusal_of party.connection (session_at party.session state.now) }
 {
-    if party.session == 0 {
-        return None;
-    }
     match state.session(party.session) {
         None => Some(SESSION_EXPIRED),
         Some(session) => {

@@ -18,7 +18,7 @@ use Rattle.zk_transcript.specs.declared.transcript.UpdateKind.TheVariants.{Begin
 use Rattle.zk_transcript.specs.declared.transcript.TranscriptLine.{TranscriptLine}
 use Rattle.zk_transcript.specs.declared.transcript.TranscriptLine.TheVariants.{Update, Open, Frame as FrameLine, Send, Lapse, Close}
 use Rattle.zk_transcript.specs.Answers.{Told, plain_reply, plain_request, told_refusal}
-use Rattle.zk_transcript.specs.History.{State, Session, state_at, asked_in, frame_shown, frame, request, commit, commit_single, asked_commit, attached, limit_of}
+use Rattle.zk_transcript.specs.History.{State, Session, state_at, asked_in, frame_shown, frame, request, commit, commit_single, asked_commit, attached_session, limit_of}
 use Rattle.zk_transcript.specs.Legal.{is_legal, is_legal_line, is_next_zxid, may_update, is_close, is_within_parts}
 use Rattle.zk_transcript.specs.Walks.{own_update_in, own_update_shown, placed_frame}
 use Rattle.zk_transcript.proofs.Appending.{first_place-push}
@@ -71,7 +71,7 @@ record ByTree (before : List TranscriptLine) (c i : ℕ) : Type 0 where
   pub plain : plain_request no_watches asked ≡ None
 
 asked-plain : (before : List TranscriptLine) (s : State) (z : ℤ) (c i now : ℕ) → is_some (asked_commit before s z c i now) ≡ true → is_within_parts (request c i before) ≡ true → ByTree before c i
-asked-plain before s z c i now h w = by (attached before c s) (request c i before) refl h w
+asked-plain before s z c i now h w = by (attached_session c s) (request c i before) refl h w
   where
     by : (o : Option (ℤ × Session)) (q : Option Request) → request c i before ≡ q → is_some (elim o [ None ↦ None | Some e ↦ elim q [ None ↦ None | Some r ↦ commit s.tree (limit_of e.1) e.0 r z now ] ]) ≡ true
         → is_within_parts q ≡ true → ByTree before c i

@@ -8,8 +8,8 @@ use Rattle.zk_model.specs.Watches.{Watches}
 use Rattle.zk_jute.specs.Requests.{Frame, read_request}
 use Rattle.zk_jute.specs.Packets.{reply_packet}
 use Rattle.zk_transcript.specs.declared.transcript.TranscriptLine.{TranscriptLine}
-use Rattle.zk_transcript.specs.Answers.{Told, xid_of, session_seen}
-use Rattle.zk_transcript.specs.History.{state_at}
+use Rattle.zk_transcript.specs.Answers.{Told, xid_of}
+use Rattle.zk_transcript.specs.History.{state_at, session_at}
 use Rattle.zk_transcript.specs.Legal.{is_legal}
 use Rattle.zk_transcript.specs.Walks.{Walker, Answer, Due, move, due_notices, fired_above, own_update, later_of, told_as_of, reply_step, after_update, is_fresh}
 use Rattle.zk_least.specs.LeastWalk.{behind, given, is_allowed}
@@ -50,16 +50,16 @@ later-lower a b k h = by (nat_le a k) (nat_le b k) refl refl
     by false false e f = h
 
 told-lower : (lines : List TranscriptLine) (c : ℕ) (id : ℤ) (x : Frame) (f g : Watches) (k m : ℕ) (t : Bool × Told) → IsLag (state_at lines k) (state_at lines m) → f ≡ g
-    → session_seen (state_at lines k) c id ≡ session_seen (state_at lines m) c id → told_as_of (take m lines) c id x g None ≡ Some t → told_as_of (take k lines) c id x f None ≡ Some t
+    → session_at id (state_at lines k) ≡ session_at id (state_at lines m) → told_as_of (take m lines) c id x g None ≡ Some t → told_as_of (take k lines) c id x f None ≡ Some t
 unfolding told_as_of
 told-lower lines c id x f g k m t lag e s h =
-    sym (told-tree (state_at lines k) (state_at lines m) c id x f (session_seen (state_at lines k) c id) lag.tree)
-    ∙ ap (λ w. told_to (state_at lines m) c id x w (session_seen (state_at lines k) c id)) e
+    sym (told-tree (state_at lines k) (state_at lines m) c id x f (session_at id (state_at lines k)) lag.tree)
+    ∙ ap (λ w. told_to (state_at lines m) c id x w (session_at id (state_at lines k))) e
     ∙ ap (told_to (state_at lines m) c id x g) s ∙ h
 
 -- no packet and no notice stands in the way of a lesser moment of the same zxid at which the session is the same
 pub lower-moment : (lines : List TranscriptLine) (c : ℕ) (id : ℤ) (w : Walker) (ps : List Due) (k m : ℕ) → is_legal lines ≡ true → pos 0 <ℤ w.zxid → own_update c w.next lines ≡ None
-    → k ≤ m → w.moment ≤ k → is_fresh lines c w.next (Answer k) ≡ true → (state_at lines m).zxid ≡ (state_at lines k).zxid → session_seen (state_at lines k) c id ≡ session_seen (state_at lines m) c id
+    → k ≤ m → w.moment ≤ k → is_fresh lines c w.next (Answer k) ≡ true → (state_at lines m).zxid ≡ (state_at lines k).zxid → session_at id (state_at lines k) ≡ session_at id (state_at lines m)
     → is_allowed lines c id w ps m ≡ true → is_allowed lines c id w ps k ≡ true
 lower-moment lines c id w ps k m legal up own le after_last fresh same says h =
     let a = and_parts (is_fresh lines c w.next (Answer m)) (is_some (given ps (move lines c id w (Answer m)))) h in

@@ -10,7 +10,7 @@ use Rattle.zk_jute.specs.Packets.{reply_packet}
 use Rattle.zk_transcript.specs.declared.transcript.UpdateRec.{UpdateRec}
 use Rattle.zk_transcript.specs.declared.transcript.TranscriptLine.{TranscriptLine}
 use Rattle.zk_transcript.specs.declared.transcript.TranscriptLine.TheVariants.{Update, Open, Frame as FrameLine, Send, Lapse, Close}
-use Rattle.zk_transcript.specs.Answers.{Told, only, xid_of, session_seen, session_refusal, limit_in}
+use Rattle.zk_transcript.specs.Answers.{Told, only, xid_of, session_refusal, limit_in}
 use Rattle.zk_transcript.specs.History.{State, session_at, state_at, first_place, when}
 use Rattle.zk_transcript.specs.Legal.{is_legal}
 use Rattle.zk_transcript.specs.Walks.{Walker, Due, placed_frame, own_update, fired_above, later_of, seen_told, told_as_of, after_place, after_update, is_past}
@@ -18,7 +18,7 @@ use Rattle.zk_least.specs.LeastWalk.{zxid_in, next_reply, is_allowed, first_pass
 use Rattle.zk_least.specs.LeastMoments.{code_in, lapse_shown, first_moment, moment_behind_lapse, moments_to_try, moments_for, first_of, LeastMomentLaw}
 use Rattle.zk_least.proofs.Rising.{state_at-line}
 use Rattle.zk_least.proofs.LastUpdates.{IsPastUpdate, past-update, has-zxid}
-use Rattle.zk_least.proofs.Sessions.{IsGone, says-as, seen-as, lapse-gone}
+use Rattle.zk_least.proofs.Sessions.{IsGone, says-as, lapse-gone}
 use Rattle.zk_least.proofs.SameZxid.{NoLapses, between, get-drop, get-between, moments-lag, same-session, gone-session}
 use Rattle.zk_least.proofs.FirstPlaces.{IsFirstAt, first_place-at, first_place-none}
 use Rattle.zk_least.proofs.Headers.{reply-code}
@@ -127,7 +127,7 @@ still-between lines n a b top id from to none j r e =
 
 -- what is told to an expired session shows its code
 expired-code : (lines : List TranscriptLine) (c : ℕ) (id : ℤ) (w : Walker) (ps : List Due) (m : ℕ) (bytes : List ℕ) → is_legal lines ≡ true → HasZxids lines → next_reply ps ≡ Some bytes → own_update c w.next lines ≡ None
-    → (a : AllowedAs lines c id w ps m) → session_refusal c (session_seen (state_at lines m) c id) ≡ Some (reply.Refused session_expired) → code_in bytes ≡ session_expired
+    → (a : AllowedAs lines c id w ps m) → session_refusal c (session_at id (state_at lines m)) ≡ Some (reply.Refused session_expired) → code_in bytes ≡ session_expired
 unfolding told_as_of
 expired-code lines c id w ps m bytes legal least next own a gone =
     let mk = a.made in
@@ -135,7 +135,7 @@ expired-code lines c id w ps m bytes legal least next own a gone =
     let f = (fired_above (take m lines) w.zxid w.watches).0 in
     let s = state_at lines m in
     let told : told_as_of (take m lines) c id x f None ≡ Some mk.what = ap (told_as_of (take m lines) c id x f) (sym own) ∙ mk.told in
-    let here : ◌≡◌ {A = Option (Bool × Told)} (Some (true, only f (reply.Refused session_expired))) (Some mk.what) = sym (ap (seen_told s (limit_in (session_seen s c id)) id x f) gone) ∙ told in
+    let here : ◌≡◌ {A = Option (Bool × Told)} (Some (true, only f (reply.Refused session_expired))) (Some mk.what) = sym (ap (seen_told s (limit_in (session_at id s)) id x f) gone) ∙ told in
     let same : ◌≡◌ {A = Bool × Told} (true, only f (reply.Refused session_expired)) mk.what = cc in
     let said : reply.Refused session_expired ≡ mk.what.1.reply = ap (λ (p : Bool × Told). p.1.reply) same in
     ap code_in (shown lines c id w ps m bytes legal least next a ∙ ap (reply_packet (xid_of x) (state_at lines m).zxid) (sym said))
@@ -168,7 +168,7 @@ module _ (lines : List TranscriptLine) (c : ℕ) (id : ℤ) (w : Walker) (ps : L
       same o f g e d = (let both : Some f ≡ Some g = sym e ∙ d in let one : f ≡ g = cc in ap (λ (p : ℕ × List ℕ). p.0) one)
 
   -- an earlier moment at which the session is the same is allowed too
-  lower : (j k : ℕ) → is_allowed lines c id w ps k ≡ true → first_moment lines w frame.0 (zxid_in bytes) ≤ j → j ≤ k → session_seen (state_at lines j) c id ≡ session_seen (state_at lines k) c id → is_allowed lines c id w ps j ≡ true
+  lower : (j k : ℕ) → is_allowed lines c id w ps k ≡ true → first_moment lines w frame.0 (zxid_in bytes) ≤ j → j ≤ k → session_at id (state_at lines j) ≡ session_at id (state_at lines k) → is_allowed lines c id w ps j ≡ true
   lower j k h from to seen =
       let t = tried k h in
       let early = later-left (later_of w.moment (frame.0 + 1)) (after_update (zxid_in bytes) lines) in
@@ -214,7 +214,7 @@ module _ (lines : List TranscriptLine) (c : ℕ) (id : ℤ) (w : Walker) (ps : L
       ahead le =
           let here = has-zxid lines m k (zxid_in bytes) legal t.zxid t.past_update from_update t.from in
           let still = still-between lines n m k f.place id from_update le f.before in
-          lower m k h (omega arith) t.from (sym (seen-as (state_at lines m) (state_at lines k) c id (same-session lines m k id legal t.from here.some (t.zxid ∙ sym here.zxid) still)))
+          lower m k h (omega arith) t.from (sym (same-session lines m k id legal t.from here.some (t.zxid ∙ sym here.zxid) still))
 
       lapse : (r : ℤ) × (f.line ≡ Lapse r id)
       lapse = lapse-is id f.line x.1 f.shown
@@ -237,7 +237,7 @@ module _ (lines : List TranscriptLine) (c : ℕ) (id : ℤ) (w : Walker) (ps : L
           let there = has-zxid lines s k (zxid_in bytes) legal t.zxid t.past_update (omega (arith, from_update, left)) small in
           let a = gone-session lines e s id legal up_to here.some (there.zxid ∙ sym here.zxid) gone in
           let b = gone-session lines e k id legal le here.some (t.zxid ∙ sym here.zxid) gone in
-          (lower s k h left small (seen-as (state_at lines k) (state_at lines s) c id (a ∙ sym b)), small)
+          (lower s k h left small (a ∙ sym b), small)
 
       by : (d : Bool) → nat_le k (n + f.place) ≡ d → (is_allowed lines c id w ps m ≡ true) ⊎ ((is_allowed lines c id w ps (later_of m (x.0 + 1)) ≡ true) × (later_of m (x.0 + 1) ≤ k))
       by true d = inl (ahead (grind (arith, nat_tests)))
@@ -259,7 +259,7 @@ module _ (lines : List TranscriptLine) (c : ℕ) (id : ℤ) (w : Walker) (ps : L
           let from_update = later-right (later_of w.moment (frame.0 + 1)) n in
           let here = has-zxid lines m k (zxid_in bytes) legal t.zxid t.past_update from_update t.from in
           let still = still-between lines n m k k id from_update (omega arith) (λ j l lt at. first_place-none (lapse_shown id) n (drop n lines) e j l at) in
-          lower m k h (omega arith) t.from (sym (seen-as (state_at lines m) (state_at lines k) c id (same-session lines m k id legal t.from here.some (t.zxid ∙ sym here.zxid) still)))
+          lower m k h (omega arith) t.from (sym (same-session lines m k id legal t.from here.some (t.zxid ∙ sym here.zxid) still))
 
       by : (o : Option (ℕ × ℤ)) → first_place (lapse_shown id) n (drop n lines) ≡ o → (is_allowed lines c id w ps m ≡ true) ⊎ ((is_allowed lines c id w ps (later_of m (after_place o)) ≡ true) × (later_of m (after_place o) ≤ k))
       by None e = inl (never e)

@@ -15,9 +15,9 @@ use Rattle.zk_jute.specs.Requests.{Frame, read_request}
 use Rattle.zk_jute.specs.Packets.{reply_packet}
 use Rattle.zk_transcript.specs.declared.transcript.UpdateRec.{UpdateRec}
 use Rattle.zk_transcript.specs.declared.transcript.TranscriptLine.{TranscriptLine}
-use Rattle.zk_transcript.specs.History.{State, Session, state_at, asked_in}
+use Rattle.zk_transcript.specs.History.{State, Session, state_at, asked_in, session_at}
 use Rattle.zk_transcript.specs.Legal.{is_legal}
-use Rattle.zk_transcript.specs.Answers.{Told, only, plain_reply, xid_of, tree_reply, session_seen, session_refusal, limit_in}
+use Rattle.zk_transcript.specs.Answers.{Told, only, plain_reply, xid_of, tree_reply, session_refusal, limit_in}
 use Rattle.zk_transcript.specs.Walks.{Walker, Answer, Due, move, due_notices, fired_above, placed_frame, own_update, later_of, with_end, looked, seen_told, told_by_state, told_as_of, closes_session, told_response, response_at, reply_step, may_answer_at, after_update}
 use Rattle.zk_least.specs.LeastWalk.{zxid_in, next_reply, behind, HasZxids}
 use Rattle.zk_least.specs.LeastMoments.{code_in}
@@ -103,12 +103,12 @@ seen-same : (s t : State) (c : ℕ) (id : ℤ) (x : Frame) (w : Watches) (u v : 
 seen-same s t c id x w u v lag a b e = by (says-as s t c id (lag.session id))
   where
     by : SaysAs s t c id → u ≡ v
-    by (inl q) = (let same : Some u ≡ Some v = sym a ∙ sym (ap (told_to t c id x w) q ∙ told-tree s t c id x w (session_seen s c id) lag.tree) ∙ b in cc)
+    by (inl q) = (let same : Some u ≡ Some v = sym a ∙ sym (ap (told_to t c id x w) q ∙ told-tree s t c id x w (session_at id s) lag.tree) ∙ b in cc)
     by (inr q) =
-        let here : Some (expired_told w) ≡ Some v = sym (ap (seen_told t (limit_in (session_seen t c id)) id x w) q) ∙ b in
+        let here : Some (expired_told w) ≡ Some v = sym (ap (seen_told t (limit_in (session_at id t)) id x w) q) ∙ b in
         let same : expired_told w ≡ v = cc in
         let code : code_of v.1.reply ≡ session_expired = ap (λ (p : Bool × Told). code_of p.1.reply) (sym same) in
-        expired-told s c id x w (session_seen s c id) u a (e ∙ code) ∙ same
+        expired-told s c id x w (session_at id s) u a (e ∙ code) ∙ same
 
 -- each code of the session test or of the tree is a short one
 pub expired-short : IsShortCode session_expired
@@ -124,13 +124,13 @@ refused-short c o r h = elim (refused-codes c o r h) [
 ]
 
 pub seen-short : (s : State) (c : ℕ) (id : ℤ) (x : Frame) (w : Watches) (u : Bool × Told) → told_by_state s c id x w ≡ Some u → IsShortCode (code_of u.1.reply)
-seen-short s c id x w u h = go (session_refusal c (session_seen s c id)) refl h
+seen-short s c id x w u h = go (session_refusal c (session_at id s)) refl h
   where
-    go : (o : Option Reply) → session_refusal c (session_seen s c id) ≡ o → seen_told s (limit_in (session_seen s c id)) id x w o ≡ Some u → IsShortCode (code_of u.1.reply)
-    go None e g = fine-short (code_of u.1.reply) (seen-fine s (limit_in (session_seen s c id)) id x w u g)
+    go : (o : Option Reply) → session_refusal c (session_at id s) ≡ o → seen_told s (limit_in (session_at id s)) id x w o ≡ Some u → IsShortCode (code_of u.1.reply)
+    go None e g = fine-short (code_of u.1.reply) (seen-fine s (limit_in (session_at id s)) id x w u g)
     go (Some r) e g =
         let own : ◌≡◌ {A = Bool × Told} (true, only w r) u = cc in
-        subst (λ (p : Bool × Told). IsShortCode (code_of p.1.reply)) own (refused-short c (session_seen s c id) r e)
+        subst (λ (p : Bool × Told). IsShortCode (code_of p.1.reply)) own (refused-short c (session_at id s) r e)
 
 pub own-place : (past : List TranscriptLine) (k : ℕ) (o : Option (Bool × Told)) (t : Bool × Told) → (if length past == k + 1 then o else None) ≡ Some t → length past ≡ k + 1
 own-place past k o t h = go (length past == k + 1) refl h

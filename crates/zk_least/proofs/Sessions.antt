@@ -1,11 +1,10 @@
 -- What a lapse does to a session, and to what the session test sees of it.
-use Rattle.std.proofs.Common.{◌≡◌, ◌≢◌, ℕ, refl, sym, ap, ◌∙◌, Bool, true, false, ℤ, pos, inl, inr}
+use Rattle.std.proofs.Common.{◌≡◌, ◌≢◌, ℕ, refl, sym, ap, ◌∙◌, true, ℤ, inl, inr}
 use Rattle.std.specs.Prelude.{Option, Some, None, ◌⊎◌, ◌==◌, not, if◌then◌else◌}
-use Rattle.std.specs.Ordering.{int_eq}
 use Rattle.zk_model.specs.declared.reply.Reply.TheVariants as reply
 use Rattle.zk_model.specs.Codes.{session_expired, session_moved}
-use Rattle.zk_transcript.specs.History.{State, Session, session_zero, session_at, lapsed_in}
-use Rattle.zk_transcript.specs.Answers.{session_seen, session_refusal}
+use Rattle.zk_transcript.specs.History.{State, Session, session_at, lapsed_in}
+use Rattle.zk_transcript.specs.Answers.{session_refusal}
 use Rattle.zk_transcript.proofs.SessionMaps.{either_id, at-insert_same, at-insert_other}
 
 -- an open session that has lapsed
@@ -61,20 +60,12 @@ lapse-gone s id (Some x) at = inr (record { session = record x { lapsed = true }
 
 -- ---- the session test
 
-pub seen-as : (s t : State) (c : ℕ) (id : ℤ) → session_at id t ≡ session_at id s → session_seen t c id ≡ session_seen s c id
-seen-as s t c id h = ap (λ o. if int_eq id (pos 0) then Some (session_zero c) else o) h
-
 abbrev pub SaysAs : State → State → ℕ → ℤ → Type 0
-SaysAs s t c id = (session_seen t c id ≡ session_seen s c id) ⊎ (session_refusal c (session_seen t c id) ≡ Some (reply.Refused session_expired))
+SaysAs s t c id = (session_at id t ≡ session_at id s) ⊎ (session_refusal c (session_at id t) ≡ Some (reply.Refused session_expired))
 
 refused-lapsed : (c : ℕ) (x : Session) → x.lapsed ≡ true → session_refusal c (Some x) ≡ Some (reply.Refused session_expired)
 refused-lapsed c x h = ap (λ b. if b then Some (reply.Refused session_expired) else if not (c == x.connection) then Some (reply.Refused session_moved) else None) h
 
 pub says-as : (s t : State) (c : ℕ) (id : ℤ) → SameOrLapsed s t id → SaysAs s t c id
-says-as s t c id (inl h) = inl (seen-as s t c id h)
-says-as s t c id (inr l) = by (int_eq id (pos 0))
-  where
-    by : (b : Bool) → (◌≡◌ {A = Option Session} (if b then Some (session_zero c) else session_at id t) (if b then Some (session_zero c) else session_at id s))
-        ⊎ (session_refusal c (if b then Some (session_zero c) else session_at id t) ≡ Some (reply.Refused session_expired))
-    by true = inl refl
-    by false = inr (ap (session_refusal c) l.there ∙ refused-lapsed c l.session l.lapsed)
+says-as s t c id (inl h) = inl h
+says-as s t c id (inr l) = inr (ap (session_refusal c) l.there ∙ refused-lapsed c l.session l.lapsed)

@@ -156,8 +156,8 @@ request-fits t limit session (req.SetData path content version) zxid now whole s
 request-fits t limit session (req.Multi parts) zxid now whole small = parts-within limit session zxid now t parts whole (parts-short parts small)
 request-fits t limit session r zxid now whole small = tt
 
-pub asked-fits : (before : List TranscriptLine) (s : State) (c i : ℕ) (zxid : ℤ) (now : ℕ) → IsWhole s.tree → is_small_frame (frame c i before) ≡ true → AskedFits s.tree (session_of before c s) (request c i before) zxid now
-asked-fits before s c i zxid now whole small = by_session (session_of before c s) (request c i before) refl
+pub asked-fits : (before : List TranscriptLine) (s : State) (c i : ℕ) (zxid : ℤ) (now : ℕ) → IsWhole s.tree → is_small_frame (frame c i before) ≡ true → AskedFits s.tree (session_of c s) (request c i before) zxid now
+asked-fits before s c i zxid now whole small = by_session (session_of c s) (request c i before) refl
   where
     by_reading : (bytes : List ℕ) (f : Frame) (r : Request) → read_request bytes ≡ f → length bytes ≤ max_frame → asked_in f ≡ Some r → AllByRecursion IsShort (contents_of r)
     by_reading bytes NoHeader r e le is = absurd (cc)

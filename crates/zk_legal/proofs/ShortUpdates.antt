@@ -21,7 +21,7 @@ use Rattle.zk_transcript.specs.declared.transcript.UpdateKind.{UpdateKind}
 use Rattle.zk_transcript.specs.declared.transcript.UpdateKind.TheVariants.{Begin, Session as NewSession, Attach, Asked, Closed, Reaped}
 use Rattle.zk_transcript.specs.declared.transcript.TranscriptLine.{TranscriptLine}
 use Rattle.zk_transcript.specs.declared.transcript.TranscriptLine.TheVariants.{Update, Open, Frame as FrameLine, Send, Lapse, Close}
-use Rattle.zk_transcript.specs.History.{Session, State, Commit, after, asked_commit, attached, commit, committed, first_shown, frame, limit_of, nothing_yet, request, session_ended, state_at, update_in, updated}
+use Rattle.zk_transcript.specs.History.{Session, State, Commit, after, asked_commit, attached_session, commit, committed, first_shown, frame, limit_of, nothing_yet, request, session_ended, state_at, update_in, updated}
 use Rattle.zk_transcript.specs.Legal.{begins, is_legal, is_live, is_next_zxid, is_small_frame, is_within_parts, may_update}
 use Rattle.zk_transcript.proofs.Appending.{after-push}
 use Rattle.zk_transcript.proofs.Owned.{get-owned_as, if_owned}
@@ -101,7 +101,7 @@ ended-short before s z id run = removals-short (owned s.tree id) (owned-paths s.
 -- ---- updates
 
 asked-gives : (before : List TranscriptLine) (s : State) (z : ℤ) (c i now : ℕ) → is_within_parts (request c i before) ≡ true → CommitGives (asked_commit before s z c i now)
-asked-gives before s z c i now few = by_session (attached before c s)
+asked-gives before s z c i now few = by_session (attached_session c s)
   where
     by_request : (e : ℤ × Session) (o : Option Request) → is_within_parts o ≡ true → CommitGives (elim o [ None ↦ None | Some r ↦ commit s.tree (limit_of e.1) e.0 r z now ])
     by_request e None few = tt
@@ -120,7 +120,7 @@ module _ (before : List TranscriptLine) (s : State) (z : ℤ) (c i now : ℕ) (m
   unfolding may_update
   asked-short =
       let a = and_parts _ (is_some (asked_commit before s z c i now)) may in
-      asked-gives before s z c i now (and_parts (is_live (attached before c s) && nat_lt 0 i && is_small_frame (frame c i before)) (is_within_parts (request c i before)) a.0).1
+      asked-gives before s z c i now (and_parts (is_live (attached_session c s) && nat_lt 0 i && is_small_frame (frame c i before)) (is_within_parts (request c i before)) a.0).1
 
   committed-short : AreShort (committed s z (asked_commit before s z c i now)).triggers
   committed-short = by_commit (asked_commit before s z c i now) done asked-short

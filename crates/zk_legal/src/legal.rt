@@ -2,7 +2,7 @@
 
 ghost use Rattle.std.specs.Prelude.{◌≡◌, ◌≤◌, ◌&&◌, true, is_none, is_some, IfOk};
 ghost use Rattle.zk_model.specs.Limits.{max_moment};
-ghost use Rattle.zk_transcript.specs.History.{asked_commit as asked_commit_of, attached, frame as frame_of, opening as opening_of, request as request_of, session_at, session_of};
+ghost use Rattle.zk_transcript.specs.History.{asked_commit as asked_commit_of, attached_session, frame as frame_of, opening as opening_of, request as request_of, session_at, session_of};
 ghost use Rattle.zk_transcript.specs.Legal.{asks_anew as asks_anew_of, is_close as is_close_of, is_id as is_id_of, is_lapsed as is_lapsed_of, is_legal_line as is_legal_line_of, is_live as is_live_of, is_live_as as is_live_as_of, is_next_zxid as is_next_zxid_of, is_resumed_by as is_resumed_by_of, is_small_frame as is_small_frame_of, is_within_parts as is_within_parts_of, may_attach as may_attach_of, may_update as may_update_of, offers as offers_of};
 ghost use Rattle.zk_transcript.specs.declared.transcript.UpdateKind.TheVariants as kind;
 ghost use Rattle.zk_history.specs.Fits.{AskedFits, IsMoment};
@@ -10,7 +10,7 @@ ghost use Rattle.zk_history.specs.Pasts.{lines_of};
 ghost use Rattle.zk_legal.specs.Faults.{IsRunTo, is_in_range, is_moment};
 
 use std::alloc::Global;
-use zk_history::{Fault, Past, State, attached_to, planned_commit};
+use zk_history::{Fault, Past, State, planned_commit};
 use zk_model::limit::{MAX_FRAME, MAX_PARTS};
 use zk_model::{ConnectRequest, Request};
 use zk_transcript::{TranscriptLine, UpdateKind};
@@ -81,20 +81,20 @@ fn is_resumed_by(id: i64, asked: &Option<ConnectRequest>, state: &State) -> bool
 }
 
 /// Whether a live session is attached to the connection.
-fn is_live(before: &Past, connection: u32, state: &State) -> bool
-    ensures { result ≡ is_live_of (attached (lines_of before.now) connection state.now) }
+fn is_live(connection: u32, state: &State) -> bool
+    ensures { result ≡ is_live_of (attached_session connection state.now) }
 {
-    match attached_to(before, connection, state) {
+    match state.attached_to(connection) {
         None => false,
         Some((_, is_lapsed)) => !is_lapsed,
     }
 }
 
 /// Whether this session is attached to the connection and live.
-fn is_live_as(id: i64, before: &Past, connection: u32, state: &State) -> bool
-    ensures { result ≡ is_live_as_of id (attached (lines_of before.now) connection state.now) }
+fn is_live_as(id: i64, connection: u32, state: &State) -> bool
+    ensures { result ≡ is_live_as_of id (attached_session connection state.now) }
 {
-    match attached_to(before, connection, state) {
+    match state.attached_to(connection) {
         None => false,
         Some((session, is_lapsed)) => id == session && !is_lapsed,
     }
@@ -191,7 +191,7 @@ fn is_committed(
     index: u64,
     now: u64,
 ) -> Result<bool, Memory>
-    requires { IsMoment now × AskedFits state.now.tree (session_of (lines_of before.now) connection state.now) (request_of connection index (lines_of before.now)) zxid now }
+    requires { IsMoment now × AskedFits state.now.tree (session_of connection state.now) (request_of connection index (lines_of before.now)) zxid now }
     ensures { IfOk result (λ b. b ≡ is_some (asked_commit_of (lines_of before.now) state.now zxid connection index now)) }
 {
     match planned_commit(alloc, before, state, zxid, connection, index, now) {
@@ -218,7 +218,7 @@ fn may_ask(
     ensures { IfOk result (λ b. b ≡ may_update_of (lines_of before.now) state.now zxid (kind.Asked connection index now)) }
 {
     let asked = before.request(alloc, connection, index)?;
-    if is_live(before, connection, state)
+    if is_live(connection, state)
         && 0 < index
         && is_small_frame(before, connection, index)
         && is_within_parts(&asked)
@@ -245,7 +245,7 @@ fn may_close(
     let asked = before.request(alloc, connection, index)?;
     Ok(
         is_id(id)
-            && is_live_as(id, before, connection, state)
+            && is_live_as(id, connection, state)
             && 0 < index
             && is_small_frame(before, connection, index)
             && is_close(&asked),

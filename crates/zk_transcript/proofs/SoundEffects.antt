@@ -1,5 +1,5 @@
 -- What a request makes of a sound tree is sound: a create in each mode, a delete, a setData, several of them, and the removal of many nodes.
-use Rattle.std.proofs.Common.{◌≡◌, ◌≢◌, ℕ, ℤ, pos, ◌+◌, ◌<◌, ◌≤◌, Bool, true, false, not, ◌&&◌, ◌||◌, length, List, [], ◌∷◌, ◌++◌, Option, Some, None, refl, sym, ◌∙◌, ◌⊎◌, inl, inr, arith, ◌+ℤ◌}
+use Rattle.std.proofs.Common.{◌≡◌, ◌≢◌, ℕ, ℤ, pos, ◌+◌, ◌<◌, ◌≤◌, Bool, true, false, not, ◌&&◌, ◌||◌, length, List, [], ◌∷◌, ◌++◌, Option, Some, None, refl, sym, ◌∙◌, inl, inr, arith, ◌+ℤ◌}
 use Rattle.std.specs.Prelude.{◌≤ℤ◌, IsTrue, ⊤, nat_le, nat_lt, nat_abs, if◌then◌else◌, ◌==◌}
 use Rattle.std.specs.List.{AllByRecursion, flat_map}
 use Rattle.std.specs.Ordering.{int_eq}
@@ -63,7 +63,7 @@ not_equal x y h e = false_true h ((Decides-int_eq x y).1 e)
 -- ---- the session of a request: none, or an open begun with this limit
 
 pub record Acts (opened : Sessions) (limit : ℕ) (session : ℤ) : Type 0 where
-  pub whose : (session ≡ pos 0) ⊎ ((x : Session) × (get opened session ≡ Some x) × (limit ≡ limit_of x))
+  pub whose : (x : Session) × (get opened session ≡ Some x) × (limit ≡ limit_of x)
   pub least : pos 0 ≤ℤ session
   pub most : session ≤ℤ max_long
 
@@ -147,11 +147,10 @@ module _ (opened : Sessions) (t : Tree) (limit : ℕ) (session flags : ℤ) (con
     may_own : MayOwn opened between owner
     may_own = by_mode (is_ephemeral flags) (or_false (int_eq up.creates max_creates) (is_ephemeral flags && nat_le limit (length (owned t session))) room).1 acts.whose
       where
-        by_mode : (b : Bool) → (b && nat_le limit (length (owned t session))) ≡ false → (session ≡ pos 0) ⊎ ((x : Session) × (get opened session ≡ Some x) × (limit ≡ limit_of x))
+        by_mode : (b : Bool) → (b && nat_le limit (length (owned t session))) ≡ false → ((x : Session) × (get opened session ≡ Some x) × (limit ≡ limit_of x))
             → MayOwn opened between (if b then session else pos 0)
         by_mode false h whose = inl refl
-        by_mode true h (inl e) = inl e
-        by_mode true h (inr x) = let few : length (owned t session) < limit = grind (arith, nat_tests) in inr (x.0, x.1, omega (arith, few, owned_still, x.2))
+        by_mode true h x = let few : length (owned t session) < limit = grind (arith, nat_tests) in inr (x.0, x.1, omega (arith, few, owned_still, x.2))
 
     owner_bounds : (pos 0 ≤ℤ owner) × (owner ≤ℤ max_long)
     owner_bounds = by_mode (is_ephemeral flags)

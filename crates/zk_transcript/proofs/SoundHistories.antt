@@ -1,6 +1,6 @@
 -- The state after each legal history is sound, and its numbers are in their ranges: by the kinds of lines.
-use Rattle.std.proofs.Common.{◌≡◌, ℕ, ℤ, pos, ◌≤◌, true, false, length, List, [], ◌∷◌, ◌++◌, Option, Some, None, refl, sym, ap, ◌∙◌, subst, inl, inr, arith, Bool, cond}
-use Rattle.std.specs.Prelude.{◌≤ℤ◌, ⊤, nat_lt, is_none, is_some, if◌then◌else◌, int_lt, int_le, option_and_then, option_map}
+use Rattle.std.proofs.Common.{◌≡◌, ℕ, ℤ, pos, ◌≤◌, true, false, length, List, [], ◌∷◌, ◌++◌, Option, Some, None, refl, sym, ap, ◌∙◌, subst, arith, Bool, cond}
+use Rattle.std.specs.Prelude.{◌≤ℤ◌, ⊤, nat_lt, is_none, is_some, int_lt, int_le, option_and_then, option_map}
 use Rattle.std.specs.Int.{int_min}
 use Rattle.std.specs.List.{AllByRecursion, list_all}
 use Rattle.std.specs.Ordering.{int_cmp, nat_cmp}
@@ -30,7 +30,7 @@ use Rattle.zk_jute.specs.Requests.{Frame, NoHeader, Unreadable, Unknown, Asks, r
 use Rattle.zk_model.specs.Znodes.{Tree, num_children, owned, new_node, root_alone}
 use Rattle.zk_model.specs.Single.{Outcome, Refused, Done}
 use Rattle.zk_model.specs.Multi.{Several, Denied, Codes, All as AllDone}
-use Rattle.zk_transcript.specs.History.{State, Session, Sessions, Commit, IsSoundTree, IsSound, IsPast, IsBoundedNode, IsBoundedSession, IsBounded, IsCounted, HasParent, limit_of, session_at, attached, attached_session, session_zero, frame, request, asked_in, commit, commit_single, commit_several, asked_commit, committed, advanced, new_session, opening, connect, with_session, attached_anew, session_ended, removed_all, updated, lapsed_in, change, after, nothing_yet, first_shown, update_in, granted_timeout, or_nothing}
+use Rattle.zk_transcript.specs.History.{State, Session, Sessions, Commit, IsSoundTree, IsSound, IsPast, IsBoundedNode, IsBoundedSession, IsBounded, IsCounted, HasParent, limit_of, session_at, attached_session, frame, request, asked_in, commit, commit_single, commit_several, asked_commit, committed, advanced, new_session, opening, connect, with_session, attached_anew, session_ended, removed_all, updated, lapsed_in, change, after, nothing_yet, first_shown, update_in, granted_timeout, or_nothing}
 use Rattle.zk_transcript.specs.Legal.{may_update, is_id, is_next_zxid, is_legal_line, is_legal, is_small_frame, is_within_parts, is_live_as, is_close, is_lapsed, offers, asks_anew, may_attach}
 use Rattle.zk_model.proofs.Paths.{parent-root}
 use Rattle.zk_model.proofs.ValidPaths.{root-valid}
@@ -224,7 +224,7 @@ fine-closed first before s z id c i n h =
     let a = and_parts _ (is_close (request c i before)) h in
     let b = and_parts _ (is_small_frame (frame c i before)) a.0 in
     let d = and_parts _ (nat_lt 0 i) b.0 in
-    let e = and_parts (is_id id) (is_live_as id (attached before c s)) d.0 in
+    let e = and_parts (is_id id) (is_live_as id (attached_session c s)) d.0 in
     fine-ended first s z id n (id_bounds id e.0).0
 
 fine-reaped : (first : ℤ) (before : List TranscriptLine) (s : State) (z id : ℤ) → Next first s z → may_update before s z (Reaped id) ≡ true → Fine first (updated before s z (Reaped id))
@@ -237,29 +237,12 @@ fine-reaped first before s z id n h = by_session (session_at id s) refl h
 
 -- ---- requests
 
--- who acts for a connection: the session that is attached to it
+-- the session that is attached to a connection acts for it
 attached_session-acts : (first : ℤ) (c : ℕ) (s : State) (e : ℤ × Session) → Fine first s → attached_session c s ≡ Some e → Acts s.sessions (limit_of e.1) e.0
 attached_session-acts first c s e fine is =
     let here = attached_session-open c s e is in
     let least = fine.sound.numbered e.0 e.1 here in
-    record { whose = inr (e.1, here, refl); least = omega (arith, ints); most = (fine.bounded.sessions e.0 e.1 here).most }
-
--- or the session of number 0
-zero-acts : (c : ℕ) (s : State) (e : ℤ × Session) → Some (pos 0, session_zero c) ≡ Some e → Acts s.sessions (limit_of e.1) e.0
-zero-acts c s e is =
-    let zero : e.0 ≡ pos 0 = ap number (sym is) in
-    record { whose = inl zero; least = omega (arith, ints); most = omega (arith, ints) }
-  where
-    number : Option (ℤ × Session) → ℤ
-    number None = pos 0
-    number (Some x) = x.0
-
-attached-acts : (first : ℤ) (before : List TranscriptLine) (c : ℕ) (s : State) (e : ℤ × Session) → Fine first s → attached before c s ≡ Some e → Acts s.sessions (limit_of e.1) e.0
-attached-acts first before c s e fine is = by_connect (is_some (frame c 0 before)) is
-  where
-    by_connect : (connected : Bool) → (if connected then attached_session c s else Some (pos 0, session_zero c)) ≡ Some e → Acts s.sessions (limit_of e.1) e.0
-    by_connect true is = attached_session-acts first c s e fine is
-    by_connect false is = zero-acts c s e is
+    record { whose = (e.1, here, refl); least = omega (arith, ints); most = (fine.bounded.sessions e.0 e.1 here).most }
 
 small_data : (before : List TranscriptLine) (c i : ℕ) (r : Request) → is_small_frame (frame c i before) ≡ true → request c i before ≡ Some r → AllByRecursion IsShort (contents_of r)
 small_data before c i r small is = by_frame (frame c i before) small is
@@ -305,7 +288,7 @@ module _ (opened : Sessions) (limit : ℕ) (session first z : ℤ) (now : ℕ) (
 
 fine-asked : (first : ℤ) (before : List TranscriptLine) (s : State) (z : ℤ) (c i now : ℕ) → Fine first s → Next first s z → may_update before s z (Asked c i now) ≡ true → Fine first (updated before s z (Asked c i now))
 unfolding may_update updated
-fine-asked first before s z c i now fine n h = by_session (attached before c s) refl
+fine-asked first before s z c i now fine n h = by_session (attached_session c s) refl
   where
     small : is_small_frame (frame c i before) ≡ true
     small =
@@ -317,13 +300,13 @@ fine-asked first before s z c i now fine n h = by_session (attached before c s) 
     done None lead = fine
     done (Some x) lead = fine-advanced first s z x.tree x.triggers s.sessions n lead n.sessions
 
-    by_request : (e : ℤ × Session) (o : Option Request) → attached before c s ≡ Some e → request c i before ≡ o
+    by_request : (e : ℤ × Session) (o : Option Request) → attached_session c s ≡ Some e → request c i before ≡ o
         → Fine first (committed s z (elim o [ None ↦ None | Some r ↦ commit s.tree (limit_of e.1) e.0 r z now ]))
     by_request e None at is = fine
     by_request e (Some r) at is =
-        done (commit s.tree (limit_of e.1) e.0 r z now) (commit-leads s.sessions (limit_of e.1) e.0 first z now n.begun (attached-acts first before c s e fine at) s.tree n.stands r (small_data before c i r small is))
+        done (commit s.tree (limit_of e.1) e.0 r z now) (commit-leads s.sessions (limit_of e.1) e.0 first z now n.begun (attached_session-acts first c s e fine at) s.tree n.stands r (small_data before c i r small is))
 
-    by_session : (o : Option (ℤ × Session)) → attached before c s ≡ o
+    by_session : (o : Option (ℤ × Session)) → attached_session c s ≡ o
         → Fine first (committed s z (elim o [ None ↦ None | Some e ↦ elim (request c i before) [ None ↦ None | Some r ↦ commit s.tree (limit_of e.1) e.0 r z now ] ]))
     by_session None at = fine
     by_session (Some e) at = by_request e (request c i before) at refl

@@ -1,6 +1,5 @@
 -- What the service answers to a frame (ZooKeeper API; Programmer's Guide, "ZooKeeper Watches", "ZooKeeper Sessions").
 use Rattle.std.specs.Prelude.{ℕ, ℤ, pos, Bool, not, List, [], length, nat_lt, ◌==◌, if◌then◌else◌, Option, Some, None, bytes_eq, codes}
-use Rattle.std.specs.Ordering.{int_eq}
 use Rattle.zk_model.specs.declared.node.Node.{Node}
 use Rattle.zk_model.specs.declared.reply.Body.{Body}
 use Rattle.zk_model.specs.declared.reply.Body.TheVariants as body
@@ -19,7 +18,7 @@ use Rattle.zk_model.specs.Znodes.{Tree, stat_of, child_names}
 use Rattle.zk_model.specs.Single.{Outcome, Refused, Done, single, form_refusal}
 use Rattle.zk_model.specs.Multi.{Several, Denied, Codes, All as AllDone, several}
 use Rattle.zk_model.specs.Watches.{Watches, Seen, arm_data, arm_children, set_watches}
-use Rattle.zk_transcript.specs.History.{State, Session, session_at, session_zero, limit_of}
+use Rattle.zk_transcript.specs.History.{Session, limit_of}
 use Rattle.zk_model.specs.Limits.{max_parts}
 
 -- ---- what a client is told
@@ -77,10 +76,6 @@ xid_of (Unknown xid kind) = xid
 xid_of (Asks xid r) = xid
 
 -- ---- the session test
-
--- the session that a connection asks under: number 0 is that of a connection without a connect frame
-abbrev pub session_seen : State → ℕ → ℤ → Option Session
-session_seen s c id = if int_eq id (pos 0) then Some (session_zero c) else session_at id s
 
 -- the refusal where the session isn't open or is lapsed, or where another connection is attached to it
 abbrev pub session_refusal : ℕ → Option Session → Option Reply

@@ -91,9 +91,3 @@ pub record IsServed (lines : List TranscriptLine) (c : ℕ) : Type 0 where
 -- a frame's line shows the last update before it
 abbrev pub IsShownFresh : List TranscriptLine → Type 0
 IsShownFresh lines = (k c i : ℕ) (z : ℤ) (bytes : List ℕ) → slice_get lines k ≡ Some (FrameLine c i z bytes) → z ≡ (state_at lines k).zxid
-
--- Until there are sessions: one connection, which counts as attached at the store's first update; each packet answers a request.
-pub record IsServedAlone (lines : List TranscriptLine) (c : ℕ) : Type 0 where
-  pub silent : IsSilentUnopened lines c
-  pub walks : IsWalk lines c (pos 0) (state_at lines 1).zxid 1 (packets c lines)
-  pub in_time : IsTrue (are_before_close lines c)

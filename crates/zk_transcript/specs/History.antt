@@ -1,7 +1,7 @@
 -- Transcripts, their moments, and the state of the service at each (Programmer's Guide, "ZooKeeper Sessions",
 -- "Consistency Guarantees": updates stand in one order, that of their zxids).
 -- A moment is a place between two lines: the number of lines before it.
-use Rattle.std.specs.Prelude.{◌≡◌, ℕ, ℤ, pos, ◌+◌, ◌≤◌, ◌≤ℤ◌, Bool, true, false, ◌&&◌, List, [], ◌∷◌, ◌++◌, length, take, fold, flat_map, Option, Some, None, option_map, option_and_then, is_some, if◌then◌else◌, ◌==◌, IsTrue}
+use Rattle.std.specs.Prelude.{◌≡◌, ℕ, ℤ, pos, ◌+◌, ◌≤◌, ◌≤ℤ◌, Bool, true, false, ◌&&◌, List, [], ◌∷◌, ◌++◌, length, take, fold, flat_map, Option, Some, None, option_map, option_and_then, if◌then◌else◌, ◌==◌, IsTrue}
 use Rattle.std.specs.List.{filter_map}
 use Rattle.std.specs.Int.{int_max, int_min}
 use Rattle.std.specs.Ordering.{int_cmp}
@@ -110,21 +110,12 @@ abbrev pub attached_in : ℕ → List (ℤ × Session) → Option (ℤ × Sessio
 attached_in c [] = None
 attached_in c (e ∷ es) = if is_attached_to c e then Some e else attached_in c es
 
--- the session that is attached to a connection
+-- the session that is attached to a connection, and that it acts for
 abbrev pub attached_session : ℕ → State → Option (ℤ × Session)
 attached_session c s = attached_in c (entries s.sessions)
 
--- A connection without a connect frame acts for a session of number 0 that is its own and never lapses. There are such
--- connections until `replay` opens sessions.
-abbrev pub session_zero : ℕ → Session
-session_zero c = record { passwd = []; timeout = pos 0; connection = c; attached = pos 0; lapsed = false }
-
--- the session that a connection acts for, by the lines before
-abbrev pub attached : List TranscriptLine → ℕ → State → Option (ℤ × Session)
-attached before c s = if is_some (frame c 0 before) then attached_session c s else Some (pos 0, session_zero c)
-
-abbrev pub session_of : List TranscriptLine → ℕ → State → Option ℤ
-session_of before c s = option_map (λ (e : ℤ × Session). e.0) (attached before c s)
+abbrev pub session_of : ℕ → State → Option ℤ
+session_of c s = option_map (λ (e : ℤ × Session). e.0) (attached_session c s)
 
 -- ---- what an update does
 
@@ -203,7 +194,7 @@ limit_of x = max_owned
 
 abbrev pub asked_commit : List TranscriptLine → State → ℤ → ℕ → ℕ → ℕ → Option Commit
 asked_commit before s zxid c i now =
-    elim (attached before c s) [
+    elim (attached_session c s) [
       | None ↦ None
       | Some e ↦ elim (request c i before) [ None ↦ None | Some r ↦ commit s.tree (limit_of e.1) e.0 r zxid now ]
     ]

@@ -10,7 +10,7 @@ use Rattle.zk_transcript.specs.declared.transcript.UpdateKind.{UpdateKind}
 use Rattle.zk_transcript.specs.declared.transcript.UpdateKind.TheVariants.{Begin, Session as NewSession, Attach, Asked, Closed, Reaped}
 use Rattle.zk_transcript.specs.declared.transcript.TranscriptLine.{TranscriptLine}
 use Rattle.zk_transcript.specs.declared.transcript.TranscriptLine.TheVariants.{Update, Lapse}
-use Rattle.zk_transcript.specs.History.{State, Session, nothing_yet, session_at, attached, opening, connect, frame, request, first_place, frame_shown, when, asked_commit, change}
+use Rattle.zk_transcript.specs.History.{State, Session, nothing_yet, session_at, attached_session, opening, connect, frame, request, first_place, frame_shown, when, asked_commit, change}
 use Rattle.zk_model.specs.Limits.{max_frame, max_long, max_parts}
 
 -- ---- a connection's own line: the Session or Attach line that attaches a session to it
@@ -110,9 +110,9 @@ may_update before s zxid (NewSession id c) =
     is_none (session_at id s) && is_id id && offers id (opening c before) && asks_anew (connect c before) && may_attach before c zxid (connect c before)
 may_update before s zxid (Attach id c) = is_resumed_by id (connect c before) (session_at id s) && may_attach before c zxid (connect c before)
 may_update before s zxid (Asked c i now) =
-    is_live (attached before c s) && nat_lt 0 i && is_small_frame (frame c i before) && is_within_parts (request c i before) && is_some (asked_commit before s zxid c i now)
+    is_live (attached_session c s) && nat_lt 0 i && is_small_frame (frame c i before) && is_within_parts (request c i before) && is_some (asked_commit before s zxid c i now)
 may_update before s zxid (Closed id c i) =
-    is_id id && is_live_as id (attached before c s) && nat_lt 0 i && is_small_frame (frame c i before) && is_close (request c i before)
+    is_id id && is_live_as id (attached_session c s) && nat_lt 0 i && is_small_frame (frame c i before) && is_close (request c i before)
 may_update before s zxid (Reaped id) = is_lapsed (session_at id s)
 
 -- zxids rise from any first one on; the greatest is that of a `long` (jute)

@@ -20,9 +20,9 @@ use Rattle.zk_model.specs.Codes.{auth_failed}
 use Rattle.zk_jute.specs.Requests.{Frame, NoHeader, Unreadable, Unknown, Asks, read_request}
 use Rattle.zk_jute.specs.Packets.{reply_packet, notice_packet}
 use Rattle.zk_model.specs.Watches.{Watches, no_watches, is_unarmed, fire_all}
-use Rattle.zk_transcript.specs.History.{State, after, state_at, first_place, when, frame_shown, Commit, asked_commit, asked_in}
+use Rattle.zk_transcript.specs.History.{State, after, session_at, state_at, first_place, when, frame_shown, Commit, asked_commit, asked_in}
 use Rattle.zk_transcript.specs.Legal.{index_shown, is_below}
-use Rattle.zk_transcript.specs.Answers.{Told, only, told, plain_reply, session_seen, session_refusal, limit_in, tree_reply, xid_of}
+use Rattle.zk_transcript.specs.Answers.{Told, only, told, plain_reply, session_refusal, limit_in, tree_reply, xid_of}
 
 -- ---- updates and frames in a transcript, by their lines' places
 
@@ -159,7 +159,7 @@ seen_told s limit id x w (Some r) = Some (true, only w r)
 seen_told s limit id x w None = with_end false (looked s limit id w x (plain_reply w x))
 
 abbrev pub told_by_state : State → ℕ → ℤ → Frame → Watches → Option (Bool × Told)
-told_by_state s c id x w = let session = session_seen s c id in seen_told s (limit_in session) id x w (session_refusal c session)
+told_by_state s c id x w = seen_told s (limit_in (session_at id s)) id x w (session_refusal c (session_at id s))
 
 -- the response to a request that was carried out, by what its line did
 abbrev pub response_at : List TranscriptLine → ℕ → ℤ → UpdateKind → Option Body

@@ -1,24 +1,16 @@
 -- What a connection's session is at a moment behind its attachment.
-use Rattle.std.proofs.Common.{◌≡◌, ℕ, zero, suc, ◌+◌, ◌≤◌, ◌<◌, List, [], ◌∷◌, ◌++◌, take, drop, take-append-drop, refl, sym, ap, ◌∙◌, arith, Bool, true, false, ℤ, pos}
-use Rattle.std.specs.Prelude.{Option, Some, None, is_some, not, option_and_then, ◌≤ℤ◌, ◌==◌, if◌then◌else◌, slice_get}
-use Rattle.std.specs.Ordering.{int_eq}
-use Rattle.std.proofs.lemmas.Int.{ints}
-use Rattle.std.proofs.lemmas.Bool.Decides.{nat_tests, Decides-int_eq}
-use Rattle.zk_jute.specs.Connects.{read_connect}
+use Rattle.std.proofs.Common.{◌≡◌, ℕ, zero, suc, ◌+◌, ◌≤◌, ◌<◌, List, [], ◌∷◌, take, refl, sym, ap, ◌∙◌, arith, Bool, true, false, pos}
+use Rattle.std.specs.Prelude.{Option, Some, None, not, ◌≤ℤ◌, ◌==◌, if◌then◌else◌, slice_get}
+use Rattle.std.proofs.lemmas.Bool.Decides.{nat_tests}
 use Rattle.zk_model.specs.Codes.{session_expired, session_moved}
-use Rattle.zk_model.specs.declared.connect.ConnectRequest.{ConnectRequest}
 use Rattle.zk_model.specs.declared.reply.Reply.TheVariants as reply
-use Rattle.zk_transcript.specs.Answers.{session_refusal, session_seen}
-use Rattle.zk_transcript.specs.History.{IsSound, Session, State, after, attached, attached_session, connect, first_place, first_shown, frame, frame_shown, session_at, session_zero, state_at, update_in, when}
+use Rattle.zk_transcript.specs.Answers.{session_refusal}
+use Rattle.zk_transcript.specs.History.{IsSound, Session, State, after, attached_session, first_place, first_shown, session_at, state_at, update_in}
 use Rattle.zk_transcript.specs.Legal.{Attachment, attach_of, attach_shown, is_legal}
 use Rattle.zk_transcript.specs.declared.transcript.TranscriptLine.{TranscriptLine}
 use Rattle.zk_transcript.specs.declared.transcript.TranscriptLine.TheVariants.{Update, Open, Frame as FrameLine, Send, Lapse, Close}
-use Rattle.zk_transcript.specs.declared.transcript.UpdateKind.{UpdateKind}
-use Rattle.zk_transcript.specs.declared.transcript.UpdateKind.TheVariants.{Begin, Session as NewSession, Attach, Asked, Closed, Reaped}
 use Rattle.zk_transcript.specs.declared.transcript.UpdateRec.{UpdateRec}
 use Rattle.zk_transcript.proofs.Attachments.{IsListed, attached-to_own_line, legal-lined}
-use Rattle.zk_transcript.proofs.Conditions.{attach-shows, session-offered}
-use Rattle.zk_transcript.proofs.Histories.{first_shown-push}
 use Rattle.zk_transcript.proofs.SoundHistories.{legal-bounded, legal-sound}
 use Rattle.zk_least.proofs.FirstPlaces.{first_place-at}
 use Rattle.zx_base.proofs.Options.{none_some, some_is}
@@ -88,45 +80,6 @@ moored-by lines c x h own =
 pub moored : (lines : List TranscriptLine) (conn : ℕ) (who : Who) (looked : ℕ) → IsAttached lines conn who looked → IsMoored (state_at lines looked)
 moored lines conn who looked a = moored-by (take looked lines) conn (a.place, record { zxid = who.mine; session = who.session }) a.legal a.own
 
--- ---- a connection with an attachment has sent its connect
-
-connected-frame : (lines : List TranscriptLine) (c : ℕ) (r : ConnectRequest) → connect c lines ≡ Some r → (bytes : List ℕ) × (frame c 0 lines ≡ Some bytes)
-connected-frame lines c r h = go (frame c 0 lines) h
-  where
-    go : (o : Option (List ℕ)) → option_and_then read_connect o ≡ Some r → (bytes : List ℕ) × (o ≡ Some bytes)
-    go None e = absurd (none_some e)
-    go (Some bytes) e = (bytes, refl)
-
-when-same : {A : Type 0} (c d : ℕ) (x y : A) → when (c == d) x ≡ Some y → c ≡ d
-when-same {A} c d x y h = go (c == d) refl h
-  where
-    go : (b : Bool) → (c == d) ≡ b → when b x ≡ Some y → c ≡ d
-    go true e f = grind (arith, nat_tests)
-    go false e f = absurd (none_some f)
-
-connect-before : (lines : List TranscriptLine) (k c : ℕ) (z : ℤ) (kind : UpdateKind) (a : Attachment) → is_legal lines ≡ true → slice_get lines k ≡ Some (Update (record { zxid = z; kind = kind })) → attach_shown c (Update (record { zxid = z; kind = kind })) ≡ Some a
-    → (bytes : List ℕ) × (frame c 0 (take k lines) ≡ Some bytes)
-connect-before lines k c z (NewSession id d) a h there shown =
-    let e : c ≡ d = when-same c d (record { zxid = z; session = id }) a shown in
-    let o = session-offered lines k c z id h (there ∙ ap (λ n. Some (Update (record { zxid = z; kind = NewSession id n }))) (sym e)) in
-    connected-frame (take k lines) c o.1 o.3
-connect-before lines k c z (Attach id d) a h there shown =
-    let e : c ≡ d = when-same c d (record { zxid = z; session = id }) a shown in
-    let o = attach-shows lines k c z id h (there ∙ ap (λ n. Some (Update (record { zxid = z; kind = Attach id n }))) (sym e)) in
-    connected-frame (take k lines) c o.0 o.2
-connect-before lines k c z (Begin now) a h there shown = absurd (none_some shown)
-connect-before lines k c z (Asked d i now) a h there shown = absurd (none_some shown)
-connect-before lines k c z (Closed id d i) a h there shown = absurd (none_some shown)
-connect-before lines k c z (Reaped id) a h there shown = absurd (none_some shown)
-
-has-connect : (lines : List TranscriptLine) (c : ℕ) (x : ℕ × Attachment) → is_legal lines ≡ true → attach_of c lines ≡ Some x → is_some (frame c 0 lines) ≡ true
-has-connect lines c x h own =
-    let f = first_place-at (attach_shown c) 0 lines x own in
-    let u = shown-update c f.line x.1 f.shown in
-    let b = connect-before lines f.place c (u.0).zxid (u.0).kind x.1 h (f.there ∙ ap Some u.1) (ap (attach_shown c) (sym u.1) ∙ f.shown) in
-    let still : first_shown (frame_shown c 0) (take f.place lines ++ drop f.place lines) ≡ Some b.0 = first_shown-push (frame_shown c 0) (take f.place lines) (drop f.place lines) b.0 b.1 in
-    ap is_some (ap (first_shown (frame_shown c 0)) (sym (take-append-drop f.place lines)) ∙ still)
-
 -- ---- the session test
 
 pub record IsLive (o : Option Session) (x : Session) : Type 0 where
@@ -154,14 +107,6 @@ at-live c x b alive e =
     ap (λ t. if t then Some (reply.Refused session_expired) else if not (c == x.connection) then Some (reply.Refused session_moved) else None) alive
     ∙ ap (λ t. if not t then Some (reply.Refused session_moved) else None) e
 
--- a session of its own number is looked up by it
-pub seen-own : (s : State) (c : ℕ) (id : ℤ) → pos 1 ≤ℤ id → session_seen s c id ≡ session_at id s
-seen-own s c id least = go (int_eq id (pos 0)) refl
-  where
-    go : (b : Bool) → int_eq id (pos 0) ≡ b → (if b then Some (session_zero c) else session_at id s) ≡ session_at id s
-    go true e = absurd (omega (arith, ints, least, (Decides-int_eq id (pos 0)).0 e))
-    go false e = refl
-
 module _ (lines : List TranscriptLine) (conn : ℕ) (who : Who) (looked : ℕ) (a : IsAttached lines conn who looked) where
   listed : (x : Session) → session_at who.session (state_at lines looked) ≡ Some x → IsListed (take looked lines) who.session x
   listed x there = (legal-lined (take looked lines) a.legal).all who.session x there
@@ -176,20 +121,20 @@ module _ (lines : List TranscriptLine) (conn : ℕ) (who : Who) (looked : ℕ) (
       let e : Some (l.place, record { zxid = x.attached; session = who.session }) ≡ Some (a.place, record { zxid = who.mine; session = who.session }) = sym l.own ∙ ap (λ n. attach_of n (take looked lines)) c ∙ a.own in
       ap (λ (p : ℕ × Attachment). p.1.zxid) (some_is e)
 
-  pub gone-refused : live (session_at who.session (state_at lines looked)) ≡ None → session_refusal conn (session_seen (state_at lines looked) conn who.session) ≡ Some (reply.Refused session_expired)
-  gone-refused h = ap (session_refusal conn) (seen-own (state_at lines looked) conn who.session a.least) ∙ gone conn (session_at who.session (state_at lines looked)) h
+  pub gone-refused : live (session_at who.session (state_at lines looked)) ≡ None → session_refusal conn (session_at who.session (state_at lines looked)) ≡ Some (reply.Refused session_expired)
+  gone-refused h = gone conn (session_at who.session (state_at lines looked)) h
 
-  pub here-served : (x : Session) → live (session_at who.session (state_at lines looked)) ≡ Some x → x.attached ≡ who.mine → session_refusal conn (session_seen (state_at lines looked) conn who.session) ≡ None
+  pub here-served : (x : Session) → live (session_at who.session (state_at lines looked)) ≡ Some x → x.attached ≡ who.mine → session_refusal conn (session_at who.session (state_at lines looked)) ≡ None
   here-served x h same =
       let l = live-is (session_at who.session (state_at lines looked)) x h in
       let c : x.connection ≡ conn = mine-here x l.there same in
       let b : (conn == x.connection) ≡ true = grind (arith, nat_tests) in
-      ap (session_refusal conn) (seen-own (state_at lines looked) conn who.session a.least ∙ l.there) ∙ at-live conn x true l.alive b
+      ap (session_refusal conn) l.there ∙ at-live conn x true l.alive b
 
-  pub away-refused : (x : Session) → live (session_at who.session (state_at lines looked)) ≡ Some x → (x.attached ≡ who.mine → ⊥) → session_refusal conn (session_seen (state_at lines looked) conn who.session) ≡ Some (reply.Refused session_moved)
+  pub away-refused : (x : Session) → live (session_at who.session (state_at lines looked)) ≡ Some x → (x.attached ≡ who.mine → ⊥) → session_refusal conn (session_at who.session (state_at lines looked)) ≡ Some (reply.Refused session_moved)
   away-refused x h differ =
       let l = live-is (session_at who.session (state_at lines looked)) x h in
-      ap (session_refusal conn) (seen-own (state_at lines looked) conn who.session a.least ∙ l.there) ∙ at-live conn x false l.alive (go (conn == x.connection) refl l.there)
+      ap (session_refusal conn) l.there ∙ at-live conn x false l.alive (go (conn == x.connection) refl l.there)
     where
       go : (b : Bool) → (conn == x.connection) ≡ b → session_at who.session (state_at lines looked) ≡ Some x → b ≡ false
       go false e there = refl
@@ -198,7 +143,6 @@ module _ (lines : List TranscriptLine) (conn : ℕ) (who : Who) (looked : ℕ) (
           absurd (differ (mine-only x there c))
 
   -- it acts for this connection
-  pub acts-here : (x : Session) → session_at who.session (state_at lines looked) ≡ Some x → x.attached ≡ who.mine → attached (take looked lines) conn (state_at lines looked) ≡ Some (who.session, x)
+  pub acts-here : (x : Session) → session_at who.session (state_at lines looked) ≡ Some x → x.attached ≡ who.mine → attached_session conn (state_at lines looked) ≡ Some (who.session, x)
   acts-here x there same =
-      ap (λ b. if b then attached_session conn (state_at lines looked) else Some (pos 0, session_zero conn)) (has-connect (take looked lines) conn (a.place, record { zxid = who.mine; session = who.session }) a.legal a.own)
-      ∙ attached-to_own_line (take looked lines) conn a.place who.mine who.session x a.legal a.own there same
+      attached-to_own_line (take looked lines) conn a.place who.mine who.session x a.legal a.own there same

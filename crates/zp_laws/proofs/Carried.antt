@@ -24,7 +24,7 @@ use Rattle.zk_model.specs.declared.reply.Reply.TheVariants as reply
 use Rattle.zk_model.specs.declared.request.Request.{Request}
 use Rattle.zk_model.specs.declared.request.Request.TheVariants as req
 use Rattle.zk_transcript.specs.Answers.{limit_in, only, xid_of}
-use Rattle.zk_transcript.specs.History.{Commit, Session, State, after, asked_commit, asked_in, attached, commit, frame_shown, limit_of, request, session_at, state_at}
+use Rattle.zk_transcript.specs.History.{Commit, Session, State, after, asked_commit, asked_in, attached_session, commit, frame_shown, limit_of, request, session_at, state_at}
 use Rattle.zk_transcript.specs.Legal.{is_legal}
 use Rattle.zk_transcript.specs.Walks.{Walker, closes_session, own_update, placed_frame, response_at, told_as_of, told_response, with_end}
 use Rattle.zk_transcript.specs.declared.transcript.TranscriptLine.{TranscriptLine}
@@ -95,7 +95,7 @@ request-before lines c i m k bytes xid q f r =
     ap (option_and_then (λ b. asked_in (read_request b))) (first_shown-place (frame_shown c i) 0 (take m lines) (k, bytes) f) ∙ ap asked_in r
 
 commit-is : (before : List TranscriptLine) (s : State) (z : ℤ) (c i now : ℕ) (id : ℤ) (x : Session) (q : Request)
-    → attached before c s ≡ Some (id, x) → request c i before ≡ Some q → asked_commit before s z c i now ≡ commit s.tree (limit_of x) id q z now
+    → attached_session c s ≡ Some (id, x) → request c i before ≡ Some q → asked_commit before s z c i now ≡ commit s.tree (limit_of x) id q z now
 commit-is before s z c i now id x q a r =
     ap (λ o. elim o [ None ↦ None | Some e ↦ elim (request c i before) [ None ↦ None | Some p ↦ commit s.tree (limit_of e.1) e.0 p z now ] ]) a
     ∙ ap (λ o. elim o [ None ↦ None | Some p ↦ commit s.tree (limit_of x) id p z now ]) r
@@ -117,7 +117,7 @@ record Responds (lines : List TranscriptLine) (k : ℕ) (z : ℤ) (kind : Update
   closing : closes_session kind ≡ ending
 
 responds : (lines : List TranscriptLine) (k conn i now : ℕ) (z id : ℤ) (q : Request) (x : Session) (y : Commit) (r : Reply)
-    → session_at id (state_at lines k) ≡ Some x → attached (take k lines) conn (state_at lines k) ≡ Some (id, x) → request conn i (take k lines) ≡ Some q → done_by (state_at lines k) z id q now ≡ Some y → r ≡ reply.Good y.response
+    → session_at id (state_at lines k) ≡ Some x → attached_session conn (state_at lines k) ≡ Some (id, x) → request conn i (take k lines) ≡ Some q → done_by (state_at lines k) z id q now ≡ Some y → r ≡ reply.Good y.response
     → Responds lines k z (kind_for q id conn i now) r (is_some (end_behind q))
 responds lines k conn i now z id q x y r there a f d e = elim (close-or-other (state_at lines k) z id conn i now q) [
   | inl close ↦ subst (λ p. Responds lines k z (kind_for p id conn i now) r (is_some (end_behind p))) (sym close)

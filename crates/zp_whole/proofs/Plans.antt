@@ -23,7 +23,7 @@ use Rattle.zk_model.specs.declared.request.Request.TheVariants as req
 use Rattle.zk_transcript.proofs.Lookups.{first_shown-place}
 use Rattle.zk_transcript.proofs.SoundHistories.{legal-sound}
 use Rattle.zk_transcript.specs.Answers.{Told, limit_in, plain_request}
-use Rattle.zk_transcript.specs.History.{Commit, Session, State, after, asked_commit, asked_in, attached, commit, committed, frame, frame_shown, limit_of, request, session_at, updated}
+use Rattle.zk_transcript.specs.History.{Commit, Session, State, after, asked_commit, asked_in, attached_session, commit, committed, frame, frame_shown, limit_of, request, session_at, updated}
 use Rattle.zk_transcript.specs.Legal.{attach_of, follows, is_close, is_id, is_in_order, is_legal, is_live, is_live_as, is_small_frame, is_within_parts, may_update}
 use Rattle.zk_transcript.specs.declared.transcript.TranscriptLine.{TranscriptLine}
 use Rattle.zk_transcript.specs.declared.transcript.TranscriptLine.TheVariants.{Update}
@@ -78,7 +78,7 @@ request-is : (lines : List TranscriptLine) (c i : ℕ) (bytes : List ℕ) (xid :
 request-is lines c i bytes xid q f r = ap (option_and_then (λ b. asked_in (read_request b))) f ∙ ap asked_in r
 
 asked_commit-is : (lines : List TranscriptLine) (s : State) (z : ℤ) (c i now : ℕ) (id : ℤ) (x : Session) (q : Request)
-    → attached lines c s ≡ Some (id, x) → request c i lines ≡ Some q → asked_commit lines s z c i now ≡ commit s.tree (limit_of x) id q z now
+    → attached_session c s ≡ Some (id, x) → request c i lines ≡ Some q → asked_commit lines s z c i now ≡ commit s.tree (limit_of x) id q z now
 asked_commit-is lines s z c i now id x q a r =
     ap (λ (o : Option (ℤ × Session)). elim o [ None ↦ None | Some e ↦ elim (request c i lines) [ None ↦ None | Some p ↦ commit s.tree (limit_of e.1) e.0 p z now ] ]) a
     ∙ ap (λ (o : Option Request). elim o [ None ↦ None | Some p ↦ commit s.tree (limit_of x) id p z now ]) r
@@ -109,7 +109,7 @@ five a b c d e x y z u v = both-true (a && b && c && d) e (both-true (a && b && 
 record Acts (lines : List TranscriptLine) (s : State) (c i : ℕ) (id : ℤ) (q : Request) : Type 0 where
   session : Session
   there : session_at id s ≡ Some session
-  at_c : attached lines c s ≡ Some (id, session)
+  at_c : attached_session c s ≡ Some (id, session)
   alive : session.lapsed ≡ false
   number : is_id id ≡ true
   index : nat_lt 0 i ≡ true
@@ -161,10 +161,10 @@ in-order lines z id c i now q h = elim (close-or-not (after lines) z id c i now 
 pub number-is : (id : ℤ) → pos 1 ≤ℤ id → id ≤ℤ max_long → is_id id ≡ true
 number-is id least most = let a : int_lt (pos 0) id ≡ true = grind (arith, ints, least) in let b : int_le id max_long ≡ true = grind (arith, ints, most) in both-true (int_lt (pos 0) id) (int_le id max_long) a b
 
-at-last : (lines : List TranscriptLine) (c : ℕ) (who : Who) (x : Session) → IsAttached lines c who (length lines) → session_at who.session (after lines) ≡ Some x → x.attached ≡ who.mine → attached lines c (after lines) ≡ Some (who.session, x)
+at-last : (lines : List TranscriptLine) (c : ℕ) (who : Who) (x : Session) → IsAttached lines c who (length lines) → session_at who.session (after lines) ≡ Some x → x.attached ≡ who.mine → attached_session c (after lines) ≡ Some (who.session, x)
 at-last lines c who x a there same =
     let e : take (length lines) lines ≡ lines = take-length lines in
-    subst (λ l. attached l c (after l) ≡ Some (who.session, x)) e (acts-here lines c who (length lines) a x (ap (λ l. session_at who.session (after l)) e ∙ there) same)
+    subst (λ l. attached_session c (after l) ≡ Some (who.session, x)) e (acts-here lines c who (length lines) a x (ap (λ l. session_at who.session (after l)) e ∙ there) same)
 
 -- a request's plan is an update that the service could make, wherever its guards hold
 pub request-commits : (s : Store) (lines : List TranscriptLine) (c i : ℕ) (t : TxnReq) (kind : UpdateKind) → Serves s lines → next_revision s ≤ℤ last_revision → is_ahead lines c i ≡ true

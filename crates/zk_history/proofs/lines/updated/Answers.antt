@@ -14,9 +14,9 @@ use Rattle.zk_history.proofs.lines.updated.Goals as goal
 
 -- the request of an update fits where the update does
 asked_beyond : (before : List TranscriptLine) (s : State) (zxid : ℤ) (kind : UpdateKind) (c i now : ℕ) (e : Fault) → kind ≡ Asked c i now →
-    BeyondUnless (IsCountable s × IsMoment now × AskedFits s.tree (session_of before c s) (request c i before) zxid now) e → BeyondUnless (IsCountable s × UpdateFits before s zxid kind) e
+    BeyondUnless (IsCountable s × IsMoment now × AskedFits s.tree (session_of c s) (request c i before) zxid now) e → BeyondUnless (IsCountable s × UpdateFits before s zxid kind) e
 asked_beyond before s zxid kind c i now e is beyond =
-    rw is (beyond-weaker (IsCountable s × IsMoment now × AskedFits s.tree (session_of before c s) (request c i before) zxid now) (IsCountable s × UpdateFits before s zxid (Asked c i now)) e
+    rw is (beyond-weaker (IsCountable s × IsMoment now × AskedFits s.tree (session_of c s) (request c i before) zxid now) (IsCountable s × UpdateFits before s zxid (Asked c i now)) e
     (λ fits. (fits.0, fits.1.0, fits.1.1)) beyond)
 
 pub returns-in_err-asked-in-Asked-clause-beyond : goal.returns-in_err-asked-in-Asked-clause-beyond
