@@ -3,6 +3,7 @@ use Rattle.std.proofs.Common.{◌≡◌, ℕ, ℤ, Bool, true, false, Option, So
 use Rattle.std.specs.Prelude.{◌↔◌, if◌then◌else◌, MatchBool}
 use Rattle.std.specs.FinMap.{get}
 use Rattle.std.specs.Ordering.{int_eq}
+use Rattle.zx_base.proofs.Options.{some_none}
 use Rattle.zk_model.specs.declared.node.Node.{Node}
 use Rattle.zk_model.specs.declared.reply.Body.{Body}
 use Rattle.zk_model.specs.declared.reply.Reply.{Reply}
@@ -73,12 +74,9 @@ expired_planned d is planned = let e : Expired ≡ Planned planned.0 = sym is �
 moved_planned : (d : Decision) (n : ℤ) → d ≡ Moved n → IsPlanned d → ⊥
 moved_planned d n is planned = let e : Moved n ≡ Planned planned.0 = sym is ∙ planned.1 in cc
 
-some_none : (t : Told) → Some t ≡ None → ⊥
-some_none t e = cc
-
 planned_by : (r : Request) (d : Decision) (o : Option Told) → IsByTree r d o → IsPlanned d ↔ (o ≡ None)
 planned_by r d None h = (λ p. refl, λ e. h)
-planned_by r d (Some t) h = (λ p. absurd (answered_planned d t.reply h.0 h.1 p), λ e. absurd (some_none t e))
+planned_by r d (Some t) h = (λ p. absurd (answered_planned d t.reply h.0 h.1 p), λ e. absurd (some_none e))
 
 -- ---- the law
 

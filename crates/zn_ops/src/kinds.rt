@@ -1,11 +1,13 @@
-//! Which requests are decided here, which of them change the tree, and which read it.
+//! Which requests are decided here, which of them change the tree, and which read it; and how long their data may be.
 
-ghost use Rattle.std.specs.Prelude.{◌≡◌};
+ghost use Rattle.std.specs.Prelude.{◌≡◌, ◌≤◌, ◌↔◌, length, IsTrue};
+ghost use Rattle.zk_model.specs.Limits.{max_frame};
 ghost use Rattle.zn_ops.specs.Forms.{is_single};
 ghost use Rattle.zn_reads.specs.Deciding.{is_read};
-ghost use Rattle.zn_updates.specs.Deciding.{is_update};
+ghost use Rattle.zn_updates.specs.Deciding.{content_in, is_update};
 
 use zk_model::Request;
+use zk_model::limit::MAX_FRAME;
 
 /// Whether a request is decided here: it is neither a multi nor a closeSession.
 pub fn is_single(request: &Request) -> bool
@@ -26,6 +28,30 @@ pub fn is_single(request: &Request) -> bool
         | Request::Check { .. }
         | Request::Auth { .. }
         | Request::SetWatches { .. } => true,
+    }
+}
+
+/// Whether a create's or a setData's data is within what a frame may have, as [`decide`](crate::decide) asks.
+pub fn is_short(request: &Request) -> bool
+    ensures { IsTrue result ↔ length (content_in request.now) ≤ max_frame }
+{
+    match request {
+        Request::Create { content, .. } | Request::SetData { content, .. } => {
+            content.len() <= MAX_FRAME
+        }
+        Request::Delete { .. }
+        | Request::Exists { .. }
+        | Request::GetData { .. }
+        | Request::GetAcl { .. }
+        | Request::GetChildren { .. }
+        | Request::GetChildren2 { .. }
+        | Request::Sync { .. }
+        | Request::Ping
+        | Request::Check { .. }
+        | Request::Multi { .. }
+        | Request::Auth { .. }
+        | Request::SetWatches { .. }
+        | Request::Close => true,
     }
 }
 

@@ -16,7 +16,7 @@ mod wanting;
 
 pub use deciding::{attached_at, decide};
 pub use form::plain_reply;
-pub use kinds::is_single;
+pub use kinds::{is_short, is_single};
 pub use laws::planned_where_not_refused;
 pub use wanting::needs;
 pub use zn_updates::finish;

@@ -1,5 +1,6 @@
 -- Sets of paths as lists of their members.
 use Rattle.std.proofs.Common.{◌≡◌, ◌≢◌, ℕ, ◌≤◌, arith, Bool, true, false, not, ◌||◌, ◌==◌, cond, Option, Some, None, List, [], ◌∷◌, ◌++◌, length, take, drop, refl, sym, ap, ◌∙◌, ⊎_elim, eqb-true, length-take}
+use Rattle.std.proofs.Math.Bool.{or-false, or-true, or_assoc}
 use Rattle.std.proofs.Math.Seq.{take-append_seam, take-length}
 use Rattle.std.proofs.lemmas.List.{take-append-drop, take-append-le, nil_from_length}
 use Rattle.std.specs.Prelude.{is_some}
@@ -9,6 +10,7 @@ use Rattle.std.proofs.lemmas.Map.Views.{any-filter_same}
 use Rattle.std.specs.FinMap.{get, insert, remove, contains_key, len, len-empty, get-empty}
 use Rattle.zx_base.specs.Maps.{Bytes, same}
 use Rattle.zx_base.proofs.MapLaws.{ext, either, same-refl, same-true, same-false, get-insert_same, get-insert_other, get-remove_same, get-remove_other, get-none_from_len}
+use Rattle.zx_base.proofs.Options.{none_some}
 use Rattle.zw_watch.specs.declared.lists.PathLists.{PathLists}
 use Rattle.zw_watch.specs.Armed.{watches_of, StartWith}
 use Rattle.zw_watch.specs.Sets.{set_of, has, others, StartsWith}
@@ -46,29 +48,17 @@ set_of-others path ps = ext _ _ (λ q. ⊎_elim
     (λ (n : q ≢ path). get-set_of (others path ps) q ∙ ap marked (has-others path q ps n) ∙ sym (get-remove_other (set_of ps) path q n ∙ get-set_of ps q))
     (either q path))
 
-or_false : (a : Bool) → (a || false) ≡ a
-or_false true = refl
-or_false false = refl
-
-or_true : (a : Bool) → (a || true) ≡ true
-or_true true = refl
-or_true false = refl
-
-or_assoc : (a b c : Bool) → (a || (b || c)) ≡ ((a || b) || c)
-or_assoc true b c = refl
-or_assoc false b c = refl
-
 has-push : (q p : Bytes) (ps : List Bytes) → has q (ps ++ p ∷ []) ≡ (has q ps || same p q)
-has-push q p [] = or_false (same p q)
-has-push q p (x ∷ ps) = ap (λ b. same x q || b) (has-push q p ps) ∙ or_assoc (same x q) (has q ps) (same p q)
+has-push q p [] = or-false (same p q)
+has-push q p (x ∷ ps) = ap (λ b. same x q || b) (has-push q p ps) ∙ sym (or_assoc (same x q) (has q ps) (same p q))
 
 -- a path that is pushed is in the set
 pub set_of-push : (path : Bytes) (ps : List Bytes) → set_of (ps ++ path ∷ []) ≡ insert (set_of ps) path tt
 set_of-push path ps = ext _ _ (λ q. ⊎_elim
-    (λ (e : q ≡ path). get-set_of (ps ++ path ∷ []) q ∙ ap marked (has-push q path ps ∙ ap (λ b. has q ps || b) (ap (same path) e ∙ same-refl path) ∙ or_true _)
+    (λ (e : q ≡ path). get-set_of (ps ++ path ∷ []) q ∙ ap marked (has-push q path ps ∙ ap (λ b. has q ps || b) (ap (same path) e ∙ same-refl path) ∙ or-true _)
     ∙ sym (ap (get (insert (set_of ps) path tt)) e ∙ get-insert_same (set_of ps) path tt))
     (λ (n : q ≢ path). get-set_of (ps ++ path ∷ []) q
-    ∙ ap marked (has-push q path ps ∙ ap (λ b. has q ps || b) (same-false path q (λ e. n (sym e))) ∙ or_false _)
+    ∙ ap marked (has-push q path ps ∙ ap (λ b. has q ps || b) (same-false path q (λ e. n (sym e))) ∙ or-false _)
     ∙ sym (get-insert_other (set_of ps) path q tt n ∙ get-set_of ps q))
     (either q path))
 
@@ -84,14 +74,11 @@ set_of-there path ps h = ext _ _ (λ q. ⊎_elim
 not_zero : (n : ℕ) → (n ≡ 0 → ⊥) → (n == 0) ≡ false
 not_zero n h = elim (n == 0) as (λ b. (n == 0) ≡ b → b ≡ false) [ true ↦ λ e. absurd (h (eqb-true n 0 e)) | false ↦ λ e. refl ] refl
 
-none_some : {A : Type 0} (o : Option A) (x : A) → o ≡ None → o ≡ Some x → ⊥
-none_some o x none some = cc
-
 cons_nil : (p : Bytes) (ps : List Bytes) → length (p ∷ ps) ≡ 0 → ⊥
 cons_nil p ps e = let n : (p ∷ ps) ≡ [] = nil_from_length (p ∷ ps) e in cc
 
 set_nil : (p : Bytes) (ps : List Bytes) → len (set_of (p ∷ ps)) ≡ 0 → ⊥
-set_nil p ps e = none_some (get (set_of (p ∷ ps)) p) tt (get-none_from_len (set_of (p ∷ ps)) p e) (get-insert_same (set_of ps) p tt)
+set_nil p ps e = none_some (sym (get-none_from_len (set_of (p ∷ ps)) p e) ∙ get-insert_same (set_of ps) p tt)
 
 pub length-len : (ps : List Bytes) → (length ps == 0) ≡ (len (set_of ps) == 0)
 length-len [] = sym (ap (λ n. n == 0) (len-empty (slice_cmp nat_cmp) (Unit {0})))
