@@ -1,61 +1,14 @@
 //! Answers of the etcd, tested before they are handed in.
 
-ghost use Rattle.std.specs.Prelude.{All, IfOk, IsTrue};
+ghost use Rattle.std.specs.Prelude.{IfOk, IsTrue};
 ghost use Rattle.ev_store.specs.Asks.{IsGrantable};
-ghost use Rattle.zn_view.specs.Adding.{AreNumbers, AreNumbersIn};
-ghost use Rattle.zn_view.specs.Seen.{AreCounts, IsCount};
 ghost use Rattle.zs_session.specs.Answering.{IsAnswerTo};
 
 use ev_store::{Denied, Store, StoreFault};
-use ev_types::{ActAns, Answer, Ask, Kv};
+use ev_types::{Answer, Ask};
 use std::alloc::Global;
+use zn_view::{are_numbers, is_count};
 use zx_base::Memory;
-
-/// The greatest revision, version or count of an etcd.
-const MAX_COUNT: i64 = 4_611_686_018_427_387_903;
-
-pub fn is_count(number: i64) -> bool
-    ensures { IsTrue result → IsCount number }
-{
-    0 <= number && number <= MAX_COUNT
-}
-
-fn has_counts(kv: &Kv) -> bool
-    ensures { IsTrue result → AreCounts kv.now }
-{
-    is_count(kv.mod_revision) && is_count(kv.version)
-}
-
-fn are_counts(kvs: &[Kv]) -> bool
-    ensures { IsTrue result → All AreCounts kvs.now }
-{
-    for kv in kvs {
-        if !has_counts(kv) {
-            return false;
-        }
-    }
-    true
-}
-
-fn is_within(part: &ActAns) -> bool
-    ensures { IsTrue result → AreNumbersIn part.now }
-{
-    match part {
-        ActAns::Range(found) => are_counts(found.kvs.as_slice()),
-        ActAns::Put | ActAns::Deleted(_) => true,
-    }
-}
-
-pub fn are_numbers(parts: &[ActAns]) -> bool
-    ensures { IsTrue result → AreNumbers parts.now }
-{
-    for part in parts {
-        if !is_within(part) {
-            return false;
-        }
-    }
-    true
-}
 
 /// Whether an answer is of the kind of its ask, with numbers in an etcd's range.
 fn is_answer_to(ask: &Ask, answer: &Answer) -> bool
@@ -81,7 +34,7 @@ fn is_grantable(ask: &Ask) -> bool
     ensures { IsTrue result → IsGrantable ask.now }
 {
     match ask {
-        Ask::Grant { id, ttl } => 1 <= *id && 0 <= *ttl && *ttl <= MAX_COUNT,
+        Ask::Grant { id, ttl } => 1 <= *id && is_count(*ttl),
         Ask::Txn(_) | Ask::Range(_) | Ask::Alive { .. } => true,
     }
 }

@@ -2,14 +2,14 @@
 
 ghost use Rattle.std.specs.Prelude.{◌≤ℤ◌, pos};
 
-use crate::answers::{answer_of, are_numbers, is_count};
+use crate::answers::answer_of;
 use crate::words::{damaged_text, txn_text};
 use ev_store::Store;
 use ev_types::{ActAns, Answer, Ask, TxnReq};
 use row_files::Words;
 use std::alloc::Global;
 use zk_model::Reply;
-use zn_view::{Decision, Plan, View, ViewFault, Want, Who, ranges, reading};
+use zn_view::{Decision, Plan, View, ViewFault, Want, Who, are_numbers, is_count, ranges, reading};
 use zs_close::{needs_close, plan_close};
 use zx_base::Memory;
 
