@@ -2,7 +2,7 @@
 use Rattle.std.proofs.Common.{◌≡◌, Bool, true, false, not, ◌||◌, cond, List, [], ◌∷◌, ◌++◌, map, Option, Some, None, refl, sym, ap, ◌∙◌, subst}
 use Rattle.std.specs.Prelude.{All}
 use Rattle.std.specs.List.{list_any}
-use Rattle.std.proofs.lemmas.Bool.{and_parts, and_from}
+use Rattle.std.proofs.lemmas.Bool.{and_parts, and_from, true≢false, not-true, or_parts}
 use Rattle.std.proofs.lemmas.List.Elements.{All-cons, All-head, All-nil, All-tail}
 use Rattle.ev_types.specs.declared.answer.Kv.{Kv}
 use Rattle.zx_base.specs.Maps.{same}
@@ -16,9 +16,6 @@ use Rattle.zn_view.specs.Laying.{placed, with_laid}
 use Rattle.zn_view.specs.Seen.{View, seen, seen_in}
 use Rattle.zn_multi.specs.Laying.{all_laid, found_of, laid, laid_view, seen_of, with_act, with_acts}
 
-true_false : true ≡ false → ⊥
-true_false e = cc
-
 -- the bytes of two keys are the same exactly where the keys are
 same_bytes : (k l : Key) (b : Bool) → same (key_bytes k) (key_bytes l) ≡ b → same_key k l ≡ b
 same_bytes k l true h = subst (λ (x : Key). same_key k x ≡ true) (key_bytes-injective k l (same-true (key_bytes k) (key_bytes l) h)) (same_key-refl k)
@@ -26,7 +23,7 @@ same_bytes k l false h = apart (same_key k l) refl
   where
     apart : (b : Bool) → same_key k l ≡ b → b ≡ false
     apart false e = refl
-    apart true e = absurd (true_false (sym (sym (ap (λ (x : Key). same (key_bytes k) (key_bytes x)) (same_key-true k l e)) ∙ same-refl (key_bytes k)) ∙ h))
+    apart true e = absurd (true≢false (sym (sym (ap (λ (x : Key). same (key_bytes k) (key_bytes x)) (same_key-true k l e)) ∙ same-refl (key_bytes k)) ∙ h))
 
 same_back : (k l : Key) (b : Bool) → same (key_bytes k) (key_bytes l) ≡ b → same_key l k ≡ b
 same_back k l true h = subst (λ (x : Key). same_key l x ≡ true) (sym (key_bytes-injective k l (same-true (key_bytes k) (key_bytes l) h))) (same_key-refl l)
@@ -34,7 +31,7 @@ same_back k l false h = apart (same_key l k) refl
   where
     apart : (b : Bool) → same_key l k ≡ b → b ≡ false
     apart false e = refl
-    apart true e = absurd (true_false (sym (ap (λ (x : Key). same (key_bytes k) (key_bytes x)) (same_key-true l k e) ∙ same-refl (key_bytes k)) ∙ h))
+    apart true e = absurd (true≢false (sym (ap (λ (x : Key). same (key_bytes k) (key_bytes x)) (same_key-true l k e) ∙ same-refl (key_bytes k)) ∙ h))
 
 one_key : (k l : Key) → same (key_bytes k) (key_bytes l) ≡ true → k ≡ l
 one_key k l h = key_bytes-injective k l (same-true (key_bytes k) (key_bytes l) h)
@@ -52,22 +49,14 @@ assoc : (x y w : Option (Option Put)) → or_else (or_else x y) w ≡ or_else x 
 assoc None y w = refl
 assoc (Some v) y w = refl
 
-or_false : (a b : Bool) → (a || b) ≡ false → (a ≡ false) × (b ≡ false)
-or_false true b h = absurd (true_false h)
-or_false false b h = (refl, h)
-
-not_true : (b : Bool) → not b ≡ true → b ≡ false
-not_true true h = absurd (true_false (sym h))
-not_true false h = refl
-
 pub unwritten : (k : Key) (ws : List Change) → list_any (writes_key k) ws ≡ false → last ws k ≡ None
 unwritten k [] h = refl
 unwritten k (w ∷ ws) h =
-    let both = or_false (same_key k w.key) (list_any (writes_key k) ws) h in
+    let both = or_parts (same_key k w.key) (list_any (writes_key k) ws) h in
     (λ i. or_else (unwritten k ws both.1 i) (cond (both.0 i) (Some w.put) None))
 
 pub rest_distinct : (w : Change) (ws : List Change) → are_distinct (w ∷ ws) ≡ true → (list_any (writes_key w.key) ws ≡ false) × (are_distinct ws ≡ true)
-rest_distinct w ws h = let both = and_parts (not (list_any (writes_key w.key) ws)) (are_distinct ws) h in (not_true _ both.0, both.1)
+rest_distinct w ws h = let both = and_parts (not (list_any (writes_key w.key) ws)) (are_distinct ws) h in (not-true _ both.0, both.1)
 
 last_first : (k : Key) (c : Change) (o : Option (Option Put)) (b : Bool) → same_key k c.key ≡ b → (b ≡ true → o ≡ None) → (q : Option (Option Put)) → (b ≡ false → q ≡ None)
     → or_else o (at_key k c) ≡ or_else (at_key k c) (or_else o q)

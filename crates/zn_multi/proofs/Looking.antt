@@ -1,5 +1,6 @@
 -- What the choice of a part looks at was looked up, where all that the parts read was.
 use Rattle.std.proofs.Common.{◌≡◌, ℕ, ℤ, pos, Bool, true, false, cond, List, [], ◌∷◌, ◌++◌, Option, Some, None, refl, sym, ap, ◌∙◌, subst, inl, inr, ⊎_elim}
+use Rattle.std.proofs.lemmas.Bool.{true≢false}
 use Rattle.std.specs.Prelude.{nat_abs, if◌then◌else◌}
 use Rattle.std.specs.FinMap.{get}
 use Rattle.std.specs.Ordering.{int_eq}
@@ -41,9 +42,6 @@ use Rattle.zn_updates.proofs.Showing.{counts-shown, data-shown}
 use Rattle.zn_multi.specs.Reading.{create_reads, numbered_path, sequence_data, IsCreateRead, IsDeleteRead, IsFormedRead, IsNodePath, Made}
 use Rattle.zn_multi.proofs.ReadKeys.{path_in}
 use Rattle.zn_multi.proofs.Walking.{creates_at, Finds, Walks}
-
-true_false : true ≡ false → ⊥
-true_false e = cc
 
 -- ---- a view with keys laid over it sees what it saw
 
@@ -211,7 +209,7 @@ module _ (z : ℤ) (v near : View) (narrow : IsNarrower near v) (s : State) (sho
       where
         at : (b : Bool) → int_eq n.owner (pos 0) ≡ b → In o (cond b [] (n.owner ∷ [])) → Known o
         at true e bad = absurd bad
-        at false e (inl same) = subst Known same (known n refl (λ z. true_false (sym ((Decides-int_eq n.owner (pos 0)).1 z) ∙ e)))
+        at false e (inl same) = subst Known same (known n refl (λ z. true≢false (sym ((Decides-int_eq n.owner (pos 0)).1 z) ∙ e)))
         at false e (inr bad) = absurd bad
 
     pub touched_known : (p : Part) (own : List Key) (next : Made) → IsFormedRead id v (Some m) p own next → ((k : Key) → In k own → HasSeen near k) → (o : ℤ) → In o (touched_by t id p) → Known o

@@ -134,9 +134,6 @@ spare id o n = if int_eq id o then 1024 * n else 0
 abbrev pub Bears : Tree → ℤ → ℕ → Tree → Type 0
 Bears first id n t = (o : ℤ) → (o ≡ pos 0 → ⊥) → path_load t o ≤ path_load first o + spare id o n
 
-true_false : true ≡ false → ⊥
-true_false e = cc
-
 module _ (first : Tree) (id : ℤ) (n : ℕ) (t : Tree) (bears : Bears first id n t) where
   more : (b : Bool) → (if b then 1024 * n else 0) ≤ (if b then 1024 * suc n else 0)
   more true = omega arith

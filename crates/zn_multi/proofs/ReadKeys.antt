@@ -2,7 +2,7 @@
 use Rattle.std.proofs.Common.{drop, ◌≡◌, ℕ, ℤ, Bool, true, false, ◌&&◌, List, [], ◌∷◌, ◌++◌, Option, Some, None, refl, sym, ap, ◌∙◌, subst, ◌⊎◌, inl, inr, ⊎_elim, ◌+◌, ◌≤◌, length, arith}
 use Rattle.std.specs.Prelude.{Contains, IfSome, MatchBool, MatchOption, is_some, map, nat_abs, if◌then◌else◌}
 use Rattle.std.specs.List.{flat_map, list_all}
-use Rattle.std.proofs.lemmas.Bool.{and_from, and_parts}
+use Rattle.std.proofs.lemmas.Bool.{and_from, and_parts, true≢false}
 use Rattle.std.proofs.lemmas.List.{length-append, map-append}
 use Rattle.std.proofs.lemmas.List.Elements.{All-cons, All-head, All-nil, All-tail}
 use Rattle.ev_types.specs.declared.answer.Kv.{Kv}
@@ -28,13 +28,10 @@ use Rattle.zn_updates.proofs.DeleteClauses.{owner_follows, owner_to}
 use Rattle.zn_multi.specs.Reading.{are_seen, create_reads, data_at, if_seen, numbered_path, sequence_data, with_path, AreRead, AreReadFrom, IsFormedRead, IsNodePath, IsNumberedPath, IsPartRead, IsReadBy, Made}
 use Rattle.zn_multi.specs.declared.reading.PartRead.{PartRead}
 
-true_false : true ≡ false → ⊥
-true_false e = cc
-
 -- ---- keys that were looked up
 
 seen_is : (v : View) (k : Key) → is_some (sees v k) ≡ true → HasSeen v k
-seen_is v k h none = true_false (sym h ∙ ap (λ (o : Option (Option Kv)). is_some o) none)
+seen_is v k h none = true≢false (sym h ∙ ap (λ (o : Option (Option Kv)). is_some o) none)
 
 was_seen : (v : View) (k : Key) → HasSeen v k → is_some (sees v k) ≡ true
 was_seen v k h = each (sees v k) refl
@@ -162,7 +159,7 @@ module _ (id : ℤ) (v : View) where
     create_from (Some m) is true e (Some p) h k (inr bad) = absurd bad
 
     create_to : (made : Made) → MadeIs before made → (b : Bool) → is_sequential f ≡ b → (named_path : Option Bytes) → IsNodePath v made b path above named_path → (w : Want) → FollowsPart id v before (part.Create path d a f) w → (k : Key) × In k (sequence_data b named_path) × (w ≡ key_want k)
-    create_to made is false e named_path h w follows = absurd (true_false (sym follows.0 ∙ e))
+    create_to made is false e named_path h w follows = absurd (true≢false (sym follows.0 ∙ e))
     create_to None is true e named_path h w follows = absurd (is follows.1 follows.2 follows.3)
     create_to (Some m) is true e named_path h w follows =
         let p : Bytes = follows.4 in
@@ -255,7 +252,7 @@ module _ (id : ℤ) (v : View) where
         (own_read k i))
 
     lacks : are_seen v own ≡ false → MadeIs (p ∷ before) None
-    lacks e m makes saw = true_false (sym (own_were_seen m makes saw) ∙ e)
+    lacks e m makes saw = true≢false (sym (own_were_seen m makes saw) ∙ e)
 
     seen_with : are_seen v own ≡ true → (m n : List Bytes) → WereSeen id v before m → ((q : Bytes) → Contains n q → HasSeen v (DataKey q)) → OwnerSeen v p → WereSeen id v (p ∷ before) n
     seen_with e m n saw nodes owner = record {

@@ -1,5 +1,6 @@
 -- How many bytes the lists of sessions' nodes have that are written: each session's list once.
 use Rattle.std.proofs.Common.{Ordering, ◌≡◌, ℕ, ℤ, pos, ◌+◌, ◌*◌, ◌≤◌, Bool, true, false, cond, ◌||◌, length, List, [], ◌∷◌, Option, Some, None, refl, sym, ap, ◌∙◌, subst, inl, inr, ⊎_elim, arith}
+use Rattle.std.proofs.lemmas.Bool.{true≢false, or_parts}
 use Rattle.std.specs.Prelude.{fold, if◌then◌else◌}
 use Rattle.std.specs.BTreeSet.{insert_key}
 use Rattle.std.specs.FinMap.{int_cmp-IsAntisymmetric}
@@ -129,16 +130,9 @@ take_out f o (x ∷ xs) (inr i) =
 writes_other : (n m : ℕ) (k : Key) (ws : List Change) → list_any (writes_key (SessionKey n)) ws ≡ false → (c : Change) → In c ws → c.key ≡ SessionKey m → m ≡ n → ⊥
 writes_other n m k [] h c bad e same = bad
 writes_other n m k (w ∷ ws) h c i e same = ⊎_elim
-    (λ is. true_false (sym (ap (λ (x : Key). same_key (SessionKey n) x) (ap (λ (d : Change). d.key) is ∙ e ∙ ap SessionKey same) ∙ same_key-refl (SessionKey n)) ∙ (parts (writes_key (SessionKey n) w) _ h).0))
-    (λ j. writes_other n m k ws (parts (writes_key (SessionKey n) w) _ h).1 c j e same)
+    (λ is. true≢false (sym (ap (λ (x : Key). same_key (SessionKey n) x) (ap (λ (d : Change). d.key) is ∙ e ∙ ap SessionKey same) ∙ same_key-refl (SessionKey n)) ∙ (or_parts (writes_key (SessionKey n) w) _ h).0))
+    (λ j. writes_other n m k ws (or_parts (writes_key (SessionKey n) w) _ h).1 c j e same)
     i
-  where
-    true_false : true ≡ false → ⊥
-    true_false bad = cc
-
-    parts : (a b : Bool) → (a || b) ≡ false → (a ≡ false) × (b ≡ false)
-    parts true b bad = absurd (cc)
-    parts false b rest = (refl, rest)
 
 pub sessions-within : (f : ℤ → ℕ) (ws : List Change) (os : List ℤ) → are_distinct ws ≡ true → ((c : Change) (n : ℕ) → In c ws → c.key ≡ SessionKey n → In (pos n) os) → sum_by (of_session (λ n. f (pos n))) ws ≤ sum_by f os
 sessions-within f [] os once inside = omega arith
@@ -168,15 +162,8 @@ sessions-within f (w ∷ ws) os once inside = at (sessions-within f ws) w.key re
 -- what is counted of one session alone is counted once
 none_more : (id : ℤ) (most : ℕ) (n : ℕ) (ws : List Change) → id ≡ pos n → list_any (writes_key (SessionKey n)) ws ≡ false → sum_by (of_session (λ k. if int_eq id (pos k) then most else 0)) ws ≡ 0
 none_more id most n [] is h = refl
-none_more id most n (w ∷ ws) is h = let rest = none_more id most n ws is (parts (writes_key (SessionKey n) w) _ h).1 in let here = zero w.key refl in omega (arith, rest, here, sum_by-cons (of_session (λ k. if int_eq id (pos k) then most else 0)) w ws)
+none_more id most n (w ∷ ws) is h = let rest = none_more id most n ws is (or_parts (writes_key (SessionKey n) w) _ h).1 in let here = zero w.key refl in omega (arith, rest, here, sum_by-cons (of_session (λ k. if int_eq id (pos k) then most else 0)) w ws)
   where
-    parts : (a b : Bool) → (a || b) ≡ false → (a ≡ false) × (b ≡ false)
-    parts true b bad = absurd (cc)
-    parts false b rest = (refl, rest)
-
-    true_false : true ≡ false → ⊥
-    true_false bad = cc
-
     pos_is : (m k : ℕ) → pos m ≡ pos k → m ≡ k
     pos_is m k e = cc
 
@@ -184,7 +171,7 @@ none_more id most n (w ∷ ws) is h = let rest = none_more id most n ws is (part
     other m e false f = refl
     other m e true f =
         let same : m ≡ n = pos_is m n (sym ((Decides-int_eq id (pos m)).0 f) ∙ is) in
-        absurd (true_false (sym (ap (λ (x : Key). same_key (SessionKey n) x) (e ∙ ap SessionKey same) ∙ same_key-refl (SessionKey n)) ∙ (parts (writes_key (SessionKey n) w) _ h).0))
+        absurd (true≢false (sym (ap (λ (x : Key). same_key (SessionKey n) x) (e ∙ ap SessionKey same) ∙ same_key-refl (SessionKey n)) ∙ (or_parts (writes_key (SessionKey n) w) _ h).0))
 
     zero : (k : Key) → w.key ≡ k → at_session (λ k. if int_eq id (pos k) then most else 0) w.key ≡ 0
     zero HeadKey e = ap (at_session (λ k. if int_eq id (pos k) then most else 0)) e

@@ -2,7 +2,7 @@
 use Rattle.std.proofs.Common.{◌≡◌, ◌≢◌, ℕ, ℤ, pos, ◌+◌, ◌<◌, ◌≤◌, Bool, true, false, not, ◌&&◌, ◌||◌, length, [], ◌∷◌, ◌++◌, Option, Some, None, refl, sym, ◌∙◌, inl, inr, arith, ◌+ℤ◌}
 use Rattle.std.specs.Prelude.{◌≤ℤ◌, nat_le, nat_abs, if◌then◌else◌, ◌==◌}
 use Rattle.std.specs.Ordering.{int_eq}
-use Rattle.std.proofs.lemmas.Bool.{and_parts}
+use Rattle.std.proofs.lemmas.Bool.{and_parts, both_ways, not-false, or_parts}
 use Rattle.std.proofs.lemmas.Bool.Decides.{Decides-int_eq, nat_tests}
 use Rattle.std.proofs.lemmas.Int.{ints}
 use Rattle.std.specs.FinMap.{get, insert, remove}
@@ -28,19 +28,8 @@ unless : (P : Tree → Type 0) (b : Bool) (code : ℤ) (o : Outcome) → (b ≡ 
 unless P true code o leads = tt
 unless P false code o leads = leads refl
 
-not_false : (b : Bool) → not b ≡ false → b ≡ true
-not_false true h = refl
-not_false false h = absurd (cc)
-
-or_false : (a b : Bool) → (a || b) ≡ false → (a ≡ false) × (b ≡ false)
-or_false true b h = absurd (cc)
-or_false false b h = (refl, h)
-
-false_true : {b : Bool} → b ≡ false → b ≡ true → ⊥
-false_true e f = cc
-
 not_equal : (x y : ℤ) → int_eq x y ≡ false → x ≢ y
-not_equal x y h e = false_true h ((Decides-int_eq x y).1 e)
+not_equal x y h e = both_ways (int_eq x y) h ((Decides-int_eq x y).1 e)
 
 -- ---- create, of an open session
 
@@ -72,7 +61,7 @@ module _ (opened : Sessions) (t : Tree) (session flags : ℤ) (content : Bytes) 
 
     creates_below : (up.creates +ℤ pos 1) ≤ℤ max_creates
     creates_below =
-        let apart = not_equal up.creates max_creates (or_false (int_eq up.creates max_creates) (is_ephemeral flags && nat_le max_owned (length (owned t session))) room).0 in
+        let apart = not_equal up.creates max_creates (or_parts (int_eq up.creates max_creates) (is_ephemeral flags && nat_le max_owned (length (owned t session))) room).0 in
         let most = (sound.counted q up there).most in
         omega (arith, ints)
 
@@ -89,7 +78,7 @@ module _ (opened : Sessions) (t : Tree) (session flags : ℤ) (content : Bytes) 
     owned_still = num_owned-change t q above up session there refl
 
     may_own : MayOwn opened between owner
-    may_own = by_mode (is_ephemeral flags) (or_false (int_eq up.creates max_creates) (is_ephemeral flags && nat_le max_owned (length (owned t session))) room).1
+    may_own = by_mode (is_ephemeral flags) (or_parts (int_eq up.creates max_creates) (is_ephemeral flags && nat_le max_owned (length (owned t session))) room).1
       where
         by_mode : (b : Bool) → (b && nat_le max_owned (length (owned t session))) ≡ false → MayOwn opened between (if b then session else pos 0)
         by_mode false h = inl refl
@@ -105,7 +94,7 @@ module _ (opened : Sessions) (t : Tree) (session flags : ℤ) (content : Bytes) 
   made_node q up (Some old) below there is = tt
   made_node q up None below there is =
       unless (IsSoundTree opened) (not (int_eq up.owner (pos 0))) _ _ (λ h.
-      unless (IsSoundTree opened) (is_full t max_owned session flags up) _ _ (λ room. sound_made q up below there is (not_false _ h) room))
+      unless (IsSoundTree opened) (is_full t max_owned session flags up) _ _ (λ room. sound_made q up below there is (not-false _ h) room))
 
   made_under : (q : Bytes) (o : Option Node) → parent (named flags path) ≡ Some q → get t q ≡ o → Leads (IsSoundTree opened) (create_under t max_owned session flags content z now path q o)
   made_under q None below is = tt
@@ -139,7 +128,7 @@ module _ (opened : Sessions) (z : ℤ) (t : Tree) (p : Bytes) (sound : IsSoundTr
   sound_removed = at_its_parent (parent p) refl
 
 zero_is : (n : ℕ) → not (n == 0) ≡ false → n ≡ 0
-zero_is n h = grind (arith, nat_tests, not_false (n == 0) h)
+zero_is n h = grind (arith, nat_tests, not-false (n == 0) h)
 
 delete_sound : (opened : Sessions) (z : ℤ) (t : Tree) (p : Bytes) (version : ℤ) (o : Option Node) → IsSoundTree opened t → p ≢ root → Leads (IsSoundTree opened) (delete t p version z o)
 delete_sound opened z t p version None sound inner = tt

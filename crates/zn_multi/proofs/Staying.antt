@@ -1,6 +1,7 @@
 -- All parts, on a view that saw all that they read: what each choice looks at was looked up, and what is written in the end is
 -- known.
 use Rattle.std.proofs.Common.{◌<◌, ◌^◌, ◌≡◌, ℕ, suc, ℤ, pos, ◌+◌, ◌*◌, ◌≤◌, Bool, true, false, cond, length, List, [], ◌∷◌, ◌++◌, Option, Some, None, refl, sym, ap, ◌∙◌, subst, inl, inr, ⊎_elim, arith}
+use Rattle.std.proofs.lemmas.Bool.{true≢false}
 use Rattle.std.specs.Prelude.{◌≤ℤ◌, All, MatchOption, nat_abs, if◌then◌else◌}
 use Rattle.std.specs.List.{sum_by}
 use Rattle.std.specs.FinMap.{get}
@@ -79,9 +80,6 @@ content-length (part.Delete path x) = refl
 content-length (part.SetData path d x) = refl
 content-length (part.Check path x) = refl
 
-true_false : true ≡ false → ⊥
-true_false e = cc
-
 near_v : (near v : View) → IsNarrower near v → (k : Key) → HasSeen near k → HasSeen v k
 near_v near v narrow k saw none = at (sees near k) refl
   where
@@ -154,7 +152,7 @@ module _ (who : Who) (now : ℕ) (moment : now < 2 ^ 62) (v near : View) (narrow
         where
           at : (b : Bool) → int_eq n.owner (pos 0) ≡ b → In o (cond b [] (n.owner ∷ [])) → (y : Session) × (session_at o s ≡ Some y)
           at true e bad = absurd bad
-          at false e (inl is) = subst (λ (i : ℤ). (y : Session) × (session_at i s ≡ Some y)) is (each n refl (λ zero. true_false (sym ((Decides-int_eq n.owner (pos 0)).1 zero) ∙ e)))
+          at false e (inl is) = subst (λ (i : ℤ). (y : Session) × (session_at i s ≡ Some y)) is (each n refl (λ zero. true≢false (sym ((Decides-int_eq n.owner (pos 0)).1 zero) ∙ e)))
           at false e (inr bad) = absurd bad
 
       open_now : (q : Part) → (o : ℤ) → In o (touched_by tree id q) → (y : Session) × (session_at o s ≡ Some y)

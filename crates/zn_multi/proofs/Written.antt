@@ -3,7 +3,7 @@ use Rattle.std.proofs.Common.{◌≡◌, ℕ, ℤ, ◌≤◌, Bool, true, false,
 use Rattle.std.specs.Prelude.{All, if◌then◌else◌}
 use Rattle.std.specs.List.{list_any, sum_by}
 use Rattle.std.specs.Option.{option_to_list}
-use Rattle.std.proofs.lemmas.Bool.{and_from}
+use Rattle.std.proofs.lemmas.Bool.{and_from, true≢false}
 use Rattle.std.proofs.lemmas.List.Elements.{All-cons, All-head, All-nil, All-tail}
 use Rattle.std.proofs.lemmas.List.Sums.{sum_by-cons}
 use Rattle.ev_types.specs.declared.answer.Kv.{Kv}
@@ -26,9 +26,6 @@ use Rattle.zn_updates.specs.Layers.{Shows}
 use Rattle.zn_updates.specs.Parts.{IsKeptChange, IsNarrower}
 use Rattle.zn_multi.specs.Laying.{is_absent, is_gone, is_written, seen_of, write_of, written, written_acts}
 use Rattle.zn_multi.proofs.Laid.{rest_distinct, unwritten}
-
-true_false : true ≡ false → ⊥
-true_false e = cc
 
 -- ---- the operations are those of the changes that are written
 
@@ -54,7 +51,7 @@ any-written v k [] h = refl
 any-written v k (w ∷ ws) h = at (any-written v k ws both.1) (is_written v w)
   where
     parts : (a b : Bool) → (a || b) ≡ false → (a ≡ false) × (b ≡ false)
-    parts true b e = absurd (true_false e)
+    parts true b e = absurd (true≢false e)
     parts false b e = (refl, e)
 
     both : (writes_key k w ≡ false) × (list_any (writes_key k) ws ≡ false)
@@ -93,7 +90,7 @@ any_append k [] ts apart e = ap (λ b. b || false) apart
 any_append k (u ∷ us) ts apart e = at (any_append k us ts apart) (writes_key k u) refl e
   where
     at : (list_any (writes_key k) us ≡ false → list_any (writes_key k) (us ++ head_put ts ∷ []) ≡ false) → (b : Bool) → writes_key k u ≡ b → (b || list_any (writes_key k) us) ≡ false → (writes_key k u || list_any (writes_key k) (us ++ head_put ts ∷ [])) ≡ false
-    at later true is bad = absurd (true_false bad)
+    at later true is bad = absurd (true≢false bad)
     at later false is rest = λ i. (is i) || later rest i
 
 pub distinct-head : (ws : List Change) (ts : List Trigger) → are_distinct ws ≡ true → All IsKeptChange ws → are_distinct (ws ++ head_put ts ∷ []) ≡ true
@@ -206,7 +203,7 @@ life_absent : (id : ℕ) (y : Option Session) (o : Option Stored) → LifeMeans 
 life_absent id None None h k = refl
 life_absent id None (Some x) h k = absurd k
 life_absent id (Some y) None h k = refl
-life_absent id (Some y) (Some x) h k = absurd (true_false (sym h ∙ k.alive))
+life_absent id (Some y) (Some x) h k = absurd (true≢false (sym h ∙ k.alive))
 
 -- what is absent means nothing else
 only_absent : (s : State) (k : Key) (o : Option Stored) → (k ≡ HeadKey → ⊥) → Means s k None → Means s k o → o ≡ None
@@ -217,9 +214,9 @@ only_absent s (SessionKey n) o apart h means = nodes_absent (session_at (pos n) 
 only_absent s (LeaseKey n) o apart h means = life_absent n (session_at (pos n) s) o h means
 
 absent_is : (o : Option (Option Kv)) → is_absent o ≡ true → o ≡ Some None
-absent_is None e = absurd (true_false (sym e))
+absent_is None e = absurd (true≢false (sym e))
 absent_is (Some None) e = refl
-absent_is (Some (Some kv)) e = absurd (true_false (sym e))
+absent_is (Some (Some kv)) e = absurd (true≢false (sym e))
 
 -- where what was deleted was looked up in a view that shows the state
 pub fits-written : (v near : View) → IsNarrower near v → (z : ℤ) (ws : List Change) (s new : State) → are_distinct ws ≡ true → Shows z near s → ((k : Key) → last ws k ≡ Some None → HasSeen near k × (k ≡ HeadKey → ⊥)) → Fits z ws s new → Fits z (written v ws) s new
