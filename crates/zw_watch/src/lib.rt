@@ -4,7 +4,8 @@
 //! [`Armed`] is kept with its connection. [`Armed::arm`] follows a read that asked for a watch, [`Armed::fire`] each change
 //! of the tree, and [`Armed::rearm`] a setWatches, with what was seen at each of its paths ([`SeenPath`]).
 //!
-//! Each look-up goes through all paths that are armed. Firing copies the path that it tells, and takes no other memory.
+//! Each look-up goes through all paths that are armed: a setWatches of many paths takes time in proportion to their number times
+//! that of the paths that are armed in the end. Firing copies the path that it tells, and takes no other memory.
 #![tactic(auto)]
 
 mod armed;
