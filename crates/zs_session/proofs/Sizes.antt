@@ -1,36 +1,16 @@
 -- How large the transactions of a session are.
-use Rattle.std.proofs.Common.{◌≡◌, ℕ, zero, suc, ◌+◌, ◌/◌, ◌%◌, ℤ, pos, length, [], ◌∷◌, ◌++◌, refl, arith, length-append}
+use Rattle.std.proofs.Common.{◌≡◌, ◌+◌, ℤ, pos, length, [], ◌++◌, arith, length-append}
 use Rattle.std.specs.Prelude.{nat_abs}
 use Rattle.ev_types.specs.Sizes.{IsSendable}
 use Rattle.zk_jute.specs.JuteWriting.{int_bytes, long_bytes, string_bytes}
 use Rattle.zk_jute.proofs.Lengths.{length-int_bytes, length-long_bytes, length-vector_bytes}
-use Rattle.zx_base.specs.Maps.{Bytes}
 use Rattle.zn_layout.specs.declared.record.LeaseRec.{LeaseRec}
-use Rattle.zn_layout.specs.Keys.{HeadKey, SessionKey, LeaseKey, hex_digit, hex_digits, key_bytes}
 use Rattle.zn_layout.specs.Records.{head_value, lease_value, session_value, trigger_bytes, IsLeaseRec}
 use Rattle.zn_layout.proofs.Denials.{update-sendable}
 use Rattle.zn_view.specs.Asks.{ranges_of}
+use Rattle.zn_view.proofs.Sizes.{head-size, life-size, session-size}
 use Rattle.zs_session.specs.declared.connect.Fresh.{Fresh}
 use Rattle.zs_session.specs.Sessions.{attach_changes, attach_guards, attach_txn, attach_wants, first_life, new_session_changes, new_session_guards, new_session_txn, next_life, session_wants}
-
--- ---- keys
-
-hex-length : (k n : ℕ) (rest : Bytes) → length (hex_digits k n rest) ≡ length rest + k + 1
-unfolding hex_digits
-hex-length zero n rest = omega arith
-hex-length (suc k) n rest = omega (arith, hex-length k (n / 16) (hex_digit (n % 16) ∷ rest))
-
-head-size : length (key_bytes HeadKey) ≡ 7
-unfolding key_bytes
-head-size = refl
-
-life-size : (n : ℕ) → length (key_bytes (LeaseKey n)) ≡ 21
-unfolding key_bytes
-life-size n = omega (arith, hex-length 15 n [])
-
-nodes-size : (n : ℕ) → length (key_bytes (SessionKey n)) ≡ 21
-unfolding key_bytes
-nodes-size n = omega (arith, hex-length 15 n [])
 
 -- ---- values
 
@@ -54,7 +34,7 @@ no_triggers-size = omega (arith, length-vector_bytes trigger_bytes [])
 pub new_session-sendable : (f : Fresh) (timeout : ℤ) → length f.passwd ≡ 16 → IsSendable (new_session_txn f timeout)
 new_session-sendable f timeout long =
     update-sendable (new_session_guards f.id) (new_session_changes f timeout) [] (ranges_of (pos 0) (session_wants f.id)) (omega arith) (omega arith) (omega arith)
-    (omega (arith, life-size (nat_abs f.id), nodes-size (nat_abs f.id), head-size, lease_value-size (first_life f timeout) long, no_nodes-size, no_triggers-size))
+    (omega (arith, life-size (nat_abs f.id), session-size (nat_abs f.id), head-size, lease_value-size (first_life f timeout) long, no_nodes-size, no_triggers-size))
 
 pub attachment-sendable : (id seen : ℤ) (life : LeaseRec) → IsLeaseRec life → IsSendable (attach_txn id seen life)
 attachment-sendable id seen life within =
