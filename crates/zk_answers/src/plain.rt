@@ -15,12 +15,10 @@ use crate::told::{Told, good, refused};
 use crate::watches::Watches;
 use std::alloc::Global;
 use zk_model::code::{AUTH_FAILED, BAD_ARGUMENTS, INVALID_ACL};
+use zk_model::limit::MAX_PARTS;
 use zk_model::{Acl, Body, Request};
 use zk_plain::{is_create_mode, is_open_acl, is_sequential, read_path};
 use zx_base::Memory;
-
-/// The most parts of one multi.
-const MAX_PARTS: usize = 24;
 
 fn path_refusal(alloc: Global, text: &[u8]) -> Result<Option<i32>, Memory>
     ensures { IfOk result (λ o. o ≡ path_refusal (is_path text.now)) }
