@@ -51,7 +51,6 @@ fn push_why(out: &mut Vec<u8>, words: &mut Words<'_>) -> Result<Option<()>, Memo
         "StoreFull" => Why::StoreFull,
         "KeyKept" => Why::KeyKept,
         "ClockLimit" => Why::ClockLimit,
-        "NotBuilt" => Why::NotBuilt,
         _ => return Ok(None),
     };
     push_fault(out, line, why)?;

@@ -6,7 +6,6 @@ use Rattle.std.proofs.lemmas.List.Elements.{All-contains}
 use Rattle.zt_text.specs.declared.script.Happening.{Happening}
 use Rattle.zt_text.specs.declared.script.Unread.{Unread}
 use Rattle.zt_text.specs.declared.script.Why.{Why}
-use Rattle.zp_world.specs.Applying.{RefusesFor}
 use Rattle.zetcd_cmd.specs.Replayed.{IsReplayed, IsStopped, IsCutShort, IsOver, StandsAgainst}
 use Rattle.zt_text.specs.Faults.{done_text, fault_text, unread_text, why_text}
 use Rattle.zt_text.specs.Transcripts.{transcript_text}

@@ -8,7 +8,7 @@ use Rattle.zt_text.specs.declared.script.Unread.{Unread}
 use Rattle.zt_text.specs.declared.script.Unread.TheVariants.{Unreadable, TooLong}
 use Rattle.zt_text.specs.Scripts.{Script as Reading, then_script, last_line, line_read, max_line, max_script, script, script_from}
 use Rattle.zp_happen.specs.Worlds.{World}
-use Rattle.zp_world.specs.Applying.{RefusesFor}
+use Rattle.zp_happen.specs.Faults.{fault}
 use Rattle.zetcd_cmd.specs.Reached.{Reached}
 use Rattle.zetcd_cmd.specs.declared.script.Script.{Script}
 use Rattle.zetcd_cmd.specs.declared.script.Stop.{Stop}
@@ -57,7 +57,7 @@ Ends-at input line happenings later w new (stop.Refused why) reached number read
   reached = subst (λ (v : World). Reached happenings v) (sym halts.3) reached;
   number = number;
   read = read ∙ ap (λ o. behind happenings (then_script (length happenings + 1) o later)) halts.1;
-  against = subst (λ (v : World). RefusesFor v halts.0 why) (sym halts.3) halts.2;
+  against = subst (λ (v : World). fault v halts.0 ≡ Some why) (sym halts.3) halts.2;
 }
 Ends-at input line happenings later w new stop.Memory reached number read halts = tt {0}
 

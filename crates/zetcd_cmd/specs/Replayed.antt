@@ -9,7 +9,7 @@ use Rattle.zt_text.specs.Faults.{why_text, unread_text, done_text, fault_text}
 use Rattle.zk_transcript.specs.Legal.{Tick}
 use Rattle.zp_happen.specs.Runs.{Runs}
 use Rattle.zp_happen.specs.Worlds.{World}
-use Rattle.zp_world.specs.Applying.{RefusesFor}
+use Rattle.zp_happen.specs.Faults.{fault}
 use Rattle.zetcd_cmd.specs.Claims.{IsOneRun}
 
 -- The whole input is a script, and the output is the transcript of a run to which exactly its happenings were applied.
@@ -24,7 +24,7 @@ pub record IsReplayed (input output : List ℕ) : Type 0 where
 
 -- what stands against the next line: its happening isn't possible, or it can't be read
 abbrev pub StandsAgainst : World → ℕ → List Happening → Option (ℕ × Unread) → List ℕ → Type 0
-StandsAgainst w n (h ∷ hs) end text = (why : Why) × RefusesFor w h why × (text ≡ why_text why)
+StandsAgainst w n (h ∷ hs) end text = (why : Why) × (fault w h ≡ Some why) × (text ≡ why_text why)
 StandsAgainst w n [] end text = (u : Unread) × (end ≡ Some (n, u)) × (text ≡ unread_text u)
 
 -- Line n of the input is the first that can't be read or isn't possible, and the output is the transcript of the lines

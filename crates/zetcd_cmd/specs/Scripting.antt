@@ -6,7 +6,7 @@ use Rattle.zt_text.specs.declared.script.Unread.TheVariants.{Unreadable}
 use Rattle.zt_text.specs.Scripts.{Script as Reading, lines_from, pieces, script, line_read, max_line, max_script}
 use Rattle.zt_text.specs.Scripts.{IsWholeLines}
 use Rattle.zp_happen.specs.Worlds.{World}
-use Rattle.zp_world.specs.Applying.{RefusesFor}
+use Rattle.zp_happen.specs.Faults.{fault}
 use Rattle.zetcd_cmd.specs.Reached.{Reached}
 use Rattle.zetcd_cmd.specs.Replayed.{IsOver}
 use Rattle.zetcd_cmd.specs.declared.script.Script.{Script}
@@ -29,7 +29,7 @@ Plays line w w' = (happenings : List Happening) → Reached happenings w → (h 
 -- it can't be read, or what it says isn't possible; the world is as before
 abbrev pub Halts : List ℕ → World → Stop → World → Type 0
 Halts line w (stop.Unread why) w' = (why ≡ Unreadable) × (line_read line ≡ None) × (w' ≡ w)
-Halts line w (stop.Refused why) w' = (h : Happening) × (line_read line ≡ Some h) × RefusesFor w h why × (w' ≡ w)
+Halts line w (stop.Refused why) w' = (h : Happening) × (line_read line ≡ Some h) × (fault w h ≡ Some why) × (w' ≡ w)
 Halts line w stop.Memory w' = Unit {0}
 
 -- it is too long to be kept, or memory was refused
@@ -80,7 +80,7 @@ IsAgainst w n [] end (stop.Unread why) = end ≡ Some (n, why)
 IsAgainst w n [] end (stop.Refused why) = ⊥
 IsAgainst w n [] end stop.Memory = ⊥
 IsAgainst w n (h ∷ later) end (stop.Unread why) = ⊥
-IsAgainst w n (h ∷ later) end (stop.Refused why) = RefusesFor w h why
+IsAgainst w n (h ∷ later) end (stop.Refused why) = fault w h ≡ Some why
 IsAgainst w n (h ∷ later) end stop.Memory = ⊥
 
 -- the lines before the next were applied, and this stands against the next

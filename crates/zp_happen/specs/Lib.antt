@@ -10,4 +10,3 @@ pub mod Effects
 pub mod Happens
 pub mod Runs
 pub mod Conversing
-pub mod Unbuilt

@@ -6,7 +6,7 @@
 //! test of a line that fails), `StepOutcomes` and `Handing` (an input is handed to a connection or a reaper, and what it does is
 //! done), `Carrying` (the store carries out an ask), `Arriving` (bytes of a client arrive), `Effects` (`Does`: each line but
 //! settle), `Happens` (settle, and one line of a script), `Runs` (the first world, and whole scripts), `Conversing` (the parts of a
-//! transcript that are shown apart). `Unbuilt` is what is refused until all requests are built.
+//! transcript that are shown apart).
 //!
 //! The store is an etcd's as `ev_types` defines it, a connection is `zp_step`'s, and a line of the transcript is added where
 //! something happens that it shows, in that order.

@@ -23,7 +23,7 @@ use Rattle.zp_step.specs.declared.action.Action.{Action}
 use Rattle.zp_step.specs.declared.action.Action.TheVariants as action
 use Rattle.zp_world.specs.Adding.{added, frames_left}
 use Rattle.zp_world.specs.Doing.{left, seated}
-use Rattle.zp_world.specs.Flying.{IsActive, IsFitFlight, IsFlyingOf, IsUnconnected}
+use Rattle.zp_world.specs.Flying.{IsActive, IsFitFlight, IsFlyingOf}
 use Rattle.zp_world.specs.Leaving.{Leaves}
 use Rattle.zp_world.specs.declared.activity.Seat.{Seat}
 use Rattle.zp_world.proofs.Grantable.{grantable}
@@ -197,10 +197,9 @@ acted-at c kind kind' first zxid zxid' frames core w flight out w' now left same
 
 -- ---- what is put back
 
-pub active-behind : (core : Core) (frames : ℕ) (now : Option Flight) (b : Bool) → is_shut core.stage ≡ b → IsFitFlight now → (is_shut core.stage ≡ false → IsFlyingOf core now)
-    → (is_shut core.stage ≡ false → frames ≡ 0 → IsUnconnected core.stage) → IsActive (if b then Closed else Connection core) frames now
-active-behind core frames now true is fit flies begun = fit
-active-behind core frames now false is fit flies begun = record { live = is; flies = flies is; begun = begun is }
+pub active-behind : (core : Core) (now : Option Flight) (b : Bool) → is_shut core.stage ≡ b → IsFitFlight now → (is_shut core.stage ≡ false → IsFlyingOf core now) → IsActive (if b then Closed else Connection core) now
+active-behind core now true is fit flies = fit
+active-behind core now false is fit flies = record { live = is; flies = flies is }
 
 seated-same : (seat : Seat) (a b : Actor) (f g : Option Flight) → a ≡ b → f ≡ g → seated seat a f ≡ seated seat b g
 seated-same seat a b f g e h = λ i. seated seat (e i) (h i)

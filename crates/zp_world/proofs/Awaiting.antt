@@ -1,27 +1,18 @@
 -- What a connection awaits, by what it wants.
 use Rattle.std.proofs.Common.{◌≡◌, ℕ, refl, sym, ap, ◌∙◌, Bool, true, false, cond}
-use Rattle.std.specs.Prelude.{Option, Some, None, List, ℤ, pos, negsuc, ◌+ℤ◌}
+use Rattle.std.specs.Prelude.{Some, None, List, ℤ, pos, negsuc, ◌+ℤ◌}
 use Rattle.std.specs.Option.{option_and_then}
-use Rattle.ev_types.specs.declared.answer.Answer.{Answer}
-use Rattle.ev_types.specs.declared.ask.Ask.{Ask}
 use Rattle.zk_model.specs.Watches.{is_unarmed}
 use Rattle.zp_happen.specs.Entries.{cursor_at, cursor_of, cursor_wanted, entry_behind}
 use Rattle.zp_happen.specs.Faults.{flight_at}
 use Rattle.zp_happen.specs.Worlds.{Conn, Connection, World, conn_at}
 use Rattle.zn_layout.specs.declared.entry.Entry.{Entry}
 use Rattle.zp_ledger.specs.Entering.{AreNumbered}
-use Rattle.zp_step.specs.Laws.{end_by}
-use Rattle.zp_step.proofs.Shutting.{ends-named}
-use Rattle.zp_step.specs.Stages.{Core, Stage, Unconnected, Connecting, Ready, KeepingAlive, Checking, Reading, Committing, Waiting, Shut, asked_of, is_shut, wanted_in, wants_of}
-use Rattle.zp_step.specs.Steps.{IsFit, Steps, awaits_entry}
-use Rattle.zp_step.specs.declared.action.Action.{Action}
-use Rattle.zp_step.specs.declared.input.Input.{Input}
-use Rattle.zp_step.specs.declared.input.Input.TheVariants as input
+use Rattle.zp_step.specs.Stages.{Core, Stage, Unconnected, Connecting, Ready, KeepingAlive, Checking, Reading, Committing, Waiting, Shut, wanted_in, wants_of}
+use Rattle.zp_step.specs.Steps.{awaits_entry}
 use Rattle.zp_step.specs.declared.wants.Wants.{Wants}
 use Rattle.zp_step.specs.declared.wants.Wants.TheVariants as wants
-use Rattle.zs_session.specs.Answering.{IsAwaited}
-use Rattle.zx_base.proofs.Options.{none_some, some_none, some_is}
-use Rattle.zp_world.specs.Flying.{IsEnd, IsNoFrame, IsUnconnected}
+use Rattle.zx_base.proofs.Options.{none_some, some_is}
 
 IsNext : Core → Wants → ℤ → Type 0
 IsNext core w cursor = (awaits_entry w ≡ true) × (cursor ≡ core.cursor)
@@ -50,43 +41,6 @@ awaits-next core cursor h = (stage-next core core.stage cursor h).0
 pub cursor-is : (core : Core) (cursor : ℤ) → cursor_wanted (wants_of core) ≡ Some cursor → cursor ≡ core.cursor
 unfolding IsNext
 cursor-is core cursor h = (stage-next core core.stage cursor h).1
-
--- ---- before its connect a connection takes framed input but its end
-
-unconnected-stage : (core : Core) (s : Stage) → IsUnconnected s → (asked_of core.who s ≡ None) × (awaits_entry (wanted_in core s) ≡ false)
-unconnected-stage core (Unconnected fresh) u = (refl, refl)
-unconnected-stage core (Connecting connect) u = absurd u
-unconnected-stage core Ready u = absurd u
-unconnected-stage core (KeepingAlive frame) u = absurd u
-unconnected-stage core (Checking frame) u = absurd u
-unconnected-stage core (Reading xid r v ws) u = absurd u
-unconnected-stage core (Committing xid r v p m) u = absurd u
-unconnected-stage core (Waiting p) u = absurd u
-unconnected-stage core Shut u = absurd u
-
-not-awaited : (o : Option Ask) (a : Answer) → o ≡ None → IsAwaited o (Some a) → ⊥
-not-awaited None a e h = h
-not-awaited (Some q) a e h = some_none e
-
-true-false : true ≡ false → ⊥
-true-false e = cc
-
-ends-unconnected : (core : Core) (x : Input) → IsUnconnected core.stage → IsFit core x → IsNoFrame x → IsEnd x
-ends-unconnected core (input.Frame bytes) u fit framed = absurd framed
-ends-unconnected core (input.Answer a) u fit framed = absurd (not-awaited _ a (unconnected-stage core core.stage u).0 fit)
-ends-unconnected core input.Failed u fit framed = (_, refl)
-ends-unconnected core (input.Entry e) u fit framed = absurd (true-false (sym fit.awaited ∙ (unconnected-stage core core.stage u).1))
-ends-unconnected core (input.BadLength place n) u fit framed = (_, refl)
-ends-unconnected core (input.Lagged cursor floor) u fit framed = (_, refl)
-ends-unconnected core input.FeedClosed u fit framed = (_, refl)
-ends-unconnected core (input.ClientEnd place) u fit framed = (_, refl)
-
-pub begun-behind : (old new : Core) (x : Input) (now frames : ℕ) (out : List Action) → is_shut old.stage ≡ false → (frames ≡ 0 → IsUnconnected old.stage) → IsFit old x → IsNoFrame x → Steps old x now new out
-    → is_shut new.stage ≡ false → frames ≡ 0 → IsUnconnected new.stage
-begun-behind old new x now frames out live begun fit framed steps after zero =
-    let e = ends-unconnected old x (begun zero) fit framed in
-    let q = ends-named old new x e.0 now out live e.1 steps in
-    absurd (true-false (sym (ap is_shut q.0) ∙ after))
 
 -- ---- the connection of a number
 

@@ -97,20 +97,20 @@ reap-awaits reap x (Out y) out h = absurd h
 reap-awaits reap x (Carried a) out h = (out.asked, of-txn x.ask a out.txn h)
 reap-awaits reap x Denied out h = tt
 
-closed-awaits : (q : Ask) (frames : ℕ) (f : Flight) → IsCarried q f → IsActive Closed frames (Some f)
-closed-awaits q frames (Out y) h = absurd h
-closed-awaits q frames (Carried a) h = tt
-closed-awaits q frames Denied h = tt
+closed-awaits : (q : Ask) (f : Flight) → IsCarried q f → IsActive Closed (Some f)
+closed-awaits q (Out y) h = absurd h
+closed-awaits q (Carried a) h = tt
+closed-awaits q Denied h = tt
 
-pub carried-active : (actor : Actor) (frames : ℕ) (x : Asking) (f : Flight) → IsActive actor frames (Some (Out x)) → IsCarried x.ask f → IsActive actor frames (Some f)
-carried-active (Connection core) frames x f active h = record { live = active.live; flies = awaits core x.ask f active.flies.asked h; begun = active.begun }
-carried-active (Reaper reap) frames x f active h = reap-awaits reap x f active h
-carried-active Closed frames x f active h = closed-awaits x.ask frames f h
+pub carried-active : (actor : Actor) (x : Asking) (f : Flight) → IsActive actor (Some (Out x)) → IsCarried x.ask f → IsActive actor (Some f)
+carried-active (Connection core) x f active h = record { live = active.live; flies = awaits core x.ask f active.flies.asked h }
+carried-active (Reaper reap) x f active h = reap-awaits reap x f active h
+carried-active Closed x f active h = closed-awaits x.ask f h
 
-pub out-fit : (actor : Actor) (frames : ℕ) (x : Asking) → IsActive actor frames (Some (Out x)) → IsFit x
-out-fit (Connection core) frames x active = active.flies.fit
-out-fit (Reaper reap) frames x active = active.fit
-out-fit Closed frames x active = active
+pub out-fit : (actor : Actor) (x : Asking) → IsActive actor (Some (Out x)) → IsFit x
+out-fit (Connection core) x active = active.flies.fit
+out-fit (Reaper reap) x active = active.fit
+out-fit Closed x active = active
 
 -- ---- it is as the world is apart from its connections and its strays
 

@@ -198,10 +198,10 @@ flying-asked core (Out x) h none = none_some (sym none ∙ h.asked)
 flying-asked core (Carried a) h none = awaited-none (asked_of core.who core.stage) a none h
 flying-asked core Denied h none = h none
 
-pub may-fail : (a : Actor) (frames : ℕ) (f : Flight) → IsActive a frames (Some f) → MayFail a frames
-may-fail (Connection core) frames f h = record { live = h.live; asked = flying-asked core f h.flies; begun = h.begun }
-may-fail (Reaper reap) frames f h = tt
-may-fail Closed frames f h = tt
+pub may-fail : (a : Actor) (f : Flight) → IsActive a (Some f) → MayFail a
+may-fail (Connection core) f h = record { live = h.live; asked = flying-asked core f h.flies }
+may-fail (Reaper reap) f h = tt
+may-fail Closed f h = tt
 
 flying-fits : (core : Core) (f : Option Flight) → IsFlyingOf core f → IsFitFlight f
 flying-fits core None h = tt
@@ -215,10 +215,10 @@ reap-fits reap (Some (Out x)) h = h.fit
 reap-fits reap (Some (Carried a)) h = tt
 reap-fits reap (Some Denied) h = tt
 
-pub fits : (a : Actor) (frames : ℕ) (f : Option Flight) → IsActive a frames f → IsFitFlight f
-fits (Connection core) frames f h = flying-fits core f h.flies
-fits (Reaper reap) frames f h = reap-fits reap f h
-fits Closed frames f h = h
+pub fits : (a : Actor) (f : Option Flight) → IsActive a f → IsFitFlight f
+fits (Connection core) f h = flying-fits core f h.flies
+fits (Reaper reap) f h = reap-fits reap f h
+fits Closed f h = h
 
 txn-grantable : (q : Ask) → IsTxn q → IsGrantable q
 txn-grantable (ask.Txn t) h = tt

@@ -1,5 +1,5 @@
 -- The tests of lines, one after the other.
-use Rattle.std.proofs.Common.{◌≡◌, ℕ, refl, sym, ap, ◌∙◌, Bool, true, false, inl, inr}
+use Rattle.std.proofs.Common.{◌≡◌, ℕ, refl, sym, ap, ◌∙◌, Bool, true, false}
 use Rattle.std.specs.Prelude.{Option, Some, None, Err, is_none, is_some, not, pos, ℤ, List, ◌∷◌, [], nat_lt, ◌+◌, length}
 use Rattle.ev_types.specs.Store.{Puts}
 use Rattle.ev_types.specs.Lapses.{leased_keys, removals}
@@ -17,10 +17,10 @@ use Rattle.zp_world.specs.declared.fault.ApplyFault.TheVariants.{NotPossible}
 use Rattle.zp_world.specs.Applying.{Applies}
 
 pub refuses : (w : World) (h : Happening) (cause : Why) (r : ApplyFault) → fault w h ≡ Some cause → r ≡ NotPossible cause → Applies w h (Err r) w
-refuses w h cause r f e = rw e (inl f, refl)
+refuses w h cause r f e = rw e (f, refl)
 
 pub refuses-same : (w w' : World) (h : Happening) (cause : Why) (r : ApplyFault) → fault w h ≡ Some cause → r ≡ NotPossible cause → w' ≡ w → Applies w h (Err r) w'
-refuses-same w w' h cause r f e same = rw e (inl f, same)
+refuses-same w w' h cause r f e same = rw e (f, same)
 
 -- ---- the tests of each line
 

@@ -1,33 +1,31 @@
 -- Frames come to a connection, one after the other.
-use Rattle.std.proofs.Common.{◌≡◌, ℕ, ◌+◌, ◌++◌, refl, sym, ap, ◌∙◌, subst, Bool, true, false, List, [], ◌∷◌, inl, inr, length, ◌<◌, arith}
+use Rattle.std.proofs.Common.{◌≡◌, ℕ, ◌+◌, ◌++◌, refl, sym, ap, ◌∙◌, subst, Bool, true, false, List, [], ◌∷◌, inl, inr, length, ◌<◌, ◌≤◌, arith}
 use Rattle.std.proofs.lemmas.List.Elements.{All-nil, All-tail}
-use Rattle.std.specs.Prelude.{◌==◌, ◌⊎◌, All, Option, Some, None, Result, Ok, Err, OnOk, ℤ, MatchBool, not, if◌then◌else◌}
-use Rattle.zx_base.proofs.Options.{none_some, some_none, some_is}
+use Rattle.std.specs.Prelude.{All, Option, Some, None, Result, Ok, Err, OnOk, ℤ, MatchBool, not, if◌then◌else◌}
+use Rattle.zx_base.proofs.Options.{some_none, some_is}
 use Rattle.zk_transcript.specs.declared.transcript.TranscriptLine.{TranscriptLine}
 use Rattle.zk_transcript.specs.declared.transcript.TranscriptLine.TheVariants.{Frame as FrameLine}
+use Rattle.zk_model.specs.Limits.{max_frame}
 use Rattle.zk_wire.specs.Cutting.{Stream}
 use Rattle.zt_text.specs.declared.script.Why.{Why}
 use Rattle.zt_text.specs.declared.script.Why.TheVariants as why
-use Rattle.zp_happen.specs.Arriving.{Arrives, EndsBadly, FramesArrive, frame_lines, shown_frame}
+use Rattle.zp_happen.specs.Arriving.{Arrives, Cuts, EndsBadly, FramesArrive, frame_lines, shown_frame}
 use Rattle.zp_happen.specs.Faults.{connection_fault, if_fails}
 use Rattle.zp_happen.specs.Handing.{Handed}
 use Rattle.zp_happen.specs.StepOutcomes.{StepOutcome, acts_all, leaves}
 use Rattle.zp_happen.specs.Kinds.{kind_asked}
 use Rattle.zp_happen.specs.Worlds.{Actor, Closed, Conn, Conns, Connection, Reaper, World, behind_step, conn_at, is_closed, is_open_conn, is_reaper, with_conn, zxid_at}
 use Rattle.zp_happen.specs.declared.flight.Flight.{Flight}
-use Rattle.zp_core.specs.Held.{IsBuiltIn}
-use Rattle.zk_jute.specs.Requests.{read_request}
-use Rattle.zp_happen.specs.Unbuilt.{is_multi}
 use Rattle.zp_happen.specs.declared.flight.Flight.TheVariants.{Out, Carried, Denied}
 use Rattle.zp_step.specs.declared.action.Action.{Action}
 use Rattle.zp_step.specs.Steps.{Steps}
-use Rattle.zp_step.specs.Stages.{Core, Stage, Unconnected, Connecting, Ready, KeepingAlive, Checking, Reading, Committing, Waiting, Shut, counted_up, is_shut}
+use Rattle.zp_step.specs.Stages.{Core, counted_up, is_shut}
 use Rattle.zp_step.specs.declared.input.Input.{Input}
 use Rattle.zp_step.specs.declared.input.Input.TheVariants as input
 use Rattle.zp_world.proofs.Apart.{conn-inserted, conn-left, insert-removed, insert-twice}
 use Rattle.zp_world.specs.Doing.{Stepped, left, seated, without}
-use Rattle.zp_world.specs.Flying.{IsBuiltFrame, IsFitFlight, IsFlyingOf, IsUnconnected}
-use Rattle.zp_world.specs.Taking.{IsConnectionAt, IsCutFor, IsLeft, IsServing, Takes, left_next, shown}
+use Rattle.zp_world.specs.Flying.{IsFitFlight, IsFlyingOf}
+use Rattle.zp_world.specs.Taking.{IsConnectionAt, IsLeft, IsServing, Takes, left_next, shown}
 use Rattle.zp_world.specs.declared.activity.Seat.{Seat}
 
 -- ---- a step of what is held apart is one of what stands in its world
@@ -134,22 +132,25 @@ serving-first c zxid frames w x core there is same = record {
 
 -- ---- all frames of a loop
 
+abbrev pub AreShort : List (List ℕ) → Type 0
+AreShort frames = All (λ (f : List ℕ). length f ≤ max_frame) frames
+
 -- these frames came to a world, and those that are left come to the world that they led to
 pub record AreComing (c : ℕ) (zxid : ℤ) (start : World) (frames : List (List ℕ)) (now : World) (left : List (List ℕ)) : Type 0 where
-  pub built : All IsBuiltFrame left
+  pub short : AreShort left
   pub go : IsServing c zxid frames start → IsServing c zxid left now × ((w' : World) → FramesArrive c now left w' → FramesArrive c start frames w')
 
-pub coming-first : (c : ℕ) (zxid : ℤ) (w : World) (frames : List (List ℕ)) → All IsBuiltFrame frames → AreComing c zxid w frames w frames
-coming-first c zxid w frames built = record { built = built; go = λ s. (s, λ w' arrives. arrives) }
+pub coming-first : (c : ℕ) (zxid : ℤ) (w : World) (frames : List (List ℕ)) → AreShort frames → AreComing c zxid w frames w frames
+coming-first c zxid w frames short = record { short = short; go = λ s. (s, λ w' arrives. arrives) }
 
-pub built-left : (frames left : List (List ℕ)) → All IsBuiltFrame frames → IsLeft frames left → All IsBuiltFrame left
-built-left frames left built (inl same) = subst (All IsBuiltFrame) (sym same) built
-built-left frames left built (inr none) = subst (All IsBuiltFrame) (sym none) (All-nil IsBuiltFrame)
+short-left : (frames left : List (List ℕ)) → AreShort frames → IsLeft frames left → AreShort left
+short-left frames left short (inl same) = subst AreShort (sym same) short
+short-left frames left short (inr none) = subst AreShort (sym none) (All-nil (λ (f : List ℕ). length f ≤ max_frame))
 
 pub coming-next : (c : ℕ) (zxid : ℤ) (start now next : World) (frames : List (List ℕ)) (frame : List ℕ) (behind left : List (List ℕ)) → AreComing c zxid start frames now (frame ∷ behind) → IsLeft behind left
     → ((x : Conn) (core : Core) → conn_at c now ≡ Some x → x.actor ≡ Connection core → zxid ≡ zxid_at now.store → Takes c now x frame behind next left) → AreComing c zxid start frames next left
 coming-next c zxid start now next frames frame behind left coming is_left takes = record {
-  built = built-left behind left (All-tail IsBuiltFrame frame behind coming.built) is_left;
+  short = short-left behind left (All-tail (λ (f : List ℕ). length f ≤ max_frame) frame behind coming.short) is_left;
   go = λ s.
       let so_far = coming.go s in
       let open_one = serving-open c zxid frame behind now so_far.0 in
@@ -165,11 +166,6 @@ fewer all behind left frame is (inr none) = omega (arith, ap length is, ap lengt
 pub coming-end : (c : ℕ) (zxid : ℤ) (start now : World) (frames : List (List ℕ)) → AreComing c zxid start frames now [] → IsServing c zxid frames start → FramesArrive c start frames now
 coming-end c zxid start now frames coming s = (coming.go s).1 now refl
 
--- the connect, and those behind it
-pub connect-comes : (c : ℕ) (zxid : ℤ) (w mid w' : World) (x : Conn) (frame : List ℕ) (behind left : List (List ℕ)) → conn_at c w ≡ Some x → zxid ≡ zxid_at w.store → Takes c w x frame behind mid left
-    → (IsServing c zxid left mid → FramesArrive c mid left w') → FramesArrive c w (frame ∷ behind) w'
-connect-comes c zxid w mid w' x frame behind left there same t come = arrives-next c w mid w' x frame behind left there t (come (serving-next c zxid w mid x frame behind left same t))
-
 -- ---- all that came at once
 
 -- the test that there is an open connection, of what was looked up
@@ -182,13 +178,6 @@ fault_of o reaper = elim o [ None ↦ Some why.NoSuchConnection | Some x ↦ if_
 possible-of : (c : ℕ) (w : World) (o : Option Conn) → conn_at c w ≡ o → connection_fault c w None ≡ None → fault_of o (reaper_of o) ≡ None
 possible-of c w o there possible = subst (λ (p : Option Conn). fault_of p (reaper_of p) ≡ None) there possible
 
-pub connection-found : (c : ℕ) (w : World) → connection_fault c w None ≡ None → (x : Conn) × (conn_at c w ≡ Some x)
-connection-found c w possible = go (conn_at c w) refl
-  where
-    go : (o : Option Conn) → conn_at c w ≡ o → (x : Conn) × (conn_at c w ≡ Some x)
-    go None e = absurd (some_none (possible-of c w None e possible))
-    go (Some x) e = (x, e)
-
 pub connection-there : (c : ℕ) (w : World) (x : Conn) → connection_fault c w None ≡ None → conn_at c w ≡ Some x → (core : Core) × (x.actor ≡ Connection core)
 connection-there c w x possible there = go x.actor refl (possible-of c w (Some x) there possible)
   where
@@ -197,15 +186,14 @@ connection-there c w x possible there = go x.actor refl (possible-of c w (Some x
     go (Reaper reap) e p = absurd (some_none p)
     go Closed e p = absurd (some_none p)
 
-pub all-arrive : (c : ℕ) (zxid : ℤ) (w kept mid w' : World) (x : Conn) (bytes : List ℕ) (first : Bool) (frames : List (List ℕ)) (bad : Option ℤ) (stream : Stream)
-    → connection_fault c w None ≡ None → conn_at c w ≡ Some x → IsCutFor x bytes first frames bad stream → zxid ≡ zxid_at w.store → kept ≡ with_conn w c (record x { stream = stream })
-    → ((y : Conn) (core : Core) → conn_at c kept ≡ Some y → y.actor ≡ Connection core → first ≡ (y.frames == 0) → zxid ≡ zxid_at kept.store → FramesArrive c kept frames mid)
-    → (IsConnectionAt c mid → EndsBadly c mid stream.place bad w') → Arrives c w bytes w'
-all-arrive c zxid w kept mid w' x bytes first frames bad stream possible there cut same is come ends =
+pub all-arrive : (c : ℕ) (zxid : ℤ) (w kept mid w' : World) (x : Conn) (bytes : List ℕ) (frames : List (List ℕ)) (bad : Option ℤ) (stream : Stream)
+    → connection_fault c w None ≡ None → conn_at c w ≡ Some x → Cuts x.stream bytes frames bad stream → zxid ≡ zxid_at w.store → kept ≡ with_conn w c (record x { stream = stream })
+    → (IsServing c zxid frames kept → FramesArrive c kept frames mid) → (IsConnectionAt c mid → EndsBadly c mid stream.place bad w') → Arrives c w bytes w'
+all-arrive c zxid w kept mid w' x bytes frames bad stream possible there cuts same is come ends =
     let y : Conn = record x { stream = stream } in
     let core = connection-there c w x possible there in
     let at : conn_at c kept ≡ Some y = ap (conn_at c) is ∙ conn-inserted c w y in
-    let arrives = come y core.0 at core.1 cut.is_first (same ∙ sym (ap (λ (v : World). zxid_at v.store) is)) in
+    let arrives = come (serving-first c zxid frames kept y core.0 at core.1 (same ∙ sym (ap (λ (v : World). zxid_at v.store) is))) in
     let served : IsConnectionAt c kept = record { conn = y; found = at; served = ap is_reaper core.1 } in
     record {
       conn = x;
@@ -213,28 +201,13 @@ all-arrive c zxid w kept mid w' x bytes first frames bad stream possible there c
       frames = frames;
       bad = bad;
       stream = stream;
-      cuts = cut.cuts;
+      cuts = cuts;
       mid = mid;
       arrive = subst (λ (v : World). FramesArrive c v frames mid) is arrives;
       ends = ends (arrived-connection frames c kept mid served arrives);
     }
 
 -- ---- what a step by a frame takes
-
-behind-connect : (P : Type 0) (frames : ℕ) → (frames ≡ 0 → ⊥) → (frames ≡ 0) ⊎ P → P
-behind-connect P frames begun (inl none) = absurd (begun none)
-behind-connect P frames begun (inr p) = p
-
-pub built-in : (bytes : List ℕ) (stage : Stage) (frames : ℕ) → (frames ≡ 0 → IsUnconnected stage) → (frames ≡ 0) ⊎ (is_multi (read_request bytes) ≡ false) → IsBuiltIn bytes stage
-built-in bytes (Unconnected fresh) frames begun built = tt
-built-in bytes (Connecting connect) frames begun built = behind-connect (is_multi (read_request bytes) ≡ false) frames begun built
-built-in bytes Ready frames begun built = behind-connect (is_multi (read_request bytes) ≡ false) frames begun built
-built-in bytes (KeepingAlive frame) frames begun built = behind-connect (is_multi (read_request bytes) ≡ false) frames begun built
-built-in bytes (Checking frame) frames begun built = behind-connect (is_multi (read_request bytes) ≡ false) frames begun built
-built-in bytes (Reading xid r v ws) frames begun built = behind-connect (is_multi (read_request bytes) ≡ false) frames begun built
-built-in bytes (Committing xid r v p m) frames begun built = behind-connect (is_multi (read_request bytes) ≡ false) frames begun built
-built-in bytes (Waiting p) frames begun built = behind-connect (is_multi (read_request bytes) ≡ false) frames begun built
-built-in bytes Shut frames begun built = behind-connect (is_multi (read_request bytes) ≡ false) frames begun built
 
 pub fit-flying : (core : Core) (flight : Option Flight) → IsFlyingOf core flight → IsFitFlight flight
 fit-flying core None h = tt

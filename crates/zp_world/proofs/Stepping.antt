@@ -5,7 +5,6 @@ use Rattle.std.specs.FinMap.{remove}
 use Rattle.zk_transcript.specs.declared.transcript.Ended.{Ended}
 use Rattle.zk_transcript.specs.declared.transcript.TranscriptLine.{TranscriptLine}
 use Rattle.zk_transcript.specs.declared.transcript.TranscriptLine.TheVariants.{Close as CloseLine}
-use Rattle.zp_core.specs.Held.{IsBuilt}
 use Rattle.zp_happen.specs.declared.flight.Flight.{Flight}
 use Rattle.zp_happen.specs.declared.flight.Flight.TheVariants.{Out, Carried, Denied}
 use Rattle.zp_happen.specs.Handing.{Handed}
@@ -18,38 +17,27 @@ use Rattle.zp_step.specs.declared.action.Action.{Action}
 use Rattle.zp_step.specs.declared.input.Input.{Input}
 use Rattle.zp_step.specs.declared.input.Input.TheVariants as input
 use Rattle.zp_world.specs.Doing.{Stepped, left, seated, without}
-use Rattle.zp_world.specs.Flying.{IsActive, IsFitFlight, IsNoFrame, LeavesFree}
+use Rattle.zp_world.specs.Flying.{IsActive, IsFitFlight, LeavesFree}
 use Rattle.zp_world.specs.Leaving.{Leaves}
 use Rattle.zp_world.specs.declared.activity.Seat.{Seat}
 use Rattle.zp_world.proofs.Apart.{leaves-without}
 use Rattle.zp_world.proofs.Standing.{leaves-end, leaves-none}
-
--- any input but a frame is built
-pub built-unframed : (c : Core) (x : Input) → IsNoFrame x → IsBuilt c x
-built-unframed c (input.Frame bytes) framed = absurd framed
-built-unframed c (input.Answer a) framed = tt
-built-unframed c input.Failed framed = tt
-built-unframed c (input.Entry e) framed = tt
-built-unframed c (input.BadLength place n) framed = tt
-built-unframed c (input.Lagged cursor floor) framed = tt
-built-unframed c input.FeedClosed framed = tt
-built-unframed c (input.ClientEnd place) framed = tt
 
 pub leaves-free : (old new : Core) (x : Input) (now : ℕ) (out : List Action) (flight : Option Flight) → is_shut old.stage ≡ false → LeavesFree flight x → Steps old x now new out → Leaves flight new out
 leaves-free old new x now out flight live (inl none) steps = subst (λ (f : Option Flight). Leaves f new out) (sym none) (leaves-none old new x now out live steps)
 leaves-free old new x now out flight live (inr end) steps = leaves-end old new x end.0 now out flight live end.1 steps
 
 -- what is out of anyone is fit
-pub fit-active : (a : Actor) (frames : ℕ) (flight : Option Flight) → IsActive a frames flight → IsFitFlight flight
-fit-active (Connection core) frames None h = tt
-fit-active (Connection core) frames (Some (Out x)) h = h.flies.fit
-fit-active (Connection core) frames (Some (Carried a)) h = tt
-fit-active (Connection core) frames (Some Denied) h = tt
-fit-active (Reaper reap) frames None h = tt
-fit-active (Reaper reap) frames (Some (Out x)) h = h.fit
-fit-active (Reaper reap) frames (Some (Carried a)) h = tt
-fit-active (Reaper reap) frames (Some Denied) h = tt
-fit-active Closed frames flight h = h
+pub fit-active : (a : Actor) (flight : Option Flight) → IsActive a flight → IsFitFlight flight
+fit-active (Connection core) None h = tt
+fit-active (Connection core) (Some (Out x)) h = h.flies.fit
+fit-active (Connection core) (Some (Carried a)) h = tt
+fit-active (Connection core) (Some Denied) h = tt
+fit-active (Reaper reap) None h = tt
+fit-active (Reaper reap) (Some (Out x)) h = h.fit
+fit-active (Reaper reap) (Some (Carried a)) h = tt
+fit-active (Reaper reap) (Some Denied) h = tt
+fit-active Closed flight h = h
 
 -- who was held apart is in the world again
 pub leaves-seated : (c : ℕ) (w : World) (x : Conn) (seat : Seat) (actor : Actor) (flight : Option Flight) (a : Actor) (o : StepOutcome) → x ≡ seated seat actor flight

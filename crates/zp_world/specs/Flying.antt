@@ -1,23 +1,19 @@
 -- What is known of an ask from the moment at which it was asked until its answer is delivered: the store takes it, and its answer is
 -- one that its asker awaits.
-use Rattle.std.specs.Prelude.{◌≡◌, ◌≢◌, ◌⊎◌, ℕ, ℤ, pos, ◌≤ℤ◌, ◌≤◌, false, List, length, Option, Some, None, IfSome, All}
+use Rattle.std.specs.Prelude.{◌≡◌, ◌≢◌, ◌⊎◌, pos, ◌≤ℤ◌, false, List, Option, Some, None, IfSome, All}
 use Rattle.ev_store.specs.Asks.{IsGrantable}
 use Rattle.ev_types.specs.declared.answer.Answer.{Answer}
 use Rattle.ev_types.specs.declared.ask.Ask.{Ask}
-use Rattle.zk_jute.specs.Requests.{read_request}
-use Rattle.zk_model.specs.Limits.{max_frame}
 use Rattle.zk_transcript.specs.declared.transcript.Cause.{Cause}
 use Rattle.zk_transcript.specs.declared.transcript.UpdateKind.{UpdateKind}
 use Rattle.zk_transcript.specs.declared.transcript.UpdateKind.TheVariants as kind
 use Rattle.zp_happen.specs.declared.flight.Asking.{Asking}
 use Rattle.zp_happen.specs.declared.flight.Flight.{Flight}
 use Rattle.zp_happen.specs.declared.flight.Flight.TheVariants.{Out, Carried, Denied}
-use Rattle.zp_happen.specs.Unbuilt.{is_multi}
 use Rattle.zp_happen.specs.Worlds.{Actor, Connection, Reaper, Closed}
 use Rattle.zp_step.specs.Laws.{end_by}
-use Rattle.zp_step.specs.Stages.{Core, Stage, Unconnected, asked_of, is_shut}
+use Rattle.zp_step.specs.Stages.{Core, asked_of, is_shut}
 use Rattle.zp_step.specs.declared.input.Input.{Input}
-use Rattle.zp_step.specs.declared.input.Input.TheVariants as input
 use Rattle.zs_reap.specs.Steps.{IsAsked, IsOfTxn, IsTxn}
 use Rattle.zs_reap.specs.declared.reap.Reap.{Reap}
 use Rattle.zs_session.specs.Answering.{IsAnswerTo, IsAwaited}
@@ -79,30 +75,23 @@ IsReapFlying reap (Some Denied) = Unit {0}
 
 -- ---- of either; one that has closed keeps no core
 
--- its first frame is its connect
-abbrev pub IsUnconnected : Stage → Type 0
-IsUnconnected (Unconnected fresh) = Unit {0}
-IsUnconnected _ = ⊥
-
-pub record IsServed (core : Core) (frames : ℕ) (flight : Option Flight) : Type 0 where
+pub record IsServed (core : Core) (flight : Option Flight) : Type 0 where
   pub live : is_shut core.stage ≡ false
   pub flies : IsFlyingOf core flight
-  pub begun : frames ≡ 0 → IsUnconnected core.stage
 
-abbrev pub IsActive : Actor → ℕ → Option Flight → Type 0
-IsActive (Connection core) frames flight = IsServed core frames flight
-IsActive (Reaper reap) frames flight = IsReapFlying reap flight
-IsActive Closed frames flight = IsFitFlight flight
+abbrev pub IsActive : Actor → Option Flight → Type 0
+IsActive (Connection core) flight = IsServed core flight
+IsActive (Reaper reap) flight = IsReapFlying reap flight
+IsActive Closed flight = IsFitFlight flight
 
 -- an answer or a failure may come
-pub record IsAsking (core : Core) (frames : ℕ) : Type 0 where
+pub record IsAsking (core : Core) : Type 0 where
   pub live : is_shut core.stage ≡ false
   pub asked : asked_of core.who core.stage ≢ None
-  pub begun : frames ≡ 0 → IsUnconnected core.stage
 
-abbrev pub MayFail : Actor → ℕ → Type 0
-MayFail (Connection core) frames = IsAsking core frames
-MayFail _ frames = Unit {0}
+abbrev pub MayFail : Actor → Type 0
+MayFail (Connection core) = IsAsking core
+MayFail _ = Unit {0}
 
 -- ---- what is handed in
 
@@ -113,12 +102,3 @@ IsEnd x = (why : Cause) × (end_by x ≡ Some why)
 -- what is out stays out at an end alone
 abbrev pub LeavesFree : Option Flight → Input → Type 0
 LeavesFree flight x = (flight ≡ None) ⊎ IsEnd x
-
-abbrev pub IsNoFrame : Input → Type 0
-IsNoFrame (input.Frame bytes) = ⊥
-IsNoFrame _ = Unit {0}
-
--- a frame behind the connect
-pub record IsBuiltFrame (bytes : List ℕ) : Type 0 where
-  pub short : length bytes ≤ max_frame
-  pub built : is_multi (read_request bytes) ≡ false

@@ -1,18 +1,13 @@
 -- Frames come to a connection, with others behind them.
-use Rattle.std.specs.Prelude.{◌≡◌, ◌⊎◌, ◌==◌, ℕ, ◌+◌, ℤ, Bool, true, false, List, [], ◌∷◌, ◌++◌, if◌then◌else◌, Option, Some, Result, Ok, Err}
+use Rattle.std.specs.Prelude.{◌≡◌, ◌⊎◌, ℕ, ◌+◌, ℤ, true, false, List, [], ◌∷◌, ◌++◌, if◌then◌else◌, Some}
 use Rattle.zk_transcript.specs.declared.transcript.TranscriptLine.TheVariants.{Frame as FrameLine}
-use Rattle.zk_wire.specs.Cutting.{Stream}
-use Rattle.zp_happen.specs.Arriving.{Arrives, Cuts, frame_lines, shown_frame}
+use Rattle.zp_happen.specs.Arriving.{frame_lines, shown_frame}
 use Rattle.zp_happen.specs.Handing.{Handed}
-use Rattle.zp_happen.specs.Unbuilt.{HasMulti}
 use Rattle.zp_happen.specs.Worlds.{Conn, World, conn_at, is_closed, is_open_conn, is_reaper, zxid_at}
 use Rattle.zp_step.specs.Stages.{counted_up}
 use Rattle.zp_step.specs.declared.input.Input.TheVariants as input
 use Rattle.zp_world.specs.Doing.{left}
 use Rattle.zp_world.specs.declared.activity.Seat.{Seat}
-use Rattle.zp_world.specs.declared.fault.ApplyFault.{ApplyFault}
-use Rattle.zp_world.specs.declared.fault.ApplyFault.TheVariants.{NotPossible, Memory}
-use Rattle.zt_text.specs.declared.script.Why.TheVariants as why
 
 -- ---- one frame
 
@@ -48,16 +43,3 @@ pub record IsServing (c : ℕ) (zxid : ℤ) (frames : List (List ℕ)) (w : Worl
   pub served : is_reaper conn.actor ≡ false
   pub none : is_closed conn.actor ≡ true → frames ≡ []
   pub zxid_is : zxid ≡ zxid_at w.store
-
--- ---- what came at once
-
--- it is cut so; whether the first frame is the connect
-pub record IsCutFor (x : Conn) (bytes : List ℕ) (first : Bool) (frames : List (List ℕ)) (bad : Option ℤ) (stream : Stream) : Type 0 where
-  pub cuts : Cuts x.stream bytes frames bad stream
-  pub is_first : first ≡ (x.frames == 0)
-
--- it arrives, or it is refused, since one of its frames asks for a multi
-abbrev pub Receives : ℕ → World → List ℕ → Result (Unit {0}) ApplyFault → World → Type 0
-Receives c w bytes (Ok x) w' = Arrives c w bytes w'
-Receives c w bytes (Err (NotPossible cause)) w' = (cause ≡ why.NotBuilt) × HasMulti c w bytes × (w' ≡ w)
-Receives c w bytes (Err Memory) w' = Unit {0}

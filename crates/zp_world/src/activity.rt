@@ -66,7 +66,7 @@ impl Model for Activity {
       flight = a.flight;
     } };
 
-    ghost invariant = { λ a. IsActive (actor_of a.actor) a.seat.frames a.flight };
+    ghost invariant = { λ a. IsActive (actor_of a.actor) a.flight };
 }
 
 impl Seat {
@@ -85,7 +85,7 @@ impl Seat {
 impl Activity {
     /// What is known of it.
     pub fn know(&self)
-        ensures active { IsActive self.now.actor self.now.frames self.now.flight }
+        ensures active { IsActive self.now.actor self.now.flight }
         ensures within { self.now.frames < max_count }
     {
         let _ = self.seat.frames.number();
@@ -119,12 +119,6 @@ impl Activity {
         ensures { result.now ≡ self.now.stream }
     {
         &self.seat.inbox
-    }
-
-    pub fn frames(&self) -> u64
-        ensures { result ≡ self.now.frames }
-    {
-        self.seat.frames.number()
     }
 
     /// Whether bytes of a frame came that is not whole.

@@ -1,16 +1,13 @@
 //! A connection opens, and bytes of its client arrive.
 
-ghost use Rattle.std.specs.Prelude.{◌≡◌, ◌+◌, ◌++◌, ◌∷◌, ◌≤◌, ◌≤ℤ◌, ◌⊎◌, ◌==◌, ◌<◌, ◌^◌, ℕ, List, drop, if◌then◌else◌, pos, true, false, length, slice_get, [], IfOk, OnOk, All, Some, None};
+ghost use Rattle.std.specs.Prelude.{◌≡◌, ◌+◌, ◌++◌, ◌∷◌, ◌≤◌, ◌≤ℤ◌, ◌<◌, ◌^◌, ℕ, List, if◌then◌else◌, pos, length, [], IfOk, OnOk, All, Some, None};
 ghost use Rattle.std.specs.Vec.Iter.{into_iter_items};
-ghost use Rattle.zk_jute.specs.Requests.{read_request as request_of};
-ghost use Rattle.zk_model.specs.Limits.{max_frame, max_moment};
+ghost use Rattle.zk_model.specs.Limits.{max_frame};
 ghost use Rattle.zk_transcript.specs.declared.transcript.TranscriptLine.TheVariants.{Frame as FrameLine};
-ghost use Rattle.zp_happen.specs.Arriving.{Arrives, EndsBadly, FramesArrive, frame_lines};
+ghost use Rattle.zp_happen.specs.Arriving.{Arrives, Cuts, EndsBadly, FramesArrive, frame_lines};
 ghost use Rattle.zp_happen.specs.Effects.{opened};
 ghost use Rattle.zp_happen.specs.Faults.{connection_fault};
-ghost use Rattle.zp_happen.specs.Unbuilt.{is_multi};
 ghost use Rattle.zp_happen.specs.Worlds.{Conn, Connection, behind_step, conn_at, is_open_conn, with_conn, zxid_at};
-ghost use Rattle.zp_core.specs.Held.{IsBuiltIn};
 ghost use Rattle.zp_happen.specs.Kinds.{kind_asked};
 ghost use Rattle.zp_happen.specs.StepOutcomes.{acts_all, leaves};
 ghost use Rattle.zp_step.specs.Stages.{Core as AnyCore, counted_up, is_shut};
@@ -18,24 +15,20 @@ ghost use Rattle.zp_step.specs.Steps.{Steps};
 ghost use Rattle.zp_step.specs.declared.input.Input.TheVariants as input;
 ghost use Rattle.zp_world.specs.Activities.{actor_of};
 ghost use Rattle.zp_world.specs.Doing.{Stepped, left};
-ghost use Rattle.zp_world.specs.Flying.{IsActive, IsBuiltFrame, IsFitFlight, IsServed};
+ghost use Rattle.zp_world.specs.Flying.{IsFitFlight, IsServed};
 ghost use Rattle.zp_world.specs.Leaving.{Leaves};
-ghost use Rattle.zp_world.specs.Taking.{IsCutFor, IsConnectionAt, IsLeft, IsServing, Receives, Takes, left_next, shown};
+ghost use Rattle.zp_world.specs.Taking.{IsConnectionAt, IsLeft, IsServing, Takes, left_next, shown};
 
 use crate::activity::{Activity, Actor, Seat};
-use crate::fault::{ApplyFault, refused};
 use crate::formed::{are_bytes, is_number, is_signed};
 use crate::inbox::{Cut, Inbox};
 use crate::world::World;
 use std::alloc::Global;
 use std::vec::IntoIter;
-use zk_model::Request;
 use zk_transcript::TranscriptLine;
-use zk_wire::{WireFault, read_request};
 use zp_core::Core;
 use zp_happen::Flight;
 use zp_step::{Action, Fresh, Input};
-use zt_text::Why;
 use zx_base::{Bytes, Memory};
 
 impl World {
@@ -65,36 +58,17 @@ impl World {
         self.activities.put(connection, activity)
     }
 
-    /// What came is shown and handed in, unless one of the frames asks for a multi. `first`: the first of the frames is the connect.
-    pub(crate) fn receive(
-        &mut self,
-        connection: u32,
-        cut: Cut,
-        first: bool,
-    ) -> Result<(), ApplyFault>
+    /// What came is shown and handed in, frame by frame.
+    pub(crate) fn arrive(&mut self, connection: u32, cut: Cut) -> Result<(), Memory>
         requires short { All (λ frame. length frame ≤ max_frame) cut.frames.items }
         requires open { connection_fault connection self.old None ≡ None }
-        ensures { (bytes : List ℕ) → ((x : Conn) → conn_at connection self.old ≡ Some x → IsCutFor x bytes first cut.frames.items cut.bad cut.inbox) → Receives connection self.old bytes result self.new }
-    {
-        if has_multi(self.alloc, behind_connect(cut.frames.as_slice(), first))? {
-            return Err(refused(Why::NotBuilt));
-        }
-        self.arrive(connection, cut, first)?;
-        Ok(())
-    }
-
-    /// What came is shown and handed in, frame by frame. `first`: the first of the frames is the connect.
-    fn arrive(&mut self, connection: u32, cut: Cut, first: bool) -> Result<(), Memory>
-        requires short { All (λ frame. length frame ≤ max_frame) cut.frames.items }
-        requires built { All IsBuiltFrame (drop (if first then 1 else 0) cut.frames.items) }
-        requires open { connection_fault connection self.old None ≡ None }
-        ensures { OnOk result ((x : Conn) (bytes : List ℕ) → conn_at connection self.old ≡ Some x → IsCutFor x bytes first cut.frames.items cut.bad cut.inbox → Arrives connection self.old bytes self.new) }
+        ensures { OnOk result ((x : Conn) (bytes : List ℕ) → conn_at connection self.old ≡ Some x → Cuts x.stream bytes cut.frames.items cut.bad cut.inbox → Arrives connection self.old bytes self.new) }
     {
         let zxid = self.last_zxid()?;
         let Cut { frames, bad, inbox } = cut;
         let place = inbox.place();
         self.keep(connection, inbox)?;
-        self.take_all(connection, first, zxid, frames)?;
+        self.take_frames(connection, zxid, frames)?;
         self.take_length(connection, place, bad)
     }
 
@@ -125,42 +99,19 @@ impl World {
         )
     }
 
-    /// All frames come, in order.
-    fn take_all(
-        &mut self,
-        connection: u32,
-        first: bool,
-        zxid: i64,
-        frames: Vec<Bytes>,
-    ) -> Result<(), Memory>
-        requires short { All (λ frame. length frame ≤ max_frame) frames.items }
-        requires built { All IsBuiltFrame (drop (if first then 1 else 0) frames.items) }
-        ensures { OnOk result ((x : Conn) (core : AnyCore) → conn_at connection self.old ≡ Some x → x.actor ≡ Connection core → first ≡ (x.frames == 0) → zxid ≡ zxid_at self.old.store → FramesArrive connection self.old frames.items self.new) }
-    {
-        let mut frames = frames.into_iter();
-        if !first {
-            return self.take_frames(connection, zxid, frames);
-        }
-        let Some(frame) = frames.next() else {
-            return Ok(());
-        };
-        self.take_connect(connection, zxid, frame, &mut frames)?;
-        self.take_frames(connection, zxid, frames)
-    }
-
-    /// Frames come, none of which is the connect.
+    /// Frames come, in order.
     fn take_frames(
         &mut self,
         connection: u32,
         zxid: i64,
-        frames: IntoIter<Bytes>,
+        frames: Vec<Bytes>,
     ) -> Result<(), Memory>
-        requires { All IsBuiltFrame (into_iter_items frames) }
-        ensures { OnOk result (IsServing connection zxid (into_iter_items frames) self.old → FramesArrive connection self.old (into_iter_items frames) self.new) }
+        requires { All (λ frame. length frame ≤ max_frame) frames.items }
+        ensures { OnOk result (IsServing connection zxid frames.items self.old → FramesArrive connection self.old frames.items self.new) }
     {
-        let mut frames = frames;
-        while let Some(frame) = frames.next() {
-            self.take_frame(connection, zxid, frame, &mut frames)?;
+        let mut coming = frames.into_iter();
+        while let Some(frame) = coming.next() {
+            self.take_frame(connection, zxid, frame, &mut coming)?;
         }
         Ok(())
     }
@@ -190,54 +141,7 @@ impl World {
         }
     }
 
-    /// The first frame comes, with others behind it.
-    fn take_connect(
-        &mut self,
-        connection: u32,
-        zxid: i64,
-        bytes: Bytes,
-        behind: &mut IntoIter<Bytes>,
-    ) -> Result<(), Memory>
-        requires { length bytes ≤ max_frame }
-        ensures left { OnOk result (IsLeft (into_iter_items behind.old) (into_iter_items behind.new)) }
-        ensures takes { OnOk result ((x : Conn) (core : AnyCore) → conn_at connection self.old ≡ Some x → x.actor ≡ Connection core → x.frames ≡ 0 → zxid ≡ zxid_at self.old.store → Takes connection self.old x bytes (into_iter_items behind.old) self.new (into_iter_items behind.new)) }
-    {
-        let Some(activity) = self.activities.take(connection) else {
-            return Ok(());
-        };
-        let Activity {
-            seat,
-            actor,
-            flight,
-        } = activity;
-        match actor {
-            Actor::Connection(core) => {
-                if seat.frames.number() == 0 {
-                    self.step_by_frame(connection, seat, core, flight, zxid, bytes, behind)
-                } else {
-                    let actor = Actor::Connection(core);
-                    self.activities.put(
-                        connection,
-                        Activity {
-                            seat,
-                            actor,
-                            flight,
-                        },
-                    )
-                }
-            }
-            Actor::Reaper(_) | Actor::Closed => self.activities.put(
-                connection,
-                Activity {
-                    seat,
-                    actor,
-                    flight,
-                },
-            ),
-        }
-    }
-
-    /// A later frame comes, with others behind it.
+    /// A frame comes, with others behind it.
     fn take_frame(
         &mut self,
         connection: u32,
@@ -245,7 +149,7 @@ impl World {
         bytes: Bytes,
         behind: &mut IntoIter<Bytes>,
     ) -> Result<(), Memory>
-        requires { IsBuiltFrame bytes }
+        requires { length bytes ≤ max_frame }
         ensures left { OnOk result (IsLeft (into_iter_items behind.old) (into_iter_items behind.new)) }
         ensures takes { OnOk result ((x : Conn) (core : AnyCore) → conn_at connection self.old ≡ Some x → x.actor ≡ Connection core → zxid ≡ zxid_at self.old.store → Takes connection self.old x bytes (into_iter_items behind.old) self.new (into_iter_items behind.new)) }
     {
@@ -283,9 +187,8 @@ impl World {
         bytes: Bytes,
         behind: &mut IntoIter<Bytes>,
     ) -> Result<(), Memory>
-        requires served { IsServed core seat.frames flight }
+        requires served { IsServed core flight }
         requires short { length bytes ≤ max_frame }
-        requires built { (seat.frames ≡ 0) ⊎ (is_multi (request_of bytes) ≡ false) }
         ensures behind { OnOk result (into_iter_items behind.new ≡ (if is_open_conn (conn_at connection self.new) then into_iter_items behind.old else [])) }
         ensures done { OnOk result (Stepped connection (frame_lines connection (counted_up (seat.frames + 1)) zxid (into_iter_items behind.old)) (shown connection self.old zxid seat bytes) (left_next seat) core flight (input.Frame bytes) self.new) }
     {
@@ -338,17 +241,6 @@ impl World {
     }
 }
 
-/// These frames without the connect, where the first of them is it.
-fn behind_connect(frames: &[Bytes], first: bool) -> &[Bytes]
-    ensures { result.now ≡ drop (if first then 1 else 0) frames.now }
-{
-    if first && !frames.is_empty() {
-        &frames[1..]
-    } else {
-        frames
-    }
-}
-
 /// A frame that a connection took, and what it does then.
 #[derive(Drop)]
 struct SteppedFrame {
@@ -359,7 +251,6 @@ struct SteppedFrame {
 /// The step of a connection by a frame.
 fn step_with(alloc: Global, core: &mut Core, bytes: Bytes, now: u64) -> Result<SteppedFrame, Memory>
     requires short { length bytes ≤ max_frame }
-    requires built { IsBuiltIn bytes core.old.stage }
     requires moment { now < 2 ^ 62 }
     ensures bytes { IfOk result (λ stepped. stepped.bytes ≡ bytes) }
     ensures steps { IfOk result (λ stepped. Steps core.old (input.Frame bytes) now core.new stepped.out.items) }
@@ -374,8 +265,7 @@ fn step_with(alloc: Global, core: &mut Core, bytes: Bytes, now: u64) -> Result<S
 
 /// The seat of a connection behind a frame.
 fn seat_behind(seat: Seat) -> Result<Seat, Memory>
-    ensures same { IfOk result (λ next. left next ≡ left_next seat) }
-    ensures frames { IfOk result (λ next. next.frames ≡ counted_up (seat.frames + 1)) }
+    ensures { IfOk result (λ next. left next ≡ left_next seat) }
 {
     let frames = seat.frames.next()?;
     Ok(Seat {
@@ -392,31 +282,5 @@ fn frame_in(alloc: Global, taken: Input) -> Bytes
     match taken {
         Input::Frame(bytes) => bytes,
         _other => Bytes::new(alloc),
-    }
-}
-
-/// Whether one of these frames asks for a multi.
-fn has_multi(alloc: Global, frames: &[Bytes]) -> Result<bool, Memory>
-    requires { All (λ frame. length frame ≤ max_frame) frames.now }
-    ensures none { IfOk result (λ b. b ≡ false → All IsBuiltFrame frames.now) }
-    ensures one { IfOk result (λ b. b ≡ true → (place : ℕ) × (frame : List ℕ) × (slice_get frames.now place ≡ Some frame) × (is_multi (request_of frame) ≡ true)) }
-{
-    for frame in frames {
-        if asks_for_multi(alloc, frame.as_slice())? {
-            return Ok(true);
-        }
-    }
-    Ok(false)
-}
-
-fn asks_for_multi(alloc: Global, frame: &[u8]) -> Result<bool, Memory>
-    requires { length frame.now ≤ max_frame }
-    ensures { IfOk result (λ b. b ≡ is_multi (request_of frame.now)) }
-{
-    match read_request(alloc, frame) {
-        Ok((_, Request::Multi { .. })) => Ok(true),
-        Ok(_) => Ok(false),
-        Err(WireFault::Memory) => Err(Memory),
-        Err(_) => Ok(false),
     }
 }

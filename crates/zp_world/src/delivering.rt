@@ -17,7 +17,7 @@ ghost use Rattle.zt_text.specs.declared.script.Happening.TheVariants as line;
 ghost use Rattle.zt_text.specs.Transcripts.{IsWellFormedKind};
 ghost use Rattle.zp_world.specs.Activities.{actor_of};
 ghost use Rattle.zp_world.specs.Doing.{Stepped, ended, left, seated};
-ghost use Rattle.zp_world.specs.Flying.{IsActive, IsFitFlight, IsNoFrame, IsUnconnected, LeavesFree, MayFail};
+ghost use Rattle.zp_world.specs.Flying.{IsActive, IsFitFlight, LeavesFree, MayFail};
 
 use crate::activity::{Activity, Actor, Seat};
 use crate::formed::kind_is_formed;
@@ -35,8 +35,7 @@ use zx_base::{Bytes, Memory};
 impl World {
     /// A connection that is open is handed this, where what it asked stays out.
     pub(crate) fn hand(&mut self, connection: u32, input: &Input) -> Result<(), Memory>
-        requires fit { (x : Conn) (core : AnyCore) → conn_at connection self.old ≡ Some x → x.actor ≡ Connection core → IsFit core input.now × LeavesFree x.flight input.now }
-        requires other { IsNoFrame input.now }
+        requires { (x : Conn) (core : AnyCore) → conn_at connection self.old ≡ Some x → x.actor ≡ Connection core → IsFit core input.now × LeavesFree x.flight input.now }
         ensures { OnOk result ((x : Conn) (core : AnyCore) → conn_at connection self.old ≡ Some x → x.actor ≡ Connection core → Handed connection [] self.old input.now self.new) }
     {
         let Some(activity) = self.activities.take(connection) else {
@@ -70,11 +69,9 @@ impl World {
         input: &Input,
     ) -> Result<(), Memory>
         requires open { is_shut core.stage ≡ false }
-        requires begun { seat.frames ≡ 0 → IsUnconnected core.stage }
         requires fit { IsFit core input.now }
         requires free { LeavesFree flight input.now }
         requires flight { IsFitFlight flight }
-        requires other { IsNoFrame input.now }
         ensures { OnOk result (Stepped connection [] self.old (left seat) core flight input.now self.new) }
     {
         let mut core = core;
@@ -111,7 +108,7 @@ impl World {
         actor: Actor,
         answer: Answer,
     ) -> Result<(), Memory>
-        requires active { IsActive (actor_of actor) seat.frames (Some (Carried answer)) }
+        requires active { IsActive (actor_of actor) (Some (Carried answer)) }
         requires open { is_closed (actor_of actor) ≡ false }
         ensures { OnOk result (AnswerComesTo connection (with_conn self.old connection (seated seat (actor_of actor) None)) (seated seat (actor_of actor) None) answer self.new (actor_of actor)) }
     {
@@ -159,7 +156,7 @@ impl World {
         actor: Actor,
         flight: Option<Flight>,
     ) -> Result<(), Memory>
-        requires may { MayFail (actor_of actor) seat.frames }
+        requires may { MayFail (actor_of actor) }
         requires fit { IsFitFlight flight }
         requires open { is_closed (actor_of actor) ≡ false }
         ensures { OnOk result (FailureComesTo connection (with_conn self.old connection (seated seat (actor_of actor) flight)) (seated seat (actor_of actor) flight) self.new (actor_of actor)) }

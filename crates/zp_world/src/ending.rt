@@ -15,7 +15,7 @@ ghost use Rattle.zt_text.specs.Transcripts.{IsWellFormedKind};
 ghost use Rattle.zp_world.specs.Activities.{actor_of};
 ghost use Rattle.zp_world.specs.Adding.{added, frames_left};
 ghost use Rattle.zp_world.specs.Doing.{left};
-ghost use Rattle.zp_world.specs.Flying.{IsFitFlight, IsFlyingOf, IsUnconnected};
+ghost use Rattle.zp_world.specs.Flying.{IsFitFlight, IsFlyingOf};
 ghost use Rattle.zp_world.specs.Leaving.{Leaves};
 
 use crate::activity::{Activity, Actor, Seat};
@@ -44,7 +44,6 @@ impl World {
     ) -> Result<(), Memory>
         requires leaves { Leaves flight core out.items }
         requires fit { IsFitFlight flight }
-        requires begun { is_shut core.stage ≡ false → seat.frames ≡ 0 → IsUnconnected core.stage }
         ensures behind { OnOk result (into_iter_items behind.new ≡ (if is_shut core.stage then [] else into_iter_items behind.old)) }
         ensures done { OnOk result (self.new ≡ leaves connection self.old (left seat) (behind_step core) (acts_all connection (kind_asked connection (AConnection core)) (frame_lines connection seat.frames zxid (into_iter_items behind.old)) flight out.items)) }
     {

@@ -3,12 +3,11 @@
 //! A [`World`] begins with the store's first update, the root at moment 0. What happens is applied to it one [`Happening`] at a
 //! time. An ask, its carrying out and its answer are three happenings, so a script may put them in any order, lose an answer,
 //! or carry out an ask whose asker has ended. Each happening leaves its lines in the world's transcript, [`World::lines`]. One
-//! that is not possible is refused by its cause and changes nothing; so is, by the cause `not built`, a frame that asks for a
-//! multi.
+//! that is not possible is refused by its cause and changes nothing.
 //!
 //! What each line of a script does is said in `zp_happen`: `fault`, which tests it makes, and `Happens`, what it leaves. A
 //! connection is a [`Core`](zp_core::Core), a reaper a [`Reaper`](zs_reap::Reaper): a world only carries what they ask to the
-//! store and hands them what they wait for. It does not look into a request, but to tell a multi from the others.
+//! store and hands them what they wait for. It does not look into a request.
 //!
 //! A happening costs what its own lines and its asks cost: what was written is never copied or read again, and a connection is
 //! found by its number in the logarithm of their count. Bytes that come in pieces are copied once more with each piece until

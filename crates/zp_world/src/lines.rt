@@ -46,9 +46,9 @@ impl World {
                 let Some(activity) = self.activities.get(connection) else {
                     return Err(refused(Why::NoSuchConnection));
                 };
-                let first = activity.frames() == 0;
                 let cut = activity.inbox().with_frame(bytes)?;
-                self.receive(connection, cut, first)
+                self.arrive(connection, cut)?;
+                Ok(())
             }
         }
     }
@@ -62,9 +62,9 @@ impl World {
                 let Some(activity) = self.activities.get(connection) else {
                     return Err(refused(Why::NoSuchConnection));
                 };
-                let first = activity.frames() == 0;
                 let cut = activity.inbox().with(bytes.as_slice())?;
-                self.receive(connection, cut, first)
+                self.arrive(connection, cut)?;
+                Ok(())
             }
         }
     }

@@ -23,7 +23,6 @@ why_text why.NoSuchLease = codes "no such lease"
 why_text why.StoreFull = codes "store is full"
 why_text why.KeyKept = codes "key is kept"
 why_text why.ClockLimit = codes "clock limit"
-why_text why.NotBuilt = codes "not built"
 
 abbrev pub unread_text : Unread → List ℕ
 unread_text unread.Unreadable = codes "unreadable line"

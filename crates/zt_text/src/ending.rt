@@ -38,7 +38,6 @@ pub fn push_fault(out: &mut Vec<u8>, line: u64, why: Why) -> Result<(), Memory>
         Why::StoreFull => push_fault_text(out, line, b"store is full"),
         Why::KeyKept => push_fault_text(out, line, b"key is kept"),
         Why::ClockLimit => push_fault_text(out, line, b"clock limit"),
-        Why::NotBuilt => push_fault_text(out, line, b"not built"),
     }
 }
 

@@ -92,7 +92,7 @@ pub enum Unread {
     TooLong,
 }
 
-/// Why a happening is not possible, or, until all requests are built, that it is not built.
+/// Why a happening is not possible.
 #[derive(Clone, Copy, Debug, PartialEq, Eq)]
 pub enum Why {
     /// The number is that of another connection or reaper, open or closed.
@@ -124,5 +124,4 @@ pub enum Why {
     KeyKept,
     /// The clock would pass 9,000,000,000,000,000 milliseconds.
     ClockLimit,
-    NotBuilt,
 }

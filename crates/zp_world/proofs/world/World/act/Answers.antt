@@ -7,5 +7,5 @@ use Rattle.zp_world.proofs.world.World.act.Goals as goal
 
 pub invariant_of-put : goal.invariant_of-put
 invariant_of-put c =
-    subst (λ (a : Actor). IsActive a c.args.seat.frames c.in_ok-flight.flight) (sym c.actor_behind-actor.ensures)
-    (active-behind c.args.core c.args.seat.frames c.in_ok-flight.flight (is_shut c.args.core.stage) refl c.in_ok-flight.ensures.fit c.in_ok-flight.ensures.flies c.requires.begun)
+    subst (λ (a : Actor). IsActive a c.in_ok-flight.flight) (sym c.actor_behind-actor.ensures)
+    (active-behind c.args.core c.in_ok-flight.flight (is_shut c.args.core.stage) refl c.in_ok-flight.ensures.fit c.in_ok-flight.ensures.flies)

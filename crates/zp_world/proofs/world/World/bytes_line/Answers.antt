@@ -1,7 +1,6 @@
-use Rattle.std.proofs.Common.{◌≡◌, Some, sym, ◌∙◌, subst, rules, List, ℕ}
-use Rattle.zp_happen.specs.Arriving.{Cuts}
+use Rattle.std.proofs.Common.{◌≡◌, Some, sym, ◌∙◌, rules}
 use Rattle.zp_happen.specs.Worlds.{conn_at}
-use Rattle.zp_world.proofs.Receiving.{bytes-received, cut-for}
+use Rattle.zp_world.proofs.Receiving.{cut-at}
 use Rattle.zp_world.proofs.Refusing.{refuses, bytes-line}
 use Rattle.zp_world.proofs.world.World.bytes_line.Goals as goal
 
@@ -10,11 +9,11 @@ returns-in-Some c = refuses _ _ c.in-Some.why c.refused.result (bytes-line c.arg
 
 pub returns : goal.returns
 returns c =
-    let there : Some c.in-Some-get.activity.now ≡ conn_at c.args.connection c.args.self.now = search rules in
+    let there : conn_at c.args.connection c.args.self.now ≡ Some c.in-Some-get.activity.now = search rules in
     let came : c.as_slice.result.now ≡ c.args.bytes = search rules in
     let cut = c.in_ok-cut-in-None.cut in
-    bytes-received c.args.connection c.args.self.now c.receive.new.self c.args.bytes c.receive.result
-    (bytes-line c.args.self.now c.args.connection c.args.bytes ∙ sym c.connection_why.ensures ∙ c.in-None.is)
-    (c.receive.ensures c.args.bytes (λ x is.
-    cut-for x c.in-Some-get.activity.now c.inbox.result.now cut.inbox c.args.bytes cut.frames.items cut.bad c.frames-first.result (there ∙ is) c.inbox.ensures c.frames-first.ensures
-    (subst (λ (b : List ℕ). Cuts c.inbox.result.now b cut.frames.items cut.bad cut.inbox) came c.in_ok-cut-in-None.ensures.cuts)))
+    record {
+      possible = bytes-line c.args.self.now c.args.connection c.args.bytes ∙ sym c.connection_why.ensures ∙ c.in-None.is;
+      effect = c.in_ok-arrive-in-None.ensures c.in-Some-get.activity.now c.args.bytes there
+          (cut-at c.inbox.result.now c.in-Some-get.activity.now.stream cut.inbox c.as_slice.result.now c.args.bytes cut.frames.items cut.bad c.inbox.ensures came c.in_ok-cut-in-None.ensures.cuts);
+    }

@@ -3,8 +3,8 @@ use Rattle.zp_world.proofs.Entered.{client-ended}
 use Rattle.zp_world.proofs.Possible.{end-serves}
 use Rattle.zp_world.proofs.world.World.end.Goals as goal
 
-pub hand-requires-clause-fit : goal.hand-requires-clause-fit
-hand-requires-clause-fit c = λ x core there is. (tt, inr (_, refl))
+pub hand-requires : goal.hand-requires
+hand-requires c = λ x core there is. (tt, inr (_, refl))
 
 pub returns : goal.returns
 returns c =

@@ -7,8 +7,8 @@ use Rattle.zp_world.proofs.Entered.{entered}
 use Rattle.zp_world.proofs.Possible.{entry-cursor, entry-missing, entry-serves}
 use Rattle.zp_world.proofs.world.World.enter.Goals as goal
 
-pub hand-requires-clause-fit : goal.hand-requires-clause-fit
-hand-requires-clause-fit c = λ x core there is.
+pub hand-requires : goal.hand-requires
+hand-requires c = λ x core there is.
     let at : cursor_at c.args.connection c.args.self.now ≡ Some c.in-Some.cursor = sym c.cursor_of.ensures ∙ c.in-Some.is in
     let wanted = cursor-wanted c.args.self.now c.args.connection x core c.in-Some.cursor there is at in
     let behind : entry_behind c.self.inside.entries c.in-Some.cursor ≡ Some (arc_value c.in-Some-2.entry) = search rules in

@@ -13,12 +13,12 @@ unreachable-requires c = exec-there c.args.self.now c.args.connection c.requires
 pub invariant_of-put : goal.invariant_of-put
 invariant_of-put c =
     let out = out-is c.activity.inside.flight c.in-Some-asking_out.asking (sym c.asking_out.ensures ∙ c.in-Some-asking_out.is) in
-    carried-active (actor_of c.activity.inside.actor) c.activity.inside.seat.frames c.in-Some-asking_out.asking c.in_ok-flight.flight (subst (IsActive (actor_of c.activity.inside.actor) c.activity.inside.seat.frames) out c.activity.invariant) c.in_ok-flight.ensures.answer
+    carried-active (actor_of c.activity.inside.actor) c.in-Some-asking_out.asking c.in_ok-flight.flight (subst (IsActive (actor_of c.activity.inside.actor)) out c.activity.invariant) c.in_ok-flight.ensures.answer
 
 pub carry-requires : goal.carry-requires
 carry-requires c =
     let out = out-is c.activity.inside.flight c.in-Some-asking_out.asking (sym c.asking_out.ensures ∙ c.in-Some-asking_out.is) in
-    out-fit (actor_of c.activity.inside.actor) c.activity.inside.seat.frames c.in-Some-asking_out.asking (subst (IsActive (actor_of c.activity.inside.actor) c.activity.inside.seat.frames) out c.activity.invariant)
+    out-fit (actor_of c.activity.inside.actor) c.in-Some-asking_out.asking (subst (IsActive (actor_of c.activity.inside.actor)) out c.activity.invariant)
 
 pub returns : goal.returns
 returns c =

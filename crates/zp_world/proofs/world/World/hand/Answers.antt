@@ -18,7 +18,7 @@ step-requires-clause-free c =
     ap (λ (w : World). get w.conns c.args.connection) (sym c.self.view_is) ∙ sym c.in-Some.ensures.taken in
     let serves : c.in-Some.activity.actor ≡ Connection c.in-Connection.core = ap (λ (x : Conn). x.actor) (sym c.activity.view_is) ∙ ap (λ (a : Role). actor_of a) c.in-Connection.is in
     subst (λ (f : Option Flight). LeavesFree f c.args.input.now) (ap (λ (x : Conn). x.flight) (sym c.activity.view_is))
-    (c.requires.fit c.in-Some.activity c.in-Connection.core there serves).1
+    (c.requires c.in-Some.activity c.in-Connection.core there serves).1
 
 pub returns-in-Connection : goal.returns-in-Connection
 returns-in-Connection c =

@@ -8,8 +8,8 @@ use Rattle.zp_world.proofs.Entered.{HandsTo, lagged}
 use Rattle.zp_world.proofs.Possible.{entry-cursor, lag-serves}
 use Rattle.zp_world.proofs.world.World.lag.Goals as goal
 
-pub hand-requires-clause-fit : goal.hand-requires-clause-fit
-hand-requires-clause-fit c = λ x core there is.
+pub hand-requires : goal.hand-requires
+hand-requires c = λ x core there is.
     let at : cursor_at c.args.connection c.args.self.now ≡ Some c.in-Some.cursor = sym c.cursor_of.ensures ∙ c.in-Some.is in
     let wanted = cursor-wanted c.args.self.now c.args.connection x core c.in-Some.cursor there is at in
     let lagging : int_lt (c.in-Some.cursor +ℤ pos 4096) (pos (length c.args.self.now.entries)) ≡ true = sym (ap (is_lagging_at (length c.args.self.now.entries)) at) ∙ (lag-serves c.args.connection c.args.self.now c.requires).1 in

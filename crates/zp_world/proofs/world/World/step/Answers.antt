@@ -3,15 +3,11 @@ use Rattle.std.proofs.lemmas.Result.{on_ok_weaker}
 use Rattle.zp_happen.specs.Arriving.{frame_lines}
 use Rattle.zp_happen.specs.Worlds.{World}
 use Rattle.zp_world.specs.Doing.{left}
-use Rattle.zp_world.proofs.Awaiting.{begun-behind}
 use Rattle.zp_world.proofs.Stepping.{leaves-free, stepped-by}
 use Rattle.zp_world.proofs.world.World.step.Goals as goal
 
 pub act-requires-clause-leaves : goal.act-requires-clause-leaves
 act-requires-clause-leaves c = leaves-free c.args.core c.step.new.self c.args.input.now _ c.in_ok-out.out.items c.args.flight c.requires.open c.requires.free c.in_ok-out.ensures.ok
-
-pub act-requires-clause-begun : goal.act-requires-clause-begun
-act-requires-clause-begun c = begun-behind c.args.core c.step.new.self c.args.input.now _ c.args.seat.frames c.in_ok-out.out.items c.requires.open c.requires.begun c.requires.fit c.requires.other c.in_ok-out.ensures.ok
 
 pub returns : goal.returns
 returns c =

@@ -9,12 +9,9 @@ use Rattle.zp_step.specs.Stages.{counted_up}
 use Rattle.zp_world.specs.Taking.{left_next, shown}
 use Rattle.std.proofs.lemmas.Result.{on_ok_weaker}
 use Rattle.zp_happen.specs.Worlds.{Connection, World}
-use Rattle.zp_world.proofs.Serving.{built-in, fit-flying, left-behind, on-ok-both, stepped-frame}
+use Rattle.zp_world.proofs.Serving.{fit-flying, left-behind, on-ok-both, stepped-frame}
 use Rattle.zp_world.proofs.Standing.{leaves-frame}
 use Rattle.zp_world.proofs.world.World.step_by_frame.Goals as goal
-
-pub step_with-requires-clause-built : goal.step_with-requires-clause-built
-step_with-requires-clause-built c = built-in c.args.bytes c.args.core.stage c.args.seat.frames c.requires.served.begun c.requires.built
 
 pub act_on_frame-requires-clause-leaves : goal.act_on_frame-requires-clause-leaves
 act_on_frame-requires-clause-leaves c = leaves-frame c.args.core c.step_with.new.core c.args.bytes _ c.in_ok-stepped.stepped.out.items c.args.flight c.requires.served.live c.requires.served.flies c.in_ok-stepped.ensures.steps

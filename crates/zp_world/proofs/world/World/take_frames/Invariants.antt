@@ -1,11 +1,11 @@
--- What comes of the frames that are left comes of all, and none of them is a connect.
+-- What comes of the frames that are left comes of all.
 use Rattle.std.proofs.Common.{length}
 use Rattle.std.specs.Vec.Iter.{into_iter_items}
 use Rattle.zp_world.proofs.Serving.{AreComing}
 use Rattle.zp_world.proofs.world.World.take_frames.Given as goal
 
 abbrev pub invariant-loop-frame : goal.invariant-loop-frame
-invariant-loop-frame l = AreComing l.connection l.zxid l.initial.self (into_iter_items l.initial.frames) l.self (into_iter_items l.frames)
+invariant-loop-frame l = AreComing l.connection l.zxid l.initial.self (into_iter_items l.initial.coming) l.self (into_iter_items l.coming)
 
 abbrev pub decreases-loop-frame : goal.decreases-loop-frame
-decreases-loop-frame l = length (into_iter_items l.frames)
+decreases-loop-frame l = length (into_iter_items l.coming)

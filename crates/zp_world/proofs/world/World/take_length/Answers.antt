@@ -5,8 +5,8 @@ use Rattle.zp_happen.specs.Arriving.{EndsBadly}
 use Rattle.zp_world.proofs.Coming.{ends-open}
 use Rattle.zp_world.proofs.world.World.take_length.Goals as goal
 
-pub hand-requires-clause-fit : goal.hand-requires-clause-fit
-hand-requires-clause-fit c = λ x core there is. (tt, inr (_, refl))
+pub hand-requires : goal.hand-requires
+hand-requires c = λ x core there is. (tt, inr (_, refl))
 
 pub returns-then-is_open : goal.returns-then-is_open
 returns-then-is_open c =
