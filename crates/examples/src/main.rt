@@ -5,23 +5,25 @@
 //! - `replay/NAME.script` with `NAME.transcript`, `show/NAME.stream` with `NAME.lines`, and `judge/NAME.transcript` with
 //!   `NAME.verdict`: an input and all that is written of it, with `NAME.status` where the status is not 0. The input is handed over
 //!   whole and in pieces of several sizes.
-//! - `runs/NAME.run`: a run of its own, with other words, faults, idle turns, or an input that is too long for a file
-//!   ([`Run`](crate::run::Run) has its lines).
+//! - `runs/NAME.run`: a run of its own, with other words, faults, idle turns, or an input that is too long for a file and is made by
+//!   a rule ([`Run`](crate::run::Run) has its lines).
 //!
-//! The transcript of each script is judged too: all of them are lawful. `count` says how many comparisons there are, so that none
-//! gets lost.
+//! The transcript of each script is judged too, and so is that of each run of a whole script: all of them are lawful. `count` says
+//! how many comparisons there are, so that none gets lost.
 //!
 //! Nothing is written to standard output. What differs is told on standard error, and the status is then 1.
 #![tactic(auto)]
 
 mod compare;
 mod files;
+mod made;
 mod run;
 
 use crate::compare::first_difference;
 use crate::files::{bytes_of, exists, names_in, number_of};
 use crate::run::Run;
 use anyhow::{Result, bail};
+use std::alloc::Global;
 use std::env;
 use std::process::ExitCode;
 use std::rt::Files;
@@ -132,7 +134,7 @@ fn judged(rt: &HostRuntime, root: &str, tally: &mut Tally) -> Result<()> {
     let folder = format!(in rt.alloc(); "{root}/replay")?;
     for name in &names_in(rt, folder.as_str())? {
         let path = format!(in rt.alloc(); "{folder}/{name}.transcript")?;
-        match verdict_on(rt, path.as_str()) {
+        match verdict_in(rt, path.as_str()) {
             Ok(None) => tally.passed = tally.passed.saturating_add(1),
             Ok(Some(verdict)) => {
                 eprintln!(rt; "replay/{name} is judged {verdict}")?;
@@ -147,10 +149,14 @@ fn judged(rt: &HostRuntime, root: &str, tally: &mut Tally) -> Result<()> {
     Ok(())
 }
 
-/// The verdict on a transcript, where it is not that it is lawful.
-fn verdict_on<R: Files + AllocGlobal>(rt: &R, path: &str) -> Result<Option<String>> {
-    let alloc = rt.alloc();
+/// The verdict on a file's transcript, where it is not that it is lawful.
+fn verdict_in<R: Files + AllocGlobal>(rt: &R, path: &str) -> Result<Option<String>> {
     let text = bytes_of(rt, path)?;
+    verdict_on(rt.alloc(), text)
+}
+
+/// The verdict on a transcript, where it is not that it is lawful.
+fn verdict_on(alloc: Global, text: Vec<u8>) -> Result<Option<String>> {
     let mut source = MemSource::new(text, Vec::new(alloc), Vec::new(alloc));
     let mut out = MemSink::new(alloc, Vec::new(alloc));
     let status = zetcd(alloc, &["judge"], &mut source, &mut out).number();
@@ -209,5 +215,11 @@ fn outcome_of<R: Files + AllocGlobal>(rt: &R, path: &str) -> Result<Option<Strin
     if u64::from(status) != wanted {
         return Ok(Some(format!(in alloc; "in its status, {status} for {wanted}")?));
     }
-    Ok(None)
+    if wanted != 0 || words.first() != Some(&"replay") {
+        return Ok(None);
+    }
+    match verdict_on(alloc, output)? {
+        Some(verdict) => Ok(Some(format!(in alloc; "in its verdict, {verdict}")?)),
+        None => Ok(None),
+    }
 }

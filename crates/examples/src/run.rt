@@ -1,5 +1,6 @@
 //! A run that is described line by line.
 
+use crate::made::{add, add_each, add_line, add_times, number};
 use anyhow::{Result, bail};
 use std::alloc::Global;
 
@@ -8,11 +9,12 @@ use std::alloc::Global;
 /// - `# TEXT` says what the run shows.
 /// - `words W ..`: the words of the command line.
 /// - `input TEXT`: TEXT and a line feed are added to the input; `input- TEXT`: TEXT alone; `input-hex HEX`: these bytes;
-///   `repeat N TEXT`: TEXT N times, a line feed where it has `@`.
+///   `repeat N TEXT`: TEXT N times, a line feed where it has `@`; `each N TEXT`: TEXT for each k from 1 to N, and in it k + M where
+///   it has `<M>`, and where it has `<Mx>` this as 16 hex digits.
 /// - `pieces N SIZE`: N more reads give SIZE bytes each, or are idle turns where SIZE is 0.
 /// - `fails N`: read number N, from 1, fails. `sink-fails N`: so does write number N.
 /// - `status N`: the status that is wanted.
-/// - `output TEXT`, `output- TEXT`, `output-repeat N TEXT`: what has to be written, as for the input.
+/// - `output TEXT`, `output- TEXT`, `output-repeat N TEXT`, `output-each N TEXT`: what has to be written, as for the input.
 #[derive(Drop)]
 pub struct Run {
     pub words: Vec<String>,
@@ -72,16 +74,18 @@ impl Run {
             }
             "pieces" => self.take_pieces(rest),
             "input" => add_line(&mut self.input, rest),
-            "input-" => add(&mut self.input, 1, rest),
+            "input-" => add(&mut self.input, rest),
             "input-hex" => {
                 let bytes = hex::decode(alloc, rest)?;
                 self.input.extend_from_slice(bytes.as_slice())?;
                 Ok(())
             }
-            "repeat" => add_repeated(&mut self.input, rest),
+            "repeat" => add_times(&mut self.input, rest),
+            "each" => add_each(alloc, &mut self.input, rest),
             "output" => add_line(&mut self.output, rest),
-            "output-" => add(&mut self.output, 1, rest),
-            "output-repeat" => add_repeated(&mut self.output, rest),
+            "output-" => add(&mut self.output, rest),
+            "output-repeat" => add_times(&mut self.output, rest),
+            "output-each" => add_each(alloc, &mut self.output, rest),
             _ => bail!("no such line: {word}"),
         }
     }
@@ -99,37 +103,4 @@ impl Run {
         }
         Ok(())
     }
-}
-
-/// The number that a text spells.
-fn number(text: &str) -> Result<u64> {
-    match text.parse::<u64>() {
-        Ok(number) => Ok(number),
-        Err(_) => bail!("no number: {text}"),
-    }
-}
-
-/// Adds a text so many times.
-fn add(bytes: &mut Vec<u8>, times: u64, text: &str) -> Result<()> {
-    for _time in 0..times {
-        for byte in text.as_bytes() {
-            bytes.push(if *byte == b'@' { b'\n' } else { *byte })?;
-        }
-    }
-    Ok(())
-}
-
-/// Adds a text and a line feed.
-fn add_line(bytes: &mut Vec<u8>, text: &str) -> Result<()> {
-    add(bytes, 1, text)?;
-    bytes.push(b'\n')?;
-    Ok(())
-}
-
-/// Adds the text behind a count, so many times.
-fn add_repeated(bytes: &mut Vec<u8>, rest: &str) -> Result<()> {
-    let Some((count, text)) = rest.split_once(' ') else {
-        bail!("a count and a text are wanted");
-    };
-    add(bytes, number(count)?, text)
 }
