@@ -1,2 +1,3 @@
+mod Grouping
 mod Numbered
 mod Written

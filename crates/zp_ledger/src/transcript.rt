@@ -1,14 +1,16 @@
 //! The lines of a transcript.
 
-ghost use Rattle.std.specs.Prelude.{◌≡◌, ◌++◌, ◌∷◌, [], None, OnOk, OnErr};
+ghost use Rattle.std.specs.Prelude.{◌≡◌, ◌++◌, ◌∷◌, [], None, IfOk, OnOk, OnErr};
 ghost use Rattle.std.specs.List.{AllByRecursion};
 ghost use Rattle.zk_transcript.specs.declared.transcript.TranscriptLine.TheVariants.{Update};
 ghost use Rattle.zk_transcript.specs.History.{update_in, updates as updates_of};
+ghost use Rattle.zp_happen.specs.Conversing.{conversations};
 ghost use Rattle.zt_text.specs.Transcripts.{IsWellFormed, IsWellFormedKind};
 
+use crate::conversations::conversations_in;
 use std::alloc::Global;
 use std::marker::Model;
-use zk_transcript::{TranscriptLine, UpdateKind, UpdateRec};
+use zk_transcript::{Conversation, TranscriptLine, UpdateKind, UpdateRec};
 use zx_base::Memory;
 
 /// The lines so far, and the updates among them. Contracts see the lines.
@@ -54,6 +56,13 @@ impl Transcript {
         ensures { result.now ≡ updates_of self.now }
     {
         self.updates.as_slice()
+    }
+
+    /// The lines of each connection, in the order in which they opened.
+    pub fn conversations(&self, alloc: Global) -> Result<Vec<Conversation>, Memory>
+        ensures { IfOk result (λ found. found.items ≡ conversations self.now) }
+    {
+        conversations_in(alloc, self.lines.as_slice())
     }
 
     /// Adds a line that is no update. Without memory the lines stay as they were, here and below.
