@@ -1,13 +1,12 @@
 -- What is cut from the front of a stream, and what is left.
-use Rattle.std.proofs.Common.{◌≡◌, ℕ, ◌+◌, ◌-◌, ◌<◌, ◌≤◌, ◌^◌, min, List, [], ◌∷◌, ◌++◌, length, drop, get_or, refl, sym, ap, ◌∙◌, subst, arith, inl, inr, length-append, add_assoc}
-use Rattle.std.specs.Prelude.{Option, Some, None, Ok, Err, ℤ, pos, sum_by, ◌⊎◌, Result, All}
+use Rattle.std.proofs.Common.{◌≡◌, ℕ, ◌+◌, ◌-◌, ◌<◌, ◌≤◌, min, List, [], ◌∷◌, ◌++◌, length, drop, get_or, refl, sym, ap, ◌∙◌, subst, arith, inl, inr, length-append}
+use Rattle.std.specs.Prelude.{Option, Some, None, Ok, Err, ℤ, pos, sum_by, Result, All}
 use Rattle.std.specs.Global.{Vec}
 use Rattle.std.specs.Int.{w32}
 use Rattle.std.specs.Int.RustNames.{FitsSigned}
 use Rattle.std.proofs.lemmas.Int.{ints}
-use Rattle.std.proofs.lemmas.List.{append-nil, drop_at, drop_more, nil_from_length}
+use Rattle.std.proofs.lemmas.List.{append-nil, drop_at, nil_from_length}
 use Rattle.std.proofs.lemmas.List.Sums.{sum_by-cons, sum_by-drop_more}
-use Rattle.zx_base.proofs.Options.{some_is}
 use Rattle.zk_jute.proofs.Framing.{bad_rest, no_frame}
 use Rattle.zk_jute.proofs.JuteCanonical.{int_canonical}
 use Rattle.zk_jute.proofs.Lengths.{length-string_bytes}
@@ -15,7 +14,7 @@ use Rattle.zk_jute.specs.Frames.{Framed, IsFrame, bad_length}
 use Rattle.zk_jute.specs.JuteValues.{Spelled}
 use Rattle.zk_jute.specs.JuteWriting.{int_bytes, with_length}
 use Rattle.zk_model.specs.Limits.{max_frame}
-use Rattle.zk_wire.specs.Cutting.{Hands, Refuses, Stands, Stream, Takes, unread}
+use Rattle.zk_wire.specs.Cutting.{Hands, Refuses, Stands, Stream, unread}
 use Rattle.zk_wire.specs.declared.cutter.CutFault.{CutFault}
 use Rattle.zk_wire.specs.declared.cutter.CutFault.TheVariants.{BadLength}
 use Rattle.zp_happen.specs.Arriving.{Cuts}

@@ -1,12 +1,11 @@
 -- What a connection asks is fit: the store takes it, and the line of its update has one reading.
-use Rattle.std.proofs.Common.{◌≡◌, ℕ, ◌<◌, refl, sym, ap, ◌∙◌, subst, arith, true, false}
-use Rattle.std.specs.Prelude.{Option, Some, None, MatchBool, pos, ℤ, ◌≤ℤ◌, ◌<ℤ◌, ◌^◌}
+use Rattle.std.proofs.Common.{◌≡◌, sym, subst, arith, false}
+use Rattle.std.specs.Prelude.{Some, MatchBool, pos, ℤ, ◌≤ℤ◌, ◌<ℤ◌, ◌^◌}
 use Rattle.std.proofs.lemmas.Int.{ints}
 use Rattle.ev_types.specs.declared.ask.Ask.{Ask}
-use Rattle.ev_types.specs.declared.ask.Ask.TheVariants as ask
 use Rattle.ev_store.specs.Asks.{IsGrantable}
 use Rattle.zk_transcript.specs.History.{granted_timeout}
-use Rattle.zs_session.specs.Connecting.{asked_in, timeout_in}
+use Rattle.zs_session.specs.Connecting.{asked_in}
 use Rattle.zs_session.specs.Sessions.{lease_seconds}
 use Rattle.zs_session.specs.declared.connect.Connect.{Connect}
 use Rattle.zs_session.specs.declared.connect.Phase.{Phase}

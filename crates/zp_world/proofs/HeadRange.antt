@@ -1,21 +1,20 @@
 -- A look at the head: it is never denied, changes nothing, and shows what is kept under its key.
-use Rattle.std.proofs.Common.{◌≡◌, ℕ, ◌<◌, refl, sym, ap, ◌∙◌, subst, arith, Bool, true, false, List, [], ◌∷◌, ◌++◌, length}
-use Rattle.std.specs.Prelude.{Option, Some, None, IsSome, ◌↔◌, pos, ℤ, int_lt, ◌||◌, if◌then◌else◌}
+use Rattle.std.proofs.Common.{◌≡◌, ℕ, ◌<◌, refl, sym, ap, ◌∙◌, arith, Bool, true, false, List, [], ◌∷◌, ◌++◌, length}
+use Rattle.std.specs.Prelude.{Option, Some, None, IsSome, ◌↔◌, pos, int_lt, ◌||◌, if◌then◌else◌}
 use Rattle.std.specs.Option.{option_to_list}
 use Rattle.std.specs.FinMap.{get}
 use Rattle.std.proofs.lemmas.Int.{ints}
 use Rattle.ev_types.proofs.Found.{found-key}
-use Rattle.ev_types.specs.Denials.{carry, is_compacted, is_denied, is_future}
+use Rattle.ev_types.specs.Denials.{carry, is_compacted, is_denied}
 use Rattle.ev_types.specs.Ranges.{found}
 use Rattle.ev_types.specs.Reads.{key_range, one_found}
-use Rattle.ev_types.specs.Store.{Store, carried_out, looked_at, present, revision}
+use Rattle.ev_types.specs.Store.{Store, carried_out, present, revision}
 use Rattle.ev_types.specs.declared.answer.Answer.{Answer}
 use Rattle.ev_types.specs.declared.answer.Answer.TheVariants as answer
 use Rattle.ev_types.specs.declared.answer.Kv.{Kv}
-use Rattle.ev_types.specs.declared.answer.RangeAns.{RangeAns}
 use Rattle.ev_types.specs.declared.ask.Ask.TheVariants as ask
 use Rattle.ev_types.specs.declared.ask.RangeReq.{RangeReq}
-use Rattle.zx_base.proofs.Options.{none_some, some_is, some_none}
+use Rattle.zx_base.proofs.Options.{some_is, some_none}
 use Rattle.zx_base.specs.Maps.{Bytes}
 
 abbrev looked : Store → Bytes → Store × Answer

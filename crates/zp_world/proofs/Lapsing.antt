@@ -1,6 +1,6 @@
 -- When a lapse and a put of another user are possible, by what the store answers.
-use Rattle.std.proofs.Common.{◌≡◌, ℕ, refl, sym, ap, ◌∙◌, arith, Bool, true, false, List, [], ◌∷◌}
-use Rattle.std.specs.Prelude.{Option, Some, None, not, ◌||◌, ◌&&◌, pos, ℤ, ◌≤ℤ◌, int_lt, if◌then◌else◌}
+use Rattle.std.proofs.Common.{◌≡◌, refl, sym, ap, ◌∙◌, arith, Bool, true, false, [], ◌∷◌}
+use Rattle.std.specs.Prelude.{Option, Some, None, not, ◌||◌, pos, ℤ, ◌≤ℤ◌, int_lt, if◌then◌else◌}
 use Rattle.std.specs.FinMap.{remove}
 use Rattle.std.proofs.lemmas.Int.{ints}
 use Rattle.std.proofs.lemmas.Bool.{and_parts}
@@ -9,7 +9,7 @@ use Rattle.ev_store.specs.declared.fault.Denied.{Denied}
 use Rattle.ev_store.specs.declared.fault.Denied.TheVariants as denied
 use Rattle.ev_types.specs.Denials.{has_lease, is_full}
 use Rattle.ev_types.specs.Lapses.{foreign, lapse, leased_keys, removals}
-use Rattle.ev_types.specs.Store.{Change, Puts, Store, grown, revision}
+use Rattle.ev_types.specs.Store.{Puts, Store, grown, revision}
 use Rattle.ev_types.proofs.Lapsed.{lapse-there}
 use Rattle.zt_text.specs.declared.script.Why.{Why}
 use Rattle.zt_text.specs.declared.script.Why.TheVariants as why

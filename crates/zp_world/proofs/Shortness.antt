@@ -1,8 +1,8 @@
 -- The frames of a stream have the service's size.
-use Rattle.std.proofs.Common.{◌≡◌, ℕ, ◌≤◌, List, [], ◌∷◌, length}
+use Rattle.std.proofs.Common.{ℕ, ◌≤◌, List, [], ◌∷◌, length}
 use Rattle.std.specs.Prelude.{All}
 use Rattle.std.proofs.lemmas.List.Elements.{All-nil, All-cons}
-use Rattle.zk_jute.specs.Frames.{Framed, IsFrame}
+use Rattle.zk_jute.specs.Frames.{IsFrame}
 use Rattle.zk_jute.specs.JuteValues.{Spelled}
 use Rattle.zk_model.specs.Limits.{max_frame}
 use Rattle.zk_wire.specs.Cutting.{Hands, Stream}

@@ -1,34 +1,30 @@
 -- What is out of a connection behind a step: what it asked, or what was out before.
-use Rattle.std.proofs.Common.{◌≡◌, ℕ, List, [], ◌∷◌, refl, sym, ap, ◌∙◌, subst, arith, Bool, true, false, inl, inr}
-use Rattle.std.specs.Prelude.{Option, Some, None, MatchBool, ◌⊎◌, fold, pos, ◌≤ℤ◌, ℤ, ◌<ℤ◌, ◌^◌}
-use Rattle.std.proofs.lemmas.Int.{ints}
+use Rattle.std.proofs.Common.{◌≡◌, ℕ, List, [], ◌∷◌, refl, sym, ap, ◌∙◌, subst, Bool, true, false, inl, inr}
+use Rattle.std.specs.Prelude.{Option, Some, None, MatchBool, ◌⊎◌}
 use Rattle.ev_types.specs.declared.answer.Answer.{Answer}
 use Rattle.ev_types.specs.declared.ask.Ask.{Ask}
-use Rattle.ev_types.specs.declared.ask.Ask.TheVariants as ask
-use Rattle.ev_store.specs.Asks.{IsGrantable}
 use Rattle.zk_transcript.specs.declared.transcript.Cause.{Cause}
 use Rattle.zk_transcript.specs.declared.transcript.Cause.TheVariants as cause
 use Rattle.zk_transcript.specs.declared.transcript.UpdateKind.{UpdateKind}
 use Rattle.zk_transcript.specs.Walks.{has_header}
 use Rattle.zk_jute.specs.Requests.{read_request}
 use Rattle.zs_session.specs.Answering.{IsAwaited}
-use Rattle.zx_base.proofs.Options.{none_some, some_none, some_is}
-use Rattle.zp_happen.specs.declared.flight.Asking.{Asking}
+use Rattle.zx_base.proofs.Options.{none_some, some_none}
 use Rattle.zp_happen.specs.declared.flight.Flight.{Flight}
 use Rattle.zp_happen.specs.declared.flight.Flight.TheVariants.{Out, Carried, Denied}
 use Rattle.zp_laws.proofs.Ending.{steps_end_well}
-use Rattle.zp_laws.specs.Ending.{EndsWell, asked_by, closes, ends_well, is_end}
+use Rattle.zp_laws.specs.Ending.{EndsWell, asked_by, closes, ends_well}
 use Rattle.zp_step.proofs.Shutting.{ends-named, goes-still, steps-open}
 use Rattle.zp_step.specs.Laws.{end_by}
 use Rattle.zp_step.specs.Replies.{Is, closed_by}
 use Rattle.zp_step.specs.Stages.{Core, Stage, Unconnected, Connecting, Ready, KeepingAlive, Checking, Reading, Committing, Waiting, Shut, asked_of, is_shut}
-use Rattle.zp_step.specs.Steps.{Comes, Goes, Handles, Steps, StepsOpen, queued}
+use Rattle.zp_step.specs.Steps.{Comes, Steps, queued}
 use Rattle.zp_step.specs.declared.action.Action.{Action}
 use Rattle.zp_step.specs.declared.action.Action.TheVariants as action
 use Rattle.zp_step.specs.declared.input.Input.{Input}
 use Rattle.zp_step.specs.declared.input.Input.TheVariants as input
-use Rattle.zp_world.specs.Flying.{IsFit, IsFlyingOf, IsOut}
-use Rattle.zp_world.specs.Leaving.{Leaves, flight_after, next_flight}
+use Rattle.zp_world.specs.Flying.{IsFit, IsFlyingOf}
+use Rattle.zp_world.specs.Leaving.{Leaves, flight_after}
 
 -- ---- what a step asks is out
 

@@ -15,7 +15,6 @@ use Rattle.zp_step.specs.Stages.{Core, is_shut}
 use Rattle.zp_step.specs.Steps.{Steps}
 use Rattle.zp_step.specs.declared.action.Action.{Action}
 use Rattle.zp_step.specs.declared.input.Input.{Input}
-use Rattle.zp_step.specs.declared.input.Input.TheVariants as input
 use Rattle.zp_world.specs.Doing.{Stepped, left, seated, without}
 use Rattle.zp_world.specs.Flying.{IsActive, IsFitFlight, LeavesFree}
 use Rattle.zp_world.specs.Leaving.{Leaves}

@@ -1,6 +1,6 @@
 -- Where an ask makes no revision, the zxid of the last update stays.
-use Rattle.std.proofs.Common.{◌≡◌, ℕ, ◌+◌, refl, sym, ap, ◌∙◌, arith, Bool, true, false, List, [], ◌∷◌, ◌++◌, length, length-append, subst}
-use Rattle.std.specs.Prelude.{Option, Some, None, if◌then◌else◌}
+use Rattle.std.proofs.Common.{◌≡◌, refl, sym, ap, ◌∙◌, arith, Bool, true, false, List, [], ◌∷◌, length, length-append}
+use Rattle.std.specs.Prelude.{Some, None, if◌then◌else◌}
 use Rattle.ev_types.specs.Denials.{carry, is_denied}
 use Rattle.ev_types.specs.Store.{Change, Store, carried_out, grown, store_at, succeeds, chosen, txn_done, worked}
 use Rattle.ev_types.specs.declared.answer.Answer.{Answer}

@@ -1,14 +1,13 @@
 -- What is done with a connection or a reaper that is held apart from its world while it takes a step.
-use Rattle.std.specs.Prelude.{◌≡◌, ℕ, List, Option, Some, None, [], ◌∷◌, ◌++◌, is_none}
+use Rattle.std.specs.Prelude.{◌≡◌, ℕ, List, Option, None, [], ◌∷◌, ◌++◌}
 use Rattle.std.specs.FinMap.{remove}
 use Rattle.zk_transcript.specs.declared.transcript.Ended.{Ended}
 use Rattle.zk_transcript.specs.declared.transcript.TranscriptLine.{TranscriptLine}
 use Rattle.zk_transcript.specs.declared.transcript.TranscriptLine.TheVariants as line
 use Rattle.zp_happen.specs.declared.flight.Flight.{Flight}
-use Rattle.zp_happen.specs.Handing.{Reaps}
 use Rattle.zp_happen.specs.Kinds.{kind_asked}
 use Rattle.zp_happen.specs.StepOutcomes.{acts_all, leaves, left_by}
-use Rattle.zp_happen.specs.Worlds.{Actor, Conn, Connection, Closed, World, behind_step, conn_at, with_conn}
+use Rattle.zp_happen.specs.Worlds.{Actor, Conn, Connection, Closed, World, behind_step, with_conn}
 use Rattle.zp_step.specs.Stages.{Core}
 use Rattle.zp_step.specs.Steps.{Steps}
 use Rattle.zp_step.specs.declared.action.Action.{Action}

@@ -2,7 +2,6 @@
 -- one that its asker awaits.
 use Rattle.std.specs.Prelude.{◌≡◌, ◌≢◌, ◌⊎◌, pos, ◌≤ℤ◌, false, List, Option, Some, None, IfSome, All}
 use Rattle.ev_store.specs.Asks.{IsGrantable}
-use Rattle.ev_types.specs.declared.answer.Answer.{Answer}
 use Rattle.ev_types.specs.declared.ask.Ask.{Ask}
 use Rattle.zk_transcript.specs.declared.transcript.Cause.{Cause}
 use Rattle.zk_transcript.specs.declared.transcript.UpdateKind.{UpdateKind}

@@ -1,7 +1,6 @@
-use Rattle.std.proofs.Common.{◌≡◌, ◌+◌, min, drop, arith, rules, length, ◌≤◌, ◌<◌}
+use Rattle.std.proofs.Common.{◌≡◌, drop, arith, rules, length, ◌≤◌}
 use Rattle.std.specs.Prelude.{sum_by}
 use Rattle.std.proofs.lemmas.List.{at_drop_all}
-use Rattle.zp_step.specs.Stages.{max_count}
 use Rattle.zp_world.specs.Framing.{framed_size}
 use Rattle.zp_world.proofs.inbox.size_of_all.Goals as goal
 

@@ -1,8 +1,5 @@
 use Rattle.std.proofs.Common.{◌≡◌, ◌+◌, ◌∷◌, [], min, length, rules}
-use Rattle.std.specs.Prelude.{None, List, ℕ}
-use Rattle.zk_jute.specs.JuteWriting.{with_length}
 use Rattle.zk_wire.specs.Cutting.{Stream}
-use Rattle.zp_happen.specs.Arriving.{Cuts}
 use Rattle.zp_step.specs.Stages.{max_count}
 use Rattle.zp_world.proofs.Framing.{cuts-frame}
 use Rattle.zp_world.proofs.inbox.Inbox.with_frame.Goals as goal

@@ -1,5 +1,5 @@
 use Rattle.std.proofs.Common.{◌≡◌, List, ℕ, [], ◌≤◌, length, subst, sym, ◌∙◌, of_z, to_z, w64}
-use Rattle.std.specs.Prelude.{All, ℤ}
+use Rattle.std.specs.Prelude.{ℤ}
 use Rattle.std.proofs.lemmas.Int.{to_z-of_z}
 use Rattle.std.proofs.lemmas.List.Elements.{All-head}
 use Rattle.std.specs.Vec.Iter.{into_iter_items}
