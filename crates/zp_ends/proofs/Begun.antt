@@ -11,8 +11,8 @@ use Rattle.zk_model.specs.declared.reply.Reply.{Reply}
 use Rattle.zk_model.specs.declared.request.Request.{Request}
 use Rattle.zk_transcript.proofs.Attachments.{NoneBehind}
 use Rattle.zk_transcript.proofs.Placed.{first_place-shown, is_legal-at}
-use Rattle.zk_transcript.specs.Answers.{Told, limit_in, plain_reply, session_refusal, session_seen}
-use Rattle.zk_transcript.specs.History.{after, frame_shown, state_at}
+use Rattle.zk_transcript.specs.Answers.{Told, limit_in, plain_reply, session_refusal}
+use Rattle.zk_transcript.specs.History.{after, frame_shown, session_at, state_at}
 use Rattle.zk_transcript.specs.Legal.{is_legal, is_next_zxid, may_update}
 use Rattle.zk_transcript.specs.Walks.{at_start, closes_session, looked as looks_told, own_update, own_update_in, own_update_shown, response_at, seen_told, told_as_of, told_response, with_end}
 use Rattle.zk_transcript.specs.declared.transcript.Cause.{Cause}
@@ -92,7 +92,7 @@ module _ (s : Store) (lines : List TranscriptLine) (c : ℕ) (core : Core) (flig
   line-not i place (Close d e) u at h = absurd (none_some h)
 
   -- nor does its session's state refuse it
-  not-refused : (p : Pending) → (r : IsReply lines c core.who k.walker p k.looked) → session_refusal c (session_seen (state_at lines k.looked) c core.who.session) ≡ None
+  not-refused : (p : Pending) → (r : IsReply lines c core.who k.walker p k.looked) → session_refusal c (session_at core.who.session (state_at lines k.looked)) ≡ None
   not-refused p r =
       let place : k.place ≡ (r.moment).place = ap (λ (o : ℕ × _). o.0) (some_is (sym k.attached ∙ (r.moment).attached)) in
       let lt : k.place < k.looked = omega (arith, place, (r.moment).since) in
@@ -101,17 +101,17 @@ module _ (s : Store) (lines : List TranscriptLine) (c : ℕ) (core : Core) (flig
       here-served lines c core.who k.looked a h.session (ap live h.there ∙ ap (λ b. if b then None else Some h.session) h.alive) h.mine
 
   told-not : (past : List TranscriptLine) (x : Frame) (w : Watches) (o : Option (ℕ × UpdateRec)) (b : Bool) (t : Told) → told_as_of past c core.who.session x w o ≡ Some (b, t) → ((u : ℕ × UpdateRec) → o ≡ Some u → closes_session u.1.kind ≡ false)
-      → session_refusal c (session_seen (after past) c core.who.session) ≡ None → b ≡ false
+      → session_refusal c (session_at core.who.session (after past)) ≡ None → b ≡ false
   unfolding told_as_of
   told-not past x w (Some u) b t h own state = go (length past == u.0 + 1) h
     where
       go : (q : Bool) → (if q then with_end (closes_session u.1.kind) (told_response w (response_at past u.0 u.1.zxid u.1.kind)) else None) ≡ Some (b, t) → b ≡ false
       go true g = sym (with_end-is (closes_session u.1.kind) (told_response w (response_at past u.0 u.1.zxid u.1.kind)) b t g) ∙ own u refl
       go false g = absurd (none_some g)
-  told-not past x w None b t h own state = go (session_refusal c (session_seen (after past) c core.who.session)) state h
+  told-not past x w None b t h own state = go (session_refusal c (session_at core.who.session (after past))) state h
     where
-      go : (q : Option Reply) → q ≡ None → seen_told (after past) (limit_in (session_seen (after past) c core.who.session)) core.who.session x w q ≡ Some (b, t) → b ≡ false
-      go None e g = sym (with_end-is false (looks_told (after past) (limit_in (session_seen (after past) c core.who.session)) core.who.session w x (plain_reply w x)) b t g)
+      go : (q : Option Reply) → q ≡ None → seen_told (after past) (limit_in (session_at core.who.session (after past))) core.who.session x w q ≡ Some (b, t) → b ≡ false
+      go None e g = sym (with_end-is false (looks_told (after past) (limit_in (session_at core.who.session (after past))) core.who.session w x (plain_reply w x)) b t g)
       go (Some r) e g = absurd (none_some (sym e))
 
   reply-lasts : (p : Pending) → IsReply lines c core.who k.walker p k.looked → p.ends ≡ None

@@ -1,7 +1,7 @@
 -- A session lives, and is attached to a connection, from that connection's own line on, as long as no line behind it takes it and the
 -- connection's frames are mild.
 use Rattle.std.proofs.Common.{◌≡◌, ◌≢◌, ℕ, zero, suc, ◌+◌, ◌-◌, ◌<◌, ◌≤◌, List, ◌++◌, length, take, drop, take-append-drop, refl, sym, ap, ◌∙◌, subst, arith, Bool, true, false, ℤ, pos, inl, inr}
-use Rattle.std.specs.Prelude.{Option, Some, None, ◌&&◌, ◌==◌, ◌⊎◌, ◌≤ℤ◌, if◌then◌else◌, is_none, is_some, nat_lt, not, option_and_then, slice_get}
+use Rattle.std.specs.Prelude.{Option, Some, None, ◌&&◌, ◌==◌, ◌⊎◌, ◌≤ℤ◌, is_none, nat_lt, not, option_and_then, slice_get}
 use Rattle.std.specs.FinMap.{get}
 use Rattle.std.specs.Ordering.{int_eq}
 use Rattle.std.proofs.lemmas.Bool.{and_parts}
@@ -19,7 +19,7 @@ use Rattle.zk_transcript.proofs.Histories.{legal-begun, not-begin}
 use Rattle.zk_transcript.proofs.Lookups.{slice_get-front}
 use Rattle.zk_transcript.proofs.Placed.{first_place-shown, is_legal-at}
 use Rattle.zk_transcript.proofs.SessionMaps.{at-insert_other, at-insert_same, at-remove_other, attached_session-open, either_id}
-use Rattle.zk_transcript.specs.History.{Session, State, after, asked_in, attached, attached_anew, attached_session, change, frame, frame_shown, lapsed_in, new_session, opening, connect, request, session_at, session_zero, state_at, updated, when}
+use Rattle.zk_transcript.specs.History.{Session, State, after, asked_in, attached_anew, attached_session, change, frame, frame_shown, lapsed_in, new_session, opening, connect, request, session_at, state_at, updated, when}
 use Rattle.zk_transcript.specs.Legal.{Attachment, attach_in, attach_of, attach_shown, is_close as is_closing, is_id, is_lapsed, is_legal, is_live_as, is_next_zxid, is_small_frame, may_attach, may_update, asks_anew, offers}
 use Rattle.zk_transcript.specs.Walks.{has_header, placed_frame}
 use Rattle.zk_transcript.specs.declared.transcript.TranscriptLine.{TranscriptLine}
@@ -178,36 +178,26 @@ reaped-not before s z id x there alive h = lapsed-not (session_at id s) x there 
 
 pub record MayClose (before : List TranscriptLine) (s : State) (id : ℤ) (c i : ℕ) : Type 0 where
   pub own : is_id id ≡ true
-  pub live : is_live_as id (attached before c s) ≡ true
+  pub live : is_live_as id (attached_session c s) ≡ true
   pub index : nat_lt 0 i ≡ true
   pub closes : is_closing (request c i before) ≡ true
 
 pub may-close : (before : List TranscriptLine) (s : State) (z id : ℤ) (c i : ℕ) → may_update before s z (Closed id c i) ≡ true → MayClose before s id c i
 unfolding may_update
 may-close before s z id c i h =
-    let a = and_parts (is_id id && is_live_as id (attached before c s) && nat_lt 0 i && is_small_frame (frame c i before)) (is_closing (request c i before)) h in
-    let b = and_parts (is_id id && is_live_as id (attached before c s) && nat_lt 0 i) (is_small_frame (frame c i before)) a.0 in
-    let d = and_parts (is_id id && is_live_as id (attached before c s)) (nat_lt 0 i) b.0 in
-    let e = and_parts (is_id id) (is_live_as id (attached before c s)) d.0 in
+    let a = and_parts (is_id id && is_live_as id (attached_session c s) && nat_lt 0 i && is_small_frame (frame c i before)) (is_closing (request c i before)) h in
+    let b = and_parts (is_id id && is_live_as id (attached_session c s) && nat_lt 0 i) (is_small_frame (frame c i before)) a.0 in
+    let d = and_parts (is_id id && is_live_as id (attached_session c s)) (nat_lt 0 i) b.0 in
+    let e = and_parts (is_id id) (is_live_as id (attached_session c s)) d.0 in
     record { own = e.0; live = e.1; index = d.1; closes = a.1 }
 
 live-as : (id : ℤ) (o : Option (ℤ × Session)) → is_live_as id o ≡ true → (x : Session) × (o ≡ Some (id, x))
 live-as id None h = absurd (true-false (sym h))
 live-as id (Some e) h = let same = (Decides-int_eq id e.0).0 (and_parts (int_eq id e.0) (not e.1.lapsed) h).0 in (e.1, ap (λ n. Some (n, e.1)) (sym same))
 
-zero-id : (id : ℤ) (x y : Session) → is_id id ≡ true → ◌≡◌ {A = Option (ℤ × Session)} (Some (pos 0, y)) (Some (id, x)) → ⊥
-zero-id id x y own e = go id own (ap (λ (p : ℤ × Session). p.0) (some_is e))
-  where
-    go : (n : ℤ) → is_id n ≡ true → pos 0 ≡ n → ⊥
-    go n h f = true-false (sym h ∙ ap is_id (sym f))
-
 -- the session that a close ends is attached to its connection
 closes-own : (before : List TranscriptLine) (s : State) (id : ℤ) (c i : ℕ) → MayClose before s id c i → (x : Session) × (attached_session c s ≡ Some (id, x))
-closes-own before s id c i m = let l = live-as id (attached before c s) m.live in (l.0, go (is_some (frame c 0 before)) l.0 l.1)
-  where
-    go : (b : Bool) (x : Session) → (if b then attached_session c s else Some (pos 0, session_zero c)) ≡ Some (id, x) → attached_session c s ≡ Some (id, x)
-    go true x e = e
-    go false x e = absurd (zero-id id x (session_zero c) m.own e)
+closes-own before s id c i m = live-as id (attached_session c s) m.live
 
 asked-close : (x : Frame) → is_closing (asked_in x) ≡ true → closes_behind x ≡ true
 asked-close NoHeader h = absurd (true-false (sym h))
