@@ -12,3 +12,6 @@ pub mod Tries
 pub mod Replied
 pub mod Stages
 pub mod Placed
+pub mod Running
+pub mod Sendable
+pub mod Telling

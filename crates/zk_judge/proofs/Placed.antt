@@ -1,5 +1,5 @@
 -- Lines that are updates.
-use Rattle.std.proofs.Common.{◌≡◌, ℕ, ℤ, ◌+◌, Bool, true, false, ◌&&◌, List, refl, sym, ap, ◌∙◌, arith}
+use Rattle.std.proofs.Common.{◌≡◌, ℕ, ℤ, Bool, true, false, ◌&&◌, List, refl, sym, ap, ◌∙◌, arith}
 use Rattle.std.specs.Prelude.{Option, Some, None, IfSome, slice_get, ◌==◌}
 use Rattle.std.proofs.lemmas.Option.{same_Some}
 use Rattle.zk_transcript.specs.declared.transcript.UpdateRec.{UpdateRec}
@@ -7,7 +7,7 @@ use Rattle.zk_transcript.specs.declared.transcript.UpdateKind.{UpdateKind}
 use Rattle.zk_transcript.specs.declared.transcript.UpdateKind.TheVariants.{Begin, Session, Attach, Asked, Closed, Reaped}
 use Rattle.zk_transcript.specs.declared.transcript.TranscriptLine.{TranscriptLine}
 use Rattle.zk_transcript.specs.declared.transcript.TranscriptLine.TheVariants.{Update, Open, Frame, Send, Lapse, Close}
-use Rattle.zk_transcript.specs.History.{first_place, when}
+use Rattle.zk_transcript.specs.History.{when}
 use Rattle.zk_transcript.specs.Walks.{is_above, own_update, own_update_in, own_update_shown}
 use Rattle.zk_least.proofs.FirstPlaces.{first_place-at}
 

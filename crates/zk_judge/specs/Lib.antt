@@ -4,3 +4,4 @@ pub mod Seen
 pub mod Staged
 pub mod Verdicts
 pub mod Waiting
+pub mod Sendable

@@ -1,6 +1,7 @@
 -- What the program sees, as the definitions' data.
-use Rattle.std.specs.Prelude.{ℕ, ℤ, Bool, List, Option, length, drop}
-use Rattle.zk_jute.specs.Requests.{Frame, NoHeader, Unreadable, Unknown, Asks}
+use Rattle.std.specs.Prelude.{◌≡◌, ◌≤◌, ℕ, ℤ, Bool, List, Option, length, drop}
+use Rattle.zk_jute.specs.Requests.{Frame, NoHeader, Unreadable, Unknown, Asks, read_request}
+use Rattle.zk_model.specs.Limits.{max_frame}
 use Rattle.zk_model.specs.Watches.{Watches}
 use Rattle.zk_transcript.specs.declared.transcript.UpdateRec.{UpdateRec}
 use Rattle.zk_transcript.specs.declared.transcript.TranscriptLine.{TranscriptLine}
@@ -20,6 +21,12 @@ frame_as read.NoHeader = NoHeader
 frame_as (read.Unreadable xid place) = Unreadable xid place
 frame_as (read.Unknown xid kind) = Unknown xid kind
 frame_as (read.Asks xid r) = Asks xid r
+
+-- the bytes of a frame within the limit are read as this
+pub record IsShortFrame (f : Frame) : Type 0 where
+  pub bytes : List ℕ
+  pub short : length bytes ≤ max_frame
+  pub reads : read_request bytes ≡ f
 
 abbrev pub walker_of : Walking → Walker
 walker_of w = record { zxid = w.zxid; since = w.since; watches = w.watches; next = w.next; moment = w.moment; over = w.is_over }

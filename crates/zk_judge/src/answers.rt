@@ -6,9 +6,11 @@ ghost use Rattle.zk_model.specs.declared.reply.Reply.TheVariants as reply;
 ghost use Rattle.zk_transcript.specs.History.{after, session_at};
 ghost use Rattle.zk_transcript.specs.Answers.{limit_in, plain_reply as plain_reply_of, session_refusal as session_refusal_of};
 ghost use Rattle.zk_transcript.specs.Walks.{closes_session as closes_session_of, looked as looked_of, response_at as response_at_of, told_as_of as told_as_of_of, told_by_state as told_by_state_of};
+ghost use Rattle.zk_model.specs.Limits.{max_owned};
+ghost use Rattle.zk_plain.specs.Faults.{IsWhole};
 ghost use Rattle.zk_answers.specs.Outcomes.{told_of};
 ghost use Rattle.zk_judge.specs.Fronts.{IsFront};
-ghost use Rattle.zk_judge.specs.Seen.{ending_of, frame_as};
+ghost use Rattle.zk_judge.specs.Seen.{IsShortFrame, ending_of, frame_as};
 
 use crate::bodies::copy_of_body;
 use crate::frames::{FrameRead, plain_reply, refused};
@@ -16,7 +18,7 @@ use crate::index::Index;
 use crate::walker::Party;
 use std::alloc::Global;
 use zk_answers::{Told, Watches, tree_reply};
-use zk_history::State;
+use zk_history::{Fault, State};
 use zk_model::code::{SESSION_EXPIRED, SESSION_MOVED};
 use zk_model::limit::MAX_OWNED;
 use zk_model::{Body, Reply};
@@ -56,7 +58,9 @@ fn looked(
     frame: &FrameRead,
     watches: &Watches,
 ) -> Result<Option<Told>, Memory>
-    ensures { IfOk result (λ o. option_map told_of o ≡ looked_of state.now 40 party.session watches.now (frame_as frame.now) (plain_reply_of watches.now (frame_as frame.now))) }
+    requires whole { IsWhole state.now.tree }
+    requires short { IsShortFrame (frame_as frame.now) }
+    ensures { IfOk result (λ o. option_map told_of o ≡ looked_of state.now max_owned party.session watches.now (frame_as frame.now) (plain_reply_of watches.now (frame_as frame.now))) }
 {
     if plain_reply(alloc, watches, frame)?.is_some() {
         return Ok(None);
@@ -71,7 +75,8 @@ fn looked(
             request,
         ) {
             Ok(told) => Ok(told),
-            Err(_) => Err(Memory),
+            Err(Fault::Memory) => Err(Memory),
+            Err(Fault::Beyond) => unreachable!(),
         },
         FrameRead::NoHeader => Ok(None),
         FrameRead::Unreadable { .. } => Ok(None),
@@ -87,6 +92,8 @@ fn told_by_state(
     frame: &FrameRead,
     watches: &Watches,
 ) -> Result<Option<Ending>, Memory>
+    requires whole { IsWhole state.now.tree }
+    requires short { IsShortFrame (frame_as frame.now) }
     ensures { IfOk result (λ o. option_map ending_of o ≡ told_by_state_of state.now party.connection party.session (frame_as frame.now) watches.now) }
 {
     match session_refusal(party, state) {
@@ -181,6 +188,7 @@ pub fn told_as_of(
     requires front { IsFront past.now index.now.lines.now }
     requires own { IfSome own (λ u. slice_get index.now.lines.now u.0 ≡ Some (Update u.1)) }
     requires state { state.now ≡ after past.now }
+    requires short { IsShortFrame (frame_as frame.now) }
     ensures { IfOk result (λ o. option_map ending_of o ≡ told_as_of_of past.now party.connection party.session (frame_as frame.now) watches.now own) }
 {
     match own {

@@ -1,8 +1,8 @@
 //! The answers to a connect.
 
-ghost use Rattle.std.specs.Prelude.{◌≡◌, ◌<◌, ◌↔◌, length, option_map, IfOk, IsTrue};
+ghost use Rattle.std.specs.Prelude.{◌≡◌, ◌+◌, ◌<◌, ◌↔◌, length, option_map, IfOk, IsTrue};
 ghost use Rattle.zk_jute.specs.Packets.{connect_packet};
-ghost use Rattle.zk_transcript.specs.History.{connect as connect_of, session_at};
+ghost use Rattle.zk_transcript.specs.History.{connect as connect_of, session_at, state_at};
 ghost use Rattle.zk_transcript.specs.Conversations.{IsWelcomed, answered_read_only as answered_read_only_of, is_other_session as is_other_session_of, may_refuse as may_refuse_of, refusal, welcome};
 
 use crate::index::Index;
@@ -13,9 +13,6 @@ use zk_model::{ConnectRequest, ConnectResponse};
 use zk_wire::write_connect;
 use zx_base::{Bytes, Memory};
 
-/// The bytes of a password.
-const PASSWORD_LEN: usize = 16;
-
 fn answered_read_only(request: &ConnectRequest) -> Option<bool>
     ensures { result ≡ answered_read_only_of request.now }
 {
@@ -25,16 +22,14 @@ fn answered_read_only(request: &ConnectRequest) -> Option<bool>
     }
 }
 
-/// A password as an array. One of another length, as in no run, is as if memory were refused.
-fn password(bytes: &[u8]) -> Result<[u8; 16], Memory>
-    ensures { IfOk result (λ p. p ≡ bytes.now) }
+/// A password as an array.
+fn password(bytes: &[u8]) -> [u8; 16]
+    requires { length bytes.now ≡ 16 }
+    ensures { result ≡ bytes.now }
 {
-    if bytes.len() != PASSWORD_LEN {
-        return Err(Memory);
-    }
     let mut passwd = [0; 16];
     passwd.as_mut_slice().copy_from_slice(bytes);
-    Ok(passwd)
+    passwd
 }
 
 /// The packet that welcomes a connect to its session.
@@ -44,12 +39,13 @@ fn welcome_packet(
     id: i64,
     session: &Session,
 ) -> Result<Bytes, Memory>
+    requires { length session.now.passwd ≡ 16 }
     ensures { IfOk result (λ b. b ≡ connect_packet (welcome request.now id session.now)) }
 {
     let response = ConnectResponse {
         timeout: session.timeout(),
         session: id,
-        passwd: password(session.passwd())?,
+        passwd: password(session.passwd()),
         read_only: answered_read_only(request),
     };
     Ok(Bytes::from_vec(write_connect(alloc, &response)?))
@@ -96,6 +92,7 @@ pub fn is_welcomed(
     first: usize,
     bytes: &[u8],
 ) -> Result<bool, Memory>
+    requires { state.now ≡ state_at index.now.lines.now (place + 1) }
     ensures { IfOk result (λ b. IsTrue b ↔ IsWelcomed index.now.lines.now party.connection place party.session (first, bytes.now) (connect_of party.connection index.now.lines.now) (session_at party.session state.now)) }
 {
     let Some(request) = connect(alloc, index.lines, party.connection)? else {

@@ -1,23 +1,51 @@
 //! The lines of a transcript, with tables of what they show and of what its updates did.
 
-ghost use Rattle.std.specs.Prelude.{◌≡◌, ◌+◌, ◌<◌, ◌≤◌, ℕ, Some, length, option_map, slice_get, take, IfOk, IfSome};
+ghost use Rattle.std.specs.Prelude.{◌≡◌, ◌+◌, ◌<◌, ◌≤◌, ℕ, ℤ, List, None, Some, length, option_map, slice_get, take, IfOk, IfSome};
 ghost use Rattle.zk_transcript.specs.declared.transcript.UpdateRec.{UpdateRec as Updated};
 ghost use Rattle.zk_transcript.specs.declared.transcript.TranscriptLine.TheVariants.{Update};
-ghost use Rattle.zk_transcript.specs.History.{first_place, state_at};
+ghost use Rattle.zk_transcript.specs.History.{first_place, open_shown, state_at};
 ghost use Rattle.zk_transcript.specs.Walks.{after_update as after_update_of, own_update as own_update_of, placed_frame as placed_frame_of, update_shown as update_shown_of};
 ghost use Rattle.zk_transcript.specs.Legal.{attach_of as attach_of_of};
 ghost use Rattle.zk_transcript.specs.Conversations.{close_shown as close_shown_of};
+ghost use Rattle.zk_model.specs.Limits.{max_frame};
+ghost use Rattle.zk_legal.specs.Faults.{history_fault};
+ghost use Rattle.zk_legal.specs.Passwords.{OfferPasswords};
 ghost use Rattle.zk_history.specs.Commits.{response_in};
 ghost use Rattle.zk_history.specs.Pasts.{lines_of};
 ghost use Rattle.zk_history.specs.Shown.{placed_attachment, placed_bytes};
 
 use std::alloc::Global;
-use zk_history::{Effects, Past};
+use zk_history::{Effects, Fault, Past};
 use zk_model::{Body, Trigger};
 use zk_transcript::{TranscriptLine, UpdateRec};
 use zx_base::Memory;
 
-/// A transcript, with what its lines show and what its updates did.
+/// Proof only: an array tells its length.
+fn see_bytes(passwd: &[u8; 16])
+    ensures { length passwd.now ≡ 16 }
+{
+    let _seen = *passwd;
+}
+
+/// Proof only: the password that a line offers has 16 bytes.
+fn see_password(line: &TranscriptLine)
+    ensures { (c : ℕ) (o : ℤ × List ℕ) → open_shown c line.now ≡ Some o → length o.1 ≡ 16 }
+{
+    if let TranscriptLine::Open { passwd, .. } = line {
+        see_bytes(passwd);
+    }
+}
+
+/// Proof only: each connection offers a password of 16 bytes.
+fn see_passwords(lines: &[TranscriptLine])
+    ensures { OfferPasswords lines.now }
+{
+    for line in lines {
+        see_password(line);
+    }
+}
+
+/// A transcript whose history has no fault, with what its lines show and what its updates did.
 #[derive(Drop)]
 pub struct Index<'a> {
     pub lines: &'a [TranscriptLine],
@@ -25,16 +53,21 @@ pub struct Index<'a> {
     effects: Effects<'a>,
     ghost shown: { lines_of past ≡ lines.now },
     ghost done: { effects.all.now ≡ lines.now },
+    ghost run: { history_fault lines.now ≡ None },
+    ghost offered: { OfferPasswords lines.now },
 }
 
 impl<'a> Index<'a> {
-    /// Goes over the lines once. A number beyond its field, as in no run, is as if memory were refused.
+    /// Goes over the lines once.
     pub fn new(alloc: Global, lines: &'a [TranscriptLine]) -> Result<Index<'a>, Memory>
+        requires { history_fault lines.now ≡ None }
         ensures { IfOk result (λ i. i.lines.now ≡ lines.now) }
     {
+        see_passwords(lines);
         let effects = match Effects::of(alloc, lines) {
             Ok(effects) => effects,
-            Err(_) => return Err(Memory),
+            Err(Fault::Memory) => return Err(Memory),
+            Err(Fault::Beyond) => unreachable!(),
         };
         Ok(Index {
             lines,
@@ -47,6 +80,8 @@ impl<'a> Index<'a> {
     pub fn placed_frame(&self, connection: u32, index: u64) -> Option<(usize, &'a [u8])>
         ensures placed { option_map placed_bytes result ≡ placed_frame_of connection index self.now.lines.now }
         ensures within { IfSome result (λ x. x.0 < length self.now.lines.now) }
+        ensures short { IfSome result (λ x. length x.1.now ≤ max_frame) }
+        ensures index { IfSome result (λ x. index < length self.now.lines.now) }
     {
         self.past.placed_frame(connection, index)
     }

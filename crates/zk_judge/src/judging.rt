@@ -1,11 +1,10 @@
 //! The verdict on a transcript, in two passes over its lines.
 
-ghost use Rattle.std.specs.Prelude.{◌≡◌, ◌+◌, ◌++◌, ◌∷◌, [], ℕ, List, None, length, IfOk};
+ghost use Rattle.std.specs.Prelude.{◌≡◌, ◌+◌, ◌<◌, ◌++◌, ◌∷◌, [], ℕ, List, None, length, IfOk};
 ghost use Rattle.std.specs.List.{All, Contains};
 ghost use Rattle.zk_transcript.specs.declared.transcript.TranscriptLine.{TranscriptLine as AnyLine};
-ghost use Rattle.zk_transcript.specs.History.{change as change_of, state_at};
+ghost use Rattle.zk_transcript.specs.History.{state_at};
 ghost use Rattle.zk_transcript.specs.Conversations.{IsLawfulAndFresh};
-ghost use Rattle.zk_history.specs.Pasts.{lines_of};
 ghost use Rattle.zk_legal.specs.Faults.{history_fault as history_fault_of};
 ghost use Rattle.zk_judge.specs.Faults.{IsLeastFault};
 ghost use Rattle.zk_judge.specs.Staged.{AreOpened, IsLeastOf, IsStanding, connections, lesser_of, opened_by as opened_by_of};
@@ -15,7 +14,7 @@ use crate::conversations::Conversation;
 use crate::index::Index;
 use crate::verdict::Verdict;
 use std::alloc::Global;
-use zk_history::{Past, State, change};
+use zk_history::{Cursor, Fault, State};
 use zk_legal::{history_fault, order_fault};
 use zk_transcript::TranscriptLine;
 use zx_base::Memory;
@@ -87,18 +86,17 @@ fn advanced(
     Ok(later)
 }
 
-/// The state after a line. Without memory, and where a number is beyond its field, there is no answer.
-fn changed(
-    alloc: Global,
-    before: &Past,
-    state: State,
-    line: &TranscriptLine,
-) -> Result<State, Memory>
-    ensures { IfOk result (λ s. s ≡ change_of (lines_of before.now) state line.now) }
+/// The moment behind the next line.
+fn moved_on<'a>(alloc: Global, cursor: Cursor<'a>) -> Result<Cursor<'a>, Memory>
+    requires run { history_fault_of cursor.past.all.now ≡ None }
+    requires within { cursor.past.len < length cursor.past.all.now }
+    ensures moment { IfOk result (λ c. c.past.len ≡ cursor.entry.past.len + 1) }
+    ensures all { IfOk result (λ c. c.past.all.now ≡ cursor.entry.past.all.now) }
 {
-    match change(alloc, before, state, line) {
-        Ok(state) => Ok(state),
-        Err(_) => Err(Memory),
+    match cursor.advanced(alloc) {
+        Ok((next, _)) => Ok(next),
+        Err(Fault::Memory) => Err(Memory),
+        Err(Fault::Beyond) => unreachable!(),
     }
 }
 
@@ -109,14 +107,18 @@ fn judged(alloc: Global, index: &Index) -> Result<Vec<Conversation>, Memory>
     ensures opened { IfOk result (λ v. AreOpened index.now.lines.now v.items) }
 {
     let mut conversations = opened(alloc, index)?;
-    let mut past = Past::new(alloc, index.lines);
-    let mut state = State::new(alloc);
-    for (moment, line) in index.lines.iter().enumerate() {
-        conversations = advanced(alloc, index, &state, moment, conversations)?;
-        state = changed(alloc, &past, state, line)?;
-        past = past.advanced()?;
+    let mut cursor = Cursor::new(alloc, index.lines);
+    for moment in 0..index.lines.len() {
+        conversations = advanced(alloc, index, cursor.state(), moment, conversations)?;
+        cursor = moved_on(alloc, cursor)?;
     }
-    advanced(alloc, index, &state, index.lines.len(), conversations)
+    advanced(
+        alloc,
+        index,
+        cursor.state(),
+        index.lines.len(),
+        conversations,
+    )
 }
 
 fn lesser(found: Option<u32>, connection: u32) -> Option<u32>

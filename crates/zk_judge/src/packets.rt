@@ -2,7 +2,8 @@
 
 ghost use Rattle.std.specs.Prelude.{◌≡◌, ◌&&◌, ◌++◌, ◌∷◌, [], ℕ, List, bytes_eq, drop, length, nat_le, take, if◌then◌else◌, slice_get, slice_index, Some, None, option_map, IfOk, IsTrue, OnOk, ◌≤◌};
 ghost use Rattle.std.specs.Int.{from_be_bytes, w32, w64};
-ghost use Rattle.zk_jute.specs.Packets.{notice_packet as notice_packet_of, reply_packet as reply_packet_of};
+ghost use Rattle.std.specs.List.{All};
+ghost use Rattle.zk_jute.specs.Packets.{CanBeSent, NoticeCanBeSent, notice_packet as notice_packet_of, reply_packet as reply_packet_of};
 ghost use Rattle.zk_transcript.specs.Walks.{due_notices, packets, packets_from};
 ghost use Rattle.zk_least.specs.LeastWalk.{behind, next_reply as next_reply_of, zxid_in as zxid_in_of};
 ghost use Rattle.zk_least.specs.LeastMoments.{code_in as code_in_of};
@@ -12,7 +13,7 @@ ghost use Rattle.zk_least.specs.LeastQueues.{is_apart as is_apart_of, is_front a
 use std::alloc::Global;
 use zk_model::{Notice, Reply};
 use zk_transcript::TranscriptLine;
-use zk_wire::{notice_can_be_sent, reply_can_be_sent, write_notice, write_reply};
+use zk_wire::{write_notice, write_reply};
 use zx_base::{Bytes, Memory};
 
 /// A packet, and the first place where its line may stand.
@@ -74,23 +75,19 @@ pub fn packets_behind(packets: &Vec<Due>, taken: usize) -> &[Due]
     &packets[taken..]
 }
 
-/// The packet of a reply. One whose length is no int is as if memory were refused.
+/// The packet of a reply.
 pub fn reply_packet(alloc: Global, xid: i32, zxid: i64, reply: &Reply) -> Result<Bytes, Memory>
+    requires { CanBeSent reply.now }
     ensures { IfOk result (λ b. b ≡ reply_packet_of xid zxid reply.now) }
 {
-    if !reply_can_be_sent(reply) {
-        return Err(Memory);
-    }
     Ok(Bytes::from_vec(write_reply(alloc, xid, zxid, reply)?))
 }
 
-/// The packet of a notice. One whose length is no int is as if memory were refused.
+/// The packet of a notice.
 fn notice_packet(alloc: Global, notice: &Notice) -> Result<Bytes, Memory>
+    requires { NoticeCanBeSent notice.now }
     ensures { IfOk result (λ b. b ≡ notice_packet_of notice.now) }
 {
-    if !notice_can_be_sent(notice) {
-        return Err(Memory);
-    }
     Ok(Bytes::from_vec(write_notice(alloc, notice)?))
 }
 
@@ -101,6 +98,7 @@ pub fn add_notices(
     place: usize,
     notices: &[Notice],
 ) -> Result<(), Memory>
+    requires { All NoticeCanBeSent notices.now }
     ensures { OnOk result (due.new.items ≡ due.old.items ++ due_notices place notices.now) }
 {
     for notice in notices {

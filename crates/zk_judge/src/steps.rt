@@ -1,12 +1,16 @@
 //! The steps of a connection's walk that answer a frame.
 
-ghost use Rattle.std.specs.Prelude.{◌≡◌, ◌&&◌, ◌+◌, ◌<◌, ◌++◌, ◌∷◌, ◌^◌, [], Some, length, option_map, slice_get, IfOk, IfSome};
+ghost use Rattle.std.specs.Prelude.{◌≡◌, ◌&&◌, ◌+◌, ◌<◌, ◌≤◌, ◌++◌, ◌∷◌, ◌^◌, [], Some, length, option_map, slice_get, IfOk, IfSome};
 ghost use Rattle.zk_transcript.specs.declared.transcript.TranscriptLine.TheVariants.{Update};
 ghost use Rattle.zk_transcript.specs.Answers.{xid_of as xid_of_of};
 ghost use Rattle.zk_transcript.specs.History.{after, state_at};
 ghost use Rattle.zk_transcript.specs.Walks.{Answer, Plain, after_update as after_update_of, answer_as_of as answer_as_of_of, answer_plainly as answer_plainly_of, due_notices, is_auth_refusal as is_auth_refusal_of, has_header as has_header_of, later_of as later_of_of, may_answer_at, move, plain_answer as plain_answer_of, reply_step as reply_step_of, reply_step_if as reply_step_if_of, told_as_of as told_as_of_of};
 ghost use Rattle.zk_judge.specs.Fronts.{IsFront, IsTold};
-ghost use Rattle.zk_judge.specs.Seen.{answer_behind as answer_behind_of, ending_of, frame_as, step_of, walker_of};
+ghost use Rattle.std.specs.List.{All};
+ghost use Rattle.zk_jute.specs.Packets.{NoticeCanBeSent};
+ghost use Rattle.zk_model.specs.Limits.{max_frame};
+ghost use Rattle.zk_judge.specs.Sendable.{CanBeTold};
+ghost use Rattle.zk_judge.specs.Seen.{IsShortFrame, answer_behind as answer_behind_of, ending_of, frame_as, step_of, walker_of};
 ghost use Rattle.zk_answers.specs.Outcomes.{told_of};
 
 use crate::answers::{Ending, told_as_of};
@@ -38,16 +42,6 @@ pub fn later_of(first: usize, second: usize) -> usize
     if first <= second { second } else { first }
 }
 
-/// The index behind one. One that is no longer counted is as if memory were refused.
-fn behind_index(index: u64) -> Result<u64, Memory>
-    ensures { IfOk result (λ i. i ≡ index + 1) }
-{
-    if index == u64::MAX {
-        return Err(Memory);
-    }
-    Ok(index + 1)
-}
-
 /// An answer without the tree, due from a place on.
 fn plain_answer(
     alloc: Global,
@@ -56,6 +50,8 @@ fn plain_answer(
     xid: i32,
     told: Told,
 ) -> Result<Step, Memory>
+    requires told { CanBeTold (told_of told) }
+    requires next { walker.now.next + 1 < 2 ^ 64 }
     ensures { IfOk result (λ s. Some (step_of s) ≡ plain_answer_of (walker_of walker.now) place xid (Some (told_of told))) }
 {
     let Told {
@@ -72,7 +68,7 @@ fn plain_answer(
             since: walker.since,
             is_over: is_auth_refusal(&answer),
             watches,
-            next: behind_index(walker.next)?,
+            next: walker.next + 1,
             moment: walker.moment,
         },
         due,
@@ -86,7 +82,8 @@ fn answer_frame_plainly(
     place: usize,
     bytes: &[u8],
 ) -> Result<Option<Step>, Memory>
-    requires { place + 1 < 2 ^ 64 }
+    requires place { place + 1 < 2 ^ 64 }
+    requires next { walker.now.next + 1 < 2 ^ 64 }
     ensures { IfOk result (λ o. option_map step_of o ≡ answer_plainly_of (walker_of walker.now) (Some (place, bytes.now))) }
 {
     let frame = frame_of(alloc, bytes)?;
@@ -127,6 +124,7 @@ fn reply_due(
     notices: &[Notice],
     packet: Bytes,
 ) -> Result<Vec<Due>, Memory>
+    requires { All NoticeCanBeSent notices.now }
     ensures { IfOk result (λ v. v.items ≡ fired.items ++ due_notices since notices.now ++ ((first, packet) ∷ [])) }
 {
     let mut due = fired;
@@ -158,9 +156,11 @@ fn reply_step(
     fired: Vec<Due>,
     ending: Ending,
 ) -> Result<Step, Memory>
+    requires told { CanBeTold (told_of ending.told) }
     requires front { IsFront past.now index.now.lines.now }
     requires zxid { zxid ≡ (after past.now).zxid }
     requires place { place + 1 < 2 ^ 64 }
+    requires next { walker.now.next + 1 < 2 ^ 64 }
     ensures { IfOk result (λ s. step_of s ≡ reply_step_of past.now (walker_of walker.now) place xid fired.items (ending_of ending)) }
 {
     let Ending { told, is_over } = ending;
@@ -178,7 +178,7 @@ fn reply_step(
             zxid,
             since,
             watches,
-            next: behind_index(walker.next)?,
+            next: walker.next + 1,
             moment: past.len(),
             is_over,
         },
@@ -206,9 +206,11 @@ fn reply_step_if(
     fired: Vec<Due>,
     ending: Option<Ending>,
 ) -> Result<Option<Step>, Memory>
+    requires told { IfSome ending (λ e. CanBeTold (told_of e.told)) }
     requires front { IsFront past.now index.now.lines.now }
     requires zxid { zxid ≡ (after past.now).zxid }
     requires place { place + 1 < 2 ^ 64 }
+    requires next { walker.now.next + 1 < 2 ^ 64 }
     ensures { IfOk result (λ o. option_map step_of o ≡ reply_step_if_of past.now (walker_of walker.now) place xid fired.items (option_map ending_of ending)) }
 {
     match ending {
@@ -236,6 +238,8 @@ fn answer_fired(
     requires own { IfSome own (λ u. slice_get index.now.lines.now u.0 ≡ Some (Update u.1)) }
     requires state { state.now ≡ after past.now }
     requires place { place + 1 < 2 ^ 64 }
+    requires next { walker.now.next + 1 < 2 ^ 64 }
+    requires short { IsShortFrame (frame_as frame.now) }
     ensures { IfOk result (λ o. option_map step_of o ≡ reply_step_if_of past.now (walker_of walker.now) place (xid_of_of (frame_as frame.now)) fired.due.items (told_as_of_of past.now party.connection party.session (frame_as frame.now) fired.watches own)) }
 {
     let Fired { watches, due } = fired;
@@ -270,6 +274,8 @@ fn answer_behind(
     requires own { IfSome own (λ u. slice_get index.now.lines.now u.0 ≡ Some (Update u.1)) }
     requires state { state.now ≡ after past.now }
     requires place { place + 1 < 2 ^ 64 }
+    requires next { walker.now.next + 1 < 2 ^ 64 }
+    requires short { IsShortFrame (frame_as frame.now) }
     ensures { IfOk result (λ o. option_map step_of o ≡ answer_behind_of past.now party.connection party.session (walker_of walker.now) own place (frame_as frame.now)) }
 {
     let fired = fire_above(alloc, index, past, walker)?;
@@ -295,6 +301,8 @@ fn answer_frame_as_of(
     requires own { IfSome own (λ u. slice_get index.now.lines.now u.0 ≡ Some (Update u.1)) }
     requires state { state.now ≡ after past.now }
     requires place { place + 1 < 2 ^ 64 }
+    requires next { walker.now.next + 1 < 2 ^ 64 }
+    requires short { length bytes.now ≤ max_frame }
     ensures { IfOk result (λ o. option_map step_of o ≡ answer_as_of_of past.now party.connection party.session (walker_of walker.now) own (Some (place, bytes.now))) }
 {
     let frame = frame_of(alloc, bytes)?;

@@ -1,9 +1,12 @@
-use Rattle.std.proofs.Common.{◌≡◌, List, Option, true, false, ◌&&◌, subst, IfOk}
+use Rattle.std.proofs.Common.{◌≡◌, List, Option, true, false, ◌&&◌, sym, subst, IfOk}
 use Rattle.std.specs.Prelude.{option_map}
 use Rattle.zk_transcript.specs.Walks.{Walker, Due, has_header, may_answer_at}
 use Rattle.zk_judge.specs.Seen.{frame_as, step_of, walker_of}
 use Rattle.zk_judge.proofs.AnswersAsOf.{answered, not-answered}
 use Rattle.zk_judge.proofs.steps.answer_frame_as_of.Goals as goal
+
+pub answer_behind-requires-clause-short : goal.answer_behind-requires-clause-short
+answer_behind-requires-clause-short c = record { bytes = c.args.bytes.now; short = c.requires.short; reads = sym c.in_ok-frame.ensures }
 
 pub returns-then-not-may_answer : goal.returns-then-not-may_answer
 returns-then-not-may_answer c =
