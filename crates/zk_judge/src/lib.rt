@@ -5,8 +5,9 @@
 //! other is tried as of two moments at most.
 //!
 //! The states are gone through once: at each moment every connection is advanced whose next reply waits for it. Look-ups are by
-//! tables, and what each update did is kept, so that the time is that of the lines, the packets and the notices, but for the cost
-//! of the tree.
+//! tables, and what each update did is kept. For a given number of connections and of armed watches the time is that of the lines,
+//! the packets and the notices, but for the cost of the tree. It grows with the connections times the lines, since each moment
+//! looks at every conversation, and with the watches that a connection has armed, which each of its replies copies.
 #![tactic(auto)]
 
 mod answers;
