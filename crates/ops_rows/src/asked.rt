@@ -2,7 +2,6 @@
 
 ghost use Rattle.std.specs.Prelude.{◌<◌, ◌^◌, ◌≤◌, ◌≤ℤ◌, ◌↔◌, pos, length, IsTrue};
 ghost use Rattle.zk_model.specs.Limits.{max_frame};
-ghost use Rattle.zn_updates.specs.Deciding.{content_in};
 ghost use Rattle.zn_updates.specs.Parts.{part_content};
 ghost use Rattle.zn_multi.specs.Carrying.{AreShort};
 
@@ -14,35 +13,12 @@ use std::alloc::Global;
 use zk_model::limit::MAX_FRAME;
 use zk_model::{Part, Request};
 use zn_multi::{decide_multi, needs_multi};
-use zn_ops::{decide, finish, is_single, needs};
+use zn_ops::{decide, finish, is_short, is_single, needs};
 use zn_view::{Arm, Decision, View, Want, Who};
 use zx_base::{Memory, Seq};
 
 /// The moments that are decided at are below this one, in milliseconds since 1970.
 const MOMENTS: u64 = 4_611_686_018_427_387_904;
-
-fn is_short(request: &Request) -> bool
-    ensures { IsTrue result → length (content_in request.now) ≤ max_frame }
-{
-    match request {
-        Request::Create { content, .. } | Request::SetData { content, .. } => {
-            content.len() <= MAX_FRAME
-        }
-        Request::Delete { .. }
-        | Request::Exists { .. }
-        | Request::GetData { .. }
-        | Request::GetAcl { .. }
-        | Request::GetChildren { .. }
-        | Request::GetChildren2 { .. }
-        | Request::Sync { .. }
-        | Request::Ping
-        | Request::Check { .. }
-        | Request::Multi { .. }
-        | Request::Auth { .. }
-        | Request::SetWatches { .. }
-        | Request::Close => true,
-    }
-}
 
 /// What a single request or a multi needs; none of another.
 fn wanted(

@@ -10,6 +10,7 @@ mod plans;
 mod replies;
 mod requests;
 mod values;
+mod watched;
 
 use anyhow::Result;
 use row_files::{Rows, Words, try_file};
@@ -44,6 +45,7 @@ impl Rows for Looking {
             "needs" => asked::needed(alloc, &self.view, words),
             "decide" => asked::decided(alloc, &self.view, words),
             "finish" => asked::finished(alloc, &self.view, words),
+            "seen" => watched::seen(alloc, &self.view, words),
             _ => Ok(None),
         }
     }
