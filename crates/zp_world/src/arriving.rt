@@ -100,12 +100,7 @@ impl World {
     }
 
     /// Frames come, in order.
-    fn take_frames(
-        &mut self,
-        connection: u32,
-        zxid: i64,
-        frames: Vec<Bytes>,
-    ) -> Result<(), Memory>
+    fn take_frames(&mut self, connection: u32, zxid: i64, frames: Vec<Bytes>) -> Result<(), Memory>
         requires { All (λ frame. length frame ≤ max_frame) frames.items }
         ensures { OnOk result (IsServing connection zxid frames.items self.old → FramesArrive connection self.old frames.items self.new) }
     {

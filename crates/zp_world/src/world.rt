@@ -1,6 +1,6 @@
 //! The world, and what a script may do to it.
 
-ghost use Rattle.std.specs.Prelude.{◌≡◌, IfOk, Some, pos};
+ghost use Rattle.std.specs.Prelude.{◌≡◌, IfOk, Some, pos, Err};
 ghost use Rattle.std.specs.List.{AllByRecursion};
 ghost use Rattle.ev_types.specs.Denials.{carry};
 ghost use Rattle.ev_types.specs.Store.{new_store, present, revision};
@@ -8,10 +8,11 @@ ghost use Rattle.ev_types.specs.declared.answer.Answer.{Answer as AnyAnswer};
 ghost use Rattle.zk_transcript.specs.History.{after, updates as updates_of};
 ghost use Rattle.zn_layout.specs.Begin.{begin_ask as first_ask, begin_lines};
 ghost use Rattle.zn_layout.specs.StandsFor.{StandsFor};
+ghost use Rattle.zp_happen.specs.Conversing.{conversations as conversations_of};
 ghost use Rattle.zp_happen.specs.Runs.{IsFirst, world_over};
 ghost use Rattle.zt_text.specs.Transcripts.{IsWellFormed};
 ghost use Rattle.zp_world.specs.Activities.{AreWithin};
-ghost use Rattle.zp_world.specs.Applying.{Applies, IsOfScript};
+ghost use Rattle.zp_world.specs.Applying.{Applies, IsOfScript, IsSpent};
 
 use crate::activities::Activities;
 use crate::fault::ApplyFault;
@@ -19,7 +20,7 @@ use crate::strays::Strays;
 use ev_store::{Store, StoreFault};
 use std::alloc::Global;
 use std::marker::Model;
-use zk_transcript::{TranscriptLine, UpdateKind, UpdateRec};
+use zk_transcript::{Conversation, TranscriptLine, UpdateKind, UpdateRec};
 use zn_layout::{begin_ask, begin_stands};
 use zp_ledger::{Entries, Transcript};
 use zt_text::Happening;
@@ -121,16 +122,44 @@ impl World {
         self.transcript.updates()
     }
 
-    /// Applies one happening, where it is possible. A session's number in it is at least 1.
+    /// The lines of each connection but its updates, in the order in which they opened. They are copied, in time linear in the lines
+    /// but for the logarithm of the connections.
+    pub fn conversations(&self) -> Result<Vec<Conversation>, Memory>
+        ensures { IfOk result (λ found. found.items ≡ conversations_of self.now.lines) }
+    {
+        self.transcript.conversations(self.alloc)
+    }
+
+    /// Applies one happening, where it is possible. A session's number in it is at least 1. Once memory was refused the world
+    /// changes no more: its lines and updates stay, and it answers so again.
     pub fn apply(&mut self, happening: Happening) -> Result<(), ApplyFault>
         requires { IsOfScript happening }
         ensures applies { Applies self.old happening result self.new }
+        ensures spent { result ≡ Err ApplyFault.Memory → IsSpent self.new }
+        ensures again { IsSpent self.old → (result ≡ Err ApplyFault.Memory) × (self.new ≡ self.old) }
         ensures formed { AllByRecursion IsWellFormed self.new.lines }
         ensures within { AreWithin self.new.conns }
     {
-        let applied = self.applied(happening);
+        let applied = self.apply_unless_spent(happening);
         self.transcript.lines();
         self.activities.are_within();
+        applied
+    }
+
+    /// A world that is spent has no entry any more, not even that of the first update.
+    fn apply_unless_spent(&mut self, happening: Happening) -> Result<(), ApplyFault>
+        requires { IsOfScript happening }
+        ensures applies { Applies self.old happening result self.new }
+        ensures spent { result ≡ Err ApplyFault.Memory → IsSpent self.new }
+        ensures again { IsSpent self.old → (result ≡ Err ApplyFault.Memory) × (self.new ≡ self.old) }
+    {
+        if self.entries.len() == 0 {
+            return Err(ApplyFault::Memory);
+        }
+        let applied = self.applied(happening);
+        if let Err(ApplyFault::Memory) = applied {
+            self.entries = Entries::new(self.alloc);
+        }
         applied
     }
 
