@@ -10,7 +10,7 @@ use zx_base::Memory;
 pub enum ApplyFault {
     /// It is not possible in this world, which stays as it was.
     NotPossible { why: Why },
-    /// The world keeps its lines, and answers so from then on.
+    /// The world answers so from then on, and changes no more.
     Memory,
 }
 
