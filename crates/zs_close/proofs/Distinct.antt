@@ -3,6 +3,7 @@ use Rattle.std.proofs.Common.{◌≡◌, ℤ, Bool, true, false, cond, ◌||◌,
 use Rattle.std.specs.Prelude.{nat_abs, All}
 use Rattle.std.specs.List.{list_any, count_by, AllByRecursion}
 use Rattle.std.proofs.lemmas.Bool.{and_from, and_parts}
+use Rattle.std.proofs.Math.Bool.{or-false}
 use Rattle.std.proofs.lemmas.List.Folds.{list_any-append}
 use Rattle.std.proofs.lemmas.List.Elements.{All-nil, All-cons, All-append}
 use Rattle.zk_model.specs.declared.node.Trigger.{Trigger}
@@ -43,12 +44,8 @@ distinct-append [] ds f g apart = g
 distinct-append (c ∷ cs) ds f g apart =
     let parts = and_parts _ _ f in
     and_from _ _
-    (ap not (list_any-append (writes_key c.key) cs ds ∙ ap (λ b. list_any (writes_key c.key) cs || b) (unwritten c.key ds apart.0) ∙ or_false _) ∙ parts.0)
+    (ap not (list_any-append (writes_key c.key) cs ds ∙ ap (λ b. list_any (writes_key c.key) cs || b) (unwritten c.key ds apart.0) ∙ or-false _) ∙ parts.0)
     (distinct-append cs ds parts.1 g apart.1)
-  where
-    or_false : (b : Bool) → (b || false) ≡ b
-    or_false true = refl
-    or_false false = refl
 
 apart-append : (ds cs es : List Change) → ApartFrom ds cs → ApartFrom ds es → ApartFrom ds (cs ++ es)
 apart-append ds [] es f g = g

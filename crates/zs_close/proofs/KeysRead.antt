@@ -5,6 +5,7 @@ use Rattle.std.specs.List.{list_any}
 use Rattle.std.proofs.lemmas.List.Elements.{All-weaker, All-contains_itself}
 use Rattle.ev_types.specs.declared.answer.Kv.{Kv}
 use Rattle.zx_base.specs.Maps.{Bytes}
+use Rattle.zx_base.proofs.Options.{none_some}
 use Rattle.zk_model.specs.declared.request.Request.TheVariants as req
 use Rattle.zk_model.specs.Paths.{parent, is_child}
 use Rattle.zk_model.specs.Watches.{no_watches}
@@ -115,9 +116,6 @@ module _ (v : View) (who : Who) (ps : List Bytes) where
 
   same_nodes : (o : Option (Option Kv)) (qs : List Bytes) → sees v (SessionKey (nat_abs id)) ≡ o → IsNodesSeen o ps → SawNodes v id qs → ps ≡ qs
   same_nodes None qs saw nodes seen = absurd (none_some (sym saw ∙ seen.1.1))
-    where
-      none_some : {X : Type 0} {x : X} → None ≡ Some x → ⊥
-      none_some e = cc
   same_nodes (Some None) qs saw nodes seen = absurd (absent_some (sym saw ∙ seen.1.1))
     where
       absent_some : {X : Type 0} {x : X} → Some None ≡ Some (Some x) → ⊥
