@@ -52,7 +52,8 @@ unfoldable pub fire_all : Watches → List Trigger → Watches × List Notice
 fire_all w [] = (w, [])
 fire_all w (t ∷ ts) = let first = fire w t in let rest = fire_all first.0 ts in (rest.0, first.1 ++ rest.1)
 
--- ---- setWatches: what happened since the relative zxid is told at once, and the rest is armed
+-- ---- setWatches: of a data or child path it is told at once that its node changed since the relative zxid, or that there is none;
+-- ---- of an exist path, that its node is there, whenever that was made; the rest is armed
 
 pub record Seen : Type 0 where
   pub watches : Watches

@@ -10,7 +10,7 @@ use Rattle.zk_transcript.specs.declared.transcript.TranscriptLine.TheVariants.{F
 use Rattle.zk_jute.specs.Packets.{connect_packet}
 use Rattle.zk_transcript.specs.History.{State, Session, session_at, state_at, first_place, when, opening, connect}
 use Rattle.zk_transcript.specs.Legal.{Attachment, attach_of}
-use Rattle.zk_transcript.specs.Walks.{Due, packets, placed_frame, IsLawfulWalk, IsFreshWalk, IsWalk}
+use Rattle.zk_transcript.specs.Walks.{Due, packets, placed_frame, IsFreshWalk, IsWalk}
 
 -- ---- the answer to the connect
 
@@ -73,12 +73,7 @@ pub record IsInConnection (lines : List TranscriptLine) (c : ℕ) : Type 0 where
 abbrev pub later_packets : ℕ → List TranscriptLine → List Due
 later_packets c lines = drop 1 (packets c lines)
 
--- lawful: where c has an attachment, some walk from there gives the packets behind the welcome
-pub record IsLawful (lines : List TranscriptLine) (c : ℕ) : Type 0 where
-  pub within : IsInConnection lines c
-  pub walks : (a : ℕ × Attachment) → attach_of c lines ≡ Some a → IsLawfulWalk lines c a.1.session a.1.zxid (a.0 + 1) (later_packets c lines)
-
--- lawful and fresh
+-- lawful and fresh: where c has an attachment, some walk from there gives the packets behind the welcome
 pub record IsLawfulAndFresh (lines : List TranscriptLine) (c : ℕ) : Type 0 where
   pub within : IsInConnection lines c
   pub walks : (a : ℕ × Attachment) → attach_of c lines ≡ Some a → IsFreshWalk lines c a.1.session a.1.zxid (a.0 + 1) (later_packets c lines)

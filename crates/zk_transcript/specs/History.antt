@@ -188,7 +188,7 @@ session_ended s zxid id =
     let ps = owned s.tree id in
     advanced s zxid (removed_all s.tree ps zxid) (flat_map removal ps) (remove s.sessions id)
 
--- how many nodes a session may own
+-- how many nodes a session may own: as many as any other
 abbrev pub limit_of : Session → ℕ
 limit_of x = max_owned
 

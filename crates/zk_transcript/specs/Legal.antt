@@ -59,7 +59,7 @@ abbrev pub is_small_frame : Option (List ℕ) → Bool
 is_small_frame None = false
 is_small_frame (Some bytes) = nat_le (length bytes) max_frame
 
--- c has no own line yet, and its connect has seen less than this zxid
+-- c has no own line yet, and its connect, a frame within the limit of lengths, has seen less than this zxid
 abbrev pub may_attach : List TranscriptLine → ℕ → ℤ → Option ConnectRequest → Bool
 may_attach before c zxid None = false
 may_attach before c zxid (Some r) = is_none (attach_of c before) && is_small_frame (frame c 0 before) && int_lt r.last_zxid zxid
@@ -145,7 +145,7 @@ begins (l ∷ ls) = begins_with l (begins ls)
 unfoldable pub is_legal : List TranscriptLine → Bool
 is_legal lines = begins lines && is_legal_from [] nothing_yet lines
 
--- ---- a session's requests are carried out in order, each at most once
+-- ---- a connection's requests are carried out in order, each at most once
 
 abbrev pub index_in : ℕ → UpdateKind → Option ℕ
 index_in c (Asked connection i now) = when (c == connection) i

@@ -1,7 +1,7 @@
 -- The walk of one connection: what it is sent behind its attachment (Programmer's Guide, "ZooKeeper Watches", "What ZooKeeper
 -- Guarantees about Watches", "Consistency Guarantees": single system image, order of a client's requests).
--- The service is free in two ways only: when it tells the next update, and at which moment it looks. A list of choices
--- settles both, and then each packet is determined. The packets are lawful where some choices give them; two tests of the
+-- The service is free in three ways only: when it tells the next update, whether it looks at the tree for a request that needs
+-- none, and at which moment it looks. A list of choices settles them, and then each packet is determined. The packets are lawful where some choices give them; two tests of the
 -- choices, fresh and in turn, stand beside that.
 use Rattle.std.specs.Prelude.{ℕ, ℤ, ◌+◌, Bool, true, false, ◌&&◌, List, [], ◌∷◌, ◌++◌, length, take, map, nat_lt, nat_le, ◌==◌, int_lt, int_le, if◌then◌else◌, Option, Some, None, option_map, option_and_then, bytes_eq, IsTrue}
 use Rattle.std.specs.List.{list_all}
@@ -299,12 +299,7 @@ are_in_turn lines c i xs = all_choices (is_in_turn lines c) i xs
 
 -- ---- walks from an attachment at a zxid, whose line stands before `since`
 
--- lawful: some choices give these packets
-pub record IsLawfulWalk (lines : List TranscriptLine) (c : ℕ) (id zxid : ℤ) (since : ℕ) (ps : List Due) : Type 0 where
-  pub choices : List Choice
-  pub lawful : IsTrue (is_walked (walk lines c id (at_start zxid since) choices) ps)
-
--- lawful and fresh, by the same choices
+-- lawful and fresh: some choices give these packets, each of a fresh moment
 pub record IsFreshWalk (lines : List TranscriptLine) (c : ℕ) (id zxid : ℤ) (since : ℕ) (ps : List Due) : Type 0 where
   pub choices : List Choice
   pub lawful : IsTrue (is_walked (walk lines c id (at_start zxid since) choices) ps)

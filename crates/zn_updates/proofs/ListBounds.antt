@@ -58,10 +58,6 @@ rising-cons : (q : Bytes) (qs : List Bytes) → Above q qs → IsStrictlySortedB
 unfolding IsStrictlySortedBy
 rising-cons q qs above rising = (above, rising)
 
-rising-nil : IsStrictlySortedBy order []
-unfolding IsStrictlySortedBy
-rising-nil = tt
-
 greater_back : (p q : Bytes) → order p q ≡ Greater → order q p ≡ Less
 greater_back p q e = nat_list_cmp_total.antisymm q p ∙ ap ordering_reverse e
 

@@ -152,8 +152,3 @@ content_in _ = []
 abbrev pub IsUpLookedUp : View → Option Bytes → Type 0
 IsUpLookedUp v None = Unit {0}
 IsUpLookedUp v (Some q) = HasSeen v (DataKey q) × HasSeen v (CountsKey q)
-
--- and so was the key of its node
-abbrev pub IsNodeLookedUp : View → Bytes → Bool → Option Bytes → Type 0
-IsNodeLookedUp v path sequential None = Unit {0}
-IsNodeLookedUp v path sequential (Some q) = (w : SeenCounts) → IsCountsSeen (sees v (CountsKey q)) (Some w) → HasSeen v (DataKey (path_for sequential path (Some w)))

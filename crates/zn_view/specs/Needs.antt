@@ -21,10 +21,9 @@ use Rattle.zk_transcript.specs.Answers.{Told, plain_request}
 use Rattle.zx_base.specs.Maps.{Bytes, same}
 use Rattle.zn_layout.specs.declared.record.NodeRec.{NodeRec}
 use Rattle.zn_layout.specs.declared.record.CountRec.{CountRec}
-use Rattle.zn_layout.specs.declared.record.LeaseRec.{LeaseRec}
 use Rattle.zn_layout.specs.Keys.{Key, DataKey, CountsKey, SessionKey, LeaseKey, key_bytes}
 use Rattle.zn_layout.specs.Reading.{IsValueOf}
-use Rattle.zn_layout.specs.Records.{node_value, counts_value, session_value, lease_value, IsNodeRec, IsCountRec, IsSessionRec, IsLeaseRec}
+use Rattle.zn_layout.specs.Records.{node_value, counts_value, session_value, IsNodeRec, IsCountRec, IsSessionRec}
 use Rattle.zn_view.specs.declared.want.Want.{Want}
 use Rattle.zn_view.specs.declared.want.Want.TheVariants as want
 use Rattle.zn_view.specs.declared.plan.Plan.{Plan}
@@ -50,9 +49,6 @@ SawCounts v p r = IsCountRec r × SawValue v (CountsKey p) (counts_value r)
 
 abbrev pub SawNodes : View → ℤ → List Bytes → Type 0
 SawNodes v id ps = IsSessionRec ps × SawValue v (SessionKey (nat_abs id)) (session_value ps)
-
-abbrev pub SawLife : View → ℤ → LeaseRec → Type 0
-SawLife v id r = IsLeaseRec r × SawValue v (LeaseKey (nat_abs id)) (lease_value r)
 
 abbrev pub IsLacking : View → Want → Type 0
 IsLacking v (want.Key k) = seen v k ≡ None

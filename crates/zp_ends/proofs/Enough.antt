@@ -41,10 +41,6 @@ other-sized c i zero l ls h = refl
 other-sized c i (suc n) l ls h =
     omega (arith, ap (λ (o : Option (List ℕ)). size_of (elim o [ Some x ↦ Some x | None ↦ first_shown (frame_shown c i) ls ])) (h i), other-sized c (i + 1) n l ls h)
 
-abbrev if_from : Bool → ℕ → ℕ
-if_from true n = n
-if_from false n = 0
-
 same-index : (c i k : ℕ) → ((c == c) && (i == k)) ≡ true → i ≡ k
 same-index c i k e = grind (arith, nat_tests)
 

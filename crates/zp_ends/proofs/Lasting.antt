@@ -287,12 +287,6 @@ module _ (w w' : World) (c : ℕ) (x : Conn) (core : Core) (a : Answer) (j : ℕ
       ))
 
 -- to a reaper
-reap-quiet : (c : ℕ) (kind : Option UpdateKind) (step : ReapStep) → answers_of (reap_acts c kind None step).flight ≡ 0
-reap-quiet c kind (reaped.Ask a) = refl
-reap-quiet c kind (reaped.Reaped z) = refl
-reap-quiet c kind (reaped.Kept z) = refl
-reap-quiet c kind (reaped.Gone z) = refl
-
 over-closed : (r : Reap) → r.phase ≡ reap.Over → behind_reap r ≡ Closed
 over-closed r e = ap (λ p. if is_over p then Closed else Reaper r) e
 

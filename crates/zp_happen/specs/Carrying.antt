@@ -22,7 +22,8 @@ use Rattle.zp_happen.specs.Faults.{left_at}
 abbrev pub update_line : Store → UpdateKind → TranscriptLine
 update_line s kind = Update (record { zxid = zxid_at s; kind = kind })
 
--- the head changed, by an ask of this kind
+-- the head changed, by an ask of this kind; an ask without a kind reads alone, so that in a run it never changes the head (what is
+-- in the air reads or is an update: `every_line_is_accounted_for` of `zp_whole`)
 abbrev pub ShowsUpdate : World → Store → Option UpdateKind → World → Type 0
 ShowsUpdate w s None w' = w' ≡ record w { store = s }
 ShowsUpdate w s (Some kind) w' = (e : Entry) × IsEntryOf (length w.entries + 1) (at (present s) HeadKey) e

@@ -47,7 +47,8 @@ Settles zero c w w' = w' ≡ w
 Settles (suc n) c w w' = elim (settling c w) [ None ↦ w' ≡ w | Some h ↦ (mid : World) × Does w h mid × Settles n c mid w' ]
 
 -- Each frame has 64 asks, and one for each path that it may name, of which each takes a byte or more; each ask is carried out and
--- answered, and each update has an entry. No settle comes to its end by this number.
+-- answered, and each update has an entry. In a run no settle is cut off by this number where it is below 2^64 - 1 (`every_settle_ends`
+-- of `zp_ends`).
 abbrev pub asks_at : Option Conn → ℕ
 asks_at None = 0
 asks_at (Some x) = 64 * (x.frames + 1) + x.stream.place

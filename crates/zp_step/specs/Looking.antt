@@ -46,7 +46,7 @@ IfRecords c ws parts c' out Next = EndsDamaged c ws parts c' out ⊎ (AreRecords
 abbrev pub pending : View → ℤ → Reply → WatchChange → Option Cause → Pending
 pending v xid r change ends = record { number = head_number (head_of v); zxid = head_zxid (head_of v); xid = xid; answer = r; change = change; ends = ends }
 
--- the session is closed or has lapsed, or it is attached to another connection since this revision
+-- the session is closed or has lapsed, as of the view; or it is attached to another connection since its own attachment
 abbrev pub expired : View → ℤ → Pending
 expired v xid = pending v xid (reply.Refused session_expired) (AddsWatch None) (Some (cause.Expired v.revision))
 

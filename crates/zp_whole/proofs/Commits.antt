@@ -9,7 +9,7 @@ use Rattle.ev_types.proofs.Bounds.{present-within}
 use Rattle.ev_types.proofs.Grown.{earlier-grown}
 use Rattle.ev_types.proofs.Transactions.{present-worked}
 use Rattle.ev_types.specs.Ranges.{Keys}
-use Rattle.ev_types.specs.Store.{Store, Change, acts_applied, chosen, grown, last_revision, mod_of, present, revision, store_at, worked}
+use Rattle.ev_types.specs.Store.{Store, Change, acts_applied, grown, last_revision, mod_of, present, revision, store_at, worked}
 use Rattle.ev_types.specs.declared.answer.Kv.{Kv}
 use Rattle.ev_types.specs.declared.ask.TxnReq.{TxnReq}
 use Rattle.zk_model.specs.Limits.{max_long}
@@ -54,13 +54,6 @@ zxid-within s lines w =
 
 pub zxid-next : (s : Store) (lines : List TranscriptLine) → Serves s lines → (after lines).zxid <ℤ next_revision s
 zxid-next s lines w = let le = zxid-within s lines w in omega (arith, ints, le)
-
--- ---- what was carried out
-
-pub record IsDoneBy (s u : Store) (t : TxnReq) (b : Bool) : Type 0 where
-  pub store : u ≡ grown s (worked s (chosen b t)).changes
-  -- where something changed there was room for a revision more
-  pub room : (u ≡ s) ⊎ (revision s <ℤ last_revision)
 
 -- ---- a commit
 

@@ -156,9 +156,6 @@ out-with w c d y z gone e = elim (either-number d c) [
   | inr apart ↦ (apart, ap out_of (sym (conn-there w c d y apart)) ∙ e)
 ]
 
-landed-flight : (x : Conn) (f : Flight) → out_in (Some f) ≡ None → out_of (Some (record x { flight = Some f })) ≡ None
-landed-flight x f h = h
-
 -- the world in which c's ask has this flight, over this one
 pub record IsLaidOver (w mid : World) (c : ℕ) (x : Conn) (f : Flight) (w' : World) : Type 0 where
   pub conns : mid.conns ≡ w.conns

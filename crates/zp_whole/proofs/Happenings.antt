@@ -33,10 +33,6 @@ none-is : {A : Type 0} (o : Option A) → is_some o ≡ false → o ≡ None
 none-is None h = refl
 none-is (Some x) h = absurd (cc)
 
-some-not : {A : Type 0} (o : Option A) → is_none o ≡ false → o ≡ None → ⊥
-some-not None h e = cc
-some-not (Some x) h e = some_none e
-
 -- ---- one by one
 
 pub tick-keeps : (n : ℕ) → Keeps (line.Tick n)

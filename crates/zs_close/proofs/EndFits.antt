@@ -40,10 +40,6 @@ data_left true z None o h = h
 data_left true z (Some n) None h = h
 data_left true z (Some n) (Some o) h = record { stored = h.stored; fits = h.fits; value = h.value; made = h.made; changed = h.changed; free = h.free }
 
-none_counted : (n m : ℕ) (o : Option Stored) → CountsMean None n o → CountsMean None m o
-none_counted n m None h = h
-none_counted n m (Some o) h = h
-
 lives_none : (id : ℕ) (x : Option Session) (o : Option Stored) → ((y : Session) → x ≡ Some y → y.lapsed ≡ true) → LifeMeans id x o → LifeMeans id None o
 lives_none id None o lapsed h = h
 lives_none id (Some x) None lapsed h = tt
