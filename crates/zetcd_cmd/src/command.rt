@@ -37,14 +37,14 @@ pub fn zetcd<I: Source, O: Sink>(
     ensures unread { ¬ IsReplay words.now → ¬ IsShow words.now → ¬ IsJudge words.now → input.new ≡ input.old }
     // Status 4 has its cause in the input: one fault, or 1,000 idle turns.
     ensures read { result ≡ Status.ReadFault → Failed (I.counts input.old) (I.counts input.new) }
-    // Statuses 0, 2, 3 and 8 pass over no fault, and there were fewer idle turns;
+    // Statuses 0, 2, 3 and 8 pass over no fault, and there were fewer than 1,000 idle turns.
     ensures unless_fault { result ≢ Status.ReadFault → result ≢ Status.WriteFault → result ≢ Status.Memory → IsUnharmed (I.counts input.old) (I.counts input.new) }
-    // neither does want of memory in `show` and in `judge`. In `replay` it may be met when the lines before a fault are written.
+    // Nor does want of memory in `show` and in `judge`. In `replay` it may be met when the lines before a fault are written.
     ensures show_memory { IsShow words.now → result ≡ Status.Memory → IsUnharmed (I.counts input.old) (I.counts input.new) }
     ensures judge_memory { IsJudge words.now → result ≡ Status.Memory → IsUnharmed (I.counts input.old) (I.counts input.new) }
-    // The input is not read on after that.
+    // With every status the input had at most one fault, and at most 1,000 idle turns.
     ensures once { IsUnharmed (I.counts input.old) (I.counts input.new) ⊎ Failed (I.counts input.old) (I.counts input.new) }
-    // Status 5 has its cause in the output: one fault, after which nothing is written.
+    // Status 5 has its cause in the output: one fault, and no second one.
     ensures write { result ≡ Status.WriteFault → O.counts out.new ≡ counts_after_write TookFailed (O.counts out.old) }
     // With another status it had none.
     ensures unless_write_fault { result ≢ Status.WriteFault → O.counts out.new ≡ O.counts out.old }
