@@ -361,8 +361,9 @@ fn take_trailer<S: Source>(
     }
 }
 
-/// Takes the next piece or line of a body onto its end; a front of the body may have been taken off. `line` holds what came of a chunk line, of the CR LF behind a
-/// chunk or of the trailer fields. An answer that is idle or a fault of the source leaves the part the next one.
+/// Takes the next piece or line of a body onto its end; a front of the body may have been taken off. `line` holds what came of a
+/// chunk line, of the CR LF after a chunk or of the trailer fields. After an idle turn or a fault of the source the same part is
+/// still the next one.
 pub fn take_part<S: Source>(
     source: &mut S,
     tally: &mut Tally,

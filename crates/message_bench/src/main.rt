@@ -1,7 +1,8 @@
 //! How fast answers are written and read: `message_bench SIZE COUNT` writes an answer with a value of SIZE bytes, and reads
 //! it, COUNT times each, and prints the bytes written and the bytes of the values read; `message_bench SIZE COUNT time`
-//! prints the microseconds too, and those of the kit's parser and decoder alone. `message_bench hostile HEAD PIECE` reads a body of some 8,388,608 bytes, the text HEAD and
-//! then PIECE again and again, and prints what it is refused for. `bench/messages.sh` runs both.
+//! prints the microseconds too, and those of the kit's parser and decoder alone. `message_bench hostile HEAD PIECE` reads a
+//! body of some 8,388,608 bytes, the text HEAD and then PIECE again and again, and prints what it is refused for.
+//! `bench/messages.sh` runs both.
 #![tactic(auto)]
 
 use base64::engine::general_purpose::STANDARD;

@@ -4,8 +4,8 @@
 //! one that the service could make. Both are shown step by step, from what one connection knows: where its core *stands*
 //! (`Stands`), that is, at which walker of its conversation, with which frames, and what its stage holds is true of the
 //! store. The laws say that a step leads from there to where it stands next, by moves of the walk; that what it asks is bound
-//! to the store; and that it keeps each frame. None has a hypothesis: what an etcd answers (`carry`), what legal histories are,
-//! and what plans and decisions are worth are theorems of the crates below.
+//! to the store; and that it keeps each frame. Their premises are where the core stands and that the input is true; none is an
+//! assumption on an etcd, on histories or on plans, which are definitions and theorems of the crates below.
 //!
 //! In `specs/`, in reading order:
 //!

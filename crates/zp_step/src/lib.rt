@@ -24,9 +24,10 @@
 //! - `Steps`: a whole step (`Steps`), and which inputs may be handed in (`MayTake`);
 //! - `Laws`: what the functions of `laws` say.
 //!
-//! An answer is of the kind of the ask that is out, with numbers that an etcd can have, and an entry is the one behind the
-//! cursor, while one is awaited: `MayTake` says so, and no step is defined for another answer. A value under a key of the service that is no record ends the connection, with that key and
-//! value as the cause, and sends nothing. A connection that is shut takes any input and does nothing.
+//! `MayTake` says which inputs may be handed in. An answer is of the kind of the ask that is out, with numbers that an etcd can
+//! have; an entry is the one after the cursor, and comes while one is awaited. No step is defined for another answer. A value
+//! under a key of the service that is no record ends the connection, with that key and value as the cause, and sends nothing. A
+//! connection that is shut takes any input and does nothing.
 #![tactic(auto)]
 
 mod action;

@@ -1,4 +1,5 @@
-//! The service as one deterministic world, which a script drives: one etcd, a clock, and the connections and reapers of all proxies.
+//! The service as one deterministic world, which a script drives: one etcd, a clock, and the connections and reapers of all
+//! proxies.
 //!
 //! A [`World`] begins with the store's first update, the root at moment 0. What happens is applied to it one [`Happening`] at a
 //! time. An ask, its carrying out and its answer are three happenings, so a script may put them in any order, lose an answer,
