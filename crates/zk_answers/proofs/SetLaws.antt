@@ -1,17 +1,23 @@
 -- Sets of paths as lists of their members.
-use Rattle.std.proofs.Common.{◌≡◌, ◌≢◌, ℕ, ◌+◌, ◌<◌, ◌≤◌, Bool, true, false, not, ◌||◌, cond, Option, Some, None, List, [], ◌∷◌, ◌++◌, length, drop, get_or, refl, sym, ap, ◌∙◌, ⊎_elim, inl, inr, eqb-true, arith}
-use Rattle.std.specs.Prelude.{◌==◌}
+use Rattle.std.proofs.Common.{◌≡◌, ◌≢◌, ℕ, Bool, true, false, ◌||◌, cond, Option, Some, None, List, [], ◌∷◌, length, map, refl, sym, ap, ◌∙◌, ⊎_elim, inl, inr, eqb-true, arith}
+use Rattle.std.specs.Prelude.{◌==◌, is_some}
 use Rattle.std.proofs.lemmas.Bool.{cases_Bool}
-use Rattle.std.specs.Prelude.{is_some}
-use Rattle.std.specs.List.{list_any}
-use Rattle.std.specs.Cmp.Lexicographic.{slice_cmp}
-use Rattle.std.specs.Ordering.{nat_cmp}
-use Rattle.std.proofs.lemmas.List.{at_drop_more, at_drop_all}
-use Rattle.std.proofs.lemmas.Map.Views.{any-filter_same}
+use Rattle.std.proofs.lemmas.Cmp.{tied_itself}
+use Rattle.std.proofs.lemmas.List.{length-map}
+use Rattle.std.proofs.lemmas.Map.Lookups.{exact_bytes}
+use Rattle.std.specs.List.{list_any, AllZip}
+use Rattle.std.specs.BTreeMap.{is_at}
+use Rattle.std.specs.BTreeSet.{insert_key}
+use Rattle.std.specs.Set.{remove_key}
+use Rattle.std.specs.Cmp.Lexicographic.{slice_cmp, nat_list_cmp_total}
+use Rattle.std.specs.Ordering.{nat_cmp, is_eq, match_ordering}
+use Rattle.std.specs.declared.cmp.Ordering.{Ordering}
+use Rattle.std.specs.declared.cmp.Ordering.TheVariants.{Less, Equal, Greater}
 use Rattle.std.specs.FinMap.{get, insert, remove, contains_key, get-empty, len, len-empty}
 use Rattle.zx_base.specs.Maps.{Bytes, same}
-use Rattle.zx_base.proofs.MapLaws.{ext, either, same-refl, same-true, same-false, get-insert_same, get-insert_other, get-remove_same, get-remove_other, get-none_from_len}
-use Rattle.zk_answers.specs.Sets.{set_of, others}
+use Rattle.zx_base.proofs.MapLaws.{ext, either, same-refl, same-false, get-insert_same, get-insert_other, get-remove_same, get-remove_other, get-none_from_len}
+use Rattle.zk_model.specs.Watches.{PathSet}
+use Rattle.zk_answers.specs.Sets.{set_of}
 
 -- whether a list has a path
 abbrev pub has : Bytes → List Bytes → Bool
@@ -20,72 +26,40 @@ has q ps = list_any (λ p. same p q) ps
 abbrev pub marked : Bool → Option (Unit {0})
 marked b = cond b (Some tt) None
 
-pub some_marked : (b : Bool) → is_some (marked b) ≡ b
+some_marked : (b : Bool) → is_some (marked b) ≡ b
 some_marked true = refl
 some_marked false = refl
 
-pub get-set_of : (ps : List Bytes) (q : Bytes) → get (set_of ps) q ≡ marked (has q ps)
+get-set_of : (ps : List Bytes) (q : Bytes) → get (set_of ps) q ≡ marked (has q ps)
 get-set_of [] q = get-empty (slice_cmp nat_cmp) q
 get-set_of (p ∷ ps) q = ⊎_elim
     (λ (e : q ≡ p). ap (get (insert (set_of ps) p tt)) e ∙ get-insert_same (set_of ps) p tt ∙ sym (ap (λ b. marked (b || has q ps)) (ap (same p) e ∙ same-refl p)))
     (λ (n : q ≢ p). get-insert_other (set_of ps) p q tt n ∙ get-set_of ps q ∙ sym (ap (λ b. marked (b || has q ps)) (same-false p q (λ e. n (sym e)))))
     (either q p)
 
-pub contains-set_of : (ps : List Bytes) (q : Bytes) → contains_key (set_of ps) q ≡ has q ps
+contains-set_of : (ps : List Bytes) (q : Bytes) → contains_key (set_of ps) q ≡ has q ps
 contains-set_of ps q = ap is_some (get-set_of ps q) ∙ some_marked (has q ps)
 
-has-none : (path : Bytes) (ps : List Bytes) → has path (others path ps) ≡ false
-has-none path ps = any-filter_same (λ p. same p path) (λ p. not (same p path)) false (λ k h. ap not h) ps
+-- lists that have the same paths make one set
+same_set : (ps qs : List Bytes) → ((q : Bytes) → has q ps ≡ has q qs) → set_of ps ≡ set_of qs
+same_set ps qs alike = ext _ _ (λ q. get-set_of ps q ∙ ap marked (alike q) ∙ sym (get-set_of qs q))
 
-not_same : (path q p : Bytes) → q ≢ path → same p q ≡ true → not (same p path) ≡ true
-not_same path q p n h = ap not (same-false p path (λ e. n (sym (same-true p q h) ∙ e)))
-
-has-others : (path q : Bytes) (ps : List Bytes) → q ≢ path → has q (others path ps) ≡ has q ps
-has-others path q ps n = any-filter_same (λ p. same p q) (λ p. not (same p path)) true (λ k h. not_same path q k n h) ps
-
-pub set_of-others : (path : Bytes) (ps : List Bytes) → set_of (others path ps) ≡ remove (set_of ps) path
-set_of-others path ps = ext _ _ (λ q. ⊎_elim
-    (λ (e : q ≡ path). get-set_of (others path ps) q ∙ ap (λ (x : Bytes). marked (has x (others path ps))) e ∙ ap marked (has-none path ps)
-    ∙ sym (ap (get (remove (set_of ps) path)) e ∙ get-remove_same (set_of ps) path))
-    (λ (n : q ≢ path). get-set_of (others path ps) q ∙ ap marked (has-others path q ps n) ∙ sym (get-remove_other (set_of ps) path q n ∙ get-set_of ps q))
+without : (path : Bytes) (ps qs : List Bytes) → has path ps ≡ false → ((q : Bytes) → q ≢ path → has q ps ≡ has q qs) → set_of ps ≡ remove (set_of qs) path
+without path ps qs gone others = ext _ _ (λ q. ⊎_elim
+    (λ (e : q ≡ path). get-set_of ps q ∙ ap marked (ap (λ (x : Bytes). has x ps) e ∙ gone) ∙ sym (ap (get (remove (set_of qs) path)) e ∙ get-remove_same (set_of qs) path))
+    (λ (n : q ≢ path). get-set_of ps q ∙ ap marked (others q n) ∙ sym (get-remove_other (set_of qs) path q n ∙ get-set_of qs q))
     (either q path))
 
-or_false : (a : Bool) → (a || false) ≡ a
-or_false true = refl
-or_false false = refl
+there : (o : Option (Unit {0})) → is_some o ≡ true → o ≡ Some tt
+there None h = absurd (cc)
+there (Some u) h = refl
 
-or_true : (a : Bool) → (a || true) ≡ true
-or_true true = refl
-or_true false = refl
-
-or_assoc : (a b c : Bool) → (a || (b || c)) ≡ ((a || b) || c)
-or_assoc true b c = refl
-or_assoc false b c = refl
-
-has-push : (q p : Bytes) (ps : List Bytes) → has q (ps ++ p ∷ []) ≡ (has q ps || same p q)
-has-push q p [] = or_false (same p q)
-has-push q p (x ∷ ps) = ap (λ b. same x q || b) (has-push q p ps) ∙ or_assoc (same x q) (has q ps) (same p q)
-
--- a path comes in once, whether it was there or not
-pub set_of-with : (path : Bytes) (ps : List Bytes) → set_of (others path ps ++ path ∷ []) ≡ insert (set_of ps) path tt
-set_of-with path ps = ext _ _ (λ q. ⊎_elim
-    (λ (e : q ≡ path). get-set_of (others path ps ++ path ∷ []) q ∙ ap marked (has-push q path (others path ps) ∙ ap (λ b. has q (others path ps) || b) (ap (same path) e ∙ same-refl path) ∙ or_true _)
-    ∙ sym (ap (get (insert (set_of ps) path tt)) e ∙ get-insert_same (set_of ps) path tt))
-    (λ (n : q ≢ path). get-set_of (others path ps ++ path ∷ []) q
-    ∙ ap marked (has-push q path (others path ps) ∙ ap (λ b. has q (others path ps) || b) (same-false path q (λ e. n (sym e))) ∙ or_false _ ∙ has-others path q ps n)
-    ∙ sym (get-insert_other (set_of ps) path q tt n ∙ get-set_of ps q))
+-- a path that is in comes in again
+pub insert-there : (s : PathSet) (path : Bytes) → contains_key s path ≡ true → s ≡ insert s path tt
+insert-there s path is = ext _ _ (λ q. ⊎_elim
+    (λ (e : q ≡ path). ap (get s) e ∙ there (get s path) is ∙ sym (ap (get (insert s path tt)) e ∙ get-insert_same s path tt))
+    (λ (n : q ≢ path). sym (get-insert_other s path q tt n))
     (either q path))
-
--- ---- a list as a loop goes through it
-
-pub has-here : (q : Bytes) (ps : List Bytes) (i : ℕ) (p : Bytes) → i < length ps → p ≡ get_or ps i p → same p q ≡ true → has q (drop i ps) ≡ true
-has-here q ps i p h is found = at_drop_more (has q) ps i p h ∙ ap (λ (x : Bytes). same x q || has q (drop (i + 1) ps)) (sym is) ∙ ap (λ b. b || has q (drop (i + 1) ps)) found
-
-pub has-not_here : (q : Bytes) (ps : List Bytes) (i : ℕ) (p : Bytes) → i < length ps → p ≡ get_or ps i p → same p q ≡ false → has q (drop i ps) ≡ has q (drop (i + 1) ps)
-has-not_here q ps i p h is other = at_drop_more (has q) ps i p h ∙ ap (λ (x : Bytes). same x q || has q (drop (i + 1) ps)) (sym is) ∙ ap (λ b. b || has q (drop (i + 1) ps)) other
-
-pub has-end : (q : Bytes) (ps : List Bytes) (i : ℕ) → length ps ≤ i → has q (drop i ps) ≡ false
-has-end q ps i h = at_drop_all (has q) ps i h
 
 -- ---- whether there is a member
 
@@ -98,6 +72,92 @@ not_empty ps p e =
 counted : (n : ℕ) → (n ≡ 0 → ⊥) → false ≡ (n == 0)
 counted n some = elim (cases_Bool (n == 0)) [ inl zero ↦ absurd (some (eqb-true n 0 zero)) | inr more ↦ sym more ]
 
-pub is_empty-set_of : (ps : List Bytes) → (length ps == 0) ≡ (len (set_of ps) == 0)
+is_empty-set_of : (ps : List Bytes) → (length ps == 0) ≡ (len (set_of ps) == 0)
 is_empty-set_of [] = ap (λ n. n == 0) (sym (len-empty (slice_cmp nat_cmp) (Unit {0})))
 is_empty-set_of (p ∷ ps) = sym (counted (length (p ∷ ps)) (λ e. omega arith)) ∙ counted (len (set_of (p ∷ ps))) (not_empty ps p)
+
+-- ---- the keys of an ordered set, each the bytes of a path
+
+abbrev order : Bytes → Bytes → Ordering
+order = slice_cmp nat_cmp
+
+untied : (q p : Bytes) → q ≢ p → is_eq (order q p) ≡ false
+untied q p n = elim (order q p) as (λ r. order q p ≡ r → is_eq r ≡ false) [ Less ↦ λ h. refl | Equal ↦ λ h. absurd (n (exact_bytes q p h)) | Greater ↦ λ h. refl ] refl
+
+-- the order ties a path to itself alone
+ties : (q p : Bytes) → is_eq (order q p) ≡ same p q
+ties q p = ⊎_elim
+    (λ (e : q ≡ p). ap (λ (x : Bytes). is_eq (order q x)) (sym e) ∙ ap is_eq (tied_itself nat_list_cmp_total q) ∙ sym (ap (λ (x : Bytes). same x q) (sym e) ∙ same-refl q))
+    (λ (n : q ≢ p). untied q p n ∙ sym (same-false p q (λ e. n (sym e))))
+    (either q p)
+
+or_again : (a b : Bool) → (a || b) ≡ (a || (a || b))
+or_again true b = refl
+or_again false b = refl
+
+or_swap : (a b c : Bool) → (a || (b || c)) ≡ (b || (a || c))
+or_swap true true c = refl
+or_swap true false c = refl
+or_swap false b c = refl
+
+module _ {K : Type 0} (bytes : K → Bytes) where
+  abbrev by_bytes : K → K → Ordering
+  by_bytes j k = order (bytes j) (bytes k)
+
+  abbrev is_path : Bytes → K → Bool
+  is_path path = is_at (λ k. order path (bytes k))
+
+  found : (path : Bytes) (ks : List K) → list_any (is_path path) ks ≡ has path (map bytes ks)
+  found path [] = refl
+  found path (k ∷ ks) = ap (λ b. b || list_any (is_path path) ks) (ties path (bytes k)) ∙ ap (λ b. same (bytes k) path || b) (found path ks)
+
+  pub contains-keys : (path : Bytes) (ks : List K) (s : PathSet) → set_of (map bytes ks) ≡ s → list_any (is_path path) ks ≡ contains_key s path
+  contains-keys path ks s named = found path ks ∙ sym (contains-set_of (map bytes ks) path) ∙ ap (λ (m : PathSet). contains_key m path) named
+
+  pub is_empty-keys : (ks : List K) (s : PathSet) → set_of (map bytes ks) ≡ s → (length ks == 0) ≡ (len s == 0)
+  is_empty-keys ks s named = ap (λ n. n == 0) (sym (length-map ks bytes)) ∙ is_empty-set_of (map bytes ks) ∙ ap (λ (m : PathSet). len m == 0) named
+
+  -- ---- one path more
+
+  has-inserted : (q : Bytes) (k : K) (ks : List K) → has q (map bytes (insert_key by_bytes ks k)) ≡ (same (bytes k) q || has q (map bytes ks))
+  has-inserted q k [] = refl
+  has-inserted q k (x ∷ xs) =
+      elim (by_bytes k x) as (λ r. by_bytes k x ≡ r
+      → has q (map bytes (match_ordering r (k ∷ x ∷ xs) (x ∷ xs) (x ∷ insert_key by_bytes xs k))) ≡ (same (bytes k) q || (same (bytes x) q || has q (map bytes xs)))) [
+        | Less ↦ λ h. refl
+        | Equal ↦ λ h. or_again (same (bytes x) q) (has q (map bytes xs)) ∙ ap (λ (p : Bytes). same p q || (same (bytes x) q || has q (map bytes xs))) (sym (exact_bytes (bytes k) (bytes x) h))
+        | Greater ↦ λ h. ap (λ b. same (bytes x) q || b) (has-inserted q k xs) ∙ or_swap (same (bytes x) q) (same (bytes k) q) (has q (map bytes xs))
+      ] refl
+
+  pub inserted-keys : (path : Bytes) (k : K) (js ks : List K) (s : PathSet) → set_of (map bytes js) ≡ s → bytes k ≡ path → ks ≡ insert_key by_bytes js k → set_of (map bytes ks) ≡ insert s path tt
+  inserted-keys path k js ks s named is inserted =
+      ap (λ (x : List K). set_of (map bytes x)) inserted
+      ∙ same_set (map bytes (insert_key by_bytes js k)) (bytes k ∷ map bytes js) (λ q. has-inserted q k js)
+      ∙ ap (λ (m : PathSet). insert m (bytes k) tt) named
+      ∙ ap (λ (p : Bytes). insert s p tt) is
+
+  -- ---- one path less
+
+  has-removed : (path q : Bytes) (ks : List K) → q ≢ path → has q (map bytes (remove_key (is_path path) ks)) ≡ has q (map bytes ks)
+  has-removed path q [] n = refl
+  has-removed path q (x ∷ xs) n =
+      elim (order path (bytes x)) as (λ r. order path (bytes x) ≡ r
+      → has q (map bytes (cond (is_eq r) xs (x ∷ remove_key (is_path path) xs))) ≡ (same (bytes x) q || has q (map bytes xs))) [
+        | Less ↦ λ h. ap (λ b. same (bytes x) q || b) (has-removed path q xs n)
+        | Equal ↦ λ h. sym (ap (λ b. b || has q (map bytes xs)) (same-false (bytes x) q (λ e. n (sym (exact_bytes path (bytes x) h ∙ e)))))
+        | Greater ↦ λ h. ap (λ b. same (bytes x) q || b) (has-removed path q xs n)
+      ] refl
+
+  pub removed-keys : (path : Bytes) (js ks : List K) (s : PathSet) → set_of (map bytes js) ≡ s → list_any (is_path path) ks ≡ false → ks ≡ remove_key (is_path path) js
+      → set_of (map bytes ks) ≡ remove s path
+  removed-keys path js ks s named gone removed =
+      without path (map bytes ks) (map bytes js) (sym (found path ks) ∙ gone) (λ q n. ap (λ (x : List K). has q (map bytes x)) removed ∙ has-removed path q js n)
+      ∙ ap (λ (m : PathSet). remove m path) named
+
+  -- ---- a copy
+
+  pub cloned-keys : (C : K → K → Type 0) → ((j k : K) → C j k → bytes k ≡ bytes j) → (js ks : List K) → AllZip C js ks → map bytes ks ≡ map bytes js
+  cloned-keys C alike [] [] all = refl
+  cloned-keys C alike [] (k ∷ ks) all = absurd all
+  cloned-keys C alike (j ∷ js) [] all = absurd all
+  cloned-keys C alike (j ∷ js) (k ∷ ks) all = ap (λ (p : Bytes). p ∷ map bytes ks) (alike j k all.0) ∙ ap (λ (ps : List Bytes). bytes j ∷ ps) (cloned-keys C alike js ks all.1)

@@ -1,19 +1,14 @@
 -- A set of paths as the list of its members, and how a proof tells such sets apart.
-use Rattle.std.specs.Prelude.{List, [], ◌∷◌, not}
-use Rattle.std.specs.List.{filter}
+use Rattle.std.specs.Prelude.{List, [], ◌∷◌}
 use Rattle.std.specs.Coded.{Coded, code_by, coded×, coded_list, coded_ℕ}
 use Rattle.std.specs.FinMap.{empty, insert}
 use Rattle.std.specs.FinSet as set
-use Rattle.zx_base.specs.Maps.{Bytes, same}
+use Rattle.zx_base.specs.Maps.{Bytes}
 use Rattle.zk_model.specs.Watches.{PathSet, Watches}
 
 abbrev pub set_of : List Bytes → PathSet
 set_of [] = empty
 set_of (p ∷ ps) = insert (set_of ps) p tt
-
--- the members but for one
-abbrev pub others : Bytes → List Bytes → List Bytes
-others path ps = filter (λ p. not (same p path)) ps
 
 abbrev pub coded_set : Coded PathSet
 coded_set = set.code (coded_list coded_ℕ)

@@ -1,21 +1,22 @@
-//! A set of paths, as the list of its members.
+//! A set of paths.
 
-ghost use Rattle.std.specs.Prelude.{◌≡◌, ◌==◌, ◌++◌, IfOk};
+ghost use Rattle.std.specs.Prelude.{◌≡◌, ◌==◌, IfOk, OnOk};
 ghost use Rattle.std.specs.FinMap.{contains_key, empty, insert, len, remove};
-ghost use Rattle.zk_answers.specs.Sets.{others, set_of};
 
 use std::alloc::Global;
+use std::collections::BTreeSet;
 use std::marker::Model;
-use zx_base::{Memory, Text};
+use zx_base::Memory;
 
-/// A finite set of paths. Each look-up goes through all of it.
+/// A finite set of paths. Each call takes the logarithm of their number, and a copy takes a step for each of them.
 #[derive(Debug, Drop)]
 pub struct PathSet {
-    /// Each once, in the order in which they came.
-    paths: Vec<Text>,
+    /// The bytes of each.
+    paths: BTreeSet<Vec<u8>>,
 }
 
 impl Model for PathSet {
+    ghost use Rattle.std.specs.Prelude.{map};
     ghost use Rattle.zk_model.specs.Watches.{PathSet as Paths};
     ghost use Rattle.zk_answers.specs.Sets.{coded_set, set_of};
 
@@ -23,29 +24,7 @@ impl Model for PathSet {
 
     ghost coded = { coded_set };
 
-    ghost view = { λ s. set_of s.paths.items };
-}
-
-fn copies(alloc: Global, paths: &[Text]) -> Result<Vec<Text>, Memory>
-    ensures { IfOk result (λ v. v.items ≡ paths.now) }
-{
-    let mut copied = Vec::new(alloc);
-    for at in paths {
-        copied.push(Text::copy_of(alloc, at.as_slice())?)?;
-    }
-    Ok(copied)
-}
-
-fn other_paths(alloc: Global, paths: &[Text], path: &[u8]) -> Result<Vec<Text>, Memory>
-    ensures { IfOk result (λ v. v.items ≡ others path.now paths.now) }
-{
-    let mut kept = Vec::new(alloc);
-    for at in paths {
-        if !at.is(path) {
-            kept.push(Text::copy_of(alloc, at.as_slice())?)?;
-        }
-    }
-    Ok(kept)
+    ghost view = { λ s. set_of (map (λ p. p.items) s.paths.keys) };
 }
 
 impl PathSet {
@@ -54,50 +33,46 @@ impl PathSet {
         ensures { result ≡ empty }
     {
         PathSet {
-            paths: Vec::new(alloc),
+            paths: BTreeSet::new(alloc),
         }
     }
 
-    pub fn copy(&self, alloc: Global) -> Result<PathSet, Memory>
+    pub fn copy(&self) -> Result<PathSet, Memory>
         ensures { IfOk result (λ s. s ≡ self.now) }
     {
         Ok(PathSet {
-            paths: copies(alloc, &self.paths)?,
+            paths: self.paths.clone()?,
         })
     }
 
     pub fn is_empty(&self) -> bool
         ensures { result ≡ (len self.now == 0) }
     {
-        self.paths.as_slice().is_empty()
+        self.paths.len() == 0
     }
 
     pub fn contains(&self, path: &[u8]) -> bool
         ensures { result ≡ contains_key self.now path.now }
     {
-        for at in &self.paths {
-            if at.is(path) {
-                return true;
-            }
+        self.paths.contains(path)
+    }
+
+    /// Puts the path into the set. Without memory the set stays as it was.
+    pub fn insert(&mut self, alloc: Global, path: &[u8]) -> Result<(), Memory>
+        ensures { OnOk result (self.new ≡ insert self.old path.now tt) }
+    {
+        if self.contains(path) {
+            return Ok(());
         }
-        false
+        self.paths.insert(Vec::from_slice(alloc, path)?)?;
+        Ok(())
     }
 
-    /// The set with this path.
-    pub fn with(&self, alloc: Global, path: &[u8]) -> Result<PathSet, Memory>
-        ensures { IfOk result (λ s. s ≡ insert self.now path.now tt) }
+    /// Takes the path out of the set, and tells whether it was there.
+    pub fn remove(&mut self, path: &[u8]) -> bool
+        ensures rest { self.new ≡ remove self.old path.now }
+        ensures was { result ≡ contains_key self.old path.now }
     {
-        let mut paths = other_paths(alloc, &self.paths, path)?;
-        paths.push(Text::copy_of(alloc, path)?)?;
-        Ok(PathSet { paths })
-    }
-
-    /// The set without this path.
-    pub fn without(&self, alloc: Global, path: &[u8]) -> Result<PathSet, Memory>
-        ensures { IfOk result (λ s. s ≡ remove self.now path.now) }
-    {
-        Ok(PathSet {
-            paths: other_paths(alloc, &self.paths, path)?,
-        })
+        self.paths.remove(path)
     }
 }

@@ -63,7 +63,7 @@ fn told_refusal(alloc: Global, watches: &Watches, code: Option<i32>) -> Result<O
     ensures { IfOk result (λ o. option_map told_of o ≡ told_refusal watches.now code) }
 {
     match code {
-        Some(code) => Ok(Some(refused(alloc, watches, code)?)),
+        Some(code) => Ok(Some(refused(alloc, watches.copy(alloc)?, code))),
         None => Ok(None),
     }
 }

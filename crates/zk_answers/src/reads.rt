@@ -26,10 +26,11 @@ fn armed_data(
 ) -> Result<Watches, Memory>
     ensures { IfOk result (λ w. w ≡ armed_data is_watched path.now watches.now) }
 {
+    let kept = watches.copy(alloc)?;
     if is_watched {
-        watches.arm_data(alloc, path)
+        kept.arm_data(alloc, path)
     } else {
-        watches.copy(alloc)
+        Ok(kept)
     }
 }
 
@@ -42,10 +43,11 @@ fn armed_children(
 ) -> Result<Watches, Memory>
     ensures { IfOk result (λ w. w ≡ armed_children is_watched path.now watches.now) }
 {
+    let kept = watches.copy(alloc)?;
     if is_watched {
-        watches.arm_children(alloc, path)
+        kept.arm_children(alloc, path)
     } else {
-        watches.copy(alloc)
+        Ok(kept)
     }
 }
 
@@ -71,7 +73,7 @@ pub fn exists(
 {
     let armed = armed_data(alloc, is_watched, path.as_slice(), watches)?;
     match tree.get(path.as_slice()) {
-        None => Ok(refused(alloc, &armed, NO_NODE)?),
+        None => Ok(refused(alloc, armed, NO_NODE)),
         Some(node) => Ok(good(
             alloc,
             armed,
@@ -91,7 +93,7 @@ pub fn get_data(
     ensures beyond { IfErr result (BeyondUnless (IsWithin tree.now)) }
 {
     let Some(node) = tree.get(path.as_slice()) else {
-        return Ok(refused(alloc, watches, NO_NODE)?);
+        return Ok(refused(alloc, watches.copy(alloc)?, NO_NODE));
     };
     let content = Bytes::copy_of(alloc, node.content.as_slice())?;
     let armed = armed_data(alloc, is_watched, path.as_slice(), watches)?;
@@ -104,7 +106,7 @@ pub fn get_acl(alloc: Global, tree: &Tree, watches: &Watches, path: &Text) -> Re
     ensures beyond { IfErr result (BeyondUnless (IsWithin tree.now)) }
 {
     let Some(node) = tree.get(path.as_slice()) else {
-        return Ok(refused(alloc, watches, NO_NODE)?);
+        return Ok(refused(alloc, watches.copy(alloc)?, NO_NODE));
     };
     let shown = stat_at(tree, path.as_slice(), node)?;
     Ok(good(alloc, watches.copy(alloc)?, Body::OpenAcl(shown)))
@@ -121,11 +123,11 @@ pub fn get_children(
     ensures { IfOk result (λ t. Some (told_of t) ≡ listing (armed_children is_watched path.now watches.now) watches.now (get tree.now path.now) (λ n. body.Names (child_names tree.now path.now))) }
 {
     if tree.get(path.as_slice()).is_none() {
-        return refused(alloc, watches, NO_NODE);
+        return Ok(refused(alloc, watches.copy(alloc)?, NO_NODE));
     }
     let names = tree.child_names(alloc, path.as_slice())?;
     if !names_fit(names.as_slice()) {
-        return refused(alloc, watches, SYSTEM_ERROR);
+        return Ok(refused(alloc, watches.copy(alloc)?, SYSTEM_ERROR));
     }
     let armed = armed_children(alloc, is_watched, path.as_slice(), watches)?;
     Ok(good(alloc, armed, Body::Names(names)))
@@ -142,12 +144,12 @@ pub fn get_children2(
     ensures beyond { IfErr result (BeyondUnless (IsWithin tree.now)) }
 {
     let Some(node) = tree.get(path.as_slice()) else {
-        return Ok(refused(alloc, watches, NO_NODE)?);
+        return Ok(refused(alloc, watches.copy(alloc)?, NO_NODE));
     };
     let shown = stat_at(tree, path.as_slice(), node)?;
     let names = tree.child_names(alloc, path.as_slice())?;
     if !names_and_stat_fit(names.as_slice(), &shown) {
-        return Ok(refused(alloc, watches, SYSTEM_ERROR)?);
+        return Ok(refused(alloc, watches.copy(alloc)?, SYSTEM_ERROR));
     }
     let armed = armed_children(alloc, is_watched, path.as_slice(), watches)?;
     Ok(good(alloc, armed, Body::NamesStat(names, shown)))

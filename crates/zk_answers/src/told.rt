@@ -1,6 +1,6 @@
 //! What a connection is told in answer to a request.
 
-ghost use Rattle.std.specs.Prelude.{◌≡◌, Some, IfOk};
+ghost use Rattle.std.specs.Prelude.{◌≡◌, Some};
 ghost use Rattle.zk_model.specs.declared.reply.Reply.TheVariants as reply;
 ghost use Rattle.zk_transcript.specs.Answers.{told};
 ghost use Rattle.zk_answers.specs.Outcomes.{told_of};
@@ -8,7 +8,7 @@ ghost use Rattle.zk_answers.specs.Outcomes.{told_of};
 use crate::watches::Watches;
 use std::alloc::Global;
 use zk_model::{Body, Notice, Reply};
-use zx_base::{Memory, Seq};
+use zx_base::Seq;
 
 /// A reply, the notices that stand before it, and what is armed after it.
 #[derive(Debug, Drop)]
@@ -29,13 +29,13 @@ pub fn good(alloc: Global, watches: Watches, body: Body) -> Told
     }
 }
 
-/// A refusal, which leaves what is armed.
-pub fn refused(alloc: Global, watches: &Watches, code: i32) -> Result<Told, Memory>
-    ensures { IfOk result (λ t. Some (told_of t) ≡ told watches.now (reply.Refused code)) }
+/// A refusal without notices.
+pub fn refused(alloc: Global, watches: Watches, code: i32) -> Told
+    ensures { Some (told_of result) ≡ told watches (reply.Refused code) }
 {
-    Ok(Told {
+    Told {
         reply: Reply::Refused(code),
         notices: Seq::new(alloc),
-        watches: watches.copy(alloc)?,
-    })
+        watches,
+    }
 }

@@ -27,7 +27,7 @@ fn refusal_of(alloc: Global, watches: &Watches, outcome: Outcome) -> Result<Opti
     ensures { IfOk result (λ o. (t : Nodes) → option_map told_of o ≡ refusal_of watches.now (outcome_of t outcome)) }
 {
     match outcome {
-        Outcome::Refused(code) => Ok(Some(refused(alloc, watches, code)?)),
+        Outcome::Refused(code) => Ok(Some(refused(alloc, watches.copy(alloc)?, code))),
         Outcome::Done { .. } => Ok(None),
     }
 }
@@ -37,7 +37,7 @@ fn checked(alloc: Global, watches: &Watches, outcome: Outcome) -> Result<Told, M
     ensures { IfOk result (λ t. (nodes : Nodes) → Some (told_of t) ≡ checked watches.now (outcome_of nodes outcome)) }
 {
     match outcome {
-        Outcome::Refused(code) => refused(alloc, watches, code),
+        Outcome::Refused(code) => Ok(refused(alloc, watches.copy(alloc)?, code)),
         Outcome::Done { .. } => Ok(good(alloc, watches.copy(alloc)?, Body::Empty)),
     }
 }
@@ -50,7 +50,7 @@ fn refusal_of_several(
     ensures { IfOk result (λ o. (t : Nodes) → option_map told_of o ≡ refusal_of_several watches.now (several_as t transaction)) }
 {
     match transaction {
-        Transaction::Denied(code) => Ok(Some(refused(alloc, watches, code)?)),
+        Transaction::Denied(code) => Ok(Some(refused(alloc, watches.copy(alloc)?, code))),
         Transaction::Codes(row) => Ok(Some(good(alloc, watches.copy(alloc)?, Body::Parts(row)))),
         Transaction::All { .. } => Ok(None),
     }

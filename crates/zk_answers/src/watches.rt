@@ -70,12 +70,12 @@ impl Watches {
         }
     }
 
-    pub fn copy(&self, alloc: Global) -> Result<Watches, Memory>
+    pub fn copy(&self, _alloc: Global) -> Result<Watches, Memory>
         ensures { IfOk result (λ w. w ≡ self.now) }
     {
         Ok(Watches {
-            on_data: self.on_data.copy(alloc)?,
-            on_children: self.on_children.copy(alloc)?,
+            on_data: self.on_data.copy()?,
+            on_children: self.on_children.copy()?,
         })
     }
 
@@ -87,88 +87,79 @@ impl Watches {
     }
 
     /// With a data watch on this path.
-    pub fn arm_data(&self, alloc: Global, path: &[u8]) -> Result<Watches, Memory>
-        ensures { IfOk result (λ w. w ≡ arm_data self.now path.now) }
+    pub fn arm_data(self, alloc: Global, path: &[u8]) -> Result<Watches, Memory>
+        ensures { IfOk result (λ w. w ≡ arm_data self path.now) }
     {
+        let mut on_data = self.on_data;
+        on_data.insert(alloc, path)?;
         Ok(Watches {
-            on_data: self.on_data.with(alloc, path)?,
-            on_children: self.on_children.copy(alloc)?,
+            on_data,
+            on_children: self.on_children,
         })
     }
 
     /// With a child watch on this path.
-    pub fn arm_children(&self, alloc: Global, path: &[u8]) -> Result<Watches, Memory>
-        ensures { IfOk result (λ w. w ≡ arm_children self.now path.now) }
+    pub fn arm_children(self, alloc: Global, path: &[u8]) -> Result<Watches, Memory>
+        ensures { IfOk result (λ w. w ≡ arm_children self path.now) }
     {
+        let mut on_children = self.on_children;
+        on_children.insert(alloc, path)?;
         Ok(Watches {
-            on_data: self.on_data.copy(alloc)?,
-            on_children: self.on_children.with(alloc, path)?,
-        })
-    }
-
-    fn without_data(&self, alloc: Global, path: &[u8]) -> Result<Watches, Memory>
-        ensures { IfOk result (λ w. w ≡ fired_data self.now path.now) }
-    {
-        Ok(Watches {
-            on_data: self.on_data.without(alloc, path)?,
-            on_children: self.on_children.copy(alloc)?,
-        })
-    }
-
-    fn without_children(&self, alloc: Global, path: &[u8]) -> Result<Watches, Memory>
-        ensures { IfOk result (λ w. w ≡ fired_children self.now path.now) }
-    {
-        Ok(Watches {
-            on_data: self.on_data.copy(alloc)?,
-            on_children: self.on_children.without(alloc, path)?,
+            on_data: self.on_data,
+            on_children,
         })
     }
 
     /// The path's data watch fires, where there is one.
-    fn fire_data(&self, alloc: Global, kind: u8, path: &Path) -> Result<Seen, Memory>
-        ensures { IfOk result (λ s. fired_of s ≡ (fired_data self.now path.now, note (contains_key self.now.on_data path.now) kind path.now)) }
+    fn fire_data(self, alloc: Global, kind: u8, path: &Path) -> Result<Seen, Memory>
+        ensures { IfOk result (λ s. fired_of s ≡ (fired_data self path.now, note (contains_key self.on_data path.now) kind path.now)) }
     {
+        let mut on_data = self.on_data;
+        let is_hit = on_data.remove(path.bytes());
         Ok(Seen {
-            watches: self.without_data(alloc, path.bytes())?,
-            notices: note(
-                alloc,
-                self.on_data.contains(path.bytes()),
-                kind,
-                path.bytes(),
-            )?,
+            watches: Watches {
+                on_data,
+                on_children: self.on_children,
+            },
+            notices: note(alloc, is_hit, kind, path.bytes())?,
         })
     }
 
     /// The path's child watch fires, where there is one.
-    fn fire_children(&self, alloc: Global, path: &Path) -> Result<Seen, Memory>
-        ensures { IfOk result (λ s. fired_of s ≡ (fired_children self.now path.now, note (contains_key self.now.on_children path.now) 4 path.now)) }
+    fn fire_children(self, alloc: Global, path: &Path) -> Result<Seen, Memory>
+        ensures { IfOk result (λ s. fired_of s ≡ (fired_children self path.now, note (contains_key self.on_children path.now) 4 path.now)) }
     {
+        let mut on_children = self.on_children;
+        let is_hit = on_children.remove(path.bytes());
         Ok(Seen {
-            watches: self.without_children(alloc, path.bytes())?,
-            notices: note(
-                alloc,
-                self.on_children.contains(path.bytes()),
-                CHILDREN,
-                path.bytes(),
-            )?,
+            watches: Watches {
+                on_data: self.on_data,
+                on_children,
+            },
+            notices: note(alloc, is_hit, CHILDREN, path.bytes())?,
         })
     }
 
     /// Both watches of the path fire, with one notice.
-    fn fire_both(&self, alloc: Global, path: &Path) -> Result<Seen, Memory>
-        ensures { IfOk result (λ s. fired_of s ≡ (fired_children (fired_data self.now path.now) path.now, note (contains_key self.now.on_data path.now || contains_key self.now.on_children path.now) 2 path.now)) }
+    fn fire_both(self, alloc: Global, path: &Path) -> Result<Seen, Memory>
+        ensures { IfOk result (λ s. fired_of s ≡ (fired_children (fired_data self path.now) path.now, note (contains_key self.on_data path.now || contains_key self.on_children path.now) 2 path.now)) }
     {
-        let is_hit = self.on_data.contains(path.bytes()) || self.on_children.contains(path.bytes());
-        let rest = self.without_data(alloc, path.bytes())?;
+        let mut on_data = self.on_data;
+        let mut on_children = self.on_children;
+        let has_data = on_data.remove(path.bytes());
+        let has_children = on_children.remove(path.bytes());
         Ok(Seen {
-            watches: rest.without_children(alloc, path.bytes())?,
-            notices: note(alloc, is_hit, DELETED, path.bytes())?,
+            watches: Watches {
+                on_data,
+                on_children,
+            },
+            notices: note(alloc, has_data || has_children, DELETED, path.bytes())?,
         })
     }
 
-    /// What a change leaves armed, and its notices.
-    pub fn fire(&self, alloc: Global, trigger: &Trigger) -> Result<Seen, Memory>
-        ensures { IfOk result (λ s. fired_of s ≡ fire self.now trigger.now) }
+    /// What a change leaves armed, and its notices. A change that hits no watch takes no memory.
+    pub fn fire(self, alloc: Global, trigger: &Trigger) -> Result<Seen, Memory>
+        ensures { IfOk result (λ s. fired_of s ≡ fire self trigger.now) }
     {
         match trigger {
             Trigger::Created(path) => self.fire_data(alloc, CREATED, path),
@@ -179,10 +170,10 @@ impl Watches {
     }
 
     /// The same of several changes in turn.
-    pub fn fire_all(&self, alloc: Global, triggers: &[Trigger]) -> Result<Seen, Memory>
-        ensures { IfOk result (λ s. fired_of s ≡ fire_all self.now triggers.now) }
+    pub fn fire_all(self, alloc: Global, triggers: &[Trigger]) -> Result<Seen, Memory>
+        ensures { IfOk result (λ s. fired_of s ≡ fire_all self triggers.now) }
     {
-        let mut watches = self.copy(alloc)?;
+        let mut watches = self;
         let mut notices = Vec::new(alloc);
         for trigger in triggers {
             let fired = watches.fire(alloc, trigger)?;
