@@ -31,10 +31,14 @@ use Rattle.zk_transcript.proofs.Children.{num_children-change, none-from_count}
 use Rattle.zk_transcript.proofs.Owned.{num_owned-change}
 use Rattle.zk_transcript.proofs.SoundTrees.{Each, each-put, each-gone, MayOwn, sound-change, sound-new, sound-gone}
 
--- a tree of the updates from the first zxid to z, under these open sessions
-pub record Stands (opened : Sessions) (first z : ℤ) (t : Tree) : Type 0 where
+-- a sound tree under these open sessions, and what is true of each node
+pub record Holds (opened : Sessions) (Q : Bytes → Node → Type 0) (t : Tree) : Type 0 where
   pub sound : IsSoundTree opened t
-  pub bounded : Each (IsBoundedNode first z) t
+  pub bounded : Each Q t
+
+-- a tree of the updates from the first zxid to z
+abbrev pub Stands : Sessions → ℤ → ℤ → Tree → Type 0
+Stands opened first z t = Holds opened (IsBoundedNode first z) t
 
 -- ---- outcomes
 
@@ -62,32 +66,109 @@ not_equal x y h e = false_true h ((Decides-int_eq x y).1 e)
 
 -- ---- the session of a request: none, or an open begun with this limit
 
+abbrev pub IsOpen : Sessions → ℕ → ℤ → Type 0
+IsOpen opened limit session = (x : Session) × (get opened session ≡ Some x) × (limit ≡ limit_of x)
+
 pub record Acts (opened : Sessions) (limit : ℕ) (session : ℤ) : Type 0 where
-  pub whose : (x : Session) × (get opened session ≡ Some x) × (limit ≡ limit_of x)
+  pub whose : IsOpen opened limit session
   pub least : pos 0 ≤ℤ session
   pub most : session ≤ℤ max_long
 
 pub past_now : (first z : ℤ) → first ≤ℤ z → IsPast first z z
 past_now first z h = record { least = h; most = omega (arith, ints) }
 
+abbrev owner_by : ℤ → ℤ → ℤ
+owner_by session flags = if is_ephemeral flags then session else pos 0
+
+-- ---- what is true of each node stays true where a request of this session changes it at this zxid
+
+-- the removal of a child
+abbrev IsKeptBelow : (Bytes → Node → Type 0) → ℤ → Type 0
+IsKeptBelow Q z = (p : Bytes) (n : Node) → Q p n → Q p (without_child n z)
+
+record IsKept (Q : Bytes → Node → Type 0) (session z : ℤ) : Type 0 where
+  made : (p content : Bytes) (flags : ℤ) (now : ℕ) → IsTrue (is_path p) → Q p (new_node content (owner_by session flags) z now)
+  above : (p : Bytes) (n : Node) → Q p n → Q p (with_child n z)
+  below : IsKeptBelow Q z
+  changed : (p content : Bytes) (n : Node) (now : ℕ) → n.version ≢ max_version → Q p n → Q p (with_content n content z now)
+
+-- of soundness alone
+abbrev Anything : Bytes → Node → Type 0
+Anything p n = ⊤
+
+kept-anything : (session z : ℤ) → IsKept Anything session z
+kept-anything session z = record { made = λ p content flags now valid. tt; above = λ p n w. tt; below = λ p n w. tt; changed = λ p content n now short w. tt }
+
+-- the ranges of a node's numbers
+children-bounded : (first z : ℤ) → first ≤ℤ z → (p : Bytes) (n : Node) (creates : ℤ) → IsBoundedNode first z p n → IsBoundedNode first z p (record n { pzxid = z; creates = creates })
+children-bounded first z begun p n creates w = record {
+  valid = w.valid;
+  made = w.made;
+  changed = w.changed;
+  children_changed = past_now first z begun;
+  made_at = w.made_at;
+  changed_at = w.changed_at;
+  version_least = w.version_least;
+  version_most = w.version_most;
+  owner_least = w.owner_least;
+  owner_most = w.owner_most;
+}
+
+below-bounded : (first z : ℤ) → first ≤ℤ z → IsKeptBelow (IsBoundedNode first z) z
+below-bounded first z begun p n w = children-bounded first z begun p n n.creates w
+
+kept-bounded : (first session z : ℤ) → first ≤ℤ z → pos 0 ≤ℤ session → session ≤ℤ max_long → IsKept (IsBoundedNode first z) session z
+kept-bounded first session z begun least most = record {
+  made = λ p content flags now valid. record {
+    valid = valid;
+    made = past_now first z begun;
+    changed = past_now first z begun;
+    children_changed = past_now first z begun;
+    made_at = omega (arith, ints);
+    changed_at = omega (arith, ints);
+    version_least = omega (arith, ints);
+    version_most = omega (arith, ints);
+    owner_least = (owner_bounds (is_ephemeral flags)).0;
+    owner_most = (owner_bounds (is_ephemeral flags)).1;
+  };
+  above = λ p n w. children-bounded first z begun p n (n.creates +ℤ pos 1) w;
+  below = below-bounded first z begun;
+  changed = λ p content n now short w.
+      let low = w.version_least in
+      let high = w.version_most in
+      record {
+        valid = w.valid;
+        made = w.made;
+        changed = past_now first z begun;
+        children_changed = w.children_changed;
+        made_at = w.made_at;
+        changed_at = omega (arith, ints);
+        version_least = omega (arith, ints);
+        version_most = omega (arith, ints, short);
+        owner_least = w.owner_least;
+        owner_most = w.owner_most;
+      };
+}
+  where
+    owner_bounds : (b : Bool) → (pos 0 ≤ℤ (if b then session else pos 0)) × ((if b then session else pos 0) ≤ℤ max_long)
+    owner_bounds true = (least, most)
+    owner_bounds false = (omega (arith, ints), omega (arith, ints))
+
 -- ---- a node changes, and stays whose it was
 
-stands-change : (opened : Sessions) (first z : ℤ) (t : Tree) (k : Bytes) (old v : Node) → Stands opened first z t → get t k ≡ Some old → v.owner ≡ old.owner → IsCounted v (num_children t k)
-    → length v.content ≤ max_frame → (IsBoundedNode first z k old → IsBoundedNode first z k v) → Stands opened first z (insert t k v)
-stands-change opened first z t k old v st there same counted small within = record {
+holds-change : (opened : Sessions) (Q : Bytes → Node → Type 0) (t : Tree) (k : Bytes) (old v : Node) → Holds opened Q t → get t k ≡ Some old → v.owner ≡ old.owner → IsCounted v (num_children t k)
+    → length v.content ≤ max_frame → (Q k old → Q k v) → Holds opened Q (insert t k v)
+holds-change opened Q t k old v st there same counted small within = record {
   sound = sound-change opened t k old v st.sound there same counted small;
-  bounded = each-put (IsBoundedNode first z) t k v st.bounded (within (st.bounded k old there));
+  bounded = each-put Q t k v st.bounded (within (st.bounded k old there));
 }
 
 -- ---- create
 
-module _ (opened : Sessions) (t : Tree) (limit : ℕ) (session flags : ℤ) (content : Bytes) (first z : ℤ) (now : ℕ) (path : Bytes) (st : Stands opened first z t) (begun : first ≤ℤ z)
-    (acts : Acts opened limit session) (small : length content ≤ max_frame) (form : (if is_sequential flags then is_sequence_prefix path else is_path path) ≡ true) where
-  abbrev owner : ℤ
-  owner = if is_ephemeral flags then session else pos 0
-
+module _ (opened : Sessions) (Q : Bytes → Node → Type 0) (t : Tree) (limit : ℕ) (session flags : ℤ) (content : Bytes) (z : ℤ) (now : ℕ) (path : Bytes) (st : Holds opened Q t) (kept : IsKept Q session z)
+    (whose : IsOpen opened limit session) (small : length content ≤ max_frame) (form : (if is_sequential flags then is_sequence_prefix path else is_path path) ≡ true) where
   abbrev fresh : Node
-  fresh = new_node content owner z now
+  fresh = new_node content (owner_by session flags) z now
 
   module _ (q : Bytes) (up : Node) (below : parent (named flags path) ≡ Some q) (there : get t q ≡ Some up) (none : get t (made_path flags path up) ≡ None)
       (plain : int_eq up.owner (pos 0) ≡ true) (room : is_full t limit session flags up ≡ false) where
@@ -126,150 +207,92 @@ module _ (opened : Sessions) (t : Tree) (limit : ℕ) (session flags : ℤ) (con
     is_plain : up.owner ≡ pos 0
     is_plain = (Decides-int_eq up.owner (pos 0)).0 plain
 
-    in_between : Stands opened first z between
-    in_between = stands-change opened first z t q up above st there refl (counts_above (num_children t q) (omega arith)) (st.sound.small q up there)
-        (λ w. record {
-          valid = w.valid;
-          made = w.made;
-          changed = w.changed;
-          children_changed = past_now first z begun;
-          made_at = w.made_at;
-          changed_at = w.changed_at;
-          version_least = w.version_least;
-          version_most = w.version_most;
-          owner_least = w.owner_least;
-          owner_most = w.owner_most;
-        })
+    in_between : Holds opened Q between
+    in_between = holds-change opened Q t q up above st there refl (counts_above (num_children t q) (omega arith)) (st.sound.small q up there) (kept.above q up)
 
     owned_still : length (owned between session) ≡ length (owned t session)
     owned_still = num_owned-change t q above up session there refl
 
-    may_own : MayOwn opened between owner
-    may_own = by_mode (is_ephemeral flags) (or_false (int_eq up.creates max_creates) (is_ephemeral flags && nat_le limit (length (owned t session))) room).1 acts.whose
+    may_own : MayOwn opened between (owner_by session flags)
+    may_own = by_mode (is_ephemeral flags) (or_false (int_eq up.creates max_creates) (is_ephemeral flags && nat_le limit (length (owned t session))) room).1 whose
       where
-        by_mode : (b : Bool) → (b && nat_le limit (length (owned t session))) ≡ false → ((x : Session) × (get opened session ≡ Some x) × (limit ≡ limit_of x))
-            → MayOwn opened between (if b then session else pos 0)
-        by_mode false h whose = inl refl
+        by_mode : (b : Bool) → (b && nat_le limit (length (owned t session))) ≡ false → IsOpen opened limit session → MayOwn opened between (if b then session else pos 0)
+        by_mode false h x = inl refl
         by_mode true h x = let few : length (owned t session) < limit = grind (arith, nat_tests) in inr (x.0, x.1, omega (arith, few, owned_still, x.2))
 
-    owner_bounds : (pos 0 ≤ℤ owner) × (owner ≤ℤ max_long)
-    owner_bounds = by_mode (is_ephemeral flags)
-      where
-        by_mode : (b : Bool) → (pos 0 ≤ℤ (if b then session else pos 0)) × ((if b then session else pos 0) ≤ℤ max_long)
-        by_mode true = (acts.least, acts.most)
-        by_mode false = (omega (arith, ints), omega (arith, ints))
-
-    pub stands-made : Stands opened first z (insert between p fresh)
-    stands-made = record {
+    holds-made : Holds opened Q (insert between p fresh)
+    holds-made = record {
       sound = sound-new opened between p q above fresh in_between.sound (get-insert_other t q p above (apart_from_parent p q below_q) ∙ none) below_q (get-insert_same t q above) is_plain
           (counts_above (num_children between q + 1) (let e = num_children-change t q above up q there in omega (arith, e)))
           (record { counted = omega (arith, ints); most = omega (arith, ints) }) may_own small;
-      bounded = each-put (IsBoundedNode first z) between p fresh in_between.bounded (record {
-        valid = valid;
-        made = past_now first z begun;
-        changed = past_now first z begun;
-        children_changed = past_now first z begun;
-        made_at = omega (arith, ints);
-        changed_at = omega (arith, ints);
-        version_least = omega (arith, ints);
-        version_most = omega (arith, ints);
-        owner_least = owner_bounds.0;
-        owner_most = owner_bounds.1;
-      });
+      bounded = each-put Q between p fresh in_between.bounded (kept.made p content flags now valid);
     }
 
   made_node : (q : Bytes) (up : Node) (o : Option Node) → parent (named flags path) ≡ Some q → get t q ≡ Some up → get t (made_path flags path up) ≡ o
-      → Leads (Stands opened first z) (create_node t limit session flags content z now q up (made_path flags path up) o)
+      → Leads (Holds opened Q) (create_node t limit session flags content z now q up (made_path flags path up) o)
   made_node q up (Some old) below there is = tt
   made_node q up None below there is =
-      unless (Stands opened first z) (not (int_eq up.owner (pos 0))) _ _ (λ h.
-      unless (Stands opened first z) (is_full t limit session flags up) _ _ (λ room. stands-made q up below there is (not_false _ h) room))
+      unless (Holds opened Q) (not (int_eq up.owner (pos 0))) _ _ (λ h.
+      unless (Holds opened Q) (is_full t limit session flags up) _ _ (λ room. holds-made q up below there is (not_false _ h) room))
 
-  made_under : (q : Bytes) (o : Option Node) → parent (named flags path) ≡ Some q → get t q ≡ o → Leads (Stands opened first z) (create_under t limit session flags content z now path q o)
+  made_under : (q : Bytes) (o : Option Node) → parent (named flags path) ≡ Some q → get t q ≡ o → Leads (Holds opened Q) (create_under t limit session flags content z now path q o)
   made_under q None below is = tt
   made_under q (Some up) below is = made_node q up (get t (made_path flags path up)) below is refl
 
-  made_at : (o : Option Bytes) → parent (named flags path) ≡ o → Leads (Stands opened first z) (create_at t limit session flags content z now path o)
+  made_at : (o : Option Bytes) → parent (named flags path) ≡ o → Leads (Holds opened Q) (create_at t limit session flags content z now path o)
   made_at None is = tt
   made_at (Some q) is = made_under q (get t q) is refl
 
-  pub create-leads : Leads (Stands opened first z) (create t limit session flags content z now path)
+  create-leads : Leads (Holds opened Q) (create t limit session flags content z now path)
   create-leads = made_at (parent (named flags path)) refl
 
 -- ---- the removal of a node without children
 
-stands-gone : (opened : Sessions) (first z : ℤ) (t : Tree) (k : Bytes) → Stands opened first z t → k ≢ root → ((r : Bytes) → parent r ≡ Some k → get t r ≡ None) → Stands opened first z (remove t k)
-stands-gone opened first z t k st inner childless = record { sound = sound-gone opened t k st.sound inner childless; bounded = each-gone (IsBoundedNode first z) t k st.bounded }
+module _ (opened : Sessions) (Q : Bytes → Node → Type 0) (z : ℤ) (t : Tree) (p : Bytes) (st : Holds opened Q t) (kept : IsKeptBelow Q z) (inner : p ≢ root) (childless : (r : Bytes) → parent r ≡ Some p → get t r ≡ None) where
+  gone : Holds opened Q (remove t p)
+  gone = record { sound = sound-gone opened t p st.sound inner childless; bounded = each-gone Q t p st.bounded }
 
-module _ (opened : Sessions) (first z : ℤ) (t : Tree) (p : Bytes) (st : Stands opened first z t) (begun : first ≤ℤ z) (inner : p ≢ root) (childless : (r : Bytes) → parent r ≡ Some p → get t r ≡ None) where
-  gone : Stands opened first z (remove t p)
-  gone = stands-gone opened first z t p st inner childless
-
-  without : (q : Bytes) (o : Option Node) → parent p ≡ Some q → get t q ≡ o → Stands opened first z (removed_under t p z (Some q) o)
+  without : (q : Bytes) (o : Option Node) → parent p ≡ Some q → get t q ≡ o → Holds opened Q (removed_under t p z (Some q) o)
   without q None below is = gone
   without q (Some up) below is =
       let there : get (remove t p) q ≡ Some up = get-remove_other t p q (λ e. apart_from_parent p q below (sym e)) ∙ is in
       let counted = gone.sound.counted q up there in
-      stands-change opened first z (remove t p) q up (without_child up z) gone there refl (record { counted = counted.counted; most = counted.most }) (gone.sound.small q up there)
-      (λ w. record {
-        valid = w.valid;
-        made = w.made;
-        changed = w.changed;
-        children_changed = past_now first z begun;
-        made_at = w.made_at;
-        changed_at = w.changed_at;
-        version_least = w.version_least;
-        version_most = w.version_most;
-        owner_least = w.owner_least;
-        owner_most = w.owner_most;
-      })
+      holds-change opened Q (remove t p) q up (without_child up z) gone there refl (record { counted = counted.counted; most = counted.most }) (gone.sound.small q up there) (kept q up)
 
-  at_its_parent : (o : Option Bytes) → parent p ≡ o → Stands opened first z (removed_under t p z o (at_parent t o))
+  at_its_parent : (o : Option Bytes) → parent p ≡ o → Holds opened Q (removed_under t p z o (at_parent t o))
   at_its_parent None is = gone
   at_its_parent (Some q) is = without q (get t q) is refl
 
-  pub stands-removed : Stands opened first z (removed t p z)
-  stands-removed = at_its_parent (parent p) refl
+  holds-removed : Holds opened Q (removed t p z)
+  holds-removed = at_its_parent (parent p) refl
+
+pub stands-removed : (opened : Sessions) (first z : ℤ) (t : Tree) (p : Bytes) → Stands opened first z t → first ≤ℤ z → p ≢ root → ((r : Bytes) → parent r ≡ Some p → get t r ≡ None)
+    → Stands opened first z (removed t p z)
+stands-removed opened first z t p st begun inner childless = holds-removed opened (IsBoundedNode first z) z t p st (below-bounded first z begun) inner childless
 
 -- ---- delete, setData and check
 
 zero_is : (n : ℕ) → not (n == 0) ≡ false → n ≡ 0
 zero_is n h = grind (arith, nat_tests, not_false (n == 0) h)
 
-delete-leads : (opened : Sessions) (first z : ℤ) (t : Tree) (p : Bytes) (version : ℤ) (o : Option Node) → Stands opened first z t → first ≤ℤ z → p ≢ root → Leads (Stands opened first z) (delete t p version z o)
-delete-leads opened first z t p version None st begun inner = tt
-delete-leads opened first z t p version (Some n) st begun inner =
-    unless (Stands opened first z) (not (matches version n.version)) _ _ (λ _.
-    unless (Stands opened first z) (not (num_children t p == 0)) _ _ (λ h. stands-removed opened first z t p st begun inner (λ r up. none-from_count t p r (zero_is (num_children t p) h) up)))
+delete-leads : (opened : Sessions) (Q : Bytes → Node → Type 0) (z : ℤ) (t : Tree) (p : Bytes) (version : ℤ) (o : Option Node) → Holds opened Q t → IsKeptBelow Q z → p ≢ root → Leads (Holds opened Q) (delete t p version z o)
+delete-leads opened Q z t p version None st kept inner = tt
+delete-leads opened Q z t p version (Some n) st kept inner =
+    unless (Holds opened Q) (not (matches version n.version)) _ _ (λ _.
+    unless (Holds opened Q) (not (num_children t p == 0)) _ _ (λ h. holds-removed opened Q z t p st kept inner (λ r up. none-from_count t p r (zero_is (num_children t p) h) up)))
 
-set_data-leads : (opened : Sessions) (first z : ℤ) (t : Tree) (p content : Bytes) (version : ℤ) (now : ℕ) (o : Option Node) → Stands opened first z t → first ≤ℤ z → length content ≤ max_frame → get t p ≡ o
-    → Leads (Stands opened first z) (set_data t p content version z now o)
-set_data-leads opened first z t p content version now None st begun small is = tt
-set_data-leads opened first z t p content version now (Some n) st begun small is =
-    unless (Stands opened first z) (not (matches version n.version)) _ _ (λ _.
-    unless (Stands opened first z) (int_eq n.version max_version) _ _ (λ h.
+set_data-leads : (opened : Sessions) (Q : Bytes → Node → Type 0) (session z : ℤ) (t : Tree) (p content : Bytes) (version : ℤ) (now : ℕ) (o : Option Node) → Holds opened Q t → IsKept Q session z → length content ≤ max_frame → get t p ≡ o
+    → Leads (Holds opened Q) (set_data t p content version z now o)
+set_data-leads opened Q session z t p content version now None st kept small is = tt
+set_data-leads opened Q session z t p content version now (Some n) st kept small is =
+    unless (Holds opened Q) (not (matches version n.version)) _ _ (λ _.
+    unless (Holds opened Q) (int_eq n.version max_version) _ _ (λ h.
     let counted = st.sound.counted p n is in
-    let apart = not_equal n.version max_version h in
-    stands-change opened first z t p n (with_content n content z now) st is refl (record { counted = counted.counted; most = counted.most }) small
-    (λ w.
-    let low = w.version_least in
-    let high = w.version_most in
-    record {
-      valid = w.valid;
-      made = w.made;
-      changed = past_now first z begun;
-      children_changed = w.children_changed;
-      made_at = w.made_at;
-      changed_at = omega (arith, ints);
-      version_least = omega (arith, ints);
-      version_most = omega (arith, ints);
-      owner_least = w.owner_least;
-      owner_most = w.owner_most;
-    })))
+    holds-change opened Q t p n (with_content n content z now) st is refl (record { counted = counted.counted; most = counted.most }) small (kept.changed p content n now (not_equal n.version max_version h))))
 
-check-leads : (opened : Sessions) (first z : ℤ) (t : Tree) (version : ℤ) (o : Option Node) → Stands opened first z t → Leads (Stands opened first z) (check t version o)
-check-leads opened first z t version None st = tt
-check-leads opened first z t version (Some n) st = unless (Stands opened first z) (not (matches version n.version)) _ _ (λ _. st)
+check-leads : (opened : Sessions) (Q : Bytes → Node → Type 0) (t : Tree) (version : ℤ) (o : Option Node) → Holds opened Q t → Leads (Holds opened Q) (check t version o)
+check-leads opened Q t version None st = tt
+check-leads opened Q t version (Some n) st = unless (Holds opened Q) (not (matches version n.version)) _ _ (λ _. st)
 
 -- ---- begun request
 
@@ -304,17 +327,30 @@ IsShort content = length content ≤ max_frame
 abbrev pub IsSmallPart : Part → Type 0
 IsSmallPart p = AllByRecursion IsShort (part_contents p)
 
-module _ (opened : Sessions) (limit : ℕ) (session first z : ℤ) (now : ℕ) (begun : first ≤ℤ z) (acts : Acts opened limit session) where
-  effect-leads : (t : Tree) (p : Part) → Stands opened first z t → IsSmallPart p → form_refusal p ≡ None → Leads (Stands opened first z) (effect t limit session p z now)
+module _ (opened : Sessions) (Q : Bytes → Node → Type 0) (limit : ℕ) (session z : ℤ) (now : ℕ) (kept : IsKept Q session z) (whose : IsOpen opened limit session) where
+  effect-leads : (t : Tree) (p : Part) → Holds opened Q t → IsSmallPart p → form_refusal p ≡ None → Leads (Holds opened Q) (effect t limit session p z now)
   unfolding effect
-  effect-leads t (Create path content acl flags) st small form = create-leads opened t limit session flags content first z now path st begun acts small.0 (form_create path content acl flags form)
-  effect-leads t (Delete path version) st small form = delete-leads opened first z t path version (get t path) st begun (form_delete path version form)
-  effect-leads t (SetData path content version) st small form = set_data-leads opened first z t path content version now (get t path) st begun small.0 refl
-  effect-leads t (Check path version) st small form = check-leads opened first z t version (get t path) st
+  effect-leads t (Create path content acl flags) st small form = create-leads opened Q t limit session flags content z now path st kept whose small.0 (form_create path content acl flags form)
+  effect-leads t (Delete path version) st small form = delete-leads opened Q z t path version (get t path) st kept.below (form_delete path version form)
+  effect-leads t (SetData path content version) st small form = set_data-leads opened Q session z t path content version now (get t path) st kept small.0 refl
+  effect-leads t (Check path version) st small form = check-leads opened Q t version (get t path) st
 
-  pub single-leads : (t : Tree) (p : Part) → Stands opened first z t → IsSmallPart p → Leads (Stands opened first z) (single t limit session p z now)
+  part-leads : (t : Tree) (p : Part) → Holds opened Q t → IsSmallPart p → Leads (Holds opened Q) (single t limit session p z now)
   unfolding single
-  single-leads t p st small = leads-unrefused (Stands opened first z) (form_refusal p) (effect t limit session p z now) (λ form. effect-leads t p st small form)
+  part-leads t p st small = leads-unrefused (Holds opened Q) (form_refusal p) (effect t limit session p z now) (λ form. effect-leads t p st small form)
+
+-- a part leads from a sound tree to a sound one, whatever its zxids and times are
+pub single-sound : (opened : Sessions) (limit : ℕ) (session z : ℤ) (now : ℕ) → IsOpen opened limit session → (t : Tree) (p : Part) → IsSoundTree opened t → IsSmallPart p → Leads (IsSoundTree opened) (single t limit session p z now)
+single-sound opened limit session z now whose t p sound small =
+    sound_of (single t limit session p z now) (part-leads opened Anything limit session z now (kept-anything session z) whose t p (record { sound = sound; bounded = λ q n is. tt }) small)
+  where
+    sound_of : (o : Outcome) → Leads (Holds opened Anything) o → Leads (IsSoundTree opened) o
+    sound_of (Refused code) leads = tt
+    sound_of (Done r u g) leads = leads.sound
+
+module _ (opened : Sessions) (limit : ℕ) (session first z : ℤ) (now : ℕ) (begun : first ≤ℤ z) (acts : Acts opened limit session) where
+  pub single-leads : (t : Tree) (p : Part) → Stands opened first z t → IsSmallPart p → Leads (Stands opened first z) (single t limit session p z now)
+  single-leads t p st small = part-leads opened (IsBoundedNode first z) limit session z now (kept-bounded first session z begun acts.least acts.most) acts.whose t p st small
 
   -- ---- several
 
