@@ -190,6 +190,24 @@ fn part(alloc: Global, kind: &str, words: &mut Words) -> Result<Option<Part>, Me
     }
 }
 
+/// A part as it is, but a create with an access list that is not the open one.
+fn closed(alloc: Global, part: Part) -> Result<Part, Memory> {
+    match part {
+        Part::Create {
+            path,
+            content,
+            flags,
+            ..
+        } => Ok(Part::Create {
+            path,
+            content,
+            acl: access(alloc, true)?,
+            flags,
+        }),
+        other => Ok(other),
+    }
+}
+
 /// At most 30 parts.
 fn multi(alloc: Global, words: Words) -> Result<Option<Request>, Memory> {
     let mut words = words;
@@ -201,8 +219,12 @@ fn multi(alloc: Global, words: Words) -> Result<Option<Request>, Memory> {
         let Some(part) = part(alloc, kind, &mut words)? else {
             return Ok(None);
         };
+        let (part, end) = match words.word() {
+            Some("closed") => (closed(alloc, part)?, words.word()),
+            end => (part, end),
+        };
         parts.push(part)?;
-        match words.word() {
+        match end {
             Some(";") => {}
             Some(_) => return Ok(None),
             None => break,
