@@ -50,7 +50,7 @@ pub fn refusals_do_not_depend_on_the_moment()
 {}
 
 /// A view of a sound state that lacks nothing which at most 24 parts read saw what each part looks at, also of nodes that the
-/// parts before it made.
+/// parts before it made: the premise of [`parts_are_carried_out_in_turn`].
 pub fn what_parts_look_at_was_seen()
     ensures { (who : AnyWho) (now : ℕ) (v : AnyView) (parts : List AnyPart) (s : State) (z : ℤ) (x : Session) (c : AnyCarried) (run : Runs who now v no_progress 0 parts c) → length parts ≤ max_parts → IsWhole (requests.Multi parts) who v → now < 2 ^ 62 → AreShort parts → IsSound s → Shows z v s → session_at who.session s ≡ Some x → RunsSeen who now v v no_progress 0 parts c run }
 {}
