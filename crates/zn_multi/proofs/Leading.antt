@@ -13,7 +13,7 @@ use Rattle.zk_model.specs.Multi.{Parts, Stopped as StoppedAt, Passed as PassedAl
 use Rattle.zk_model.specs.Single.{Outcome, Refused, Done, single}
 use Rattle.zk_model.specs.Znodes.{Tree}
 use Rattle.zk_transcript.specs.History.{State, Session, IsSound, IsSoundTree, session_at}
-use Rattle.zk_transcript.proofs.SoundEffects.{Leads}
+use Rattle.zk_transcript.proofs.SoundEffects.{IsSmallPart, Leads, single-sound}
 use Rattle.zn_layout.specs.Changes.{Change, Put, acts_of, are_distinct, last}
 use Rattle.zn_layout.specs.Fits.{Fits, KeyFits}
 use Rattle.zn_layout.specs.Keys.{Key, HeadKey, key_bytes}
@@ -28,7 +28,6 @@ use Rattle.zn_updates.specs.Right.{IsOutcome, IsRight, with_tree}
 use Rattle.zn_updates.proofs.Layered.{first_seen, seen_layered}
 use Rattle.zn_multi.specs.Laying.{all_laid, found_of, laid_view, with_acts}
 use Rattle.zn_multi.proofs.Laid.{acts-laid, distinct-all_laid, last-all_laid, seen-laid, shown_at}
-use Rattle.zn_multi.proofs.Sounds.{single_sound}
 use Rattle.std.specs.Ordering.{int_eq}
 use Rattle.std.proofs.lemmas.List.{length-append, length-map, map-append, append_assoc}
 use Rattle.zk_model.specs.declared.node.Node.{Node}
@@ -109,6 +108,12 @@ touched_is v near narrow s id z now (part.Check path x) owner r u g shown saw is
 
 -- ---- one part more
 
+pub small_part : (p : Part) → length (part_content p) ≤ max_frame → IsSmallPart p
+small_part (part.Create path d a f) short = (short, tt)
+small_part (part.Delete path x) short = tt
+small_part (part.SetData path d x) short = (short, tt)
+small_part (part.Check path x) short = tt
+
 pub behind_next : (rs : List PartResult) (gs : List Trigger) (ss : List ℤ) (r : PartResult) (g : List Trigger) (t : List ℤ) (x : Parts) → behind rs gs ss (then_parts r g t x) ≡ behind (rs ++ r ∷ []) (gs ++ g) (ss ++ t) x
 behind_next rs gs ss r g t (StoppedAt k code) = ap (λ (n : ℕ). StoppedAt n code) (let e = length-append rs (r ∷ []) in omega (arith, e))
 behind_next rs gs ss r g t (PassedAll results u triggers touched) = λ i. PassedAll (sym (append_assoc rs (r ∷ []) results) i) u (sym (append_assoc gs g triggers) i) (sym (append_assoc ss t touched) i)
@@ -155,7 +160,7 @@ module _ (who : Who) (now : ℕ) (moment : now < 2 ^ 62) (v near : View) (narrow
             h.runs ∙ ap (behind (map (own_result z) old.results) old.triggers old.touched) (parts_of-done h.tree outcome.tree max_owned who.session p ps z now (own_result z is.draft) is.told outcome.done)
             ∙ behind_next (map (own_result z) old.results) old.triggers old.touched (own_result z is.draft) is.told (touched_by h.tree who.session p) (parts_of outcome.tree max_owned who.session ps z now)
             ∙ (λ i. behind (sym results_are i) (sym is.triggers i) (sym touched_are i) (parts_of outcome.tree max_owned who.session ps z now));
-        sound = subst (Leads (IsSoundTree s.sessions)) outcome.done (single_sound s.sessions who.session z now x opened h.tree p h.sound short);
+        sound = subst (Leads (IsSoundTree s.sessions)) outcome.done (single-sound s.sessions max_owned who.session z now (x, opened, refl) h.tree p h.sound (small_part p short));
         changes = all_laid h.changes is.changes;
         over = is.over ∙ ap (λ (o : View). with_acts o (acts_of is.changes)) h.over ∙ acts-laid h.changes is.changes;
         once = distinct-all_laid h.changes is.changes h.once;

@@ -1,7 +1,6 @@
 pub mod Runs
 pub mod Laid
 pub mod Loads
-pub mod Sounds
 pub mod ReadKeys
 pub mod MappedTrees
 pub mod Moments
