@@ -1,4 +1,5 @@
 pub mod SessionLaws
+pub mod AttachmentLaws
 pub mod Counts
 pub mod Fitting
 pub mod Marks

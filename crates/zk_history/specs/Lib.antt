@@ -1,3 +1,4 @@
+pub mod Attachments
 pub mod Codes
 pub mod Commits
 pub mod Effects

@@ -5,6 +5,7 @@
 //! stands on this crate, and the service does not.
 #![tactic(auto)]
 
+mod attachments;
 mod cursor;
 mod effects;
 mod ended;

@@ -4,21 +4,24 @@ ghost use Rattle.std.specs.Prelude.{◌≡◌, option_map, IfOk};
 ghost use Rattle.std.specs.FinMap.{empty, entries, get, insert, remove};
 ghost use Rattle.zk_transcript.specs.History.{attached_in};
 
+use crate::attachments::{Attachments, attached, detached, first_attached};
 use crate::session::Session;
 use std::alloc::Global;
-use std::collections::BTreeMap;
+use std::collections::{BTreeMap, BTreeSet};
 use std::marker::Model;
 use zx_base::Memory;
 
-/// The open sessions by their numbers.
+/// The open sessions by their numbers. Each call takes the logarithm of how many there are.
 #[derive(Debug, Drop)]
 pub struct Sessions {
     open: BTreeMap<i64, Session>,
+    attachments: Attachments,
 }
 
 impl Model for Sessions {
     ghost use Rattle.std.specs.FinMap as map;
     ghost use Rattle.zk_transcript.specs.History.{Sessions as Numbered};
+    ghost use Rattle.zk_history.specs.Attachments.{AreAttached};
     ghost use Rattle.zk_history.specs.Codes.{coded_sessions};
 
     ghost Value = { Numbered };
@@ -26,6 +29,8 @@ impl Model for Sessions {
     ghost coded = { coded_sessions };
 
     ghost view = { λ s. map.from_entries s.open.entries };
+
+    ghost invariant = { λ s. AreAttached (map.from_entries s.open.entries) s.attachments };
 }
 
 impl Sessions {
@@ -35,6 +40,7 @@ impl Sessions {
     {
         Sessions {
             open: BTreeMap::new(alloc),
+            attachments: BTreeSet::new(alloc),
         }
     }
 
@@ -49,21 +55,20 @@ impl Sessions {
     pub fn attached_to(&self, connection: u32) -> Option<(i64, bool)>
         ensures { result ≡ option_map (λ e. (e.0, e.1.lapsed)) (attached_in connection (entries self.now)) }
     {
-        for (id, session) in self.open.iter() {
-            if connection == session.connection() {
-                return Some((*id, session.is_lapsed()));
-            }
-        }
-        None
+        let id = first_attached(&self.attachments, connection)?;
+        let session = self.get(id)?;
+        Some((id, session.is_lapsed()))
     }
 
     /// The sessions with this one under its number.
     pub fn with(self, id: i64, session: Session) -> Result<Sessions, Memory>
         ensures { IfOk result (λ s. s ≡ insert self id session) }
     {
+        let rest = detached(self.attachments, self.open.get(&id), id);
+        let attachments = attached(rest, session.connection(), id)?;
         let mut open = self.open;
         open.insert(id, session)?;
-        Ok(Sessions { open })
+        Ok(Sessions { open, attachments })
     }
 
     /// The sessions without the one of this number.
@@ -71,7 +76,10 @@ impl Sessions {
         ensures { result ≡ remove self id }
     {
         let mut open = self.open;
-        open.remove(&id);
-        Sessions { open }
+        let session = open.remove(&id);
+        Sessions {
+            open,
+            attachments: detached(self.attachments, session.as_ref(), id),
+        }
     }
 }

@@ -1,4 +1,4 @@
-use Rattle.std.proofs.Common.{◌≡◌, ◌∙◌, ap, ℕ, Vec, Global, List}
+use Rattle.std.proofs.Common.{◌∙◌, ap, ℕ, Vec, Global, List}
 use Rattle.std.proofs.lemmas.List.Elements.{same_from_all_zip}
 use Rattle.zx_base.specs.Maps.{Bytes}
 use Rattle.zk_answers.specs.Sets.{set_of}

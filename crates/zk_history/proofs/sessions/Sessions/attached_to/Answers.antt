@@ -1,11 +1,23 @@
-use Rattle.std.proofs.Common.{ap, sym, ◌∙◌}
-use Rattle.std.specs.FinMap.{entries}
-use Rattle.zk_transcript.specs.History.{Sessions, attached_in}
-use Rattle.zk_history.proofs.SessionLaws.{entries-numbered}
+use Rattle.std.proofs.Common.{◌≡◌, ap, sym, ◌∙◌, subst, w64, to_z, of_z, ℤ, rules}
+use Rattle.std.proofs.lemmas.Int.{to_z-of_z}
+use Rattle.std.specs.Prelude.{Option, Some, Bool, option_map}
+use Rattle.std.specs.FinMap.{get}
+use Rattle.zk_transcript.specs.History.{Session, Sessions}
+use Rattle.zk_history.specs.Attachments.{AreAttached}
+use Rattle.zk_history.proofs.AttachmentLaws.{attached-first, attached-none}
 use Rattle.zk_history.proofs.sessions.Sessions.attached_to.Goals as goal
 
-pub loop-id-init : goal.loop-id-init
-loop-id-init c =
-    ap (attached_in c.args.connection)
-    (ap (λ (m : Sessions). entries m) (sym c.self.view_is) ∙ entries-numbered c.self.inside.open.entries c.iter-id-items.ensures.ordered
-    ∙ sym c.iter-id-items.ensures.rest ∙ sym c.into_iter-id-iterator.ensures.into_iter_gives)
+abbrev shown : Option (ℤ × Session) → Option (ℤ × Bool)
+shown o = option_map (λ (e : ℤ × Session). (e.0, e.1.lapsed)) o
+
+pub returns-in_err-id : goal.returns-in_err-id
+returns-in_err-id c =
+    let stand : AreAttached c.args.self.now c.self.inside.attachments = subst (λ (m : Sessions). AreAttached m c.self.inside.attachments) c.self.view_is c.self.invariant in
+    c.from_residual.ensures ∙ sym (ap shown (attached-none c.args.self.now c.self.inside.attachments c.args.connection stand c.in_err-id.ensures))
+
+pub returns : goal.returns
+returns c =
+    let stand : AreAttached c.args.self.now c.self.inside.attachments = subst (λ (m : Sessions). AreAttached m c.self.inside.attachments) c.self.view_is c.self.invariant in
+    let back : to_z w64 (of_z w64 c.in_ok-id.id) ≡ c.in_ok-id.id = to_z-of_z w64 c.in_ok-id.id (search rules) in
+    let first : Some (to_z w64 (of_z w64 c.in_ok-id.id), c.is_lapsed.result) ≡ Some (c.in_ok-id.id, c.in_ok-session.session.now.lapsed) = λ i. Some (back i, c.is_lapsed.ensures i) in
+    first ∙ sym (ap shown (attached-first c.args.self.now c.self.inside.attachments c.args.connection c.in_ok-id.id c.in_ok-session.session.now stand c.in_ok-id.ensures (ap (get c.args.self.now) (sym back) ∙ sym c.in_ok-session.ensures)))
