@@ -1,0 +1,126 @@
+-- Bytes of a client arrive: each whole frame has its line, and is handed in.
+use Rattle.std.proofs.Common.{◌≡◌, ◌≤◌, ℕ, ℤ, ◌+◌, List, [], ◌∷◌, length, refl, sym, ap, ◌∙◌, subst, arith, Bool, true, false}
+use Rattle.std.proofs.lemmas.Bool.Decides.{nat_tests}
+use Rattle.std.proofs.lemmas.List.Elements.{All-head, All-tail}
+use Rattle.std.specs.List.{list_all}
+use Rattle.std.specs.Prelude.{All, MatchBool, Option, Some, None, if◌then◌else◌, nat_le, ◌==◌}
+use Rattle.zk_legal.specs.Formed.{frames_of}
+use Rattle.zk_model.specs.Limits.{max_frame}
+use Rattle.zk_transcript.specs.declared.transcript.TranscriptLine.TheVariants.{Frame as FrameLine}
+use Rattle.zk_transcript.specs.declared.transcript.TranscriptLine.{TranscriptLine}
+use Rattle.zp_happen.specs.Arriving.{Arrives, EndsBadly, FramesArrive, frame_lines, shown_frame}
+use Rattle.zp_happen.specs.Handing.{Handed}
+use Rattle.zp_happen.specs.Worlds.{Conn, Connection, World, conn_at, is_open_conn, with_conn, zxid_at}
+use Rattle.zp_lawful.proofs.Handing.{AreNumbered, handed-proceeds, none-numbered}
+use Rattle.zp_lawful.proofs.Progress.{Broken, Opened, frames_of-append, progress-append, progress_from, takes, unnamed-aside}
+use Rattle.zp_lawful.proofs.Tidy.{ChangesOne, IsTold, Proceeds, alike-proceeds, one-proceeds, proceeds-same, proceeds-then, told-count}
+use Rattle.zp_lawful.specs.Lawful.{AreCounted}
+use Rattle.zp_laws.proofs.Counting.{counted-small}
+use Rattle.zp_step.specs.Stages.{Core, counted_up}
+use Rattle.zp_step.specs.declared.input.Input.TheVariants as input
+use Rattle.zp_whole.proofs.Acting.{is_own, one-own, own-unnamed}
+use Rattle.zp_whole.proofs.Arrivals.{framed-small}
+use Rattle.zp_whole.proofs.Executing.{same-nat}
+use Rattle.zp_whole.proofs.Numbers.{conn-here, conn-there}
+use Rattle.zp_whole.proofs.Packets.{both-true}
+use Rattle.zx_base.proofs.Options.{some_is}
+
+-- ---- lines of frames
+
+small-test : (bytes : List ℕ) → length bytes ≤ max_frame → nat_le (length bytes) max_frame ≡ true
+small-test bytes le = grind (arith, nat_tests)
+
+-- a frame whose index is the next one
+frame-next : (c n : ℕ) (z : ℤ) (bytes : List ℕ) → length bytes ≤ max_frame → progress_from c (Opened n) (FrameLine c n z bytes ∷ []) ≡ Opened (n + 1)
+frame-next c n z bytes small =
+    ap (λ b. if b then takes n bytes (Opened n) else Opened n) (same-nat c)
+    ∙ ap (λ b. if b then Opened (n + 1) else Broken) (both-true (n == n) (nat_le (length bytes) max_frame) (same-nat n) (small-test bytes small))
+
+own-frames : (c i : ℕ) (z : ℤ) (fs : List (List ℕ)) → list_all (is_own c) (frame_lines c i z fs) ≡ true
+own-frames c i z [] = refl
+own-frames c i z (f ∷ fs) = both-true (c == c) (list_all (is_own c) (frame_lines c (counted_up (i + 1)) z fs)) (same-nat c) (own-frames c (counted_up (i + 1)) z fs)
+
+frames-numbered : (c n : ℕ) (z : ℤ) (fs : List (List ℕ)) → All (λ f. length f ≤ max_frame) fs → AreNumbered c n (frame_lines c n z fs)
+frames-numbered c n z [] small less = (n, refl)
+frames-numbered c n z (f ∷ fs) small less =
+    let ls = frame_lines c (counted_up (n + 1)) z fs in
+    let one : frames_of c (FrameLine c n z f ∷ ls) ≡ frames_of c ls + 1 = ap (λ b. if b then frames_of c ls + 1 else frames_of c ls) (same-nat c) in
+    let up : counted_up (n + 1) ≡ n + 1 = counted-small (n + 1) (omega (arith, less, one)) in
+    let later = frames-numbered c (counted_up (n + 1)) z fs (All-tail (λ g. length g ≤ max_frame) f fs small) (omega (arith, less, one, up)) in (
+      later.0,
+      ap (λ p. progress_from c p ls) (frame-next c n z f (All-head (λ g. length g ≤ max_frame) f fs small))
+          ∙ ap (λ m. progress_from c (Opened m) ls) (sym up)
+          ∙ later.1,
+    )
+
+-- ---- a frame's line stands before it is handed in
+
+shown-changes : (w : World) (c : ℕ) (x : Conn) (bytes : List ℕ) → ChangesOne w (shown_frame c w x bytes) c (record x { frames = counted_up (x.frames + 1) }) (FrameLine c x.frames (zxid_at w.store) bytes ∷ [])
+shown-changes w c x bytes = record {
+  lines = refl;
+  clock = refl;
+  there = conn-here w c (record x { frames = counted_up (x.frames + 1) });
+  others = λ d apart. conn-there w c d (record x { frames = counted_up (x.frames + 1) }) apart;
+  aside = λ d apart. unnamed-aside d (FrameLine c x.frames (zxid_at w.store) bytes ∷ []) (own-unnamed d c (FrameLine c x.frames (zxid_at w.store) bytes ∷ []) apart (one-own c));
+}
+
+shown-told : (w : World) (c : ℕ) (x : Conn) (core : Core) (bytes : List ℕ) → length bytes ≤ max_frame → IsTold w.lines c x.frames (Connection core) → AreCounted (shown_frame c w x bytes).lines → IsTold (shown_frame c w x bytes).lines c (counted_up (x.frames + 1)) (Connection core)
+shown-told w c x core bytes small told n =
+    let l : TranscriptLine = FrameLine c x.frames (zxid_at w.store) bytes in
+    let one : frames_of c (FrameLine c x.frames (zxid_at w.store) bytes ∷ []) ≡ 0 + 1 = ap (λ b. if b then 0 + 1 else 0) (same-nat c) in
+    let all = frames_of-append c w.lines (FrameLine c x.frames (zxid_at w.store) bytes ∷ []) in
+    let count = told-count w.lines c x.frames told.1 in
+    let less = n.frames c in
+    let up : counted_up (x.frames + 1) ≡ x.frames + 1 = counted-small (x.frames + 1) (omega (arith, one, all, count, less)) in (
+      told.0,
+      progress-append c w.lines (FrameLine c x.frames (zxid_at w.store) bytes ∷ [])
+          ∙ ap (λ p. progress_from c p (FrameLine c x.frames (zxid_at w.store) bytes ∷ [])) told.1
+          ∙ frame-next c x.frames (zxid_at w.store) bytes small
+          ∙ ap Opened (sym up),
+    )
+
+shown-proceeds : (w : World) (c : ℕ) (x : Conn) (core : Core) (bytes : List ℕ) → conn_at c w ≡ Some x → x.actor ≡ Connection core → length bytes ≤ max_frame → Proceeds w (shown_frame c w x bytes)
+shown-proceeds w c x core bytes there actor small =
+    one-proceeds w (shown_frame c w x bytes) c (record x { frames = counted_up (x.frames + 1) }) (FrameLine c x.frames (zxid_at w.store) bytes ∷ []) (shown-changes w c x bytes)
+    (λ t n. subst (IsTold (shown_frame c w x bytes).lines c (counted_up (x.frames + 1))) (sym actor)
+    (shown-told w c x core bytes small (subst (IsTold w.lines c x.frames) actor (t.used c x there)) n))
+
+-- ---- all of them
+
+frames-proceed : (c : ℕ) (w w' : World) (fs : List (List ℕ)) → All (λ f. length f ≤ max_frame) fs → FramesArrive c w fs w' → Proceeds w w'
+frames-proceed c w w' [] small h = proceeds-same w w' h
+frames-proceed c w w' (f ∷ fs) small (x, mid, found, hd, rest) = go (is_open_conn (conn_at c mid)) (frames-proceed c mid w' fs (All-tail (λ g. length g ≤ max_frame) f fs small)) rest
+  where
+    is-conn : record x { frames = counted_up (x.frames + 1) } ≡ hd.conn
+    is-conn = some_is (sym (conn-here w c (record x { frames = counted_up (x.frames + 1) })) ∙ hd.found)
+
+    actor : x.actor ≡ Connection hd.core
+    actor = ap (λ (u : Conn). u.actor) is-conn ∙ hd.serving
+
+    numbered : AreNumbered c hd.conn.frames (frame_lines c (counted_up (x.frames + 1)) (zxid_at w.store) fs)
+    numbered = subst (λ (u : Conn). AreNumbered c u.frames (frame_lines c (counted_up (x.frames + 1)) (zxid_at w.store) fs)) is-conn (frames-numbered c (counted_up (x.frames + 1)) (zxid_at w.store) fs (All-tail (λ g. length g ≤ max_frame) f fs small))
+
+    one_more : Proceeds w mid
+    one_more =
+        proceeds-then w (shown_frame c w x f) mid (shown-proceeds w c x hd.core f found actor (All-head (λ g. length g ≤ max_frame) f fs small))
+        (handed-proceeds (shown_frame c w x f) mid c (frame_lines c (counted_up (x.frames + 1)) (zxid_at w.store) fs) (input.Frame f) hd (own-frames c (counted_up (x.frames + 1)) (zxid_at w.store) fs) numbered)
+
+    go : (b : Bool) → (FramesArrive c mid fs w' → Proceeds mid w') → MatchBool b (FramesArrive c mid fs w') (w' ≡ mid) → Proceeds w w'
+    go true later r = proceeds-then w mid w' one_more (later r)
+    go false later r = proceeds-then w mid w' one_more (proceeds-same mid w' r)
+
+-- a length out of range
+badly-proceeds : (c : ℕ) (w w' : World) (place : ℕ) (bad : Option ℤ) → EndsBadly c w place bad w' → Proceeds w w'
+badly-proceeds c w w' place None h = proceeds-same w w' h
+badly-proceeds c w w' place (Some n) h = go (is_open_conn (conn_at c w)) h
+  where
+    go : (b : Bool) → MatchBool b (Handed c [] w (input.BadLength place n) w') (w' ≡ w) → Proceeds w w'
+    go true hd = handed-proceeds w w' c [] (input.BadLength place n) hd refl (none-numbered c hd.conn.frames)
+    go false e = proceeds-same w w' e
+
+pub arrives-proceeds : (c : ℕ) (w w' : World) (bytes : List ℕ) → Arrives c w bytes w' → Proceeds w w'
+arrives-proceeds c w w' bytes a =
+    let v : Conn = record (a.conn) { stream = a.stream } in
+    let w1 : World = with_conn w c v in
+    proceeds-then w w1 w' (alike-proceeds w c a.conn v a.found refl refl)
+    (proceeds-then w1 a.mid w' (frames-proceed c w1 a.mid a.frames (framed-small _ a.frames (a.cuts).rest (a.cuts).framed) a.arrive) (badly-proceeds c a.mid w' (a.stream).place a.bad a.ends))

@@ -1,0 +1,130 @@
+-- What a step leaves of a connection: packets, and its end, or neither.
+use Rattle.std.proofs.Common.{◌≡◌, ◌≤◌, ◌<◌, ℕ, ◌+◌, List, [], ◌∷◌, ◌++◌, refl, sym, ap, ◌∙◌, subst, append_assoc, arith, Bool, true, false}
+use Rattle.std.specs.List.{list_all}
+use Rattle.std.specs.Prelude.{Option, Some, if◌then◌else◌, ◌==◌}
+use Rattle.zk_legal.specs.Formed.{frames_of}
+use Rattle.zk_transcript.specs.declared.transcript.Ended.TheVariants as ended
+use Rattle.zk_transcript.specs.declared.transcript.Ended.{Ended as SomeEnd}
+use Rattle.zk_transcript.specs.declared.transcript.TranscriptLine.TheVariants.{Close}
+use Rattle.zk_transcript.specs.declared.transcript.TranscriptLine.{TranscriptLine}
+use Rattle.zk_transcript.specs.declared.transcript.UpdateKind.{UpdateKind}
+use Rattle.zp_happen.specs.Handing.{Handed}
+use Rattle.zp_happen.specs.Kinds.{kind_asked}
+use Rattle.zp_happen.specs.StepOutcomes.{StepOutcome, acts_all, ends, leaves, quiet}
+use Rattle.zp_happen.specs.Worlds.{Actor, Closed, Conn, Connection, Reaper, World, behind_step, conn_at}
+use Rattle.zp_happen.specs.declared.flight.Flight.{Flight}
+use Rattle.zp_lawful.proofs.Progress.{Broken, Ended, Opened, Progress, closes, frames_of-append, progress, progress-append, progress_from, unnamed-aside}
+use Rattle.zp_lawful.proofs.Tidy.{ChangesOne, IsTidy, IsTold, Proceeds, one-proceeds, proceeds-to, told-count}
+use Rattle.zp_lawful.specs.Lawful.{AreCounted}
+use Rattle.zp_laws.proofs.Ending.{steps_end_well}
+use Rattle.zp_step.specs.Stages.{Core, is_shut, max_count}
+use Rattle.zp_step.specs.declared.input.Input.{Input}
+use Rattle.zp_whole.proofs.Acting.{acts-own, ends-own, is_own, own-unnamed}
+use Rattle.zp_whole.proofs.Actions.{Asks, Closes, Rests, Tail, is_closing, said, split, split-closes, split-outcome, tail_outcome}
+use Rattle.zp_whole.proofs.Executing.{same-nat}
+use Rattle.zp_whole.proofs.Numbers.{conn-here, conn-there}
+
+-- ---- a number is left so
+
+leaves-changes : (w : World) (c : ℕ) (x : Conn) (actor : Actor) (o : StepOutcome) → list_all (is_own c) o.lines ≡ true → ChangesOne w (leaves c w x actor o) c (record x { actor = actor; flight = o.flight }) o.lines
+leaves-changes w c x actor o own = record {
+  lines = refl;
+  clock = refl;
+  there = conn-here w c (record x { actor = actor; flight = o.flight });
+  others = λ d apart. conn-there w c d (record x { actor = actor; flight = o.flight }) apart;
+  aside = λ d apart. unnamed-aside d o.lines (own-unnamed d c o.lines apart own);
+}
+
+pub leaves-proceeds : (w : World) (c : ℕ) (x : Conn) (actor : Actor) (o : StepOutcome) → list_all (is_own c) o.lines ≡ true → (IsTidy w → AreCounted (w.lines ++ o.lines) → IsTold (w.lines ++ o.lines) c x.frames actor) → Proceeds w (leaves c w x actor o)
+leaves-proceeds w c x actor o own now = one-proceeds w (leaves c w x actor o) c (record x { actor = actor; flight = o.flight }) o.lines (leaves-changes w c x actor o own) now
+
+-- ---- its end
+
+either-same : (b : Bool) (p : Progress) → (if b then p else p) ≡ p
+either-same true p = refl
+either-same false p = refl
+
+-- an end line of its own
+pub closes-own : (c : ℕ) (end : SomeEnd) (p : Progress) → progress_from c p (Close c end ∷ []) ≡ closes p
+closes-own c end p = ap (λ b. if b then closes p else p) (same-nat c)
+
+ended-unbroken : (lines : List TranscriptLine) (c : ℕ) → progress c lines ≡ Ended → progress c lines ≡ Broken → ⊥
+ended-unbroken lines c e f = apart (sym e ∙ f)
+  where
+    apart : Ended ≡ Broken → ⊥
+    apart g = cc
+
+-- of a reaper, or of a connection that is open
+pub ends-told : (lines : List TranscriptLine) (c frames : ℕ) (end : SomeEnd) → closes (progress c lines) ≡ Ended → frames ≤ frames_of c lines → IsTold (lines ++ Close c end ∷ []) c frames Closed
+ends-told lines c frames end e le = (
+  ended-unbroken (lines ++ Close c end ∷ []) c (progress-append c lines (Close c end ∷ []) ∙ closes-own c end (progress c lines) ∙ e),
+  (let more = frames_of-append c lines (Close c end ∷ []) in omega (arith, le, more)),
+)
+
+pub told-ends : (w : World) (c frames : ℕ) (a : Actor) (end : SomeEnd) → (a ≡ Closed → ⊥) → IsTold w.lines c frames a → IsTold (w.lines ++ Close c end ∷ []) c frames Closed
+told-ends w c frames (Connection core) end unclosed t = ends-told w.lines c frames end (ap closes t.1) (let count = told-count w.lines c frames t.1 in omega (arith, count))
+told-ends w c frames (Reaper reap) end unclosed t = ends-told w.lines c frames end (ap closes t.0) (let none = t.1 in omega (arith, none))
+told-ends w c frames Closed end unclosed t = absurd (unclosed refl)
+
+-- something ends it that is no step of its own
+pub ended-proceeds : (w : World) (c : ℕ) (x : Conn) (end : SomeEnd) (f : Option Flight) → (x.actor ≡ Closed → ⊥) → conn_at c w ≡ Some x → Proceeds w (leaves c w x Closed (ends c [] end (quiet f)))
+ended-proceeds w c x end f unclosed there = leaves-proceeds w c x Closed (ends c [] end (quiet f)) (ends-own c [] end (quiet f) refl refl) (λ t n. told-ends w c x.frames x.actor end unclosed (t.used c x there))
+
+-- ---- a step's actions
+
+-- lines of frames are numbered on from here
+abbrev pub AreNumbered : ℕ → ℕ → List TranscriptLine → Type 0
+AreNumbered c n ls = n + frames_of c ls < max_count → (m : ℕ) × (progress_from c (Opened n) ls ≡ Opened m)
+
+pub none-numbered : (c n : ℕ) → AreNumbered c n []
+none-numbered c n less = (n, refl)
+
+said-opened : (c n : ℕ) (ps : List (List ℕ)) → progress_from c (Opened n) (said c ps) ≡ Opened n
+said-opened c n [] = refl
+said-opened c n (p ∷ ps) = ap (λ q. progress_from c q (said c ps)) (either-same (c == c) (Opened n)) ∙ said-opened c n ps
+
+module _ (lines : List TranscriptLine) (c frames : ℕ) (behind : List TranscriptLine) (ps : List (List ℕ)) (opened : progress c lines ≡ Opened frames) (numbered : AreNumbered c frames behind) where
+  said-told : progress c (lines ++ said c ps) ≡ Opened frames
+  said-told = progress-append c lines (said c ps) ∙ ap (λ p. progress_from c p (said c ps)) opened ∙ said-opened c frames ps
+
+  -- it closes, behind these frames
+  closed-told : (end : SomeEnd) → frames_of c (lines ++ ((said c ps ++ behind) ++ Close c end ∷ [])) < max_count → IsTold (lines ++ ((said c ps ++ behind) ++ Close c end ∷ [])) c frames Closed
+  closed-told end less =
+      let count = told-count lines c frames opened in
+      let all = frames_of-append c lines ((said c ps ++ behind) ++ Close c end ∷ []) in
+      let front = frames_of-append c (said c ps ++ behind) (Close c end ∷ []) in
+      let packets = frames_of-append c (said c ps) behind in
+      let m = numbered (omega (arith, count, all, front, packets, less)) in
+      let at : progress c ((lines ++ said c ps) ++ behind) ≡ Opened m.0 = progress-append c (lines ++ said c ps) behind ∙ ap (λ p. progress_from c p behind) said-told ∙ m.1 in
+      let more = frames_of-append c (lines ++ said c ps) behind in
+      let first = frames_of-append c lines (said c ps) in
+      subst (λ l. IsTold l c frames Closed) (append_assoc (lines ++ said c ps) behind (Close c end ∷ []) ∙ append_assoc lines (said c ps) (behind ++ Close c end ∷ []) ∙ ap (λ l. lines ++ l) (sym (append_assoc (said c ps) behind (Close c end ∷ []))))
+      (ends-told ((lines ++ said c ps) ++ behind) c frames end (ap closes at) (omega (arith, count, more, first)))
+
+  tail-told : (kind : Option UpdateKind) (f : Option Flight) (t : Tail) (next : Core) → is_closing t ≡ is_shut next.stage → frames_of c (lines ++ (tail_outcome c kind behind f (said c ps) t).lines) < max_count
+      → IsTold (lines ++ (tail_outcome c kind behind f (said c ps) t).lines) c frames (behind_step next)
+  tail-told kind f Rests next e less = subst (λ b. IsTold (lines ++ said c ps) c frames (if b then Closed else Connection next)) e (sym e, said-told)
+  tail-told kind f (Asks a) next e less = subst (λ b. IsTold (lines ++ said c ps) c frames (if b then Closed else Connection next)) e (sym e, said-told)
+  tail-told kind f (Closes why) next e less = subst (λ b. IsTold (lines ++ ((said c ps ++ behind) ++ Close c (ended.Cause why) ∷ [])) c frames (if b then Closed else Connection next)) e (closed-told (ended.Cause why) less)
+
+-- it is handed something
+pub handed-proceeds : (w w' : World) (c : ℕ) (behind : List TranscriptLine) (i : Input) → (hd : Handed c behind w i w') → list_all (is_own c) behind ≡ true → AreNumbered c hd.conn.frames behind → Proceeds w w'
+handed-proceeds w w' c behind i hd own numbered =
+    proceeds-to w (leaves c w hd.conn (behind_step hd.next) o) w' hd.result
+    (leaves-proceeds w c hd.conn (behind_step hd.next) o (acts-own c kind behind hd.out (quiet hd.conn.flight) own refl) now)
+  where
+    kind : Option UpdateKind
+    kind = kind_asked c (Connection hd.next)
+
+    o : StepOutcome
+    o = acts_all c (kind_asked c (Connection hd.next)) behind hd.conn.flight hd.out
+
+    now : IsTidy w → AreCounted (w.lines ++ (acts_all c (kind_asked c (Connection hd.next)) behind hd.conn.flight hd.out).lines) → IsTold (w.lines ++ (acts_all c (kind_asked c (Connection hd.next)) behind hd.conn.flight hd.out).lines) c hd.conn.frames (behind_step hd.next)
+    now t n =
+        let told : IsTold w.lines c hd.conn.frames (Connection hd.core) = subst (IsTold w.lines c hd.conn.frames) hd.serving (t.used c hd.conn hd.found) in
+        let end = steps_end_well hd.core hd.next i w.clock hd.out told.0 hd.stepped in
+        let parts = split hd.out end.well in
+        let is = split-outcome c (kind_asked c (Connection hd.next)) behind hd.conn.flight hd.out parts in
+        subst (λ (q : StepOutcome). IsTold (w.lines ++ q.lines) c hd.conn.frames (behind_step hd.next)) (sym is)
+        (tail-told w.lines c hd.conn.frames behind parts.packets told.1 numbered (kind_asked c (Connection hd.next)) hd.conn.flight parts.tail hd.next (sym (split-closes hd.out parts) ∙ end.closes)
+        (subst (λ (q : StepOutcome). frames_of c (w.lines ++ q.lines) < max_count) is (n.frames c)))

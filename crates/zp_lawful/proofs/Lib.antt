@@ -1,0 +1,10 @@
+pub mod Progress
+pub mod Meaning
+pub mod Tidy
+pub mod Handing
+pub mod Arriving
+pub mod Delivering
+pub mod Restarting
+pub mod Running
+pub mod Formed
+pub mod Verdict

@@ -1,0 +1,127 @@
+-- Worlds whose lines agree with what they know of each number, and what happens so that they do again.
+use Rattle.std.proofs.Common.{◌≡◌, ◌≢◌, ◌≤◌, ℕ, List, [], ◌++◌, refl, sym, ap, ◌∙◌, subst, append_assoc, append-nil, arith, false, inl, inr}
+use Rattle.std.specs.Prelude.{Some, None, ◌⊎◌}
+use Rattle.std.specs.FinMap.{get}
+use Rattle.zk_legal.specs.Formed.{frames_of}
+use Rattle.zk_model.specs.Limits.{max_moment}
+use Rattle.zk_transcript.specs.declared.transcript.TranscriptLine.{TranscriptLine}
+use Rattle.zp_happen.specs.Worlds.{Actor, Closed, Conn, Connection, Reaper, World, conn_at, with_conn}
+use Rattle.zp_lawful.proofs.Meaning.{shows-as}
+use Rattle.zp_lawful.proofs.Progress.{AreAside, Broken, Opened, Unused, frames_of-append, progress, progress-aside}
+use Rattle.zp_lawful.specs.Lawful.{AreCounted}
+use Rattle.zp_step.specs.Stages.{is_shut}
+use Rattle.zp_whole.proofs.Numbers.{conn-here, conn-there, either-number}
+use Rattle.zx_base.proofs.Options.{none_some, some_is}
+
+-- an open connection has so many lines of frames; a reaper at work has none of its own; and of one that has ended none is broken
+abbrev pub IsTold : List TranscriptLine → ℕ → ℕ → Actor → Type 0
+IsTold lines c frames (Connection core) = (is_shut core.stage ≡ false) × (progress c lines ≡ Opened frames)
+IsTold lines c frames (Reaper reap) = (progress c lines ≡ Unused) × (frames ≡ 0)
+IsTold lines c frames Closed = (progress c lines ≡ Broken → ⊥) × (frames ≤ frames_of c lines)
+
+pub record IsTidy (w : World) : Type 0 where
+  pub used : (c : ℕ) (x : Conn) → conn_at c w ≡ Some x → IsTold w.lines c x.frames x.actor
+  pub unused : (c : ℕ) → conn_at c w ≡ None → progress c w.lines ≡ Unused
+
+-- ---- on from a world: lines are added, and the clock stays within its limit
+
+pub record Proceeds (w w' : World) : Type 0 where
+  pub more : List TranscriptLine
+  pub lines : w'.lines ≡ w.lines ++ more
+  pub clock : w.clock ≤ max_moment → w'.clock ≤ max_moment
+  pub tidy : IsTidy w → AreCounted w'.lines → IsTidy w'
+
+counted-front : (xs ys : List TranscriptLine) → AreCounted (xs ++ ys) → AreCounted xs
+counted-front xs ys n = record { frames = λ c. let b = n.frames c in omega (arith, b, frames_of-append c xs ys) }
+
+pub counted-before : (w w' : World) → Proceeds w w' → AreCounted w'.lines → AreCounted w.lines
+counted-before w w' p n = counted-front w.lines p.more (subst AreCounted p.lines n)
+
+pub proceeds-then : (u v w : World) → Proceeds u v → Proceeds v w → Proceeds u w
+proceeds-then u v w a b = record {
+  more = a.more ++ b.more;
+  lines = b.lines ∙ ap (λ l. l ++ b.more) a.lines ∙ append_assoc u.lines a.more b.more;
+  clock = λ le. b.clock (a.clock le);
+  tidy = λ t n. b.tidy (a.tidy t (counted-before v w b n)) n;
+}
+
+pub proceeds-same : (w w' : World) → w' ≡ w → Proceeds w w'
+proceeds-same w w' e = record {
+  more = [];
+  lines = ap (λ (v : World). v.lines) e ∙ sym (append-nil w.lines);
+  clock = λ le. subst (λ (v : World). v.clock ≤ max_moment) (sym e) le;
+  tidy = λ t n. subst IsTidy (sym e) t;
+}
+
+pub proceeds-to : (w v w' : World) → w' ≡ v → Proceeds w v → Proceeds w w'
+proceeds-to w v w' e p = subst (Proceeds w) (sym e) p
+
+-- ---- lines that are aside
+
+pub told-aside : (lines more : List TranscriptLine) (c frames : ℕ) (a : Actor) → AreAside c more → IsTold lines c frames a → IsTold (lines ++ more) c frames a
+told-aside lines more c frames (Connection core) h t = (t.0, progress-aside c lines more h ∙ t.1)
+told-aside lines more c frames (Reaper reap) h t = (progress-aside c lines more h ∙ t.0, t.1)
+told-aside lines more c frames Closed h t = (λ e. t.0 (sym (progress-aside c lines more h) ∙ e), let le = t.1 in omega (arith, le, frames_of-append c lines more))
+
+-- an open connection has as many frames as lines of them
+pub told-count : (lines : List TranscriptLine) (c frames : ℕ) → progress c lines ≡ Opened frames → frames_of c lines ≡ frames
+told-count lines c frames e = (shows-as c lines (Opened frames) e).count
+
+-- ---- one number changes
+
+pub record ChangesOne (w w' : World) (c : ℕ) (v : Conn) (more : List TranscriptLine) : Type 0 where
+  pub lines : w'.lines ≡ w.lines ++ more
+  pub clock : w'.clock ≡ w.clock
+  pub there : conn_at c w' ≡ Some v
+  pub others : (d : ℕ) → d ≢ c → conn_at d w' ≡ conn_at d w
+  pub aside : (d : ℕ) → d ≢ c → AreAside d more
+
+module _ (w w' : World) (c : ℕ) (v : Conn) (more : List TranscriptLine) (s : ChangesOne w w' c v more) (t : IsTidy w) (now : IsTold w'.lines c v.frames v.actor) where
+  one-used : (d : ℕ) (x : Conn) → conn_at d w' ≡ Some x → (d ≡ c) ⊎ (d ≢ c) → IsTold w'.lines d x.frames x.actor
+  one-used d x e (inl same) =
+      let is : v ≡ x = some_is (sym s.there ∙ ap (λ k. conn_at k w') (sym same) ∙ e) in
+      subst (λ k. IsTold w'.lines k x.frames x.actor) (sym same) (subst (λ (u : Conn). IsTold w'.lines c u.frames u.actor) is now)
+  one-used d x e (inr apart) =
+      subst (λ l. IsTold l d x.frames x.actor) (sym s.lines)
+      (told-aside w.lines more d x.frames x.actor (s.aside d apart) (t.used d x (sym (s.others d apart) ∙ e)))
+
+  one-unused : (d : ℕ) → conn_at d w' ≡ None → (d ≡ c) ⊎ (d ≢ c) → progress d w'.lines ≡ Unused
+  one-unused d e (inl same) = absurd (none_some (sym e ∙ ap (λ k. conn_at k w') same ∙ s.there))
+  one-unused d e (inr apart) = ap (progress d) s.lines ∙ progress-aside d w.lines more (s.aside d apart) ∙ t.unused d (sym (s.others d apart) ∙ e)
+
+  one-tidy : IsTidy w'
+  one-tidy = record { used = λ d x e. one-used d x e (either-number d c); unused = λ d e. one-unused d e (either-number d c) }
+
+pub one-proceeds : (w w' : World) (c : ℕ) (v : Conn) (more : List TranscriptLine) → ChangesOne w w' c v more → (IsTidy w → AreCounted w'.lines → IsTold w'.lines c v.frames v.actor) → Proceeds w w'
+one-proceeds w w' c v more s now = record {
+  more = more;
+  lines = s.lines;
+  clock = λ le. (let same = s.clock in omega (arith, same, le));
+  tidy = λ t n. one-tidy w w' c v more s t (now t n);
+}
+
+-- the same, of a connection that is put into the world
+pub with-changes : (w : World) (c : ℕ) (v : Conn) → ChangesOne w (with_conn w c v) c v []
+with-changes w c v = record { lines = sym (append-nil w.lines); clock = refl; there = conn-here w c v; others = λ d apart. conn-there w c d v apart; aside = λ d apart p. refl }
+
+-- it is the same actor with as many frames
+pub alike-proceeds : (w : World) (c : ℕ) (x v : Conn) → conn_at c w ≡ Some x → v.frames ≡ x.frames → v.actor ≡ x.actor → Proceeds w (with_conn w c v)
+alike-proceeds w c x v there frames actor =
+    one-proceeds w (with_conn w c v) c v [] (with-changes w c v)
+    (λ t n. subst (λ a. IsTold w.lines c v.frames a) (sym actor) (subst (λ m. IsTold w.lines c m x.actor) (sym frames) (t.used c x there)))
+
+-- ---- no number changes
+
+pub others-proceed : (w w' : World) (more : List TranscriptLine) → w'.conns ≡ w.conns → w'.clock ≡ w.clock → w'.lines ≡ w.lines ++ more → ((c : ℕ) → AreAside c more) → Proceeds w w'
+others-proceed w w' more conns clock lines aside = record {
+  more = more;
+  lines = lines;
+  clock = λ le. omega (arith, clock, le);
+  tidy = λ t n. record {
+    used = λ c x e. subst (λ l. IsTold l c x.frames x.actor) (sym lines) (told-aside w.lines more c x.frames x.actor (aside c) (t.used c x (sym (same c) ∙ e)));
+    unused = λ c e. ap (progress c) lines ∙ progress-aside c w.lines more (aside c) ∙ t.unused c (sym (same c) ∙ e);
+  };
+}
+  where
+    same : (c : ℕ) → conn_at c w' ≡ conn_at c w
+    same c = ap (λ m. get m c) conns
