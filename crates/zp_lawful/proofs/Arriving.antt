@@ -7,7 +7,6 @@ use Rattle.std.specs.Prelude.{All, MatchBool, Option, Some, None, if◌then◌el
 use Rattle.zk_legal.specs.Formed.{frames_of}
 use Rattle.zk_model.specs.Limits.{max_frame}
 use Rattle.zk_transcript.specs.declared.transcript.TranscriptLine.TheVariants.{Frame as FrameLine}
-use Rattle.zk_transcript.specs.declared.transcript.TranscriptLine.{TranscriptLine}
 use Rattle.zp_happen.specs.Arriving.{Arrives, EndsBadly, FramesArrive, frame_lines, shown_frame}
 use Rattle.zp_happen.specs.Handing.{Handed}
 use Rattle.zp_happen.specs.Worlds.{Conn, Connection, World, conn_at, is_open_conn, with_conn, zxid_at}
@@ -66,7 +65,6 @@ shown-changes w c x bytes = record {
 
 shown-told : (w : World) (c : ℕ) (x : Conn) (core : Core) (bytes : List ℕ) → length bytes ≤ max_frame → IsTold w.lines c x.frames (Connection core) → AreCounted (shown_frame c w x bytes).lines → IsTold (shown_frame c w x bytes).lines c (counted_up (x.frames + 1)) (Connection core)
 shown-told w c x core bytes small told n =
-    let l : TranscriptLine = FrameLine c x.frames (zxid_at w.store) bytes in
     let one : frames_of c (FrameLine c x.frames (zxid_at w.store) bytes ∷ []) ≡ 0 + 1 = ap (λ b. if b then 0 + 1 else 0) (same-nat c) in
     let all = frames_of-append c w.lines (FrameLine c x.frames (zxid_at w.store) bytes ∷ []) in
     let count = told-count w.lines c x.frames told.1 in

@@ -106,12 +106,10 @@ reap-told w c frames kind f r next (reaped.Gone z) over t = subst (λ p. IsTold 
 
 pub reaps-proceed : (w w' : World) (c : ℕ) (x : Conn) (r : Reap) (a : Option Answer) → (IsTidy w → IsTold w.lines c x.frames (Reaper r)) → Reaps c w a w' x r → Proceeds w w'
 reaps-proceed w w' c x r a was (inl e) =
-    let why = ended.Cause (cause.Damaged e.key e.value) in
     proceeds-to w (leaves c w x Closed (ended_by c (cause.Damaged e.key e.value) x.flight)) w' e.result
     (leaves-proceeds w c x Closed (ended_by c (cause.Damaged e.key e.value) x.flight) (ends-own c [] (ended.Cause (cause.Damaged e.key e.value)) (quiet x.flight) refl refl)
     (λ t n. told-ends w c x.frames (Reaper r) (ended.Cause (cause.Damaged e.key e.value)) (λ f. cc) (was t)))
 reaps-proceed w w' c x r a was (inr s) =
-    let kind = kind_asked c (Reaper s.next) in
     proceeds-to w (leaves c w x (behind_reap s.next) (reap_acts c (kind_asked c (Reaper s.next)) x.flight s.step)) w' s.result
     (leaves-proceeds w c x (behind_reap s.next) (reap_acts c (kind_asked c (Reaper s.next)) x.flight s.step) (reap-own c (kind_asked c (Reaper s.next)) x.flight s.step)
     (λ t n. reap-told w c x.frames (kind_asked c (Reaper s.next)) x.flight r s.next s.step (step-waits (s.next).phase s.step r a (s.stepped).moves) (was t)))

@@ -188,7 +188,10 @@ split-at [] k x h = absurd (cc)
 split-at (y ∷ xs) zero x h = let same : y ≡ x = cc in ap (λ z. z ∷ xs) same
 split-at (y ∷ xs) (suc k) x h = ap (λ zs. y ∷ zs) (split-at xs k x h)
 
-first-history : is_history_line [] nothing_yet (Update (record { zxid = pos 2; kind = Begin 0 })) ≡ true
+abbrev first_update : UpdateRec
+first_update = record { zxid = pos 2; kind = Begin 0 }
+
+first-history : is_history_line [] nothing_yet (Update first_update) ≡ true
 unfolding is_history_line is_formed_line may_update
 first-history = refl
 
@@ -206,7 +209,7 @@ pub record IsUnbrokenRun (lines : List TranscriptLine) : Type 0 where
   pub clocks : (k c i now : ℕ) (z : ℤ) → slice_get lines k ≡ Some (Update (record { zxid = z; kind = Asked c i now })) → now ≤ max_moment
 
 module _ (lines : List TranscriptLine) (r : IsUnbrokenRun lines) where
-  first-at : slice_get lines 0 ≡ Some (Update (record { zxid = pos 2; kind = Begin 0 }))
+  first-at : slice_get lines 0 ≡ Some (Update first_update)
   first-at = ap (λ l. slice_get l 0) r.begins
 
   begun-at : (k : ℕ) → 1 ≤ (after (take (suc k) lines)).updates
@@ -220,17 +223,19 @@ module _ (lines : List TranscriptLine) (r : IsUnbrokenRun lines) where
 
   line-at : (k : ℕ) (l : TranscriptLine) → slice_get lines k ≡ Some l → is_history_line (take k lines) (after (take k lines)) l ≡ true
   line-at zero l at =
-      let same : Update (record { zxid = pos 2; kind = Begin 0 }) ≡ l = some_is (sym first-at ∙ at) in
-      subst (λ x. is_history_line [] (after []) x ≡ true) same (subst (λ s. is_history_line [] s (Update (record { zxid = pos 2; kind = Begin 0 })) ≡ true) (sym after-none) first-history)
+      let same : Update first_update ≡ l = some_is (sym first-at ∙ at) in
+      subst (λ x. is_history_line [] (after []) x ≡ true) same (subst (λ s. is_history_line [] s (Update first_update) ≡ true) (sym after-none) first-history)
   line-at (suc k) l at =
-      let before = take (suc k) lines in
-      let s = after (take (suc k) lines) in
-      let legal = is_legal-at lines (suc k) l r.legal at in
-      history-line (take (suc k) lines) (after (take (suc k) lines)) l
-      (formed-line (take (suc k) lines) (after (take (suc k) lines)) l (λ c. unbroken-before (suc k) c l at) (λ c. unbroken-here (suc k) c l at) (begun-at k) (λ c i z bytes e. r.fresh (suc k) c i z bytes (at ∙ ap (λ x. Some x) e)) legal)
-      (begun-line (after (take (suc k) lines)) l (begun-at k))
-      (range-line (take (suc k) lines) (after (take (suc k) lines)) l (begun-at k) legal (λ u e. zxids-rise lines 0 (suc k) (record { zxid = pos 2; kind = Begin 0 }) u r.legal (omega arith) first-at (at ∙ ap (λ x. Some x) e))
-      (λ c i now z e. r.clocks (suc k) c i now z (at ∙ ap (λ x. Some x) e)))
+      let before : List TranscriptLine = take (suc k) lines in
+      let s : State = after (take (suc k) lines) in
+      let legal : is_legal_line before s l ≡ true = is_legal-at lines (suc k) l r.legal at in
+      let same_line : (x : TranscriptLine) → l ≡ x → slice_get lines (suc k) ≡ Some x = λ x e. at ∙ ap (λ y. Some y) e in
+      let last : (c i : ℕ) (z : ℤ) (bytes : List ℕ) → l ≡ FrameLine c i z bytes → z ≡ s.zxid = λ c i z bytes e. r.fresh (suc k) c i z bytes (same_line (FrameLine c i z bytes) e) in
+      let above : (u : UpdateRec) → l ≡ Update u → pos 2 <ℤ u.zxid = λ u e. zxids-rise lines 0 (suc k) first_update u r.legal (omega arith) first-at (same_line (Update u) e) in
+      history-line before s l
+      (formed-line before s l (λ c. unbroken-before (suc k) c l at) (λ c. unbroken-here (suc k) c l at) (begun-at k) last legal)
+      (begun-line s l (begun-at k))
+      (range-line before s l (begun-at k) legal above (λ c i now z e. r.clocks (suc k) c i now z (same_line _ e)))
       legal
 
 -- ---- no line is at fault

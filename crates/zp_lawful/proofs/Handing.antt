@@ -1,5 +1,5 @@
 -- What a step leaves of a connection: packets, and its end, or neither.
-use Rattle.std.proofs.Common.{◌≡◌, ◌≤◌, ◌<◌, ℕ, ◌+◌, List, [], ◌∷◌, ◌++◌, refl, sym, ap, ◌∙◌, subst, append_assoc, arith, Bool, true, false}
+use Rattle.std.proofs.Common.{◌≡◌, ◌≤◌, ◌<◌, ℕ, ◌+◌, List, [], ◌∷◌, ◌++◌, refl, sym, ap, ◌∙◌, subst, append_assoc, arith, true}
 use Rattle.std.specs.List.{list_all}
 use Rattle.std.specs.Prelude.{Option, Some, if◌then◌else◌, ◌==◌}
 use Rattle.zk_legal.specs.Formed.{frames_of}
@@ -13,7 +13,7 @@ use Rattle.zp_happen.specs.Kinds.{kind_asked}
 use Rattle.zp_happen.specs.StepOutcomes.{StepOutcome, acts_all, ends, leaves, quiet}
 use Rattle.zp_happen.specs.Worlds.{Actor, Closed, Conn, Connection, Reaper, World, behind_step, conn_at}
 use Rattle.zp_happen.specs.declared.flight.Flight.{Flight}
-use Rattle.zp_lawful.proofs.Progress.{Broken, Ended, Opened, Progress, closes, frames_of-append, progress, progress-append, progress_from, unnamed-aside}
+use Rattle.zp_lawful.proofs.Progress.{Broken, Ended, Opened, Progress, closes, either-same, frames_of-append, progress, progress-append, progress_from, unnamed-aside}
 use Rattle.zp_lawful.proofs.Tidy.{ChangesOne, IsTidy, IsTold, Proceeds, one-proceeds, proceeds-to, told-count}
 use Rattle.zp_lawful.specs.Lawful.{AreCounted}
 use Rattle.zp_laws.proofs.Ending.{steps_end_well}
@@ -40,12 +40,8 @@ leaves-proceeds w c x actor o own now = one-proceeds w (leaves c w x actor o) c 
 
 -- ---- its end
 
-either-same : (b : Bool) (p : Progress) → (if b then p else p) ≡ p
-either-same true p = refl
-either-same false p = refl
-
 -- an end line of its own
-pub closes-own : (c : ℕ) (end : SomeEnd) (p : Progress) → progress_from c p (Close c end ∷ []) ≡ closes p
+closes-own : (c : ℕ) (end : SomeEnd) (p : Progress) → progress_from c p (Close c end ∷ []) ≡ closes p
 closes-own c end p = ap (λ b. if b then closes p else p) (same-nat c)
 
 ended-unbroken : (lines : List TranscriptLine) (c : ℕ) → progress c lines ≡ Ended → progress c lines ≡ Broken → ⊥
@@ -55,7 +51,7 @@ ended-unbroken lines c e f = apart (sym e ∙ f)
     apart g = cc
 
 -- of a reaper, or of a connection that is open
-pub ends-told : (lines : List TranscriptLine) (c frames : ℕ) (end : SomeEnd) → closes (progress c lines) ≡ Ended → frames ≤ frames_of c lines → IsTold (lines ++ Close c end ∷ []) c frames Closed
+ends-told : (lines : List TranscriptLine) (c frames : ℕ) (end : SomeEnd) → closes (progress c lines) ≡ Ended → frames ≤ frames_of c lines → IsTold (lines ++ Close c end ∷ []) c frames Closed
 ends-told lines c frames end e le = (
   ended-unbroken (lines ++ Close c end ∷ []) c (progress-append c lines (Close c end ∷ []) ∙ closes-own c end (progress c lines) ∙ e),
   (let more = frames_of-append c lines (Close c end ∷ []) in omega (arith, le, more)),

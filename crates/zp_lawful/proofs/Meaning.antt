@@ -49,7 +49,7 @@ still-opened : (c : ℕ) (lines : List TranscriptLine) (l : TranscriptLine) → 
 still-opened c lines l (o, is) = (o, first_shown-push (open_shown c) lines (l ∷ []) o is)
 
 module _ (c : ℕ) (lines : List TranscriptLine) (l : TranscriptLine) (open_none : open_shown c l ≡ None) (close_none : close_shown c l ≡ None) (frame_none : (i : ℕ) → frame_shown c i l ≡ None) (uncounted : is_frame_of c l ≡ false) where
-  pub shows-skip : (p : Progress) → Shows lines c p → Shows (lines ++ l ∷ []) c p
+  shows-skip : (p : Progress) → Shows lines c p → Shows (lines ++ l ∷ []) c p
   shows-skip Unused s = record {
     unopened = first_shown-skip (open_shown c) lines l open_none ∙ s.unopened;
     unclosed = first_shown-skip (close_shown c) lines l close_none ∙ s.unclosed;

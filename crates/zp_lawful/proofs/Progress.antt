@@ -57,7 +57,7 @@ progress c lines = progress_from c Unused lines
 
 -- ---- lines behind lines
 
-pub progress_from-append : (c : ℕ) (p : Progress) (xs ys : List TranscriptLine) → progress_from c p (xs ++ ys) ≡ progress_from c (progress_from c p xs) ys
+progress_from-append : (c : ℕ) (p : Progress) (xs ys : List TranscriptLine) → progress_from c p (xs ++ ys) ≡ progress_from c (progress_from c p xs) ys
 progress_from-append c p [] ys = refl
 progress_from-append c p (x ∷ xs) ys = progress_from-append c (progressed c p x) xs ys
 
@@ -66,7 +66,7 @@ progress-append c xs ys = progress_from-append c Unused xs ys
 
 -- ---- what is broken stays so
 
-either-same : (b : Bool) (p : Progress) → (if b then p else p) ≡ p
+pub either-same : (b : Bool) (p : Progress) → (if b then p else p) ≡ p
 either-same true p = refl
 either-same false p = refl
 
@@ -78,7 +78,7 @@ broken-line c (Close d end) = either-same (c == d) Broken
 broken-line c (Update u) = refl
 broken-line c (Lapse revision id) = refl
 
-pub broken-stays : (c : ℕ) (ls : List TranscriptLine) → progress_from c Broken ls ≡ Broken
+broken-stays : (c : ℕ) (ls : List TranscriptLine) → progress_from c Broken ls ≡ Broken
 broken-stays c [] = refl
 broken-stays c (l ∷ ls) = ap (λ p. progress_from c p ls) (broken-line c l) ∙ broken-stays c ls
 

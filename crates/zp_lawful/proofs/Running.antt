@@ -20,14 +20,14 @@ use Rattle.zp_happen.specs.Faults.{fault, flight_at}
 use Rattle.zp_happen.specs.Handing.{landed}
 use Rattle.zp_happen.specs.Happens.{Effect, Happens, Settles, max_settling, settling}
 use Rattle.zp_happen.specs.Runs.{Runs, RunsFrom, tick_of, world_over}
-use Rattle.zp_happen.specs.Worlds.{Actor, Closed, Connection, Reaper, World, conn_at}
+use Rattle.zp_happen.specs.Worlds.{Actor, Closed, Conn, Connection, Reaper, World, conn_at}
 use Rattle.zp_lawful.proofs.Arriving.{arrives-proceeds}
 use Rattle.zp_lawful.proofs.Delivering.{delivers-proceed, ends-proceed, enters-proceed, exec-proceeds, failure-proceeds, lags-proceed, landed-proceeds, reaps-proceed, stray-proceeds}
 use Rattle.zp_lawful.proofs.Progress.{Opened, Unused, opens, progress-append, progress_from}
 use Rattle.zp_lawful.proofs.Restarting.{restart-proceeds}
 use Rattle.zp_lawful.proofs.Tidy.{ChangesOne, IsTidy, IsTold, Proceeds, one-proceeds, others-proceed, proceeds-same, proceeds-then, proceeds-to, told-count}
 use Rattle.zp_lawful.specs.Lawful.{AreCounted, FewLinesAreCounted, LinesCountFrames}
-use Rattle.zp_step.specs.Stages.{Core, new_core}
+use Rattle.zp_step.specs.Stages.{new_core}
 use Rattle.zp_whole.proofs.Executing.{same-nat}
 use Rattle.zp_whole.proofs.Happenings.{passes}
 use Rattle.zp_whole.proofs.Numbers.{conn-here, conn-there, other-number}
@@ -40,19 +40,19 @@ use Rattle.zx_base.proofs.Options.{none_some, some_is}
 -- ---- a number is taken
 
 module _ (w : World) (c p : ℕ) (id : ℤ) (passwd : List ℕ) (free : conn_at c w ≡ None) where
-  core : Core
-  core = new_core (record { id = id; passwd = passwd })
+  abbrev opened_conn : Conn
+  opened_conn = new_conn p (Connection (new_core (record { id = id; passwd = passwd })))
 
-  open-changes : ChangesOne w (opened w c p id passwd) c (new_conn p (Connection (new_core (record { id = id; passwd = passwd })))) (Open c p id passwd ∷ [])
+  open-changes : ChangesOne w (opened w c p id passwd) c opened_conn (Open c p id passwd ∷ [])
   open-changes = record {
     lines = refl;
     clock = refl;
-    there = conn-here w c (new_conn p (Connection (new_core (record { id = id; passwd = passwd }))));
-    others = λ d apart. conn-there w c d (new_conn p (Connection (new_core (record { id = id; passwd = passwd })))) apart;
+    there = conn-here w c opened_conn;
+    others = λ d apart. conn-there w c d opened_conn apart;
     aside = λ d apart q. ap (λ b. if b then opens q else q) (other-number d c apart);
   }
 
-  open-told : IsTidy w → IsTold (w.lines ++ Open c p id passwd ∷ []) c 0 (Connection (new_core (record { id = id; passwd = passwd })))
+  open-told : IsTidy w → IsTold (w.lines ++ Open c p id passwd ∷ []) c opened_conn.frames opened_conn.actor
   open-told t = (
     refl,
     progress-append c w.lines (Open c p id passwd ∷ [])
@@ -60,8 +60,8 @@ module _ (w : World) (c p : ℕ) (id : ℤ) (passwd : List ℕ) (free : conn_at 
         ∙ ap (λ b. if b then Opened 0 else Unused) (same-nat c),
   )
 
-  pub open-proceeds : Proceeds w (opened w c p id passwd)
-  open-proceeds = one-proceeds w (opened w c p id passwd) c (new_conn p (Connection (new_core (record { id = id; passwd = passwd })))) (Open c p id passwd ∷ []) open-changes (λ t n. open-told t)
+  open-proceeds : Proceeds w (opened w c p id passwd)
+  open-proceeds = one-proceeds w (opened w c p id passwd) c opened_conn (Open c p id passwd ∷ []) open-changes (λ t n. open-told t)
 
 -- ---- the store changes by itself
 

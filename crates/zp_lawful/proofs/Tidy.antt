@@ -34,7 +34,7 @@ pub record Proceeds (w w' : World) : Type 0 where
 counted-front : (xs ys : List TranscriptLine) → AreCounted (xs ++ ys) → AreCounted xs
 counted-front xs ys n = record { frames = λ c. let b = n.frames c in omega (arith, b, frames_of-append c xs ys) }
 
-pub counted-before : (w w' : World) → Proceeds w w' → AreCounted w'.lines → AreCounted w.lines
+counted-before : (w w' : World) → Proceeds w w' → AreCounted w'.lines → AreCounted w.lines
 counted-before w w' p n = counted-front w.lines p.more (subst AreCounted p.lines n)
 
 pub proceeds-then : (u v w : World) → Proceeds u v → Proceeds v w → Proceeds u w
@@ -101,7 +101,7 @@ one-proceeds w w' c v more s now = record {
 }
 
 -- the same, of a connection that is put into the world
-pub with-changes : (w : World) (c : ℕ) (v : Conn) → ChangesOne w (with_conn w c v) c v []
+with-changes : (w : World) (c : ℕ) (v : Conn) → ChangesOne w (with_conn w c v) c v []
 with-changes w c v = record { lines = sym (append-nil w.lines); clock = refl; there = conn-here w c v; others = λ d apart. conn-there w c d v apart; aside = λ d apart p. refl }
 
 -- it is the same actor with as many frames
