@@ -10,9 +10,9 @@ use Rattle.zk_transcript.specs.declared.transcript.TranscriptLine.TheVariants.{F
 use Rattle.zp_happen.specs.Arriving.{Arrives, EndsBadly, FramesArrive, frame_lines, shown_frame}
 use Rattle.zp_happen.specs.Handing.{Handed}
 use Rattle.zp_happen.specs.Worlds.{Conn, Connection, World, conn_at, is_open_conn, with_conn, zxid_at}
-use Rattle.zp_lawful.proofs.Handing.{AreNumbered, handed-proceeds, none-numbered}
+use Rattle.zp_lawful.proofs.Handing.{AreIndexed, handed-proceeds, none-indexed}
 use Rattle.zp_lawful.proofs.Progress.{Broken, Opened, frames_of-append, progress-append, progress_from, takes, unnamed-aside}
-use Rattle.zp_lawful.proofs.Tidy.{ChangesOne, IsTold, Proceeds, alike-proceeds, one-proceeds, proceeds-same, proceeds-then, told-count}
+use Rattle.zp_lawful.proofs.Tidy.{ChangesOne, IsInStep, Proceeds, alike-proceeds, one-proceeds, proceeds-same, proceeds-then, in_step-count}
 use Rattle.zp_lawful.specs.Lawful.{AreCounted}
 use Rattle.zp_laws.proofs.Counting.{counted-small}
 use Rattle.zp_step.specs.Stages.{Core, counted_up}
@@ -39,13 +39,13 @@ own-frames : (c i : ℕ) (z : ℤ) (fs : List (List ℕ)) → list_all (is_own c
 own-frames c i z [] = refl
 own-frames c i z (f ∷ fs) = both-true (c == c) (list_all (is_own c) (frame_lines c (counted_up (i + 1)) z fs)) (same-nat c) (own-frames c (counted_up (i + 1)) z fs)
 
-frames-numbered : (c n : ℕ) (z : ℤ) (fs : List (List ℕ)) → All (λ f. length f ≤ max_frame) fs → AreNumbered c n (frame_lines c n z fs)
-frames-numbered c n z [] small less = (n, refl)
-frames-numbered c n z (f ∷ fs) small less =
+frames-indexed : (c n : ℕ) (z : ℤ) (fs : List (List ℕ)) → All (λ f. length f ≤ max_frame) fs → AreIndexed c n (frame_lines c n z fs)
+frames-indexed c n z [] small less = (n, refl)
+frames-indexed c n z (f ∷ fs) small less =
     let ls = frame_lines c (counted_up (n + 1)) z fs in
     let one : frames_of c (FrameLine c n z f ∷ ls) ≡ frames_of c ls + 1 = ap (λ b. if b then frames_of c ls + 1 else frames_of c ls) (same-nat c) in
     let up : counted_up (n + 1) ≡ n + 1 = counted-small (n + 1) (omega (arith, less, one)) in
-    let later = frames-numbered c (counted_up (n + 1)) z fs (All-tail (λ g. length g ≤ max_frame) f fs small) (omega (arith, less, one, up)) in (
+    let later = frames-indexed c (counted_up (n + 1)) z fs (All-tail (λ g. length g ≤ max_frame) f fs small) (omega (arith, less, one, up)) in (
       later.0,
       ap (λ p. progress_from c p ls) (frame-next c n z f (All-head (λ g. length g ≤ max_frame) f fs small))
           ∙ ap (λ m. progress_from c (Opened m) ls) (sym up)
@@ -63,16 +63,16 @@ shown-changes w c x bytes = record {
   aside = λ d apart. unnamed-aside d (FrameLine c x.frames (zxid_at w.store) bytes ∷ []) (own-unnamed d c (FrameLine c x.frames (zxid_at w.store) bytes ∷ []) apart (one-own c));
 }
 
-shown-told : (w : World) (c : ℕ) (x : Conn) (core : Core) (bytes : List ℕ) → length bytes ≤ max_frame → IsTold w.lines c x.frames (Connection core) → AreCounted (shown_frame c w x bytes).lines → IsTold (shown_frame c w x bytes).lines c (counted_up (x.frames + 1)) (Connection core)
-shown-told w c x core bytes small told n =
+shown-in_step : (w : World) (c : ℕ) (x : Conn) (core : Core) (bytes : List ℕ) → length bytes ≤ max_frame → IsInStep w.lines c x.frames (Connection core) → AreCounted (shown_frame c w x bytes).lines → IsInStep (shown_frame c w x bytes).lines c (counted_up (x.frames + 1)) (Connection core)
+shown-in_step w c x core bytes small in_step n =
     let one : frames_of c (FrameLine c x.frames (zxid_at w.store) bytes ∷ []) ≡ 0 + 1 = ap (λ b. if b then 0 + 1 else 0) (same-nat c) in
     let all = frames_of-append c w.lines (FrameLine c x.frames (zxid_at w.store) bytes ∷ []) in
-    let count = told-count w.lines c x.frames told.1 in
+    let count = in_step-count w.lines c x.frames in_step.1 in
     let less = n.frames c in
     let up : counted_up (x.frames + 1) ≡ x.frames + 1 = counted-small (x.frames + 1) (omega (arith, one, all, count, less)) in (
-      told.0,
+      in_step.0,
       progress-append c w.lines (FrameLine c x.frames (zxid_at w.store) bytes ∷ [])
-          ∙ ap (λ p. progress_from c p (FrameLine c x.frames (zxid_at w.store) bytes ∷ [])) told.1
+          ∙ ap (λ p. progress_from c p (FrameLine c x.frames (zxid_at w.store) bytes ∷ [])) in_step.1
           ∙ frame-next c x.frames (zxid_at w.store) bytes small
           ∙ ap Opened (sym up),
     )
@@ -80,8 +80,8 @@ shown-told w c x core bytes small told n =
 shown-proceeds : (w : World) (c : ℕ) (x : Conn) (core : Core) (bytes : List ℕ) → conn_at c w ≡ Some x → x.actor ≡ Connection core → length bytes ≤ max_frame → Proceeds w (shown_frame c w x bytes)
 shown-proceeds w c x core bytes there actor small =
     one-proceeds w (shown_frame c w x bytes) c (record x { frames = counted_up (x.frames + 1) }) (FrameLine c x.frames (zxid_at w.store) bytes ∷ []) (shown-changes w c x bytes)
-    (λ t n. subst (IsTold (shown_frame c w x bytes).lines c (counted_up (x.frames + 1))) (sym actor)
-    (shown-told w c x core bytes small (subst (IsTold w.lines c x.frames) actor (t.used c x there)) n))
+    (λ t n. subst (IsInStep (shown_frame c w x bytes).lines c (counted_up (x.frames + 1))) (sym actor)
+    (shown-in_step w c x core bytes small (subst (IsInStep w.lines c x.frames) actor (t.used c x there)) n))
 
 -- ---- all of them
 
@@ -95,13 +95,13 @@ frames-proceed c w w' (f ∷ fs) small (x, mid, found, hd, rest) = go (is_open_c
     actor : x.actor ≡ Connection hd.core
     actor = ap (λ (u : Conn). u.actor) is-conn ∙ hd.serving
 
-    numbered : AreNumbered c hd.conn.frames (frame_lines c (counted_up (x.frames + 1)) (zxid_at w.store) fs)
-    numbered = subst (λ (u : Conn). AreNumbered c u.frames (frame_lines c (counted_up (x.frames + 1)) (zxid_at w.store) fs)) is-conn (frames-numbered c (counted_up (x.frames + 1)) (zxid_at w.store) fs (All-tail (λ g. length g ≤ max_frame) f fs small))
+    indexed : AreIndexed c hd.conn.frames (frame_lines c (counted_up (x.frames + 1)) (zxid_at w.store) fs)
+    indexed = subst (λ (u : Conn). AreIndexed c u.frames (frame_lines c (counted_up (x.frames + 1)) (zxid_at w.store) fs)) is-conn (frames-indexed c (counted_up (x.frames + 1)) (zxid_at w.store) fs (All-tail (λ g. length g ≤ max_frame) f fs small))
 
     one_more : Proceeds w mid
     one_more =
         proceeds-then w (shown_frame c w x f) mid (shown-proceeds w c x hd.core f found actor (All-head (λ g. length g ≤ max_frame) f fs small))
-        (handed-proceeds (shown_frame c w x f) mid c (frame_lines c (counted_up (x.frames + 1)) (zxid_at w.store) fs) (input.Frame f) hd (own-frames c (counted_up (x.frames + 1)) (zxid_at w.store) fs) numbered)
+        (handed-proceeds (shown_frame c w x f) mid c (frame_lines c (counted_up (x.frames + 1)) (zxid_at w.store) fs) (input.Frame f) hd (own-frames c (counted_up (x.frames + 1)) (zxid_at w.store) fs) indexed)
 
     go : (b : Bool) → (FramesArrive c mid fs w' → Proceeds mid w') → MatchBool b (FramesArrive c mid fs w') (w' ≡ mid) → Proceeds w w'
     go true later r = proceeds-then w mid w' one_more (later r)
@@ -113,7 +113,7 @@ badly-proceeds c w w' place None h = proceeds-same w w' h
 badly-proceeds c w w' place (Some n) h = go (is_open_conn (conn_at c w)) h
   where
     go : (b : Bool) → MatchBool b (Handed c [] w (input.BadLength place n) w') (w' ≡ w) → Proceeds w w'
-    go true hd = handed-proceeds w w' c [] (input.BadLength place n) hd refl (none-numbered c hd.conn.frames)
+    go true hd = handed-proceeds w w' c [] (input.BadLength place n) hd refl (none-indexed c hd.conn.frames)
     go false e = proceeds-same w w' e
 
 pub arrives-proceeds : (c : ℕ) (w w' : World) (bytes : List ℕ) → Arrives c w bytes w' → Proceeds w w'

@@ -20,8 +20,8 @@ use Rattle.zp_happen.specs.Worlds.{Actor, Closed, Conn, Connection, Reaper, Worl
 use Rattle.zp_happen.specs.declared.flight.Asking.{Asking}
 use Rattle.zp_happen.specs.declared.flight.Flight.TheVariants.{Carried, Denied, Out}
 use Rattle.zp_happen.specs.declared.flight.Flight.{Flight}
-use Rattle.zp_lawful.proofs.Handing.{ended-proceeds, handed-proceeds, leaves-proceeds, none-numbered, told-ends}
-use Rattle.zp_lawful.proofs.Tidy.{IsTidy, IsTold, Proceeds, alike-proceeds, others-proceed, proceeds-same, proceeds-then, proceeds-to, told-aside}
+use Rattle.zp_lawful.proofs.Handing.{ended-proceeds, handed-proceeds, leaves-proceeds, none-indexed, in_step-ends}
+use Rattle.zp_lawful.proofs.Tidy.{IsTidy, IsInStep, Proceeds, alike-proceeds, others-proceed, proceeds-same, proceeds-then, proceeds-to, in_step-aside}
 use Rattle.zp_step.specs.declared.input.Input.TheVariants as input
 use Rattle.zp_whole.proofs.Acting.{ends-own, is_own}
 use Rattle.zs_reap.proofs.Waiting.{step-waits}
@@ -98,21 +98,21 @@ reap-own c kind f (reaped.Reaped z) = ends-own c [] (ended.Reaped z) (quiet f) r
 reap-own c kind f (reaped.Kept z) = ends-own c [] (ended.Kept z) (quiet f) refl refl
 reap-own c kind f (reaped.Gone z) = ends-own c [] (ended.Gone z) (quiet f) refl refl
 
-reap-told : (w : World) (c frames : ℕ) (kind : Option UpdateKind) (f : Option Flight) (r next : Reap) (step : ReapStep) → IsWaiting step next.phase → IsTold w.lines c frames (Reaper r) → IsTold (w.lines ++ (reap_acts c kind f step).lines) c frames (behind_reap next)
-reap-told w c frames kind f r next (reaped.Ask a) waits t = subst (λ b. IsTold (w.lines ++ []) c frames (if b then Closed else Reaper next)) (sym (asked-open next.phase waits.0)) (told-aside w.lines [] c frames (Reaper next) (λ p. refl) t)
-reap-told w c frames kind f r next (reaped.Reaped z) over t = subst (λ p. IsTold (w.lines ++ (reap_acts c kind f (reaped.Reaped z)).lines) c frames (if is_over p then Closed else Reaper next)) (sym over) (told-ends w c frames (Reaper r) (ended.Reaped z) (λ e. cc) t)
-reap-told w c frames kind f r next (reaped.Kept z) over t = subst (λ p. IsTold (w.lines ++ (reap_acts c kind f (reaped.Kept z)).lines) c frames (if is_over p then Closed else Reaper next)) (sym over) (told-ends w c frames (Reaper r) (ended.Kept z) (λ e. cc) t)
-reap-told w c frames kind f r next (reaped.Gone z) over t = subst (λ p. IsTold (w.lines ++ (reap_acts c kind f (reaped.Gone z)).lines) c frames (if is_over p then Closed else Reaper next)) (sym over) (told-ends w c frames (Reaper r) (ended.Gone z) (λ e. cc) t)
+reap-in_step : (w : World) (c frames : ℕ) (kind : Option UpdateKind) (f : Option Flight) (r next : Reap) (step : ReapStep) → IsWaiting step next.phase → IsInStep w.lines c frames (Reaper r) → IsInStep (w.lines ++ (reap_acts c kind f step).lines) c frames (behind_reap next)
+reap-in_step w c frames kind f r next (reaped.Ask a) waits t = subst (λ b. IsInStep (w.lines ++ []) c frames (if b then Closed else Reaper next)) (sym (asked-open next.phase waits.0)) (in_step-aside w.lines [] c frames (Reaper next) (λ p. refl) t)
+reap-in_step w c frames kind f r next (reaped.Reaped z) over t = subst (λ p. IsInStep (w.lines ++ (reap_acts c kind f (reaped.Reaped z)).lines) c frames (if is_over p then Closed else Reaper next)) (sym over) (in_step-ends w c frames (Reaper r) (ended.Reaped z) (λ e. cc) t)
+reap-in_step w c frames kind f r next (reaped.Kept z) over t = subst (λ p. IsInStep (w.lines ++ (reap_acts c kind f (reaped.Kept z)).lines) c frames (if is_over p then Closed else Reaper next)) (sym over) (in_step-ends w c frames (Reaper r) (ended.Kept z) (λ e. cc) t)
+reap-in_step w c frames kind f r next (reaped.Gone z) over t = subst (λ p. IsInStep (w.lines ++ (reap_acts c kind f (reaped.Gone z)).lines) c frames (if is_over p then Closed else Reaper next)) (sym over) (in_step-ends w c frames (Reaper r) (ended.Gone z) (λ e. cc) t)
 
-pub reaps-proceed : (w w' : World) (c : ℕ) (x : Conn) (r : Reap) (a : Option Answer) → (IsTidy w → IsTold w.lines c x.frames (Reaper r)) → Reaps c w a w' x r → Proceeds w w'
+pub reaps-proceed : (w w' : World) (c : ℕ) (x : Conn) (r : Reap) (a : Option Answer) → (IsTidy w → IsInStep w.lines c x.frames (Reaper r)) → Reaps c w a w' x r → Proceeds w w'
 reaps-proceed w w' c x r a was (inl e) =
     proceeds-to w (leaves c w x Closed (ended_by c (cause.Damaged e.key e.value) x.flight)) w' e.result
     (leaves-proceeds w c x Closed (ended_by c (cause.Damaged e.key e.value) x.flight) (ends-own c [] (ended.Cause (cause.Damaged e.key e.value)) (quiet x.flight) refl refl)
-    (λ t n. told-ends w c x.frames (Reaper r) (ended.Cause (cause.Damaged e.key e.value)) (λ f. cc) (was t)))
+    (λ t n. in_step-ends w c x.frames (Reaper r) (ended.Cause (cause.Damaged e.key e.value)) (λ f. cc) (was t)))
 reaps-proceed w w' c x r a was (inr s) =
     proceeds-to w (leaves c w x (behind_reap s.next) (reap_acts c (kind_asked c (Reaper s.next)) x.flight s.step)) w' s.result
     (leaves-proceeds w c x (behind_reap s.next) (reap_acts c (kind_asked c (Reaper s.next)) x.flight s.step) (reap-own c (kind_asked c (Reaper s.next)) x.flight s.step)
-    (λ t n. reap-told w c x.frames (kind_asked c (Reaper s.next)) x.flight r s.next s.step (step-waits (s.next).phase s.step r a (s.stepped).moves) (was t)))
+    (λ t n. reap-in_step w c x.frames (kind_asked c (Reaper s.next)) x.flight r s.next s.step (step-waits (s.next).phase s.step r a (s.stepped).moves) (was t)))
 
 -- ---- its answer comes, or a failure
 
@@ -124,12 +124,12 @@ landed-proceeds w c = go (conn_at c w) refl
     go (Some x) e = alike-proceeds w c x (record x { flight = None }) e refl refl
 
 answer-proceeds : (w w' : World) (c : ℕ) (x : Conn) (a : Answer) (actor : Actor) → x.actor ≡ actor → conn_at c w ≡ Some x → AnswerComesTo c w x a w' actor → Proceeds w w'
-answer-proceeds w w' c x a (Connection core) is there hd = handed-proceeds w w' c [] (input.Answer a) hd refl (none-numbered c hd.conn.frames)
-answer-proceeds w w' c x a (Reaper r) is there h = reaps-proceed w w' c x r (Some a) (λ t. subst (IsTold w.lines c x.frames) is (t.used c x there)) h
+answer-proceeds w w' c x a (Connection core) is there hd = handed-proceeds w w' c [] (input.Answer a) hd refl (none-indexed c hd.conn.frames)
+answer-proceeds w w' c x a (Reaper r) is there h = reaps-proceed w w' c x r (Some a) (λ t. subst (IsInStep w.lines c x.frames) is (t.used c x there)) h
 answer-proceeds w w' c x a Closed is there h = absurd h
 
 failure-to : (w w' : World) (c : ℕ) (x : Conn) (actor : Actor) → x.actor ≡ actor → conn_at c w ≡ Some x → FailureComesTo c w x w' actor → Proceeds w w'
-failure-to w w' c x (Connection core) is there hd = handed-proceeds w w' c [] input.Failed hd refl (none-numbered c hd.conn.frames)
+failure-to w w' c x (Connection core) is there hd = handed-proceeds w w' c [] input.Failed hd refl (none-indexed c hd.conn.frames)
 failure-to w w' c x (Reaper r) is there h = proceeds-to w (leaves c w x Closed (ended_by c cause.LinkFault x.flight)) w' h (ended-proceeds w c x (ended.Cause cause.LinkFault) x.flight (λ e. unclosed (sym is ∙ e)) there)
   where
     unclosed : Reaper r ≡ Closed → ⊥
@@ -149,12 +149,12 @@ delivers-proceed w w' c (Some Denied) h = proceeds-then w (landed c w) w' (lande
 
 pub enters-proceed : (w w' : World) (c : ℕ) (o : Option Entry) → EntersBy c w w' o → Proceeds w w'
 enters-proceed w w' c None h = absurd h
-enters-proceed w w' c (Some e) (i, is, hd) = handed-proceeds w w' c [] i hd refl (none-numbered c hd.conn.frames)
+enters-proceed w w' c (Some e) (i, is, hd) = handed-proceeds w w' c [] i hd refl (none-indexed c hd.conn.frames)
 
 pub lags-proceed : (w w' : World) (c : ℕ) (o : Option ℤ) → LagsBy c w w' o → Proceeds w w'
 lags-proceed w w' c None h = absurd h
-lags-proceed w w' c (Some z) hd = handed-proceeds w w' c [] _ hd refl (none-numbered c hd.conn.frames)
+lags-proceed w w' c (Some z) hd = handed-proceeds w w' c [] _ hd refl (none-indexed c hd.conn.frames)
 
 pub ends-proceed : (w w' : World) (c : ℕ) (o : Option Conn) → EndsBy c w w' o → Proceeds w w'
 ends-proceed w w' c None h = absurd h
-ends-proceed w w' c (Some x) hd = handed-proceeds w w' c [] _ hd refl (none-numbered c hd.conn.frames)
+ends-proceed w w' c (Some x) hd = handed-proceeds w w' c [] _ hd refl (none-indexed c hd.conn.frames)

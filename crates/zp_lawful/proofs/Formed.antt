@@ -25,7 +25,7 @@ use Rattle.zk_transcript.specs.declared.transcript.UpdateKind.TheVariants.{Asked
 use Rattle.zk_transcript.specs.declared.transcript.UpdateKind.{UpdateKind}
 use Rattle.zk_transcript.specs.declared.transcript.UpdateRec.{UpdateRec}
 use Rattle.zn_layout.specs.Begin.{begin_lines}
-use Rattle.zp_lawful.proofs.Meaning.{framed-opened, shows-as}
+use Rattle.zp_lawful.proofs.Meaning.{framed-opened, found-as}
 use Rattle.zp_lawful.proofs.Progress.{Broken, Ended, Opened, Progress, Unused, broken-later, progress, progress-append, progressed, takes}
 use Rattle.zp_whole.proofs.Executing.{same-nat}
 use Rattle.zx_base.proofs.Options.{some_is}
@@ -44,7 +44,7 @@ module _ (before : List TranscriptLine) (c : ℕ) where
   open-unopened proxy id passwd unbroken = go (progress c before) refl
     where
       go : (p : Progress) → progress c before ≡ p → is_some (opening c before) ≡ false
-      go Unused e = ap is_some (shows-as c before Unused e).unopened
+      go Unused e = ap is_some (found-as c before Unused e).unopened
       go (Opened n) e = absurd (unbroken (stepped (Open c proxy id passwd) (Opened n) Broken e (own-line (Opened n) Broken)))
       go Ended e = absurd (unbroken (stepped (Open c proxy id passwd) Ended Broken e (own-line Ended Broken)))
       go Broken e = absurd (unbroken (stepped (Open c proxy id passwd) Broken Broken e (own-line Broken Broken)))
@@ -55,7 +55,7 @@ module _ (before : List TranscriptLine) (c : ℕ) where
     unclosed : is_some (first_shown (close_shown c) before) ≡ false
 
   still-open : (n : ℕ) → progress c before ≡ Opened n → IsStillOpen
-  still-open n e = let s = shows-as c before (Opened n) e in record { opened = ap is_some s.opened; unclosed = ap is_some s.unclosed }
+  still-open n e = let s = found-as c before (Opened n) e in record { opened = ap is_some s.opened; unclosed = ap is_some s.unclosed }
 
   send-open : (bytes : List ℕ) → (progress c (before ++ Send c bytes ∷ []) ≡ Broken → ⊥) → IsStillOpen
   send-open bytes unbroken = go (progress c before) refl
@@ -70,27 +70,27 @@ module _ (before : List TranscriptLine) (c : ℕ) where
   close-unclosed end unbroken = go (progress c before) refl
     where
       go : (p : Progress) → progress c before ≡ p → is_some (first_shown (close_shown c) before) ≡ false
-      go Unused e = ap is_some (shows-as c before Unused e).unclosed
-      go (Opened n) e = ap is_some (shows-as c before (Opened n) e).unclosed
+      go Unused e = ap is_some (found-as c before Unused e).unclosed
+      go (Opened n) e = ap is_some (found-as c before (Opened n) e).unclosed
       go Ended e = absurd (unbroken (stepped (Close c end) Ended Broken e (own-line Ended Broken)))
       go Broken e = absurd (unbroken (stepped (Close c end) Broken Broken e (own-line Broken Broken)))
 
   -- its next frame, within the limit
-  record IsNextFrame (i : ℕ) (bytes : List ℕ) : Type 0 where
+  record IsOwnNextFrame (i : ℕ) (bytes : List ℕ) : Type 0 where
     open_still : IsStillOpen
     index : (i == frames_of c before) ≡ true
     small : nat_le (length bytes) max_frame ≡ true
 
-  frame-next : (i : ℕ) (z : ℤ) (bytes : List ℕ) → (progress c (before ++ FrameLine c i z bytes ∷ []) ≡ Broken → ⊥) → IsNextFrame i bytes
+  frame-next : (i : ℕ) (z : ℤ) (bytes : List ℕ) → (progress c (before ++ FrameLine c i z bytes ∷ []) ≡ Broken → ⊥) → IsOwnNextFrame i bytes
   frame-next i z bytes unbroken = go (progress c before) refl
     where
-      tests : (n : ℕ) → progress c before ≡ Opened n → (b : Bool) → ((i == n) && nat_le (length bytes) max_frame) ≡ b → IsNextFrame i bytes
+      tests : (n : ℕ) → progress c before ≡ Opened n → (b : Bool) → ((i == n) && nat_le (length bytes) max_frame) ≡ b → IsOwnNextFrame i bytes
       tests n e true h =
           let q = and_parts (i == n) (nat_le (length bytes) max_frame) h in
-          record { open_still = still-open n e; index = ap (λ m. i == m) (shows-as c before (Opened n) e).count ∙ q.0; small = q.1 }
+          record { open_still = still-open n e; index = ap (λ m. i == m) (found-as c before (Opened n) e).count ∙ q.0; small = q.1 }
       tests n e false h = absurd (unbroken (stepped (FrameLine c i z bytes) (Opened n) Broken e (own-line (Opened n) (takes i bytes (Opened n)) ∙ ap (λ b. if b then Opened (n + 1) else Broken) h)))
 
-      go : (p : Progress) → progress c before ≡ p → IsNextFrame i bytes
+      go : (p : Progress) → progress c before ≡ p → IsOwnNextFrame i bytes
       go Unused e = absurd (unbroken (stepped (FrameLine c i z bytes) Unused Broken e (own-line Unused Broken)))
       go (Opened n) e = tests n e ((i == n) && nat_le (length bytes) max_frame) refl
       go Ended e = absurd (unbroken (stepped (FrameLine c i z bytes) Ended Broken e (own-line Ended Broken)))

@@ -14,7 +14,7 @@ use Rattle.zp_happen.specs.StepOutcomes.{StepOutcome, acts_all, ends, leaves, qu
 use Rattle.zp_happen.specs.Worlds.{Actor, Closed, Conn, Connection, Reaper, World, behind_step, conn_at}
 use Rattle.zp_happen.specs.declared.flight.Flight.{Flight}
 use Rattle.zp_lawful.proofs.Progress.{Broken, Ended, Opened, Progress, closes, either-same, frames_of-append, progress, progress-append, progress_from, unnamed-aside}
-use Rattle.zp_lawful.proofs.Tidy.{ChangesOne, IsTidy, IsTold, Proceeds, one-proceeds, proceeds-to, told-count}
+use Rattle.zp_lawful.proofs.Tidy.{ChangesOne, IsTidy, IsInStep, Proceeds, one-proceeds, proceeds-to, in_step-count}
 use Rattle.zp_lawful.specs.Lawful.{AreCounted}
 use Rattle.zp_laws.proofs.Ending.{steps_end_well}
 use Rattle.zp_step.specs.Stages.{Core, is_shut, max_count}
@@ -35,7 +35,7 @@ leaves-changes w c x actor o own = record {
   aside = λ d apart. unnamed-aside d o.lines (own-unnamed d c o.lines apart own);
 }
 
-pub leaves-proceeds : (w : World) (c : ℕ) (x : Conn) (actor : Actor) (o : StepOutcome) → list_all (is_own c) o.lines ≡ true → (IsTidy w → AreCounted (w.lines ++ o.lines) → IsTold (w.lines ++ o.lines) c x.frames actor) → Proceeds w (leaves c w x actor o)
+pub leaves-proceeds : (w : World) (c : ℕ) (x : Conn) (actor : Actor) (o : StepOutcome) → list_all (is_own c) o.lines ≡ true → (IsTidy w → AreCounted (w.lines ++ o.lines) → IsInStep (w.lines ++ o.lines) c x.frames actor) → Proceeds w (leaves c w x actor o)
 leaves-proceeds w c x actor o own now = one-proceeds w (leaves c w x actor o) c (record x { actor = actor; flight = o.flight }) o.lines (leaves-changes w c x actor o own) now
 
 -- ---- its end
@@ -51,61 +51,61 @@ ended-unbroken lines c e f = apart (sym e ∙ f)
     apart g = cc
 
 -- of a reaper, or of a connection that is open
-ends-told : (lines : List TranscriptLine) (c frames : ℕ) (end : SomeEnd) → closes (progress c lines) ≡ Ended → frames ≤ frames_of c lines → IsTold (lines ++ Close c end ∷ []) c frames Closed
-ends-told lines c frames end e le = (
+ends-in_step : (lines : List TranscriptLine) (c frames : ℕ) (end : SomeEnd) → closes (progress c lines) ≡ Ended → frames ≤ frames_of c lines → IsInStep (lines ++ Close c end ∷ []) c frames Closed
+ends-in_step lines c frames end e le = (
   ended-unbroken (lines ++ Close c end ∷ []) c (progress-append c lines (Close c end ∷ []) ∙ closes-own c end (progress c lines) ∙ e),
   (let more = frames_of-append c lines (Close c end ∷ []) in omega (arith, le, more)),
 )
 
-pub told-ends : (w : World) (c frames : ℕ) (a : Actor) (end : SomeEnd) → (a ≡ Closed → ⊥) → IsTold w.lines c frames a → IsTold (w.lines ++ Close c end ∷ []) c frames Closed
-told-ends w c frames (Connection core) end unclosed t = ends-told w.lines c frames end (ap closes t.1) (let count = told-count w.lines c frames t.1 in omega (arith, count))
-told-ends w c frames (Reaper reap) end unclosed t = ends-told w.lines c frames end (ap closes t.0) (let none = t.1 in omega (arith, none))
-told-ends w c frames Closed end unclosed t = absurd (unclosed refl)
+pub in_step-ends : (w : World) (c frames : ℕ) (a : Actor) (end : SomeEnd) → (a ≡ Closed → ⊥) → IsInStep w.lines c frames a → IsInStep (w.lines ++ Close c end ∷ []) c frames Closed
+in_step-ends w c frames (Connection core) end unclosed t = ends-in_step w.lines c frames end (ap closes t.1) (let count = in_step-count w.lines c frames t.1 in omega (arith, count))
+in_step-ends w c frames (Reaper reap) end unclosed t = ends-in_step w.lines c frames end (ap closes t.0) (let none = t.1 in omega (arith, none))
+in_step-ends w c frames Closed end unclosed t = absurd (unclosed refl)
 
 -- something ends it that is no step of its own
 pub ended-proceeds : (w : World) (c : ℕ) (x : Conn) (end : SomeEnd) (f : Option Flight) → (x.actor ≡ Closed → ⊥) → conn_at c w ≡ Some x → Proceeds w (leaves c w x Closed (ends c [] end (quiet f)))
-ended-proceeds w c x end f unclosed there = leaves-proceeds w c x Closed (ends c [] end (quiet f)) (ends-own c [] end (quiet f) refl refl) (λ t n. told-ends w c x.frames x.actor end unclosed (t.used c x there))
+ended-proceeds w c x end f unclosed there = leaves-proceeds w c x Closed (ends c [] end (quiet f)) (ends-own c [] end (quiet f) refl refl) (λ t n. in_step-ends w c x.frames x.actor end unclosed (t.used c x there))
 
 -- ---- a step's actions
 
--- lines of frames are numbered on from here
-abbrev pub AreNumbered : ℕ → ℕ → List TranscriptLine → Type 0
-AreNumbered c n ls = n + frames_of c ls < max_count → (m : ℕ) × (progress_from c (Opened n) ls ≡ Opened m)
+-- lines of frames are indexed on from here
+abbrev pub AreIndexed : ℕ → ℕ → List TranscriptLine → Type 0
+AreIndexed c n ls = n + frames_of c ls < max_count → (m : ℕ) × (progress_from c (Opened n) ls ≡ Opened m)
 
-pub none-numbered : (c n : ℕ) → AreNumbered c n []
-none-numbered c n less = (n, refl)
+pub none-indexed : (c n : ℕ) → AreIndexed c n []
+none-indexed c n less = (n, refl)
 
 said-opened : (c n : ℕ) (ps : List (List ℕ)) → progress_from c (Opened n) (said c ps) ≡ Opened n
 said-opened c n [] = refl
 said-opened c n (p ∷ ps) = ap (λ q. progress_from c q (said c ps)) (either-same (c == c) (Opened n)) ∙ said-opened c n ps
 
-module _ (lines : List TranscriptLine) (c frames : ℕ) (behind : List TranscriptLine) (ps : List (List ℕ)) (opened : progress c lines ≡ Opened frames) (numbered : AreNumbered c frames behind) where
-  said-told : progress c (lines ++ said c ps) ≡ Opened frames
-  said-told = progress-append c lines (said c ps) ∙ ap (λ p. progress_from c p (said c ps)) opened ∙ said-opened c frames ps
+module _ (lines : List TranscriptLine) (c frames : ℕ) (behind : List TranscriptLine) (ps : List (List ℕ)) (opened : progress c lines ≡ Opened frames) (indexed : AreIndexed c frames behind) where
+  said-in_step : progress c (lines ++ said c ps) ≡ Opened frames
+  said-in_step = progress-append c lines (said c ps) ∙ ap (λ p. progress_from c p (said c ps)) opened ∙ said-opened c frames ps
 
   -- it closes, behind these frames
-  closed-told : (end : SomeEnd) → frames_of c (lines ++ ((said c ps ++ behind) ++ Close c end ∷ [])) < max_count → IsTold (lines ++ ((said c ps ++ behind) ++ Close c end ∷ [])) c frames Closed
-  closed-told end less =
-      let count = told-count lines c frames opened in
+  closed-in_step : (end : SomeEnd) → frames_of c (lines ++ ((said c ps ++ behind) ++ Close c end ∷ [])) < max_count → IsInStep (lines ++ ((said c ps ++ behind) ++ Close c end ∷ [])) c frames Closed
+  closed-in_step end less =
+      let count = in_step-count lines c frames opened in
       let all = frames_of-append c lines ((said c ps ++ behind) ++ Close c end ∷ []) in
       let front = frames_of-append c (said c ps ++ behind) (Close c end ∷ []) in
       let packets = frames_of-append c (said c ps) behind in
-      let m = numbered (omega (arith, count, all, front, packets, less)) in
-      let at : progress c ((lines ++ said c ps) ++ behind) ≡ Opened m.0 = progress-append c (lines ++ said c ps) behind ∙ ap (λ p. progress_from c p behind) said-told ∙ m.1 in
+      let m = indexed (omega (arith, count, all, front, packets, less)) in
+      let at : progress c ((lines ++ said c ps) ++ behind) ≡ Opened m.0 = progress-append c (lines ++ said c ps) behind ∙ ap (λ p. progress_from c p behind) said-in_step ∙ m.1 in
       let more = frames_of-append c (lines ++ said c ps) behind in
       let first = frames_of-append c lines (said c ps) in
-      subst (λ l. IsTold l c frames Closed) (append_assoc (lines ++ said c ps) behind (Close c end ∷ []) ∙ append_assoc lines (said c ps) (behind ++ Close c end ∷ []) ∙ ap (λ l. lines ++ l) (sym (append_assoc (said c ps) behind (Close c end ∷ []))))
-      (ends-told ((lines ++ said c ps) ++ behind) c frames end (ap closes at) (omega (arith, count, more, first)))
+      subst (λ l. IsInStep l c frames Closed) (append_assoc (lines ++ said c ps) behind (Close c end ∷ []) ∙ append_assoc lines (said c ps) (behind ++ Close c end ∷ []) ∙ ap (λ l. lines ++ l) (sym (append_assoc (said c ps) behind (Close c end ∷ []))))
+      (ends-in_step ((lines ++ said c ps) ++ behind) c frames end (ap closes at) (omega (arith, count, more, first)))
 
-  tail-told : (kind : Option UpdateKind) (f : Option Flight) (t : Tail) (next : Core) → is_closing t ≡ is_shut next.stage → frames_of c (lines ++ (tail_outcome c kind behind f (said c ps) t).lines) < max_count
-      → IsTold (lines ++ (tail_outcome c kind behind f (said c ps) t).lines) c frames (behind_step next)
-  tail-told kind f Rests next e less = subst (λ b. IsTold (lines ++ said c ps) c frames (if b then Closed else Connection next)) e (sym e, said-told)
-  tail-told kind f (Asks a) next e less = subst (λ b. IsTold (lines ++ said c ps) c frames (if b then Closed else Connection next)) e (sym e, said-told)
-  tail-told kind f (Closes why) next e less = subst (λ b. IsTold (lines ++ ((said c ps ++ behind) ++ Close c (ended.Cause why) ∷ [])) c frames (if b then Closed else Connection next)) e (closed-told (ended.Cause why) less)
+  tail-in_step : (kind : Option UpdateKind) (f : Option Flight) (t : Tail) (next : Core) → is_closing t ≡ is_shut next.stage → frames_of c (lines ++ (tail_outcome c kind behind f (said c ps) t).lines) < max_count
+      → IsInStep (lines ++ (tail_outcome c kind behind f (said c ps) t).lines) c frames (behind_step next)
+  tail-in_step kind f Rests next e less = subst (λ b. IsInStep (lines ++ said c ps) c frames (if b then Closed else Connection next)) e (sym e, said-in_step)
+  tail-in_step kind f (Asks a) next e less = subst (λ b. IsInStep (lines ++ said c ps) c frames (if b then Closed else Connection next)) e (sym e, said-in_step)
+  tail-in_step kind f (Closes why) next e less = subst (λ b. IsInStep (lines ++ ((said c ps ++ behind) ++ Close c (ended.Cause why) ∷ [])) c frames (if b then Closed else Connection next)) e (closed-in_step (ended.Cause why) less)
 
 -- it is handed something
-pub handed-proceeds : (w w' : World) (c : ℕ) (behind : List TranscriptLine) (i : Input) → (hd : Handed c behind w i w') → list_all (is_own c) behind ≡ true → AreNumbered c hd.conn.frames behind → Proceeds w w'
-handed-proceeds w w' c behind i hd own numbered =
+pub handed-proceeds : (w w' : World) (c : ℕ) (behind : List TranscriptLine) (i : Input) → (hd : Handed c behind w i w') → list_all (is_own c) behind ≡ true → AreIndexed c hd.conn.frames behind → Proceeds w w'
+handed-proceeds w w' c behind i hd own indexed =
     proceeds-to w (leaves c w hd.conn (behind_step hd.next) o) w' hd.result
     (leaves-proceeds w c hd.conn (behind_step hd.next) o (acts-own c kind behind hd.out (quiet hd.conn.flight) own refl) now)
   where
@@ -115,12 +115,12 @@ handed-proceeds w w' c behind i hd own numbered =
     o : StepOutcome
     o = acts_all c (kind_asked c (Connection hd.next)) behind hd.conn.flight hd.out
 
-    now : IsTidy w → AreCounted (w.lines ++ (acts_all c (kind_asked c (Connection hd.next)) behind hd.conn.flight hd.out).lines) → IsTold (w.lines ++ (acts_all c (kind_asked c (Connection hd.next)) behind hd.conn.flight hd.out).lines) c hd.conn.frames (behind_step hd.next)
+    now : IsTidy w → AreCounted (w.lines ++ (acts_all c (kind_asked c (Connection hd.next)) behind hd.conn.flight hd.out).lines) → IsInStep (w.lines ++ (acts_all c (kind_asked c (Connection hd.next)) behind hd.conn.flight hd.out).lines) c hd.conn.frames (behind_step hd.next)
     now t n =
-        let told : IsTold w.lines c hd.conn.frames (Connection hd.core) = subst (IsTold w.lines c hd.conn.frames) hd.serving (t.used c hd.conn hd.found) in
-        let end = steps_end_well hd.core hd.next i w.clock hd.out told.0 hd.stepped in
+        let in_step : IsInStep w.lines c hd.conn.frames (Connection hd.core) = subst (IsInStep w.lines c hd.conn.frames) hd.serving (t.used c hd.conn hd.found) in
+        let end = steps_end_well hd.core hd.next i w.clock hd.out in_step.0 hd.stepped in
         let parts = split hd.out end.well in
         let is = split-outcome c (kind_asked c (Connection hd.next)) behind hd.conn.flight hd.out parts in
-        subst (λ (q : StepOutcome). IsTold (w.lines ++ q.lines) c hd.conn.frames (behind_step hd.next)) (sym is)
-        (tail-told w.lines c hd.conn.frames behind parts.packets told.1 numbered (kind_asked c (Connection hd.next)) hd.conn.flight parts.tail hd.next (sym (split-closes hd.out parts) ∙ end.closes)
+        subst (λ (q : StepOutcome). IsInStep (w.lines ++ q.lines) c hd.conn.frames (behind_step hd.next)) (sym is)
+        (tail-in_step w.lines c hd.conn.frames behind parts.packets in_step.1 indexed (kind_asked c (Connection hd.next)) hd.conn.flight parts.tail hd.next (sym (split-closes hd.out parts) ∙ end.closes)
         (subst (λ (q : StepOutcome). frames_of c (w.lines ++ q.lines) < max_count) is (n.frames c)))

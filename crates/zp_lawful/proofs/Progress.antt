@@ -88,8 +88,8 @@ broken-later c xs ys e = progress-append c xs ys ∙ ap (λ p. progress_from c p
 -- ---- lines that are aside
 
 -- these lines are none of its own
-abbrev pub AreAside : ℕ → List TranscriptLine → Type 0
-AreAside c ls = (p : Progress) → progress_from c p ls ≡ p
+abbrev pub LeaveAlone : ℕ → List TranscriptLine → Type 0
+LeaveAlone c ls = (p : Progress) → progress_from c p ls ≡ p
 
 skipped : (b : Bool) (p q : Progress) → not b ≡ true → (if b then p else q) ≡ q
 skipped true p q h = absurd (cc)
@@ -103,13 +103,13 @@ unnamed-line c p (Close d end) h = skipped (c == d) (closes p) p h
 unnamed-line c p (Update u) h = refl
 unnamed-line c p (Lapse revision id) h = refl
 
-pub unnamed-aside : (c : ℕ) (ls : List TranscriptLine) → is_unnamed c ls ≡ true → AreAside c ls
+pub unnamed-aside : (c : ℕ) (ls : List TranscriptLine) → is_unnamed c ls ≡ true → LeaveAlone c ls
 unnamed-aside c [] h p = refl
 unnamed-aside c (l ∷ ls) h p =
     let q = and_parts (not (names c l)) (is_unnamed c ls) h in
     ap (λ r. progress_from c r ls) (unnamed-line c p l q.0) ∙ unnamed-aside c ls q.1 p
 
-pub progress-aside : (c : ℕ) (xs ys : List TranscriptLine) → AreAside c ys → progress c (xs ++ ys) ≡ progress c xs
+pub progress-aside : (c : ℕ) (xs ys : List TranscriptLine) → LeaveAlone c ys → progress c (xs ++ ys) ≡ progress c xs
 progress-aside c xs ys h = progress-append c xs ys ∙ h (progress c xs)
 
 -- ---- how many frames

@@ -25,7 +25,7 @@ use Rattle.zp_lawful.proofs.Arriving.{arrives-proceeds}
 use Rattle.zp_lawful.proofs.Delivering.{delivers-proceed, ends-proceed, enters-proceed, exec-proceeds, failure-proceeds, lags-proceed, landed-proceeds, reaps-proceed, stray-proceeds}
 use Rattle.zp_lawful.proofs.Progress.{Opened, Unused, opens, progress-append, progress_from}
 use Rattle.zp_lawful.proofs.Restarting.{restart-proceeds}
-use Rattle.zp_lawful.proofs.Tidy.{ChangesOne, IsTidy, IsTold, Proceeds, one-proceeds, others-proceed, proceeds-same, proceeds-then, proceeds-to, told-count}
+use Rattle.zp_lawful.proofs.Tidy.{ChangesOne, IsTidy, IsInStep, Proceeds, one-proceeds, others-proceed, proceeds-same, proceeds-then, proceeds-to, in_step-count}
 use Rattle.zp_lawful.specs.Lawful.{AreCounted, FewLinesAreCounted, LinesCountFrames}
 use Rattle.zp_step.specs.Stages.{new_core}
 use Rattle.zp_whole.proofs.Executing.{same-nat}
@@ -52,8 +52,8 @@ module _ (w : World) (c p : ℕ) (id : ℤ) (passwd : List ℕ) (free : conn_at 
     aside = λ d apart q. ap (λ b. if b then opens q else q) (other-number d c apart);
   }
 
-  open-told : IsTidy w → IsTold (w.lines ++ Open c p id passwd ∷ []) c opened_conn.frames opened_conn.actor
-  open-told t = (
+  open-in_step : IsTidy w → IsInStep (w.lines ++ Open c p id passwd ∷ []) c opened_conn.frames opened_conn.actor
+  open-in_step t = (
     refl,
     progress-append c w.lines (Open c p id passwd ∷ [])
         ∙ ap (λ q. progress_from c q (Open c p id passwd ∷ [])) (t.unused c free)
@@ -61,7 +61,7 @@ module _ (w : World) (c p : ℕ) (id : ℤ) (passwd : List ℕ) (free : conn_at 
   )
 
   open-proceeds : Proceeds w (opened w c p id passwd)
-  open-proceeds = one-proceeds w (opened w c p id passwd) c opened_conn (Open c p id passwd ∷ []) open-changes (λ t n. open-told t)
+  open-proceeds = one-proceeds w (opened w c p id passwd) c opened_conn (Open c p id passwd ∷ []) open-changes (λ t n. open-in_step t)
 
 -- ---- the store changes by itself
 
@@ -176,10 +176,10 @@ run-clocks hs ticks w (first, (s, a, e, is), runs) k t at = clocks-within (world
 
 -- ---- counts
 
-told-few : (lines : List TranscriptLine) (c frames : ℕ) (a : Actor) → IsTold lines c frames a → frames ≤ frames_of c lines
-told-few lines c frames (Connection core) t = let count = told-count lines c frames t.1 in omega (arith, count)
-told-few lines c frames (Reaper reap) t = let none = t.1 in omega (arith, none)
-told-few lines c frames Closed t = t.1
+in_step-few : (lines : List TranscriptLine) (c frames : ℕ) (a : Actor) → IsInStep lines c frames a → frames ≤ frames_of c lines
+in_step-few lines c frames (Connection core) t = let count = in_step-count lines c frames t.1 in omega (arith, count)
+in_step-few lines c frames (Reaper reap) t = let none = t.1 in omega (arith, none)
+in_step-few lines c frames Closed t = t.1
 
 pub few-counted : FewLinesAreCounted
 few-counted lines less = record { frames = λ c. let few = frames-few c lines in omega (arith, few, less) }
@@ -188,7 +188,7 @@ pub lines-count-frames : LinesCountFrames
 lines-count-frames hs ticks w runs n = record {
   frames = λ c x there. (
       let t = ((run-lines hs ticks w runs).tidy n).used c x there in
-      let few = told-few w.lines c x.frames x.actor t in
+      let few = in_step-few w.lines c x.frames x.actor t in
       let less = n.frames c in
       omega (arith, few, less));
 }

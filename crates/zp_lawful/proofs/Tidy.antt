@@ -6,21 +6,21 @@ use Rattle.zk_legal.specs.Formed.{frames_of}
 use Rattle.zk_model.specs.Limits.{max_moment}
 use Rattle.zk_transcript.specs.declared.transcript.TranscriptLine.{TranscriptLine}
 use Rattle.zp_happen.specs.Worlds.{Actor, Closed, Conn, Connection, Reaper, World, conn_at, with_conn}
-use Rattle.zp_lawful.proofs.Meaning.{shows-as}
-use Rattle.zp_lawful.proofs.Progress.{AreAside, Broken, Opened, Unused, frames_of-append, progress, progress-aside}
+use Rattle.zp_lawful.proofs.Meaning.{found-as}
+use Rattle.zp_lawful.proofs.Progress.{LeaveAlone, Broken, Opened, Unused, frames_of-append, progress, progress-aside}
 use Rattle.zp_lawful.specs.Lawful.{AreCounted}
 use Rattle.zp_step.specs.Stages.{is_shut}
 use Rattle.zp_whole.proofs.Numbers.{conn-here, conn-there, either-number}
 use Rattle.zx_base.proofs.Options.{none_some, some_is}
 
 -- an open connection has so many lines of frames; a reaper at work has none of its own; and of one that has ended none is broken
-abbrev pub IsTold : List TranscriptLine → ℕ → ℕ → Actor → Type 0
-IsTold lines c frames (Connection core) = (is_shut core.stage ≡ false) × (progress c lines ≡ Opened frames)
-IsTold lines c frames (Reaper reap) = (progress c lines ≡ Unused) × (frames ≡ 0)
-IsTold lines c frames Closed = (progress c lines ≡ Broken → ⊥) × (frames ≤ frames_of c lines)
+abbrev pub IsInStep : List TranscriptLine → ℕ → ℕ → Actor → Type 0
+IsInStep lines c frames (Connection core) = (is_shut core.stage ≡ false) × (progress c lines ≡ Opened frames)
+IsInStep lines c frames (Reaper reap) = (progress c lines ≡ Unused) × (frames ≡ 0)
+IsInStep lines c frames Closed = (progress c lines ≡ Broken → ⊥) × (frames ≤ frames_of c lines)
 
 pub record IsTidy (w : World) : Type 0 where
-  pub used : (c : ℕ) (x : Conn) → conn_at c w ≡ Some x → IsTold w.lines c x.frames x.actor
+  pub used : (c : ℕ) (x : Conn) → conn_at c w ≡ Some x → IsInStep w.lines c x.frames x.actor
   pub unused : (c : ℕ) → conn_at c w ≡ None → progress c w.lines ≡ Unused
 
 -- ---- on from a world: lines are added, and the clock stays within its limit
@@ -58,14 +58,14 @@ proceeds-to w v w' e p = subst (Proceeds w) (sym e) p
 
 -- ---- lines that are aside
 
-pub told-aside : (lines more : List TranscriptLine) (c frames : ℕ) (a : Actor) → AreAside c more → IsTold lines c frames a → IsTold (lines ++ more) c frames a
-told-aside lines more c frames (Connection core) h t = (t.0, progress-aside c lines more h ∙ t.1)
-told-aside lines more c frames (Reaper reap) h t = (progress-aside c lines more h ∙ t.0, t.1)
-told-aside lines more c frames Closed h t = (λ e. t.0 (sym (progress-aside c lines more h) ∙ e), let le = t.1 in omega (arith, le, frames_of-append c lines more))
+pub in_step-aside : (lines more : List TranscriptLine) (c frames : ℕ) (a : Actor) → LeaveAlone c more → IsInStep lines c frames a → IsInStep (lines ++ more) c frames a
+in_step-aside lines more c frames (Connection core) h t = (t.0, progress-aside c lines more h ∙ t.1)
+in_step-aside lines more c frames (Reaper reap) h t = (progress-aside c lines more h ∙ t.0, t.1)
+in_step-aside lines more c frames Closed h t = (λ e. t.0 (sym (progress-aside c lines more h) ∙ e), let le = t.1 in omega (arith, le, frames_of-append c lines more))
 
 -- an open connection has as many frames as lines of them
-pub told-count : (lines : List TranscriptLine) (c frames : ℕ) → progress c lines ≡ Opened frames → frames_of c lines ≡ frames
-told-count lines c frames e = (shows-as c lines (Opened frames) e).count
+pub in_step-count : (lines : List TranscriptLine) (c frames : ℕ) → progress c lines ≡ Opened frames → frames_of c lines ≡ frames
+in_step-count lines c frames e = (found-as c lines (Opened frames) e).count
 
 -- ---- one number changes
 
@@ -74,16 +74,16 @@ pub record ChangesOne (w w' : World) (c : ℕ) (v : Conn) (more : List Transcrip
   pub clock : w'.clock ≡ w.clock
   pub there : conn_at c w' ≡ Some v
   pub others : (d : ℕ) → d ≢ c → conn_at d w' ≡ conn_at d w
-  pub aside : (d : ℕ) → d ≢ c → AreAside d more
+  pub aside : (d : ℕ) → d ≢ c → LeaveAlone d more
 
-module _ (w w' : World) (c : ℕ) (v : Conn) (more : List TranscriptLine) (s : ChangesOne w w' c v more) (t : IsTidy w) (now : IsTold w'.lines c v.frames v.actor) where
-  one-used : (d : ℕ) (x : Conn) → conn_at d w' ≡ Some x → (d ≡ c) ⊎ (d ≢ c) → IsTold w'.lines d x.frames x.actor
+module _ (w w' : World) (c : ℕ) (v : Conn) (more : List TranscriptLine) (s : ChangesOne w w' c v more) (t : IsTidy w) (now : IsInStep w'.lines c v.frames v.actor) where
+  one-used : (d : ℕ) (x : Conn) → conn_at d w' ≡ Some x → (d ≡ c) ⊎ (d ≢ c) → IsInStep w'.lines d x.frames x.actor
   one-used d x e (inl same) =
       let is : v ≡ x = some_is (sym s.there ∙ ap (λ k. conn_at k w') (sym same) ∙ e) in
-      subst (λ k. IsTold w'.lines k x.frames x.actor) (sym same) (subst (λ (u : Conn). IsTold w'.lines c u.frames u.actor) is now)
+      subst (λ k. IsInStep w'.lines k x.frames x.actor) (sym same) (subst (λ (u : Conn). IsInStep w'.lines c u.frames u.actor) is now)
   one-used d x e (inr apart) =
-      subst (λ l. IsTold l d x.frames x.actor) (sym s.lines)
-      (told-aside w.lines more d x.frames x.actor (s.aside d apart) (t.used d x (sym (s.others d apart) ∙ e)))
+      subst (λ l. IsInStep l d x.frames x.actor) (sym s.lines)
+      (in_step-aside w.lines more d x.frames x.actor (s.aside d apart) (t.used d x (sym (s.others d apart) ∙ e)))
 
   one-unused : (d : ℕ) → conn_at d w' ≡ None → (d ≡ c) ⊎ (d ≢ c) → progress d w'.lines ≡ Unused
   one-unused d e (inl same) = absurd (none_some (sym e ∙ ap (λ k. conn_at k w') same ∙ s.there))
@@ -92,7 +92,7 @@ module _ (w w' : World) (c : ℕ) (v : Conn) (more : List TranscriptLine) (s : C
   one-tidy : IsTidy w'
   one-tidy = record { used = λ d x e. one-used d x e (either-number d c); unused = λ d e. one-unused d e (either-number d c) }
 
-pub one-proceeds : (w w' : World) (c : ℕ) (v : Conn) (more : List TranscriptLine) → ChangesOne w w' c v more → (IsTidy w → AreCounted w'.lines → IsTold w'.lines c v.frames v.actor) → Proceeds w w'
+pub one-proceeds : (w w' : World) (c : ℕ) (v : Conn) (more : List TranscriptLine) → ChangesOne w w' c v more → (IsTidy w → AreCounted w'.lines → IsInStep w'.lines c v.frames v.actor) → Proceeds w w'
 one-proceeds w w' c v more s now = record {
   more = more;
   lines = s.lines;
@@ -108,17 +108,17 @@ with-changes w c v = record { lines = sym (append-nil w.lines); clock = refl; th
 pub alike-proceeds : (w : World) (c : ℕ) (x v : Conn) → conn_at c w ≡ Some x → v.frames ≡ x.frames → v.actor ≡ x.actor → Proceeds w (with_conn w c v)
 alike-proceeds w c x v there frames actor =
     one-proceeds w (with_conn w c v) c v [] (with-changes w c v)
-    (λ t n. subst (λ a. IsTold w.lines c v.frames a) (sym actor) (subst (λ m. IsTold w.lines c m x.actor) (sym frames) (t.used c x there)))
+    (λ t n. subst (λ a. IsInStep w.lines c v.frames a) (sym actor) (subst (λ m. IsInStep w.lines c m x.actor) (sym frames) (t.used c x there)))
 
 -- ---- no number changes
 
-pub others-proceed : (w w' : World) (more : List TranscriptLine) → w'.conns ≡ w.conns → w'.clock ≡ w.clock → w'.lines ≡ w.lines ++ more → ((c : ℕ) → AreAside c more) → Proceeds w w'
+pub others-proceed : (w w' : World) (more : List TranscriptLine) → w'.conns ≡ w.conns → w'.clock ≡ w.clock → w'.lines ≡ w.lines ++ more → ((c : ℕ) → LeaveAlone c more) → Proceeds w w'
 others-proceed w w' more conns clock lines aside = record {
   more = more;
   lines = lines;
   clock = λ le. omega (arith, clock, le);
   tidy = λ t n. record {
-    used = λ c x e. subst (λ l. IsTold l c x.frames x.actor) (sym lines) (told-aside w.lines more c x.frames x.actor (aside c) (t.used c x (sym (same c) ∙ e)));
+    used = λ c x e. subst (λ l. IsInStep l c x.frames x.actor) (sym lines) (in_step-aside w.lines more c x.frames x.actor (aside c) (t.used c x (sym (same c) ∙ e)));
     unused = λ c e. ap (progress c) lines ∙ progress-aside c w.lines more (aside c) ∙ t.unused c (sym (same c) ∙ e);
   };
 }

@@ -15,7 +15,7 @@ use Rattle.zp_happen.specs.Worlds.{Actor, Closed, Conn, Connection, Reaper, Worl
 use Rattle.zp_lawful.proofs.Formed.{IsUnbrokenRun, no-history-fault}
 use Rattle.zp_lawful.proofs.Progress.{Broken, Opened, Unused, progress}
 use Rattle.zp_lawful.proofs.Running.{lines-count-frames, run-clocks, run-lines}
-use Rattle.zp_lawful.proofs.Tidy.{IsTidy, IsTold}
+use Rattle.zp_lawful.proofs.Tidy.{IsTidy, IsInStep}
 use Rattle.zp_lawful.specs.Lawful.{EveryReplayIsLawful}
 use Rattle.zp_whole.proofs.Timing.{every-run-served}
 use Rattle.zp_whole.specs.Giving.{IsServedRun}
@@ -29,17 +29,17 @@ opened-unbroken n e = cc
 unused-unbroken : Unused ≡ Broken → ⊥
 unused-unbroken e = cc
 
-told-unbroken : (lines : List TranscriptLine) (c frames : ℕ) (a : Actor) → IsTold lines c frames a → progress c lines ≡ Broken → ⊥
-told-unbroken lines c frames (Connection core) t e = opened-unbroken frames (sym t.1 ∙ e)
-told-unbroken lines c frames (Reaper reap) t e = unused-unbroken (sym t.0 ∙ e)
-told-unbroken lines c frames Closed t e = t.0 e
+in_step-unbroken : (lines : List TranscriptLine) (c frames : ℕ) (a : Actor) → IsInStep lines c frames a → progress c lines ≡ Broken → ⊥
+in_step-unbroken lines c frames (Connection core) t e = opened-unbroken frames (sym t.1 ∙ e)
+in_step-unbroken lines c frames (Reaper reap) t e = unused-unbroken (sym t.0 ∙ e)
+in_step-unbroken lines c frames Closed t e = t.0 e
 
 tidy-unbroken : (w : World) (c : ℕ) → IsTidy w → progress c w.lines ≡ Broken → ⊥
 tidy-unbroken w c t = go (conn_at c w) refl
   where
     go : (o : Option Conn) → conn_at c w ≡ o → progress c w.lines ≡ Broken → ⊥
     go None f e = unused-unbroken (sym (t.unused c f) ∙ e)
-    go (Some x) f e = told-unbroken w.lines c x.frames x.actor (t.used c x f) e
+    go (Some x) f e = in_step-unbroken w.lines c x.frames x.actor (t.used c x f) e
 
 -- ---- no line is out of order
 
