@@ -1,23 +1,19 @@
-//! How fast requests are decided: `ops_bench COUNT` decides a getChildren of a node with so many children, and a setData of
-//! 1,048,575 bytes, each on a view that has what it reads, and prints how many names and bytes came of it. `ops_bench COUNT time`
-//! prints the microseconds too. `bench/listing.sh` runs it.
+//! How fast requests are decided: `ops_bench COUNT` decides a getChildren of a node with so many children and a setData of
+//! 1,048,575 bytes, and goes through a setWatches of so many paths, each on a view that has what it reads. It prints how many
+//! names, bytes and nodes came of it. `ops_bench COUNT time` prints the microseconds too. `bench/listing.sh` runs it.
 #![tactic(auto)]
-
-ghost use Rattle.std.specs.Prelude.{◌≤◌, length, IsTrue};
-ghost use Rattle.zk_model.specs.Limits.{max_frame};
-ghost use Rattle.zn_updates.specs.Deciding.{content_in};
 
 use ev_types::{Act, ActAns, Kv, RangeAns};
 use std::alloc::Global;
 use std::time::Instant;
 use std::{env, io};
-use zk_model::limit::MAX_FRAME;
 use zk_model::{Body, Path, Reply, Request};
 use zn_layout::{
     CountRec, HeadRec, LeaseRec, NodeRec, counts_key, data_key, head_key, lease_key, write_counts,
     write_head, write_lease, write_node,
 };
-use zn_ops::{decide, is_single, needs};
+use zn_ops::{decide, is_short, is_single, needs};
+use zn_reads::seen_paths;
 use zn_view::{Decision, Plan, View, ViewFault, Want, Who, are_numbers};
 use zx_base::{Bytes, Memory, Seq, Text};
 
@@ -74,6 +70,19 @@ fn one(alloc: Global, kv: Kv) -> Result<ActAns, Memory> {
     Ok(shown(kvs))
 }
 
+/// A node without data under this key.
+fn node(alloc: Global, key: Bytes) -> Result<Kv, Memory> {
+    let node = NodeRec {
+        czxid: 2,
+        version: 0,
+        ctime: 1_000,
+        mtime: 1_000,
+        owner: 0,
+        content: Bytes::new(alloc),
+    };
+    Ok(kept(key, write_node(alloc, &node)?))
+}
+
 /// The keys of so many children of the root, as a range with keys alone shows them.
 fn children(alloc: Global, count: u32) -> Result<ActAns, Memory> {
     let mut kvs = Seq::new(alloc);
@@ -93,14 +102,6 @@ fn root_parts(alloc: Global, count: u32) -> Result<Vec<ActAns>, Memory> {
         attaches: 1,
         passwd: [0; 16],
     };
-    let root = NodeRec {
-        czxid: 2,
-        version: 0,
-        ctime: 1_000,
-        mtime: 1_000,
-        owner: 0,
-        content: Bytes::new(alloc),
-    };
     let counts = CountRec {
         creates: 0,
         children: 0,
@@ -111,10 +112,7 @@ fn root_parts(alloc: Global, count: u32) -> Result<Vec<ActAns>, Memory> {
         alloc,
         kept(lease_key(alloc, WHO.session)?, write_lease(alloc, &life)?),
     )?)?;
-    parts.push(one(
-        alloc,
-        kept(data_key(alloc, b"/")?, write_node(alloc, &root)?),
-    )?)?;
+    parts.push(one(alloc, node(alloc, data_key(alloc, b"/")?)?)?)?;
     parts.push(one(
         alloc,
         kept(counts_key(alloc, b"/")?, write_counts(alloc, &counts)?),
@@ -135,41 +133,41 @@ fn root_wants(alloc: Global) -> Result<Vec<Want>, Memory> {
     Ok(wants)
 }
 
-/// A view with all that requests read of the root.
-fn root_view(alloc: Global, count: u32) -> Result<View, Memory> {
+/// A view of what was found.
+fn added(alloc: Global, wants: &[Want], parts: &[ActAns]) -> Result<View, Memory> {
     let mut view = View::empty(alloc);
-    let wants = root_wants(alloc)?;
-    let parts = root_parts(alloc, count)?;
-    if !are_numbers(&parts) {
+    if !are_numbers(parts) {
         return Ok(view);
     }
-    match view.add(&wants, 3, &parts) {
+    match view.add(wants, 3, parts) {
         Err(ViewFault::Memory) => Err(Memory),
         Ok(()) | Err(_) => Ok(view),
     }
 }
 
-fn is_short(request: &Request) -> bool
-    ensures { IsTrue result → length (content_in request.now) ≤ max_frame }
-{
-    match request {
-        Request::Create { content, .. } | Request::SetData { content, .. } => {
-            content.len() <= MAX_FRAME
-        }
-        Request::Delete { .. }
-        | Request::Exists { .. }
-        | Request::GetData { .. }
-        | Request::GetAcl { .. }
-        | Request::GetChildren { .. }
-        | Request::GetChildren2 { .. }
-        | Request::Sync { .. }
-        | Request::Ping
-        | Request::Check { .. }
-        | Request::Multi { .. }
-        | Request::Auth { .. }
-        | Request::SetWatches { .. }
-        | Request::Close => true,
+/// A view with all that requests read of the root.
+fn root_view(alloc: Global, count: u32) -> Result<View, Memory> {
+    added(alloc, &root_wants(alloc)?, &root_parts(alloc, count)?)
+}
+
+/// The paths of so many children of the root.
+fn paths(alloc: Global, count: u32) -> Result<Vec<Text>, Memory> {
+    let mut paths = Vec::new(alloc);
+    for number in 0..count {
+        paths.push(Text::copy_of(alloc, &name_of(number))?)?;
     }
+    Ok(paths)
+}
+
+/// A view with a node at each path of so many children of the root, and with what requests read of the root.
+fn nodes_view(alloc: Global, count: u32) -> Result<View, Memory> {
+    let mut wants = root_wants(alloc)?;
+    let mut parts = root_parts(alloc, 0)?;
+    for number in 0..count {
+        wants.push(Want::Key(data_key(alloc, &name_of(number))?))?;
+        parts.push(one(alloc, node(alloc, data_key(alloc, &name_of(number))?)?)?)?;
+    }
+    added(alloc, &wants, &parts)
 }
 
 /// The decision, where the view lacks nothing.
@@ -238,6 +236,39 @@ fn set_root(alloc: Global) -> Result<Request, Memory> {
     })
 }
 
+fn watch_again(alloc: Global, paths: Vec<Text>) -> Request {
+    Request::SetWatches {
+        relative: 2,
+        datas: Seq::from_vec(paths),
+        exists: Seq::new(alloc),
+        children: Seq::new(alloc),
+    }
+}
+
+/// At how many of its paths a setWatches finds a node, where the view lacks nothing.
+fn nodes_found(alloc: Global, request: &Request, view: &View) -> Result<usize, Memory> {
+    let Request::SetWatches {
+        datas,
+        exists,
+        children,
+        ..
+    } = request
+    else {
+        return Ok(0);
+    };
+    if !needs(alloc, request, WHO, view)?.as_slice().is_empty() {
+        return Ok(0);
+    }
+    let seen = seen_paths(
+        alloc,
+        datas.as_slice(),
+        exists.as_slice(),
+        children.as_slice(),
+        view,
+    )?;
+    Ok(seen.iter().filter(|seen| seen.at.is_some()).count())
+}
+
 /// Out of memory.
 fn no_memory() -> io::Error {
     io::Error::from(io::ErrorKind::OutOfMemory)
@@ -247,6 +278,12 @@ fn run(rt: &HostRuntime, count: u32, timed: bool) -> io::Result<()> {
     let alloc = rt.alloc();
     let (Ok(view), Ok(list), Ok(set)) = (root_view(alloc, count), list_root(alloc), set_root(alloc))
     else {
+        return Err(no_memory());
+    };
+    let Ok(paths) = paths(alloc, count) else {
+        return Err(no_memory());
+    };
+    let Ok(nodes) = nodes_view(alloc, count) else {
         return Err(no_memory());
     };
     let start = Instant::now(rt)?;
@@ -259,10 +296,17 @@ fn run(rt: &HostRuntime, count: u32, timed: bool) -> io::Result<()> {
         return Err(no_memory());
     };
     let planning = start.elapsed(rt)?.as_micros();
+    let watch = watch_again(alloc, paths);
+    let start = Instant::now(rt)?;
+    let Ok(found) = nodes_found(alloc, &watch, &nodes) else {
+        return Err(no_memory());
+    };
+    let watching = start.elapsed(rt)?.as_micros();
     println!(rt; "{} names", names_in(&listed))?;
     println!(rt; "{} bytes put", bytes_in(&planned))?;
+    println!(rt; "{} nodes found", found)?;
     if timed {
-        println!(rt; "{} {}", listing, planning)?;
+        println!(rt; "{} {} {}", listing, planning, watching)?;
     }
     Ok(())
 }
