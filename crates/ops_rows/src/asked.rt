@@ -5,7 +5,7 @@ ghost use Rattle.zk_model.specs.Limits.{max_frame};
 ghost use Rattle.zn_updates.specs.Parts.{part_content};
 ghost use Rattle.zn_multi.specs.Carrying.{AreShort};
 
-use crate::plans::plan_text;
+use crate::plans::{plan_text, push_act};
 use crate::replies::{push_reply, push_word, word_of};
 use crate::requests::request;
 use row_files::Words;
@@ -14,7 +14,7 @@ use zk_model::limit::MAX_FRAME;
 use zk_model::{Part, Request};
 use zn_multi::{decide_multi, needs_multi};
 use zn_ops::{decide, finish, is_short, is_single, needs};
-use zn_view::{Arm, Decision, View, Want, Who};
+use zn_view::{Arm, Decision, View, Want, Who, ranges};
 use zx_base::{Memory, Seq};
 
 /// The moments that are decided at are below this one, in milliseconds since 1970.
@@ -123,8 +123,8 @@ fn push_want(text: &mut String, want: &Want) -> Result<(), Memory> {
     }
 }
 
-/// `SESSION REQUEST`
-pub fn needed(alloc: Global, view: &View, words: Words) -> Result<Option<String>, Memory> {
+/// What the request of the words `SESSION REQUEST` needs.
+fn wants_of(alloc: Global, view: &View, words: Words) -> Result<Option<Seq<Want>>, Memory> {
     let mut words = words;
     let Some(session) = words.long() else {
         return Ok(None);
@@ -132,12 +132,30 @@ pub fn needed(alloc: Global, view: &View, words: Words) -> Result<Option<String>
     let Some(request) = request(alloc, words)? else {
         return Ok(None);
     };
-    let Some(wants) = wanted(alloc, &request, Who { session, mine: 0 }, view)? else {
+    wanted(alloc, &request, Who { session, mine: 0 }, view)
+}
+
+/// `SESSION REQUEST`
+pub fn needed(alloc: Global, view: &View, words: Words) -> Result<Option<String>, Memory> {
+    let Some(wants) = wants_of(alloc, view, words)? else {
         return Ok(None);
     };
     let mut text = String::from_str(alloc, "wants")?;
     for want in wants.as_slice() {
         push_want(&mut text, want)?;
+    }
+    Ok(Some(text))
+}
+
+/// `SESSION REQUEST`: the ranges that read what it needs, at the view's revision
+pub fn read(alloc: Global, view: &View, words: Words) -> Result<Option<String>, Memory> {
+    let Some(wants) = wants_of(alloc, view, words)? else {
+        return Ok(None);
+    };
+    let acts = ranges(alloc, view.revision(), wants.as_slice())?;
+    let mut text = String::from_str(alloc, "reads")?;
+    for act in acts.as_slice() {
+        push_act(alloc, &mut text, act)?;
     }
     Ok(Some(text))
 }

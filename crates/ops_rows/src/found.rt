@@ -9,6 +9,7 @@ use zk_model::{Path, PathFault};
 use zn_view::{View, ViewFault, Want, are_numbers, is_count};
 use zx_base::{Bytes, Memory, Seq};
 
+/// A key that was put more than once was created at revision 2.
 fn kept(
     alloc: Global,
     key: &str,
@@ -19,7 +20,7 @@ fn kept(
     Ok(Kv {
         key: Bytes::copy_of(alloc, key.as_bytes())?,
         value: Bytes::from_vec(value),
-        create_revision: mod_revision,
+        create_revision: if version == 1 { mod_revision } else { 2 },
         mod_revision,
         version,
         lease: 0,
@@ -73,11 +74,12 @@ fn one(alloc: Global, kv: Kv) -> Result<Seq<Kv>, Memory> {
     Ok(kvs)
 }
 
-/// `KEY MOD_REVISION VERSION RECORD`
-pub fn saw(
+/// What is found under a key, or under another than the one that is wanted: `KEY MOD_REVISION VERSION RECORD`.
+fn found_for(
     alloc: Global,
     view: &mut View,
     revision: i64,
+    wanted: Option<&str>,
     words: Words,
 ) -> Result<Option<String>, Memory> {
     let mut words = words;
@@ -87,8 +89,37 @@ pub fn saw(
     let Some(value) = value(alloc, words)? else {
         return Ok(None);
     };
+    let want = key_of(
+        alloc,
+        match wanted {
+            Some(wanted) => wanted,
+            None => key,
+        },
+    )?;
     let kvs = one(alloc, kept(alloc, key, value, put, version)?)?;
-    add(alloc, view, key_of(alloc, key)?, revision, kvs)
+    add(alloc, view, want, revision, kvs)
+}
+
+/// `KEY MOD_REVISION VERSION RECORD`
+pub fn saw(
+    alloc: Global,
+    view: &mut View,
+    revision: i64,
+    words: Words,
+) -> Result<Option<String>, Memory> {
+    found_for(alloc, view, revision, None, words)
+}
+
+/// `WANTED KEY MOD_REVISION VERSION RECORD`: another key is found than the one that is wanted
+pub fn other(
+    alloc: Global,
+    view: &mut View,
+    revision: i64,
+    words: Words,
+) -> Result<Option<String>, Memory> {
+    let mut words = words;
+    let wanted = words.word();
+    found_for(alloc, view, revision, wanted, words)
 }
 
 /// `KEY`

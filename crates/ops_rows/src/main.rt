@@ -40,15 +40,24 @@ impl Rows for Looking {
             }
             "at" => self.at(alloc, words),
             "saw" => found::saw(alloc, &mut self.view, self.revision, words),
+            "other" => found::other(alloc, &mut self.view, self.revision, words),
             "absent" => found::absent(alloc, &mut self.view, self.revision, words),
             "listed" => found::listed(alloc, &mut self.view, self.revision, words),
+            "last" => last(alloc, &self.view),
             "needs" => asked::needed(alloc, &self.view, words),
+            "asks" => asked::read(alloc, &self.view, words),
             "decide" => asked::decided(alloc, &self.view, words),
             "finish" => asked::finished(alloc, &self.view, words),
             "seen" => watched::seen(alloc, &self.view, words),
             _ => Ok(None),
         }
     }
+}
+
+/// The zxid and the number of the last update.
+fn last(alloc: Global, view: &View) -> Result<Option<String>, Memory> {
+    let (zxid, number) = (view.zxid(), view.number());
+    Ok(Some(format!(in alloc; "{zxid} {number}")?))
 }
 
 impl Looking {

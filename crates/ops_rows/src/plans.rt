@@ -1,34 +1,65 @@
 //! Plans in words.
 
 use crate::replies::{data_word, push_reply, push_word, word_of};
-use ev_types::{Act, Guard};
+use ev_types::{Act, Guard, RangeReq};
 use std::alloc::Global;
 use zk_model::{Path, Trigger};
-use zn_layout::{RecordFault, read_counts, read_node, read_session};
+use zn_layout::{RecordFault, read_counts, read_head, read_node, read_session};
 use zn_view::{Plan, Want};
 use zx_base::Memory;
 
-/// `planned if GUARDS do OPERATIONS else KEYS shows TRIGGERS draft REPLY`
+/// `planned if GUARDS do OPERATIONS else KEYS shows TRIGGERS draft REPLY`; a head that is put with other triggers stands there
+/// with them.
 pub fn plan_text(alloc: Global, plan: &Plan) -> Result<String, Memory> {
     let mut text = String::from_str(alloc, "planned if")?;
     for guard in plan.guards.as_slice() {
         push_guard(alloc, &mut text, guard)?;
     }
     push_word(&mut text, "do")?;
+    let shown = triggers_text(alloc, plan.triggers.as_slice())?;
     for act in plan.success.as_slice() {
         push_act(alloc, &mut text, act)?;
+        push_other_head(alloc, &mut text, act, shown.as_str())?;
     }
     push_word(&mut text, "else")?;
     for want in plan.again.as_slice() {
         push_again(&mut text, want)?;
     }
     push_word(&mut text, "shows")?;
-    for trigger in plan.triggers.as_slice() {
-        push_trigger(&mut text, trigger)?;
-    }
+    text.push_str(shown.as_str())?;
     push_word(&mut text, "draft")?;
     push_reply(alloc, &mut text, &plan.draft)?;
     Ok(text)
+}
+
+fn triggers_text(alloc: Global, triggers: &[Trigger]) -> Result<String, Memory> {
+    let mut text = String::new(alloc);
+    for trigger in triggers {
+        push_trigger(&mut text, trigger)?;
+    }
+    Ok(text)
+}
+
+/// ` [ TRIGGERS ]` behind a put of the head, where they are not those that are shown
+fn push_other_head(alloc: Global, text: &mut String, act: &Act, shown: &str) -> Result<(), Memory> {
+    let Act::Put { key, value, .. } = act else {
+        return Ok(());
+    };
+    if !key.is(b"zk/head") {
+        return Ok(());
+    }
+    let head = match read_head(alloc, key.as_slice(), value.as_slice()) {
+        Ok(head) => head,
+        Err(RecordFault::Damaged { .. }) => return push_word(text, "damaged"),
+        Err(RecordFault::Memory) => return Err(Memory),
+    };
+    let put = triggers_text(alloc, head.triggers.as_slice())?;
+    if put.as_str() == shown {
+        return Ok(());
+    }
+    push_word(text, "[")?;
+    text.push_str(put.as_str())?;
+    push_word(text, "]")
 }
 
 /// ` KEY@MOD_REVISION`
@@ -47,36 +78,46 @@ fn push_again(text: &mut String, want: &Want) -> Result<(), Memory> {
     }
 }
 
-/// ` put KEY RECORD` with `lease ID` behind it where it has one, ` delete KEY`, ` get KEY`
-fn push_act(alloc: Global, text: &mut String, act: &Act) -> Result<(), Memory> {
+/// ` put KEY RECORD` with `lease ID` behind it where it has one, ` delete KEY`, or a range
+pub fn push_act(alloc: Global, text: &mut String, act: &Act) -> Result<(), Memory> {
     match act {
         Act::Put { key, value, lease } => {
             push_word(text, "put")?;
             push_word(text, word_of(key.as_slice()))?;
             push_record(alloc, text, key.as_slice(), value.as_slice())?;
-            push_lease(alloc, text, *lease)
+            push_number(alloc, text, " lease ", *lease)
         }
         Act::Delete { key } => {
             push_word(text, "delete")?;
             push_word(text, word_of(key.as_slice()))
         }
-        Act::Range(range) => {
-            push_word(text, "get")?;
-            push_word(text, word_of(range.key.as_slice()))
-        }
+        Act::Range(range) => push_range(alloc, text, range),
     }
 }
 
-fn push_lease(alloc: Global, text: &mut String, lease: i64) -> Result<(), Memory> {
-    if lease == 0 {
+/// ` get KEY`, or ` keys KEY` where the values are left out; behind it the end of the range, `@REVISION` and `limit NUMBER`,
+/// where it has one
+fn push_range(alloc: Global, text: &mut String, range: &RangeReq) -> Result<(), Memory> {
+    push_word(text, if range.keys_only { "keys" } else { "get" })?;
+    push_word(text, word_of(range.key.as_slice()))?;
+    if !range.end.as_slice().is_empty() {
+        push_word(text, word_of(range.end.as_slice()))?;
+    }
+    push_number(alloc, text, "@", range.revision)?;
+    push_number(alloc, text, " limit ", range.limit)
+}
+
+/// A number behind its name, 0 for none.
+fn push_number(alloc: Global, text: &mut String, name: &str, number: i64) -> Result<(), Memory> {
+    if number == 0 {
         return Ok(());
     }
-    let word = format!(in alloc; " lease {lease}")?;
+    let word = format!(in alloc; "{name}{number}")?;
     text.push_str(word.as_str())?;
     Ok(())
 }
 
-/// The record by the key's kind; nothing of the head's.
+/// The record by the key's kind, but for the head's.
 fn push_record(alloc: Global, text: &mut String, key: &[u8], value: &[u8]) -> Result<(), Memory> {
     let name = word_of(key);
     if name.starts_with("zk/d/") {
