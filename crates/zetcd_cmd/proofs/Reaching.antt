@@ -2,7 +2,7 @@
 use Rattle.ev_types.specs.Store.{last_revision, revision}
 use Rattle.std.proofs.Common.{◌≡◌, ℕ, List, [], ◌∷◌, ◌++◌, refl, sym, ap, ◌∙◌, subst, arith}
 use Rattle.std.proofs.lemmas.List.Elements.{All-append, All-cons, All-nil}
-use Rattle.std.specs.Prelude.{All}
+use Rattle.std.specs.Prelude.{All, length, ◌<◌}
 use Rattle.std.specs.List.{AllByRecursion}
 use Rattle.zk_transcript.specs.Legal.{Tick}
 use Rattle.zt_text.specs.Transcripts.{IsWellFormed}
@@ -10,6 +10,9 @@ use Rattle.zt_text.specs.declared.script.Happening.{Happening}
 use Rattle.zp_happen.specs.Happens.{Happens}
 use Rattle.zp_happen.specs.Runs.{IsFirst, Runs, RunsFrom, tick_of}
 use Rattle.zp_happen.specs.Worlds.{World}
+use Rattle.zp_lawful.proofs.Running.{few-counted}
+use Rattle.zp_lawful.proofs.Verdict.{every-replay-lawful}
+use Rattle.zp_step.specs.Stages.{max_count}
 use Rattle.zp_whole.proofs.Timing.{every-run-served}
 use Rattle.zp_whole.specs.Accounting.{IsWithinCounts, OffersSession}
 use Rattle.zetcd_cmd.specs.Claims.{IsOneRun}
@@ -31,5 +34,9 @@ reached-on hs w w' h offers happens within formed r = record {
 pub reached-first : (w : World) → IsFirst w → IsWithinCounts w → AllByRecursion IsWellFormed w.lines → Reached [] w
 reached-first w first within formed = record { ticks = []; runs = (w, first, (refl, refl)); offers = All-nil OffersSession; within = within; formed = formed }
 
-pub reached-claims : (hs : List Happening) (w : World) → (r : Reached hs w) → IsOneRun r.ticks w.lines
-reached-claims hs w r = record { run = every-run-served hs r.ticks w r.offers r.within r.runs; formed = r.formed }
+pub reached-claims : (hs : List Happening) (w : World) → length w.lines < max_count → (r : Reached hs w) → IsOneRun r.ticks w.lines
+reached-claims hs w few r = record {
+  run = every-run-served hs r.ticks w r.offers r.within r.runs;
+  lawful = every-replay-lawful hs r.ticks w r.offers (few-counted w.lines few) r.runs;
+  formed = r.formed;
+}

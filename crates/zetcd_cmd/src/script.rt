@@ -1,6 +1,6 @@
 //! A script that comes piece by piece, and the world that its lines are applied to.
 
-ghost use Rattle.std.specs.Prelude.{◌≡◌, ◌+◌, ◌<◌, ◌≤◌, ◌++◌, ◌∷◌, [], ℕ, List, length, IfOk, OnOk, IfErr, MatchOption};
+ghost use Rattle.std.specs.Prelude.{◌≡◌, ◌+◌, ◌-◌, ◌^◌, ◌<◌, ◌≤◌, ◌++◌, ◌∷◌, [], ℕ, List, length, IfOk, OnOk, IfErr, MatchOption};
 ghost use Rattle.zt_text.specs.Scripts.{max_line, max_script};
 ghost use Rattle.zetcd_cmd.specs.Replayed.{IsOver};
 ghost use Rattle.zetcd_cmd.specs.Scripting.{HasNoLineFeed, IsFirstLine, Plays, Halts, HasRead, Stands, IsApplied, Ends, EndsEarly, IsOverAt, IsKeptOut};
@@ -54,7 +54,9 @@ impl Script {
 
     /// What the lines that were applied show.
     pub fn transcript(&self) -> &[TranscriptLine]
-        ensures { result.now ≡ self.now.world.lines }
+        ensures lines { result.now ≡ self.now.world.lines }
+        // No list in memory is longer.
+        ensures few { length result.now < 2 ^ 64 - 1 }
     {
         self.world.lines()
     }
