@@ -2,20 +2,23 @@
 # How long a judgement takes, and how much memory: transcripts of N writes and their replies on 16 connections, and one read with a
 # watch for each eight writes, whose notice is told later. Once the writes are of 64 nodes, so that the tree is small; once
 # they are creates of N nodes below 16 others; and once, of these, each eighth is the first part of a transaction, of which the
-# second part fails or does not in turn. Prints seconds and peak kilobytes, and fails where a transcript is not judged lawful or a
-# peak is above its bound. Of time it asserts nothing.
+# second part fails or does not in turn. Then 10,000 setDatas and creates on 16, 256 and 4,096 connections, once with those reads
+# and once without any watch. Prints seconds and peak kilobytes, and fails where a transcript is not judged lawful or a peak is
+# above its bound. Of time it asserts nothing.
+#
+# JUDGE_PROGRAM names another program to measure, and JUDGE_RUNS picks `writes` or `connections` alone.
 set -eu
 here=$(cd "$(dirname "$0")/.." && pwd)
-program=$here/crates/zetcd/out/zetcd
+program=${JUDGE_PROGRAM:-$here/crates/zetcd/out/zetcd}
 [ -x "$program" ] || "$here/run" replay </dev/null >/dev/null
 work=$(mktemp -d)
 trap 'rm -rf "$work"' EXIT
 
-transcript() { # transcript KIND N: N writes, of `sets`, of `creates` or of `multis`
+transcript() { # transcript KIND N C: N writes, of `sets`, `quiets` (the same with no watch), `creates` or `multis`, on C connections
   python3 - "$@" <<'P'
 import struct, sys
-kind, writes = sys.argv[1], int(sys.argv[2])
-CONNECTIONS = 16
+kind, writes, connections = sys.argv[1], int(sys.argv[2]), int(sys.argv[3])
+NODES = 16                                       # below which the others are created
 
 def text(s):
     return struct.pack(">i", len(s)) + s
@@ -37,8 +40,8 @@ out = []
 tree = {b"/": Node(b"", 2, 0)}
 zxid, now = 2, 1000
 watching = {}                                    # path: the connections with a data watch on it
-queue = {c: [] for c in range(1, CONNECTIONS + 1)}
-sent = {c: 0 for c in range(1, CONNECTIONS + 1)} # the index of the last frame
+queue = {c: [] for c in range(1, connections + 1)}
+sent = {c: 0 for c in range(1, connections + 1)} # the index of the last frame
 acl = struct.pack(">ii", 1, 31) + text(b"world") + text(b"anyone")
 
 def frame(c, kind, body):
@@ -98,28 +101,32 @@ def get_data(c, path):
     reply(c, text(tree[path].data) + tree[path].stat())
 
 out.append("update 2 begin 0")
-for c in range(1, CONNECTIONS + 1):
-    out.append("open %d 1 %016x %s" % (c, c, "%02x" % c * 16))
+for c in range(1, connections + 1):
+    passwd = struct.pack(">i", c) * 4
+    out.append("open %d 1 %016x %s" % (c, c, passwd.hex()))
     out.append("frame %d 0 %d %s" % (c, zxid, (struct.pack(">iqiq", 0, 0, 30000, 0) + text(bytes(16)) + b"\0").hex()))
     zxid += 1
     out.append("update %d session %016x %d" % (zxid, c, c))
-    out.append("send %d %s" % (c, packet(struct.pack(">iiq", 0, 30000, c) + text(bytes([c]) * 16) + b"\0")))
+    out.append("send %d %s" % (c, packet(struct.pack(">iiq", 0, 30000, c) + text(passwd) + b"\0")))
 
 def turn(n):
-    return n % CONNECTIONS + 1
+    return n % connections + 1
+
+def node(n):
+    return b"/n%02d" % (n % NODES + 1)
 
 for n in range(writes):
     c = turn(n)
-    if n < CONNECTIONS:
-        create(c, b"/n%02d" % c)
+    if n < NODES:
+        create(c, node(n))
     elif kind == "multis" and n % 8 == 3:
-        multi(c, b"/n%02d/%07d" % (c, n), n // 8 % 2)
-    elif kind != "sets" or n < 64:
-        create(c, b"/n%02d/%07d" % (c, n))
+        multi(c, b"%s/%07d" % (node(n), n), n // 8 % 2)
+    elif kind in ("creates", "multis") or n < 64:
+        create(c, b"%s/%07d" % (node(n), n))
     else:
-        set_data(c, b"/n%02d" % turn(n * 7), b"%032d" % n)
-    if n % 8 == 7:
-        get_data(turn(n * 5), b"/n%02d" % turn(n * 3) if n >= CONNECTIONS else b"/")
+        set_data(c, node(n * 7), b"%032d" % n)
+    if n % 8 == 7 and kind != "quiets":
+        get_data(turn(n * 5), node(n * 3) if n >= NODES else b"/")
 out.append("done")
 print("\n".join(out))
 P
@@ -142,10 +149,20 @@ sys.exit(0 if good else 1)
 P
 }
 
-for kind in sets creates multis; do
-  for n in 1000 10000 50000; do
-    transcript "$kind" "$n" >"$work/transcript"
-    measure "$n $kind" 400000
+if [ "${JUDGE_RUNS:-writes}" = writes ]; then
+  for kind in sets creates multis; do
+    for n in 1000 10000 50000; do
+      transcript "$kind" "$n" 16 >"$work/transcript"
+      measure "$n $kind" 400000
+    done
   done
-done
+fi
+if [ "${JUDGE_RUNS:-connections}" = connections ]; then
+  for kind in sets quiets; do
+    for c in 16 256 4096; do
+      transcript "$kind" 10000 "$c" >"$work/transcript"
+      measure "$kind on $c" 400000
+    done
+  done
+fi
 exit "$failed"

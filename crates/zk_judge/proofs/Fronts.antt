@@ -1,12 +1,12 @@
 -- The first lines of a transcript: what fires among them, and where their updates stand.
-use Rattle.std.proofs.Common.{◌≡◌, ℕ, zero, suc, ℤ, ◌+◌, ◌-◌, ◌<◌, ◌≤◌, Bool, true, false, List, [], ◌∷◌, ◌++◌, length, length-take, take, drop, take-append-drop, Option, Some, None, refl, ap, sym, ◌∙◌, subst, arith}
-use Rattle.std.specs.Prelude.{slice_get}
+use Rattle.std.proofs.Common.{◌≡◌, ℕ, zero, suc, ℤ, ◌+◌, ◌-◌, ◌<◌, ◌≤◌, Bool, true, false, List, [], ◌∷◌, ◌++◌, append-nil, length, length-take, take, drop, take-append-drop, Option, Some, None, refl, ap, sym, ◌∙◌, subst, arith}
+use Rattle.std.specs.Prelude.{nat_le, slice_get}
 use Rattle.std.specs.Ordering.{int_eq}
 use Rattle.std.proofs.lemmas.Bool.Decides.{nat_tests}
 use Rattle.std.proofs.lemmas.Int.{ints}
 use Rattle.zk_transcript.proofs.Ordered.{slice_get-take}
 use Rattle.std.proofs.Math.Seq.{take-length}
-use Rattle.zk_model.specs.Watches.{Watches}
+use Rattle.zk_model.specs.Watches.{Watches, is_unarmed}
 use Rattle.zk_transcript.specs.declared.transcript.UpdateRec.{UpdateRec}
 use Rattle.zk_transcript.specs.declared.transcript.TranscriptLine.{TranscriptLine}
 use Rattle.zk_transcript.specs.declared.transcript.TranscriptLine.TheVariants.{Update, Open, Frame as FrameLine, Send, Lapse, Close}
@@ -16,9 +16,10 @@ use Rattle.zk_transcript.proofs.Appending.{first_place-push}
 use Rattle.zk_transcript.proofs.Walks.{first_place-bound}
 use Rattle.zk_least.proofs.Firing.{fired-within}
 use Rattle.zk_least.proofs.FirstPlaces.{first_place-at, first_place-none}
-use Rattle.zk_least.proofs.Queues.{none-fires, queue-law}
+use Rattle.zk_least.proofs.Queues.{none-fires, queue-law, unarmed-fires}
 use Rattle.zk_least.proofs.SameZxid.{get-take}
 use Rattle.zk_judge.specs.Fronts.{IsFront, IsTold}
+use Rattle.zk_judge.proofs.Opened.{take-end}
 
 pub front-length : (past lines : List TranscriptLine) → IsFront past lines → length past ≤ length lines
 front-length past lines front = omega (arith, length-take (length past) lines, ap (λ (ls : List TranscriptLine). length ls) front)
@@ -163,3 +164,39 @@ same-place z k j o first second = let same : (k, z) ≡ (j, z) = cc in ap (λ (q
 pub none-placed : (x : ℕ × ℤ) (o : Option (ℕ × ℤ)) → Some x ≡ o → None ≡ o → ⊥
 none-placed x None first second = absurd (cc)
 none-placed x (Some y) first second = absurd (cc)
+
+-- ---- once nothing is armed, nothing fires
+
+quiet : (lines : List TranscriptLine) (p : ℤ) (k : ℕ) (l : TranscriptLine) (x : Watches × List Due) → slice_get lines k ≡ Some l → is_unarmed x.0 ≡ true → then_fired lines k (is_above p l) x ≡ x
+quiet lines p k l x at unarmed =
+    by (is_above p l)
+    (sym (queue-law lines p x.0 k l at ∙ ap (then_fired lines k (is_above p l)) (unarmed-fires (take k lines) p x.0 unarmed)) ∙ unarmed-fires (take (k + 1) lines) p x.0 unarmed)
+  where
+    by : (b : Bool) → then_fired lines k b (x.0, []) ≡ (x.0, []) → then_fired lines k b x ≡ x
+    by true e = ap (λ (f : Watches × List Due). (f.0, x.1 ++ f.1)) e ∙ ap (λ (ds : List Due). (x.0, ds)) (append-nil x.1)
+    by false e = refl
+
+quiet-over : (past : List TranscriptLine) (p : ℤ) (w : Watches) (a d : ℕ) → a + d ≤ length past → is_unarmed (fired_above (take a past) p w).0 ≡ true → fired_above (take (a + d) past) p w ≡ fired_above (take a past) p w
+quiet-over past p w a zero le unarmed = ap (λ k. fired_above (take k past) p w) (let s : a + 0 ≡ a = omega arith in s)
+quiet-over past p w a (suc d) le unarmed =
+    let s : (a + d) + 1 ≡ a + suc d = omega arith in
+    let l = line-at past (a + d) (omega (arith, le)) in
+    let before = quiet-over past p w a d (omega (arith, le)) unarmed in
+    ap (λ k. fired_above (take k past) p w) (sym s)
+    ∙ queue-law past p w (a + d) l.0 l.1
+    ∙ quiet past p (a + d) l.0 (fired_above (take (a + d) past) p w) l.1 (ap (λ (x : Watches × List Due). is_unarmed x.0) before ∙ unarmed)
+    ∙ before
+
+pub fired-unarmed : (past : List TranscriptLine) (p : ℤ) (w : Watches) (a : ℕ) → is_unarmed (fired_above (take a past) p w).0 ≡ true → fired_above (take a past) p w ≡ fired_above past p w
+fired-unarmed past p w a unarmed = by (nat_le a (length past)) refl
+  where
+    by : (b : Bool) → nat_le a (length past) ≡ b → fired_above (take a past) p w ≡ fired_above past p w
+    by true e =
+        let le : a ≤ length past = grind (arith, nat_tests, e) in
+        let s : a + (length past - a) ≡ length past = omega (arith, le) in
+        sym (quiet-over past p w a (length past - a) (omega (arith, s)) unarmed)
+        ∙ ap (λ k. fired_above (take k past) p w) s
+        ∙ ap (λ (ls : List TranscriptLine). fired_above ls p w) (take-length past)
+    by false e =
+        let le : length past ≤ a = grind (arith, nat_tests, e) in
+        ap (λ (ls : List TranscriptLine). fired_above ls p w) (take-end past a le)

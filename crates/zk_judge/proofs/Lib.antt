@@ -1,3 +1,4 @@
+pub mod Agendas
 pub mod AnswersAsOf
 pub mod Behind
 pub mod EachVerdict
@@ -6,8 +7,9 @@ pub mod HeaderBytes
 pub mod Lawful
 pub mod LeastFaults
 pub mod OneVerdict
+pub mod PacketPlaces
 pub mod Opened
-pub mod Sent
+pub mod OneMore
 pub mod Tries
 pub mod Replied
 pub mod Stages

@@ -4,7 +4,7 @@ use Rattle.std.specs.Prelude.{◌⊎◌, if◌then◌else◌, is_some, nat_le}
 use Rattle.std.specs.List.{Contains}
 use Rattle.std.proofs.lemmas.Bool.Decides.{nat_tests}
 use Rattle.std.proofs.lemmas.List.{map-append}
-use Rattle.std.proofs.lemmas.List.Elements.{Contains-append_left, Contains-push, Contains-push_cases}
+use Rattle.std.proofs.lemmas.List.Elements.{Contains-push_cases}
 use Rattle.zk_transcript.specs.declared.transcript.TranscriptLine.{TranscriptLine}
 use Rattle.zk_transcript.specs.declared.transcript.TranscriptLine.TheVariants.{Update, Open, Frame as FrameLine, Send, Lapse, Close}
 use Rattle.zk_transcript.specs.Conversations.{IsLawfulAndFresh}
@@ -32,16 +32,15 @@ opened-as d before (Close c e) opened = inl (skips d before (Close c e) refl ope
 pub connections-push : (xs : List Conversation) (x : Conversation) → connections (xs ++ x ∷ []) ≡ connections xs ++ x.connection ∷ []
 connections-push xs x = map-append (λ (y : Conversation). y.connection) xs (x ∷ [])
 
-pub none-more : (before : List TranscriptLine) (l : TranscriptLine) (xs : List Conversation) → opened_by l ≡ None → AreOpened before xs → AreOpened (before ++ l ∷ []) xs
-none-more before l xs none all d opened = elim (opened-as d before l opened) [ inl e ↦ all d e | inr e ↦ absurd (cc) ]
+pub none-more : (before : List TranscriptLine) (l : TranscriptLine) (IsThere : ℕ → Type 0) → opened_by l ≡ None → AreOpened before IsThere → AreOpened (before ++ l ∷ []) IsThere
+none-more before l IsThere none all d opened = elim (opened-as d before l opened) [ inl e ↦ all d e | inr e ↦ absurd (cc) ]
 
-pub one-more : (before : List TranscriptLine) (l : TranscriptLine) (xs : List Conversation) (x : Conversation) → opened_by l ≡ Some x.connection → AreOpened before xs → AreOpened (before ++ l ∷ []) (xs ++ x ∷ [])
-one-more before l xs x some all d opened =
-    subst (λ (cs : List ℕ). Contains cs d) (sym (connections-push xs x))
-    (elim (opened-as d before l opened) [
-      | inl e ↦ Contains-append_left (connections xs) (x.connection ∷ []) d (all d e)
-      | inr e ↦ let same : x.connection ≡ d = cc in subst (λ (c : ℕ). Contains (connections xs ++ x.connection ∷ []) c) same (Contains-push (connections xs) x.connection)
-    ])
+pub one-more : (before : List TranscriptLine) (l : TranscriptLine) (IsThere WillBe : ℕ → Type 0) (c : ℕ) → opened_by l ≡ Some c → ((d : ℕ) → IsThere d → WillBe d) → WillBe c → AreOpened before IsThere → AreOpened (before ++ l ∷ []) WillBe
+one-more before l IsThere WillBe c some kept has all d opened =
+    elim (opened-as d before l opened) [
+      | inl e ↦ kept d (all d e)
+      | inr e ↦ let same : c ≡ d = cc in subst WillBe same has
+    ]
 
 -- ---- the least that fails
 
@@ -72,7 +71,7 @@ least-unlawful P cs c (Some n) not least = by (nat_le n c) refl
           passes = λ d in' below. elim (Contains-push_cases cs c d in') [ inl earlier ↦ least.passes d earlier (omega (arith, below, less)) | inr same ↦ absurd (omega (arith, below, same)) ];
         }
 
-pub least-of-opened : (lines : List TranscriptLine) (xs : List Conversation) (found : Option ℕ) → history_fault lines ≡ None → AreOpened lines xs → IsLeastOf (IsLawfulAndFresh lines) (connections xs) found
+pub least-of-opened : (lines : List TranscriptLine) (xs : List Conversation) (found : Option ℕ) → history_fault lines ≡ None → AreOpened lines (Contains (connections xs)) → IsLeastOf (IsLawfulAndFresh lines) (connections xs) found
     → IsLeastFault (IsLawfulAndFresh lines) found
 least-of-opened lines xs found run opened least =
     least-fault lines found run (record { fails = least.fails; passes = λ d is below. least.passes d (opened d is) below })

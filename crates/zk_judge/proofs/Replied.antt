@@ -267,3 +267,7 @@ told-up-as lines w z u less found =
 pub if-ok : {A E : Type 0} {P Q : A → Type 0} (r : Result A E) → ((x : A) → P x → Q x) → IfOk r P → IfOk r Q
 if-ok (Ok x) f p = f x p
 if-ok (Err e) f p = tt
+
+pub both-ok : {A E : Type 0} {P Q S : A → Type 0} (r : Result A E) → ((x : A) → P x → Q x → S x) → IfOk r P → IfOk r Q → IfOk r S
+both-ok (Ok x) f p q = f x p q
+both-ok (Err e) f p q = tt

@@ -1,3 +1,4 @@
+pub mod Agendas
 pub mod Faults
 pub mod Fronts
 pub mod Seen
@@ -5,3 +6,4 @@ pub mod Staged
 pub mod Verdicts
 pub mod Waiting
 pub mod Sendable
+pub mod Sent

@@ -12,6 +12,8 @@ use Rattle.zk_judge.specs.Waiting.{IsWaiting, is_walked}
 use Rattle.zk_judge.specs.declared.conversations.Conversation.{Conversation}
 use Rattle.zk_judge.specs.declared.conversations.Stage.{Stage}
 use Rattle.zk_judge.specs.declared.conversations.Stage.TheVariants as stage
+use Rattle.zk_judge.specs.declared.waits.Walked.{Walked}
+use Rattle.zk_judge.specs.declared.waits.Walked.TheVariants as walk
 
 -- some moment between two lets the connect be refused
 abbrev pub MayBeRefused : List TranscriptLine → ℕ → ℕ → ConnectRequest → Type 0
@@ -31,6 +33,16 @@ IsStaged lines from c (stage.Walks w) = IsDeciding lines from (IsLawfulAndFresh 
 abbrev pub IsStanding : List TranscriptLine → ℕ → Conversation → Type 0
 IsStanding lines from x = IsStaged lines from x.connection x.stage
 
+-- the moment that a stage waits for, where it waits for one
+abbrev pub awaited_by : Walked → Option ℕ
+awaited_by (walk.Ends b) = None
+awaited_by (walk.Waits x) = Some x.first
+
+abbrev pub awaited : Stage → Option ℕ
+awaited (stage.Attached place zxid session) = Some (place + 1)
+awaited (stage.Refused first last r) = Some first
+awaited (stage.Walks w) = awaited_by w
+
 abbrev pub connections : List Conversation → List ℕ
 connections xs = map (λ (x : Conversation). x.connection) xs
 
@@ -39,9 +51,9 @@ abbrev pub opened_by : TranscriptLine → Option ℕ
 opened_by (Open c proxy id passwd) = Some c
 opened_by _ = None
 
--- each connection that these lines open is among them
-abbrev pub AreOpened : List TranscriptLine → List Conversation → Type 0
-AreOpened lines xs = (d : ℕ) → is_some (opening d lines) ≡ true → Contains (connections xs) d
+-- each connection that these lines open is one of those
+abbrev pub AreOpened : List TranscriptLine → (ℕ → Type 0) → Type 0
+AreOpened lines IsThere = (d : ℕ) → is_some (opening d lines) ≡ true → IsThere d
 
 abbrev pub lesser_of : Option ℕ → ℕ → Option ℕ
 lesser_of None c = Some c

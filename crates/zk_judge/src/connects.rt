@@ -8,7 +8,7 @@ ghost use Rattle.zk_transcript.specs.Conversations.{IsWelcomed, answered_read_on
 use crate::index::Index;
 use crate::walker::Party;
 use std::alloc::Global;
-use zk_history::{Session, State, connect};
+use zk_history::{Session, State};
 use zk_model::{ConnectRequest, ConnectResponse};
 use zk_wire::write_connect;
 use zx_base::{Bytes, Memory};
@@ -95,7 +95,7 @@ pub fn is_welcomed(
     requires { state.now ≡ state_at index.now.lines.now (place + 1) }
     ensures { IfOk result (λ b. IsTrue b ↔ IsWelcomed index.now.lines.now party.connection place party.session (first, bytes.now) (connect_of party.connection index.now.lines.now) (session_at party.session state.now)) }
 {
-    let Some(request) = connect(alloc, index.lines, party.connection)? else {
+    let Some(request) = index.connect(alloc, party.connection)? else {
         return Ok(false);
     };
     let Some(session) = state.session(party.session) else {

@@ -1,22 +1,22 @@
 //! The conversations of a transcript, each as far as it is judged.
 
-ghost use Rattle.std.specs.Prelude.{◌≡◌, ◌<◌, ◌≤◌, ◌+◌, ◌↔◌, List, None, Some, length, IfOk, IsTrue};
+ghost use Rattle.std.specs.Prelude.{◌≡◌, ◌<◌, ◌≤◌, ◌+◌, ◌↔◌, ℕ, List, None, Some, length, IfOk, IsTrue};
 ghost use Rattle.zk_transcript.specs.declared.transcript.TranscriptLine.{TranscriptLine as AnyLine};
 ghost use Rattle.zk_transcript.specs.History.{connect as connect_of, state_at};
 ghost use Rattle.zk_transcript.specs.Legal.{attach_of as attach_of_of};
 ghost use Rattle.zk_transcript.specs.Walks.{packets as packets_to, placed_frame as placed_frame_of};
 ghost use Rattle.zk_transcript.specs.Conversations.{IsLawfulAndFresh, IsRefused, are_before_close as are_before_close_of};
 ghost use Rattle.zk_legal.specs.Faults.{history_fault};
-ghost use Rattle.zk_judge.specs.Staged.{IsDeciding, IsStaged, IsStanding, MayBeRefused};
+ghost use Rattle.zk_judge.specs.Staged.{IsDeciding, IsStaged, IsStanding, MayBeRefused, awaited as awaited_of};
 ghost use Rattle.zk_judge.specs.Waiting.{IsWaiting, is_walked};
 
 use crate::connects::{is_welcomed, may_refuse, refusal_packet};
 use crate::index::Index;
-use crate::packets::{Due, first_packet, packets_of};
+use crate::packets::{Due, first_packet};
 use crate::waits::{Walked, settle, walk_on};
 use crate::walker::{Party, Walker};
 use std::alloc::Global;
-use zk_history::{State, connect};
+use zk_history::State;
 use zk_model::ConnectRequest;
 use zx_base::Memory;
 
@@ -77,7 +77,7 @@ fn refusal(
     let Some((asked, _)) = index.placed_frame(connection, 0) else {
         return Ok(Stage::Walks(Walked::Ends(false)));
     };
-    let Some(request) = connect(alloc, index.lines, connection)? else {
+    let Some(request) = index.connect(alloc, connection)? else {
         return Ok(Stage::Walks(Walked::Ends(false)));
     };
     let packet = refusal_packet(alloc, &request)?;
@@ -98,7 +98,7 @@ fn unattached(alloc: Global, index: &Index, connection: u32) -> Result<Stage, Me
     requires unattached { attach_of_of connection index.now.lines.now ≡ None }
     ensures { IfOk result (λ s. IsDeciding index.now.lines.now 0 (IsLawfulAndFresh index.now.lines.now connection) s) }
 {
-    let packets = packets_of(alloc, index.lines, connection)?;
+    let packets = index.packets_of(alloc, connection)?;
     if !are_before_close(index, connection, &packets) {
         return Ok(Stage::Walks(Walked::Ends(false)));
     }
@@ -127,7 +127,7 @@ fn welcomed(
     ensures walked { IfOk result (λ w. IsTrue (is_walked index.now.lines.now w) ↔ IsLawfulAndFresh index.now.lines.now party.connection) }
     ensures waits { IfOk result (λ w. IsWaiting index.now.lines.now (place + 1) w) }
 {
-    let packets = packets_of(alloc, index.lines, party.connection)?;
+    let packets = index.packets_of(alloc, party.connection)?;
     if !are_before_close(index, party.connection, &packets) {
         return Ok(Walked::Ends(false));
     }
@@ -241,6 +241,15 @@ fn staged(
     }
 }
 
+/// The moment behind a line.
+fn behind(index: &Index, place: usize) -> usize
+    requires { place < length index.now.lines.now }
+    ensures { result ≡ place + 1 }
+{
+    prove!(place < index.lines.len());
+    place + 1
+}
+
 /// Whether the least walk gave the packets, once every moment was looked at.
 fn is_least(walked: &Walked) -> bool
     ensures { (lines : List AnyLine) → IsWaiting lines (length lines + 1) walked.now → result ≡ is_walked lines walked.now }
@@ -288,6 +297,18 @@ impl Conversation {
             connection,
             stage: staged(alloc, index, state, moment, connection, stage)?,
         })
+    }
+
+    /// The moment that the conversation waits for, unless it is judged.
+    pub fn awaited(&self, index: &Index) -> Option<usize>
+        requires { (from : ℕ) × IsStanding index.now.lines.now from self.now }
+        ensures { result ≡ awaited_of self.now.stage }
+    {
+        match &self.stage {
+            Stage::Attached { place, .. } => Some(behind(index, *place)),
+            Stage::Refused { first, .. } => Some(*first),
+            Stage::Walks(walked) => walked.awaited(),
+        }
     }
 
     /// Whether the conversation is lawful and fresh, once every moment was looked at.

@@ -59,7 +59,8 @@ fn then_fire(
 }
 
 /// The updates among these first lines that stand above the place of a walker fire in order. Those before its last update are
-/// passed over, and so are lines without an update.
+/// passed over, and so are lines without an update, and all lines
+/// once nothing is armed.
 pub fn fire_above(
     alloc: Global,
     index: &Index,
@@ -75,7 +76,7 @@ pub fn fire_above(
         due: Vec::new(alloc),
     };
     let mut at = walker.since;
-    'updates: while at < past.len() {
+    'updates: while at < past.len() && !fired.watches.is_unarmed() {
         let place = index.next_update(at);
         if past.len() <= place {
             return Ok(fired);

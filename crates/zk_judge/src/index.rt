@@ -3,8 +3,8 @@
 ghost use Rattle.std.specs.Prelude.{◌≡◌, ◌+◌, ◌<◌, ◌≤◌, ℕ, ℤ, List, None, Some, length, option_map, slice_get, take, IfOk, IfSome};
 ghost use Rattle.zk_transcript.specs.declared.transcript.UpdateRec.{UpdateRec as Updated};
 ghost use Rattle.zk_transcript.specs.declared.transcript.TranscriptLine.TheVariants.{Update};
-ghost use Rattle.zk_transcript.specs.History.{first_place, open_shown, state_at};
-ghost use Rattle.zk_transcript.specs.Walks.{after_update as after_update_of, own_update as own_update_of, placed_frame as placed_frame_of, update_shown as update_shown_of};
+ghost use Rattle.zk_transcript.specs.History.{connect as connect_of, first_place, open_shown, state_at};
+ghost use Rattle.zk_transcript.specs.Walks.{after_update as after_update_of, own_update as own_update_of, packets, placed_frame as placed_frame_of, update_shown as update_shown_of};
 ghost use Rattle.zk_transcript.specs.Legal.{attach_of as attach_of_of};
 ghost use Rattle.zk_transcript.specs.Conversations.{close_shown as close_shown_of};
 ghost use Rattle.zk_model.specs.Limits.{max_frame};
@@ -13,10 +13,13 @@ ghost use Rattle.zk_legal.specs.Passwords.{OfferPasswords};
 ghost use Rattle.zk_history.specs.Commits.{response_in};
 ghost use Rattle.zk_history.specs.Pasts.{lines_of};
 ghost use Rattle.zk_history.specs.Shown.{placed_attachment, placed_bytes};
+ghost use Rattle.zk_judge.specs.Sent.{AreSent};
 
+use crate::packets::Due;
+use crate::sent::Sent;
 use std::alloc::Global;
 use zk_history::{Effects, Fault, Past};
-use zk_model::{Body, Trigger};
+use zk_model::{Body, ConnectRequest, Trigger};
 use zk_transcript::{TranscriptLine, UpdateRec};
 use zx_base::Memory;
 
@@ -51,8 +54,10 @@ pub struct Index<'a> {
     pub lines: &'a [TranscriptLine],
     past: Past<'a>,
     effects: Effects<'a>,
+    sent: Sent,
     ghost shown: { lines_of past ≡ lines.now },
     ghost done: { effects.all.now ≡ lines.now },
+    ghost packets_stand: { AreSent lines.now sent },
     ghost run: { history_fault lines.now ≡ None },
     ghost offered: { OfferPasswords lines.now },
 }
@@ -73,6 +78,7 @@ impl<'a> Index<'a> {
             lines,
             past: Past::behind(alloc, lines)?,
             effects,
+            sent: Sent::of(alloc, lines)?,
         })
     }
 
@@ -84,6 +90,20 @@ impl<'a> Index<'a> {
         ensures index { IfSome result (λ x. index < length self.now.lines.now) }
     {
         self.past.placed_frame(connection, index)
+    }
+
+    /// The connect request of a connection, where it is readable.
+    pub fn connect(&self, alloc: Global, connection: u32) -> Result<Option<ConnectRequest>, Memory>
+        ensures { IfOk result (λ r. r ≡ connect_of connection self.now.lines.now) }
+    {
+        self.past.connect(alloc, connection)
+    }
+
+    /// The packets of a connection with their places, in order.
+    pub fn packets_of(&self, alloc: Global, connection: u32) -> Result<Vec<Due>, Memory>
+        ensures { IfOk result (λ v. v.items ≡ packets connection self.now.lines.now) }
+    {
+        self.sent.packets_of(alloc, self.lines, connection)
     }
 
     /// The line that carries out a request of a connection.

@@ -1,15 +1,17 @@
 //! The verdict on a transcript, in two passes over its lines.
 
-ghost use Rattle.std.specs.Prelude.{◌≡◌, ◌+◌, ◌<◌, ◌++◌, ◌∷◌, [], ℕ, List, None, length, IfOk};
+ghost use Rattle.std.specs.Prelude.{◌≡◌, ◌+◌, ◌<◌, ◌≤◌, ◌++◌, ◌∷◌, [], ℕ, List, None, length, IfOk};
 ghost use Rattle.std.specs.List.{All, Contains};
 ghost use Rattle.zk_transcript.specs.declared.transcript.TranscriptLine.{TranscriptLine as AnyLine};
 ghost use Rattle.zk_transcript.specs.History.{state_at};
 ghost use Rattle.zk_transcript.specs.Conversations.{IsLawfulAndFresh};
 ghost use Rattle.zk_legal.specs.Faults.{history_fault as history_fault_of};
 ghost use Rattle.zk_judge.specs.Faults.{IsLeastFault};
+ghost use Rattle.zk_judge.specs.Agendas.{AreJudged, HasConversation, IsAgenda};
 ghost use Rattle.zk_judge.specs.Staged.{AreOpened, IsLeastOf, IsStanding, connections, lesser_of, opened_by as opened_by_of};
 ghost use Rattle.zk_judge.specs.Verdicts.{IsVerdict};
 
+use crate::agenda::Agenda;
 use crate::conversations::Conversation;
 use crate::index::Index;
 use crate::verdict::Verdict;
@@ -29,59 +31,55 @@ fn opened_by(line: &TranscriptLine) -> Option<u32>
     }
 }
 
-/// These conversations, and that of the connection which a line opens.
+/// With the conversation of the connection that a line opens.
 fn with_opened(
     alloc: Global,
     index: &Index,
-    conversations: Vec<Conversation>,
+    agenda: Agenda,
     line: &TranscriptLine,
-) -> Result<Vec<Conversation>, Memory>
+) -> Result<Agenda, Memory>
     requires run { history_fault_of index.now.lines.now ≡ None }
-    requires stand { All (IsStanding index.now.lines.now 0) conversations.items }
-    ensures stand { IfOk result (λ v. All (IsStanding index.now.lines.now 0) v.items) }
-    ensures opened { IfOk result (λ v. (before : List AnyLine) → AreOpened before conversations.items → AreOpened (before ++ line.now ∷ []) v.items) }
+    requires agenda { IsAgenda index.now.lines.now agenda }
+    requires next { agenda.next ≡ 0 }
+    ensures agenda { IfOk result (λ a. IsAgenda index.now.lines.now a) }
+    ensures next { IfOk result (λ a. a.next ≡ 0) }
+    ensures opened { IfOk result (λ a. (before : List AnyLine) → AreOpened before (HasConversation agenda) → AreOpened (before ++ line.now ∷ []) (HasConversation a)) }
 {
     match opened_by(line) {
-        Some(connection) => {
-            let mut more = conversations;
-            more.push(Conversation::new(alloc, index, connection)?)?;
-            Ok(more)
-        }
-        None => Ok(conversations),
+        Some(connection) => agenda.with(index, Conversation::new(alloc, index, connection)?),
+        None => Ok(agenda),
     }
 }
 
-/// The conversations of all connections that are opened, before the first line.
-fn opened(alloc: Global, index: &Index) -> Result<Vec<Conversation>, Memory>
+/// The conversations of all connections that are opened, before the first moment.
+fn opened(alloc: Global, index: &Index) -> Result<Agenda, Memory>
     requires run { history_fault_of index.now.lines.now ≡ None }
-    ensures stand { IfOk result (λ v. All (IsStanding index.now.lines.now 0) v.items) }
-    ensures opened { IfOk result (λ v. AreOpened index.now.lines.now v.items) }
+    ensures agenda { IfOk result (λ a. IsAgenda index.now.lines.now a) }
+    ensures next { IfOk result (λ a. a.next ≡ 0) }
+    ensures opened { IfOk result (λ a. AreOpened index.now.lines.now (HasConversation a)) }
 {
-    let mut conversations = Vec::new(alloc);
+    let mut agenda = Agenda::new(alloc, index)?;
     for line in index.lines {
-        conversations = with_opened(alloc, index, conversations, line)?;
+        agenda = with_opened(alloc, index, agenda, line)?;
     }
-    Ok(conversations)
+    Ok(agenda)
 }
 
-/// The conversations with what the state at a moment shows.
-fn advanced(
-    alloc: Global,
-    index: &Index,
-    state: &State,
-    moment: usize,
-    conversations: Vec<Conversation>,
-) -> Result<Vec<Conversation>, Memory>
+/// The conversations with what the state at the next moment shows.
+fn advanced(alloc: Global, index: &Index, state: &State, agenda: Agenda) -> Result<Agenda, Memory>
     requires run { history_fault_of index.now.lines.now ≡ None }
-    requires stand { All (IsStanding index.now.lines.now moment) conversations.items }
-    requires state { state.now ≡ state_at index.now.lines.now moment }
-    ensures stand { IfOk result (λ v. All (IsStanding index.now.lines.now (moment + 1)) v.items) }
-    ensures kept { IfOk result (λ v. (c : ℕ) → Contains (connections conversations.items) c → Contains (connections v.items) c) }
+    requires agenda { IsAgenda index.now.lines.now agenda }
+    requires within { agenda.next ≤ length index.now.lines.now }
+    requires state { state.now ≡ state_at index.now.lines.now agenda.next }
+    ensures agenda { IfOk result (λ a. IsAgenda index.now.lines.now a) }
+    ensures next { IfOk result (λ a. a.next ≡ agenda.next + 1) }
+    ensures kept { IfOk result (λ a. (c : ℕ) → HasConversation agenda c → HasConversation a c) }
 {
-    let mut left = conversations;
-    let mut later = Vec::new(alloc);
-    'conversations: while let Some(conversation) = left.pop() {
-        later.push(conversation.advanced(alloc, index, state, moment)?)?;
+    let moment = agenda.next;
+    prove!(moment <= index.lines.len());
+    let (mut due, mut later) = agenda.due();
+    'conversations: while let Some(conversation) = due.pop() {
+        later = later.with(index, conversation.advanced(alloc, index, state, moment)?)?;
     }
     Ok(later)
 }
@@ -100,25 +98,20 @@ fn moved_on<'a>(alloc: Global, cursor: Cursor<'a>) -> Result<Cursor<'a>, Memory>
     }
 }
 
-/// The conversations of all connections that are opened, with what each moment shows.
+/// The conversations of all connections that are opened, each with what the moments that it waited for showed.
 fn judged(alloc: Global, index: &Index) -> Result<Vec<Conversation>, Memory>
     requires run { history_fault_of index.now.lines.now ≡ None }
-    ensures stand { IfOk result (λ v. All (IsStanding index.now.lines.now (length index.now.lines.now + 1)) v.items) }
-    ensures opened { IfOk result (λ v. AreOpened index.now.lines.now v.items) }
+    ensures stand { IfOk result (λ v. AreJudged index.now.lines.now v.items) }
+    ensures opened { IfOk result (λ v. AreOpened index.now.lines.now (Contains (connections v.items))) }
 {
-    let mut conversations = opened(alloc, index)?;
+    let mut agenda = opened(alloc, index)?;
     let mut cursor = Cursor::new(alloc, index.lines);
-    for moment in 0..index.lines.len() {
-        conversations = advanced(alloc, index, cursor.state(), moment, conversations)?;
+    for _moment in 0..index.lines.len() {
+        agenda = advanced(alloc, index, cursor.state(), agenda)?;
         cursor = moved_on(alloc, cursor)?;
     }
-    advanced(
-        alloc,
-        index,
-        cursor.state(),
-        index.lines.len(),
-        conversations,
-    )
+    let over = advanced(alloc, index, cursor.state(), agenda)?;
+    Ok(over.into_judged())
 }
 
 fn lesser(found: Option<u32>, connection: u32) -> Option<u32>
@@ -149,7 +142,7 @@ fn with_verdict(found: Option<u32>, conversation: &Conversation) -> Option<u32>
 
 /// The least connection whose conversation is not lawful and fresh, once every moment was looked at.
 fn least_unlawful(conversations: &[Conversation]) -> Option<u32>
-    ensures { (lines : List AnyLine) → All (IsStanding lines (length lines + 1)) conversations.now → IsLeastOf (IsLawfulAndFresh lines) (connections conversations.now) result }
+    ensures { (lines : List AnyLine) → AreJudged lines conversations.now → IsLeastOf (IsLawfulAndFresh lines) (connections conversations.now) result }
 {
     let mut found = None;
     for conversation in conversations {

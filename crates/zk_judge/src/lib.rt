@@ -4,12 +4,13 @@
 //! with the conversations. Each is judged by its least walk, reply by reply: one that repeats its place needs no state, and any
 //! other is tried as of two moments at most.
 //!
-//! The states are gone through once: at each moment every connection is advanced whose next reply waits for it. Look-ups are by
-//! tables, and what each update did is kept. For a given number of connections and of armed watches the time is that of the lines,
-//! the packets and the notices, but for the cost of the tree. It grows with the connections times the lines, since each moment
-//! looks at every conversation, and with the watches that a connection has armed, which each of its replies copies.
+//! The states are gone through once: each conversation stands in the list of the moment that its next reply waits for, and at a
+//! moment only those of its list are looked at. Look-ups are by tables, and what each update did is kept. So the time is that of
+//! the lines, the packets and the notices, however many connections there are, but for the cost of the tree and for watches: a
+//! connection that has some armed goes through the updates up to each of its replies by itself, and each reply copies them.
 #![tactic(auto)]
 
+mod agenda;
 mod answers;
 mod bodies;
 mod connects;
@@ -22,6 +23,7 @@ mod laws;
 mod packets;
 mod places;
 mod queues;
+mod sent;
 mod steps;
 mod verdict;
 mod waits;

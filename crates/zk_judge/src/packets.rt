@@ -4,7 +4,7 @@ ghost use Rattle.std.specs.Prelude.{◌≡◌, ◌&&◌, ◌++◌, ◌∷◌, []
 ghost use Rattle.std.specs.Int.{from_be_bytes, w32, w64};
 ghost use Rattle.std.specs.List.{All};
 ghost use Rattle.zk_jute.specs.Packets.{CanBeSent, NoticeCanBeSent, notice_packet as notice_packet_of, reply_packet as reply_packet_of};
-ghost use Rattle.zk_transcript.specs.Walks.{due_notices, packets, packets_from};
+ghost use Rattle.zk_transcript.specs.Walks.{due_notices, packets_from};
 ghost use Rattle.zk_least.specs.LeastWalk.{behind, next_reply as next_reply_of, zxid_in as zxid_in_of};
 ghost use Rattle.zk_least.specs.LeastMoments.{code_in as code_in_of};
 ghost use Rattle.zk_history.specs.Shown.{placed_bytes};
@@ -20,7 +20,7 @@ use zx_base::{Bytes, Memory};
 pub type Due = (usize, Bytes);
 
 /// Adds the packet of a line, where it is sent to a connection.
-fn push_sent(
+pub fn push_sent(
     alloc: Global,
     sent: &mut Vec<Due>,
     connection: u32,
@@ -39,21 +39,6 @@ fn push_sent(
         }
     }
     Ok(())
-}
-
-/// The packets of a connection with their places, in order.
-pub fn packets_of(
-    alloc: Global,
-    lines: &[TranscriptLine],
-    connection: u32,
-) -> Result<Vec<Due>, Memory>
-    ensures { IfOk result (λ v. v.items ≡ packets connection lines.now) }
-{
-    let mut sent = Vec::new(alloc);
-    for (place, line) in lines.iter().enumerate() {
-        push_sent(alloc, &mut sent, connection, place, line)?;
-    }
-    Ok(sent)
 }
 
 /// The first packet, with its place.

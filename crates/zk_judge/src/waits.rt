@@ -6,6 +6,7 @@ ghost use Rattle.zk_least.specs.LeastSteps.{is_least};
 ghost use Rattle.zk_legal.specs.Faults.{history_fault};
 ghost use Rattle.zk_judge.specs.Fronts.{IsTold};
 ghost use Rattle.zk_judge.specs.Seen.{walker_of};
+ghost use Rattle.zk_judge.specs.Staged.{awaited_by};
 ghost use Rattle.zk_judge.specs.Waiting.{IsEarliest, IsNotBefore, IsWait, IsWaiting, goes_on, is_walked, left_of, tried as tried_of, tries_of};
 ghost use Rattle.zk_judge.specs.declared.waits.Walked.TheVariants as walk;
 
@@ -36,6 +37,18 @@ pub struct Wait {
 pub enum Walked {
     Ends(bool),
     Waits(Wait),
+}
+
+impl Walked {
+    /// The moment that is tried next, where there is one.
+    pub fn awaited(&self) -> Option<usize>
+        ensures { result ≡ awaited_by self.now }
+    {
+        match self {
+            Walked::Ends(_) => None,
+            Walked::Waits(wait) => Some(wait.first),
+        }
+    }
 }
 
 /// Waits for the first of two moments that is allowed by its number.

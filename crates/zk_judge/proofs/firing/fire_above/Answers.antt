@@ -1,7 +1,12 @@
-use Rattle.std.proofs.Common.{◌∙◌, arith}
+use Rattle.std.proofs.Common.{◌≡◌, ◌≤◌, true, List, length, ap, sym, ◌∙◌, arith}
+use Rattle.zk_model.specs.Watches.{Watches, is_unarmed}
+use Rattle.zk_transcript.specs.declared.transcript.TranscriptLine.{TranscriptLine}
+use Rattle.zk_transcript.specs.Walks.{Due, fired_above}
 use Rattle.zk_judge.specs.Seen.{walker_of}
-use Rattle.zk_judge.proofs.Fronts.{fired-end, fired-next, fired-start, front-get, line-at}
+use Rattle.zk_judge.proofs.Fronts.{fired-end, fired-next, fired-start, fired-unarmed, front-get, line-at}
+use Rattle.zk_judge.proofs.Opened.{take-end}
 use Rattle.zk_judge.proofs.firing.fire_above.Goals as goal
+use Rattle.zk_judge.proofs.firing.fire_above.Goals.{then-updates-test+else-not-is_unarmed, else-updates-test}
 
 pub updates-init : goal.updates-init
 updates-init c = rw (c.in_ok-copy.ensures, c.new.ensures.items) (fired-start c.args.past.now c.args.index.now.lines.now (walker_of c.args.walker.now) c.requires.front c.requires.told)
@@ -22,3 +27,18 @@ updates-preserved c =
     fired-next past lines c.args.walker.now.zxid c.args.walker.now.watches c.updates.at c.next_update-place.result here.0 _ _ c.requires.front place.from c.if-past-place.false
     (λ k u low high at. place.none k u low high (front-get past lines k _ c.requires.front at))
     here.1 c.updates.invariant (c.in_ok-fired.ensures here.0 (front-get past lines c.next_update-place.result here.0 c.requires.front here.1))
+
+pub returns : goal.returns
+returns c =
+    let past = c.args.past.now in
+    let zxid = c.args.walker.now.zxid in
+    let watches = c.args.walker.now.watches in
+    let at = c.updates.at in
+    elim c.updates-test.branch [
+      | then-updates-test+else-not-is_unarmed w ↦
+          let here : is_unarmed c.updates.fired.watches ≡ true = cc in
+          c.updates.invariant ∙ fired-unarmed past zxid watches at (ap (λ (x : Watches × List Due). is_unarmed x.0) (sym c.updates.invariant) ∙ here)
+      | else-updates-test w ↦
+          let over : length past ≤ at = omega arith in
+          c.updates.invariant ∙ ap (λ (ls : List TranscriptLine). fired_above ls zxid watches) (take-end past at over)
+    ]

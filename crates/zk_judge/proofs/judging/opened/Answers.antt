@@ -1,6 +1,7 @@
 use Rattle.std.proofs.Common.{List, ◌++◌, ◌∷◌, [], ap, sym, ◌∙◌, subst, take}
 use Rattle.std.proofs.lemmas.List.{take_more}
 use Rattle.zk_transcript.specs.declared.transcript.TranscriptLine.{TranscriptLine}
+use Rattle.zk_judge.specs.Agendas.{HasConversation}
 use Rattle.zk_judge.specs.Staged.{AreOpened}
 use Rattle.zk_judge.proofs.judging.opened.Goals as goal
 
@@ -11,6 +12,7 @@ loop-line-preserved c =
     let line = c.line-item.result in
     let next = ap (λ (l : TranscriptLine). take k lines ++ l ∷ []) c.line-item.is ∙ sym (take_more lines k line c.loop-line-test.true) in
     record {
-      stand = c.in_ok-conversations.ensures.stand;
-      opened = subst (λ (ls : List TranscriptLine). AreOpened ls c.in_ok-conversations.conversations.items) next (c.in_ok-conversations.ensures.opened (take k lines) c.loop-line.invariant.opened);
+      agenda = c.in_ok-agenda-2.ensures.agenda;
+      next = c.in_ok-agenda-2.ensures.next;
+      opened = subst (λ (ls : List TranscriptLine). AreOpened ls (HasConversation c.in_ok-agenda-2.agenda)) next (c.in_ok-agenda-2.ensures.opened (take k lines) c.loop-line.invariant.opened);
     }
