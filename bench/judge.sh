@@ -2,9 +2,9 @@
 # How long a judgement takes, and how much memory: transcripts of N writes and their replies on 16 connections, and one read with a
 # watch for each eight writes, whose notice is told later. Once the writes are of 64 nodes, so that the tree is small; once
 # they are creates of N nodes below 16 others; and once, of these, each eighth is the first part of a transaction, of which the
-# second part fails or does not in turn. Then 10,000 setDatas and creates on 16, 256 and 4,096 connections, once with those reads
-# and once without any watch. Prints seconds and peak kilobytes, and fails where a transcript is not judged lawful or a peak is
-# above its bound. Of time it asserts nothing.
+# second part fails or does not in turn. Then 10,000 writes of 64 nodes on 16, 256 and 4,096 connections, once with those reads
+# and once without any watch. Prints processor seconds and peak kilobytes, and fails where a transcript is not judged lawful or a
+# peak is above its bound. Of time it asserts nothing.
 #
 # JUDGE_PROGRAM names another program to measure, and JUDGE_RUNS picks `writes` or `connections` alone.
 set -eu
@@ -136,13 +136,12 @@ failed=0
 
 measure() { # measure LABEL BOUND: the peak may have so many kilobytes
   python3 - "$program" "$work/transcript" "$@" <<'P' || failed=1
-import resource, subprocess, sys, time
+import resource, subprocess, sys
 program, transcript, label, bound = sys.argv[1:]
-start = time.time()
 with open(transcript) as source:
     run = subprocess.run([program, "judge"], stdin=source, stdout=subprocess.PIPE)
-seconds = time.time() - start
-peak = resource.getrusage(resource.RUSAGE_CHILDREN).ru_maxrss
+used = resource.getrusage(resource.RUSAGE_CHILDREN)
+seconds, peak = used.ru_utime + used.ru_stime, used.ru_maxrss
 good = run.stdout == b"lawful\n" and peak <= int(bound)
 print("%-24s %-24s %8.2f s  %9d kB of %s%s" % (label, run.stdout.decode().strip(), seconds, peak, bound, "" if good else "  FAILED"))
 sys.exit(0 if good else 1)
