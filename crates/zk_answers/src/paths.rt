@@ -57,7 +57,7 @@ impl PathSet {
         self.paths.contains(path)
     }
 
-    /// Puts the path into the set. Without memory the set stays as it was.
+    /// Puts the path into the set.
     pub fn insert(&mut self, alloc: Global, path: &[u8]) -> Result<(), Memory>
         ensures { OnOk result (self.new ≡ insert self.old path.now tt) }
     {
