@@ -1,7 +1,6 @@
 -- Sets of paths as lists of their members.
-use Rattle.std.proofs.Common.{◌≡◌, ◌≢◌, ℕ, Bool, true, false, ◌||◌, cond, Option, Some, None, List, [], ◌∷◌, length, map, refl, sym, ap, ◌∙◌, ⊎_elim, inl, inr, eqb-true, arith}
+use Rattle.std.proofs.Common.{◌≡◌, ◌≢◌, Bool, true, false, ◌||◌, cond, Option, Some, None, List, [], ◌∷◌, length, map, refl, sym, ap, ◌∙◌, ⊎_elim}
 use Rattle.std.specs.Prelude.{◌==◌, is_some}
-use Rattle.std.proofs.lemmas.Bool.{cases_Bool}
 use Rattle.std.proofs.lemmas.Cmp.{tied_itself}
 use Rattle.std.proofs.lemmas.List.{length-map}
 use Rattle.std.proofs.lemmas.Map.Lookups.{exact_bytes}
@@ -13,36 +12,12 @@ use Rattle.std.specs.Cmp.Lexicographic.{slice_cmp, nat_list_cmp_total}
 use Rattle.std.specs.Ordering.{nat_cmp, is_eq, match_ordering}
 use Rattle.std.specs.declared.cmp.Ordering.{Ordering}
 use Rattle.std.specs.declared.cmp.Ordering.TheVariants.{Less, Equal, Greater}
-use Rattle.std.specs.FinMap.{get, insert, remove, contains_key, get-empty, len, len-empty}
+use Rattle.std.specs.FinMap.{get, insert, remove, contains_key, len}
 use Rattle.zx_base.specs.Maps.{Bytes, same}
-use Rattle.zx_base.proofs.MapLaws.{ext, either, same-refl, same-false, get-insert_same, get-insert_other, get-remove_same, get-remove_other, get-none_from_len}
+use Rattle.zx_base.proofs.MapLaws.{ext, either, same-refl, same-false, get-insert_same, get-insert_other, get-remove_same, get-remove_other}
 use Rattle.zk_model.specs.Watches.{PathSet}
-use Rattle.zk_answers.specs.Sets.{set_of}
-
--- whether a list has a path
-abbrev pub has : Bytes → List Bytes → Bool
-has q ps = list_any (λ p. same p q) ps
-
-abbrev pub marked : Bool → Option (Unit {0})
-marked b = cond b (Some tt) None
-
-some_marked : (b : Bool) → is_some (marked b) ≡ b
-some_marked true = refl
-some_marked false = refl
-
-get-set_of : (ps : List Bytes) (q : Bytes) → get (set_of ps) q ≡ marked (has q ps)
-get-set_of [] q = get-empty (slice_cmp nat_cmp) q
-get-set_of (p ∷ ps) q = ⊎_elim
-    (λ (e : q ≡ p). ap (get (insert (set_of ps) p tt)) e ∙ get-insert_same (set_of ps) p tt ∙ sym (ap (λ b. marked (b || has q ps)) (ap (same p) e ∙ same-refl p)))
-    (λ (n : q ≢ p). get-insert_other (set_of ps) p q tt n ∙ get-set_of ps q ∙ sym (ap (λ b. marked (b || has q ps)) (same-false p q (λ e. n (sym e)))))
-    (either q p)
-
-contains-set_of : (ps : List Bytes) (q : Bytes) → contains_key (set_of ps) q ≡ has q ps
-contains-set_of ps q = ap is_some (get-set_of ps q) ∙ some_marked (has q ps)
-
--- lists that have the same paths make one set
-same_set : (ps qs : List Bytes) → ((q : Bytes) → has q ps ≡ has q qs) → set_of ps ≡ set_of qs
-same_set ps qs alike = ext _ _ (λ q. get-set_of ps q ∙ ap marked (alike q) ∙ sym (get-set_of qs q))
+use Rattle.zk_model.specs.PathSets.{set_of, has}
+use Rattle.zk_model.proofs.PathSets.{get-set_of, contains-set_of, length-set_of, marked, same_set}
 
 without : (path : Bytes) (ps qs : List Bytes) → has path ps ≡ false → ((q : Bytes) → q ≢ path → has q ps ≡ has q qs) → set_of ps ≡ remove (set_of qs) path
 without path ps qs gone others = ext _ _ (λ q. ⊎_elim
@@ -60,21 +35,6 @@ insert-there s path is = ext _ _ (λ q. ⊎_elim
     (λ (e : q ≡ path). ap (get s) e ∙ there (get s path) is ∙ sym (ap (get (insert s path tt)) e ∙ get-insert_same s path tt))
     (λ (n : q ≢ path). sym (get-insert_other s path q tt n))
     (either q path))
-
--- ---- whether there is a member
-
-not_empty : (ps : List Bytes) (p : Bytes) → len (set_of (p ∷ ps)) ≡ 0 → ⊥
-not_empty ps p e =
-    let none : get (set_of (p ∷ ps)) p ≡ None = get-none_from_len (set_of (p ∷ ps)) p e in
-    let there : get (set_of (p ∷ ps)) p ≡ Some tt = get-insert_same (set_of ps) p tt in
-    absurd (cc)
-
-counted : (n : ℕ) → (n ≡ 0 → ⊥) → false ≡ (n == 0)
-counted n some = elim (cases_Bool (n == 0)) [ inl zero ↦ absurd (some (eqb-true n 0 zero)) | inr more ↦ sym more ]
-
-is_empty-set_of : (ps : List Bytes) → (length ps == 0) ≡ (len (set_of ps) == 0)
-is_empty-set_of [] = ap (λ n. n == 0) (sym (len-empty (slice_cmp nat_cmp) (Unit {0})))
-is_empty-set_of (p ∷ ps) = sym (counted (length (p ∷ ps)) (λ e. omega arith)) ∙ counted (len (set_of (p ∷ ps))) (not_empty ps p)
 
 -- ---- the keys of an ordered set, each the bytes of a path
 
@@ -115,7 +75,7 @@ module _ {K : Type 0} (bytes : K → Bytes) where
   contains-keys path ks s named = found path ks ∙ sym (contains-set_of (map bytes ks) path) ∙ ap (λ (m : PathSet). contains_key m path) named
 
   pub is_empty-keys : (ks : List K) (s : PathSet) → set_of (map bytes ks) ≡ s → (length ks == 0) ≡ (len s == 0)
-  is_empty-keys ks s named = ap (λ n. n == 0) (sym (length-map ks bytes)) ∙ is_empty-set_of (map bytes ks) ∙ ap (λ (m : PathSet). len m == 0) named
+  is_empty-keys ks s named = ap (λ n. n == 0) (sym (length-map ks bytes)) ∙ length-set_of (map bytes ks) ∙ ap (λ (m : PathSet). len m == 0) named
 
   -- ---- one path more
 

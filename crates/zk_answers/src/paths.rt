@@ -18,7 +18,7 @@ pub struct PathSet {
 impl Model for PathSet {
     ghost use Rattle.std.specs.Prelude.{map};
     ghost use Rattle.zk_model.specs.Watches.{PathSet as Paths};
-    ghost use Rattle.zk_answers.specs.Sets.{coded_set, set_of};
+    ghost use Rattle.zk_model.specs.PathSets.{coded_set, set_of};
 
     ghost Value = { Paths };
 

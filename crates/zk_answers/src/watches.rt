@@ -29,7 +29,7 @@ pub struct Watches {
 
 impl Model for Watches {
     ghost use Rattle.zk_model.specs.Watches.{Watches as Armed};
-    ghost use Rattle.zk_answers.specs.Sets.{coded_watches};
+    ghost use Rattle.zk_model.specs.PathSets.{coded_watches};
 
     ghost Value = { Armed };
 

@@ -13,7 +13,7 @@ use Rattle.zk_model.specs.Limits.{max_frame, max_parts, max_path}
 use Rattle.zk_model.specs.Paths.{is_path}
 use Rattle.zk_model.specs.Single.{Outcome, Refused, Done, form_refusal}
 use Rattle.zk_model.specs.Multi.{Several, Denied, Codes, All as AllDone}
-use Rattle.zk_model.specs.Watches.{Seen, Watches, arm_children, arm_data, fire, fire_all, note, see_all, see_children, see_data, see_exist, set_watches, tell, valid_at}
+use Rattle.zk_model.specs.Watches.{Seen, Watches, arm_children, arm_data, fire, fire_all, note, see_all, see_children, see_data, see_exist, set_watches, tell, valid_at, trigger_path}
 use Rattle.zk_model.specs.Znodes.{Tree, child_names, stat_of}
 use Rattle.zk_model.specs.declared.node.Node.{Node}
 use Rattle.zk_model.specs.declared.node.Stat.{Stat}
@@ -42,7 +42,7 @@ use Rattle.zk_jute.proofs.RequestLaws.{found}
 use Rattle.zk_transcript.specs.Answers.{Told, about, checked, fits_reply, listing, only, plain_reply, plain_request, refusal_of, refusal_of_several, told, told_refusal, tree_reply}
 use Rattle.zk_transcript.specs.Legal.{is_within_parts}
 use Rattle.zk_plain.specs.Faults.{IsWhole}
-use Rattle.zk_legal.specs.Short.{AreShort, IsShortBody, IsShortResult, trigger_path}
+use Rattle.zk_legal.specs.Short.{AreShort, IsShortBody, IsShortResult}
 use Rattle.zk_legal.proofs.ShortPaths.{SeveralGives, several-gives}
 use Rattle.zk_judge.specs.Seen.{IsShortFrame}
 use Rattle.zk_judge.specs.Sendable.{CanBeTold}

@@ -27,7 +27,8 @@ use Rattle.zk_jute.proofs.Lists.{both_of}
 use Rattle.zk_transcript.specs.History.{Commit, commit, commit_several, commit_single, response_of}
 use Rattle.zk_transcript.specs.Legal.{is_within_parts}
 use Rattle.zk_plain.proofs.WholeTrees.{parent-made}
-use Rattle.zk_legal.specs.Short.{AreShort, IsShortBody, IsShortResult, trigger_path}
+use Rattle.zk_legal.specs.Short.{AreShort, IsShortBody, IsShortResult}
+use Rattle.zk_model.specs.Watches.{trigger_path}
 
 abbrev Gives : Outcome → Type 0
 Gives (Refused code) = ⊤

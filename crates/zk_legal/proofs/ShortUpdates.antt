@@ -30,7 +30,8 @@ use Rattle.zk_transcript.proofs.SoundHistories.{legal-bounded}
 use Rattle.zk_legal.specs.Faults.{IsRunTo, has_event, history_fault, is_history_line, or_empty}
 use Rattle.zk_legal.proofs.Fitting.{line-holds, run-before, uneventful}
 use Rattle.zk_legal.proofs.NoFault.{history_fault-none, legal-line}
-use Rattle.zk_legal.specs.Short.{AreShort, IsShortBody, trigger_path}
+use Rattle.zk_legal.specs.Short.{AreShort, IsShortBody}
+use Rattle.zk_model.specs.Watches.{trigger_path}
 use Rattle.zk_legal.proofs.ShortPaths.{CommitGives, commit-gives, removal-short}
 
 -- ---- the paths of a run's tree

@@ -1,20 +1,13 @@
 -- What an update shows is short: each path has at most 1,024 bytes, and a response at most the results of one transaction.
 use Rattle.std.specs.Prelude.{◌≤◌, ⊤, List, length}
 use Rattle.std.specs.List.{AllByRecursion}
-use Rattle.zx_base.specs.Maps.{Bytes}
 use Rattle.zk_model.specs.Limits.{max_parts, max_path}
+use Rattle.zk_model.specs.Watches.{trigger_path}
 use Rattle.zk_model.specs.declared.node.Trigger.{Trigger}
-use Rattle.zk_model.specs.declared.node.Trigger.TheVariants.{Created, Deleted, Changed, Children}
 use Rattle.zk_model.specs.declared.reply.Body.{Body}
 use Rattle.zk_model.specs.declared.reply.Body.TheVariants as body
 use Rattle.zk_model.specs.declared.reply.PartResult.{PartResult}
 use Rattle.zk_model.specs.declared.reply.PartResult.TheVariants as result
-
-abbrev pub trigger_path : Trigger → Bytes
-trigger_path (Created p) = p
-trigger_path (Deleted p) = p
-trigger_path (Changed p) = p
-trigger_path (Children p) = p
 
 abbrev pub AreShort : List Trigger → Type 0
 AreShort gs = AllByRecursion (λ g. length (trigger_path g) ≤ max_path) gs

@@ -4,3 +4,4 @@ pub mod PathScans
 pub mod SequencePaths
 pub mod SequenceParents
 pub mod ValidPaths
+pub mod PathSets

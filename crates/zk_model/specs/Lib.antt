@@ -7,3 +7,4 @@ pub mod Znodes
 pub mod Single
 pub mod Multi
 pub mod Watches
+pub mod PathSets

@@ -40,6 +40,13 @@ fired_children w p = record w { on_children = remove w.on_children p }
 abbrev pub note : Bool → ℕ → Bytes → List Notice
 note hit kind p = if hit then record { kind = pos kind; path = p } ∷ [] else []
 
+-- the path whose watches a change fires
+abbrev pub trigger_path : Trigger → Bytes
+trigger_path (Created p) = p
+trigger_path (Deleted p) = p
+trigger_path (Changed p) = p
+trigger_path (Children p) = p
+
 -- what a change leaves armed, and the notice that it gives
 abbrev pub fire : Watches → Trigger → Watches × List Notice
 fire w (Created p) = (fired_data w p, note (contains_key w.on_data p) 1 p)

@@ -10,7 +10,8 @@ use Rattle.zx_base.specs.Maps.{Bytes}
 use Rattle.zn_layout.specs.declared.record.NodeRec.{NodeRec}
 use Rattle.zn_layout.specs.declared.record.CountRec.{CountRec}
 use Rattle.zn_layout.specs.declared.record.LeaseRec.{LeaseRec}
-use Rattle.zn_layout.specs.Records.{trigger_bytes, trigger_path}
+use Rattle.zn_layout.specs.Records.{trigger_bytes}
+use Rattle.zk_model.specs.Watches.{trigger_path}
 
 -- ---- numbers
 

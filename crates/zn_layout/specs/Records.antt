@@ -8,6 +8,7 @@ use Rattle.zk_model.specs.declared.node.Trigger.{Trigger}
 use Rattle.zk_model.specs.declared.node.Trigger.TheVariants.{Created, Deleted, Changed, Children}
 use Rattle.zk_jute.specs.JuteWriting.{int_bytes, long_bytes, string_bytes, vector_bytes}
 use Rattle.zk_model.specs.Paths.{is_path}
+use Rattle.zk_model.specs.Watches.{trigger_path}
 use Rattle.zx_base.specs.Maps.{Bytes}
 use Rattle.zn_layout.specs.declared.record.NodeRec.{NodeRec}
 use Rattle.zn_layout.specs.declared.record.CountRec.{CountRec}
@@ -69,12 +70,6 @@ pub record IsLeaseRec (r : LeaseRec) : Type 0 where
   pub attached : pos 1 ≤ℤ r.attaches
   pub attaches : r.attaches ≤ℤ max_long
   pub passwd : length r.passwd ≡ 16
-
-abbrev pub trigger_path : Trigger → Bytes
-trigger_path (Created p) = p
-trigger_path (Deleted p) = p
-trigger_path (Changed p) = p
-trigger_path (Children p) = p
 
 pub record IsHeadRec (ts : List Trigger) : Type 0 where
   pub count : length ts < 2 ^ 31

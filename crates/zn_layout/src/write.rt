@@ -3,7 +3,8 @@
 ghost use Rattle.std.specs.Prelude.{◌≡◌, ◌∷◌, ◌++◌, IfOk, OnOk, IsTrue};
 ghost use Rattle.zk_jute.specs.JuteWriting.{string_bytes};
 ghost use Rattle.zk_model.specs.Paths.{is_path};
-ghost use Rattle.zn_layout.specs.Records.{node_value, counts_value, session_value, lease_value, head_value, trigger_bytes, trigger_path, IsNodeRec, IsCountRec, IsSessionRec, IsLeaseRec, IsHeadRec};
+ghost use Rattle.zn_layout.specs.Records.{node_value, counts_value, session_value, lease_value, head_value, trigger_bytes, IsNodeRec, IsCountRec, IsSessionRec, IsLeaseRec, IsHeadRec};
+ghost use Rattle.zk_model.specs.Watches.{trigger_path};
 
 use crate::record::{CountRec, HeadRec, LeaseRec, NodeRec, SessionRec};
 use crate::writer::Writer;

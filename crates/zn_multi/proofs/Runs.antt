@@ -20,7 +20,8 @@ use Rattle.zn_updates.specs.Making.{chosen_of}
 use Rattle.zn_updates.specs.Parts.{AreKept, AreOwn, IfChanges, IfOwn, IsKeptChange, IsPartChoice}
 use Rattle.zk_model.specs.Limits.{max_parts}
 use Rattle.zk_model.specs.Paths.{is_path}
-use Rattle.zn_layout.specs.Records.{trigger_path, IsHeadRec}
+use Rattle.zn_layout.specs.Records.{IsHeadRec}
+use Rattle.zk_model.specs.Watches.{trigger_path}
 use Rattle.zn_multi.specs.Carrying.{no_progress, IsStep, IsTouched, Runs}
 use Rattle.zn_multi.specs.declared.carrying.Carried.TheVariants.{Stopped, Passed}
 use Rattle.zn_multi.specs.Laying.{PutsRecord, with_acts}

@@ -19,7 +19,8 @@ use Rattle.zn_layout.specs.declared.record.CountRec.{CountRec}
 use Rattle.zn_layout.specs.Begin.{new_record, no_counts}
 use Rattle.zn_layout.specs.Changes.{Change, are_distinct, change_size, delete_key, head_put, put_key}
 use Rattle.zn_layout.specs.Keys.{DataKey, CountsKey}
-use Rattle.zn_layout.specs.Records.{counts_value, node_value, trigger_path, IsHeadRec, IsSessionRec}
+use Rattle.zn_layout.specs.Records.{counts_value, node_value, IsHeadRec, IsSessionRec}
+use Rattle.zk_model.specs.Watches.{trigger_path}
 use Rattle.zn_layout.proofs.Paths.{path_short}
 use Rattle.zn_view.specs.Asks.{IsLeaseless}
 use Rattle.zn_view.specs.Seen.{View}

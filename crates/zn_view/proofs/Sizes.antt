@@ -21,7 +21,8 @@ use Rattle.zn_layout.specs.declared.record.CountRec.{CountRec}
 use Rattle.zn_layout.specs.declared.record.NodeRec.{NodeRec}
 use Rattle.zn_layout.specs.Changes.{head_put, change_size}
 use Rattle.zn_layout.specs.Keys.{HeadKey, DataKey, CountsKey, SessionKey, LeaseKey, key_bytes, hex_digits, hex_digit}
-use Rattle.zn_layout.specs.Records.{counts_value, head_value, node_value, session_value, trigger_bytes, trigger_path, IsHeadRec}
+use Rattle.zn_layout.specs.Records.{counts_value, head_value, node_value, session_value, trigger_bytes, IsHeadRec}
+use Rattle.zk_model.specs.Watches.{trigger_path}
 use Rattle.zn_layout.proofs.Paths.{path_short}
 use Rattle.zn_view.specs.declared.snapshot.SeenKey.{SeenKey}
 use Rattle.zn_view.specs.declared.want.Want.{Want}

@@ -57,7 +57,7 @@ pub struct Core {
 impl Model for Core {
     ghost use Rattle.std.specs.Coded.{codes};
     ghost use Rattle.zp_step.specs.Stages as definition;
-    ghost use Rattle.zw_watch.specs.Armed.{coded_watches};
+    ghost use Rattle.zk_model.specs.PathSets.{coded_watches};
 
     ghost Value = { definition.Core };
 

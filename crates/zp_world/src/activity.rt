@@ -48,7 +48,7 @@ pub struct Activity {
 
 impl Model for Activity {
     ghost use Rattle.std.specs.Coded.{codes};
-    ghost use Rattle.zw_watch.specs.Armed.{coded_watches};
+    ghost use Rattle.zk_model.specs.PathSets.{coded_watches};
     ghost use Rattle.zp_happen.specs.Worlds.{Conn};
 
     ghost Value = { Conn };

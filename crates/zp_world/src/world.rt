@@ -46,7 +46,7 @@ impl Model for World {
     ghost use Rattle.std.specs.Coded.{codes, coded_ℕ};
     ghost use Rattle.std.specs.FinMap as map;
     ghost use Rattle.ev_store.specs.Codes.{store_code};
-    ghost use Rattle.zw_watch.specs.Armed.{coded_watches};
+    ghost use Rattle.zk_model.specs.PathSets.{coded_watches};
     ghost use Rattle.std.specs.Ordering.{nat_cmp};
     ghost use Rattle.zp_happen.specs.Worlds.{World as TheWorld, Conn, zxid_at};
     ghost use Rattle.zk_model.specs.Limits.{max_moment};

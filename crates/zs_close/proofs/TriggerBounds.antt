@@ -10,7 +10,8 @@ use Rattle.zk_model.specs.Paths.{is_path, parent}
 use Rattle.zk_model.specs.Single.{removal, removal_under}
 use Rattle.zk_model.proofs.ValidPaths.{parent-valid}
 use Rattle.zx_base.specs.Maps.{Bytes}
-use Rattle.zn_layout.specs.Records.{trigger_path, IsHeadRec}
+use Rattle.zn_layout.specs.Records.{IsHeadRec}
+use Rattle.zk_model.specs.Watches.{trigger_path}
 use Rattle.zs_close.specs.Ending.{end_triggers}
 
 abbrev IsOfPath : Trigger → Type 0

@@ -6,8 +6,10 @@ use Rattle.zx_base.specs.Maps.{Bytes}
 use Rattle.zk_model.specs.declared.reply.Notice.{Notice}
 use Rattle.zk_model.specs.Watches.{Watches, fired_data, fired_children, note}
 use Rattle.zw_watch.specs.Armed.{fired_of}
-use Rattle.zw_watch.specs.Sets.{set_of, has, others}
-use Rattle.zw_watch.proofs.SetLaws.{contains-set_of, set_of-others}
+use Rattle.zk_model.specs.PathSets.{set_of, has}
+use Rattle.zk_model.proofs.PathSets.{contains-set_of}
+use Rattle.zw_watch.specs.Sets.{others}
+use Rattle.zw_watch.proofs.SetLaws.{set_of-others}
 
 abbrev both : List Bytes → List Bytes → Watches
 both ds cs = record { on_data = set_of ds; on_children = set_of cs }

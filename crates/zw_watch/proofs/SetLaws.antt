@@ -1,36 +1,17 @@
 -- Sets of paths as lists of their members.
-use Rattle.std.proofs.Common.{◌≡◌, ◌≢◌, ℕ, ◌≤◌, arith, Bool, true, false, not, ◌||◌, ◌==◌, cond, Option, Some, None, List, [], ◌∷◌, ◌++◌, length, take, drop, refl, sym, ap, ◌∙◌, ⊎_elim, eqb-true, length-take}
+use Rattle.std.proofs.Common.{◌≡◌, ◌≢◌, ℕ, ◌≤◌, arith, true, false, not, ◌||◌, List, [], ◌∷◌, ◌++◌, length, take, drop, sym, ap, ◌∙◌, ⊎_elim, length-take}
 use Rattle.std.proofs.Math.Bool.{or-false, or-true, or_assoc}
 use Rattle.std.proofs.Math.Seq.{take-append_seam, take-length}
-use Rattle.std.proofs.lemmas.List.{take-append-drop, take-append-le, nil_from_length}
-use Rattle.std.specs.Prelude.{is_some}
-use Rattle.std.specs.Cmp.Lexicographic.{slice_cmp}
-use Rattle.std.specs.Ordering.{nat_cmp}
+use Rattle.std.proofs.lemmas.List.{take-append-drop, take-append-le}
 use Rattle.std.proofs.lemmas.Map.Views.{any-filter_same}
-use Rattle.std.specs.FinMap.{get, insert, remove, contains_key, len, len-empty, get-empty}
+use Rattle.std.specs.FinMap.{get, insert, remove}
 use Rattle.zx_base.specs.Maps.{Bytes, same}
-use Rattle.zx_base.proofs.MapLaws.{ext, either, same-refl, same-true, same-false, get-insert_same, get-insert_other, get-remove_same, get-remove_other, get-none_from_len}
-use Rattle.zx_base.proofs.Options.{none_some}
+use Rattle.zx_base.proofs.MapLaws.{ext, either, same-refl, same-true, same-false, get-insert_same, get-insert_other, get-remove_same, get-remove_other}
 use Rattle.zw_watch.specs.declared.lists.PathLists.{PathLists}
 use Rattle.zw_watch.specs.Armed.{watches_of, StartWith}
-use Rattle.zw_watch.specs.Sets.{set_of, has, others, StartsWith}
-
-abbrev marked : Bool → Option (Unit {0})
-marked b = cond b (Some tt) None
-
-some_marked : (b : Bool) → is_some (marked b) ≡ b
-some_marked true = refl
-some_marked false = refl
-
-get-set_of : (ps : List Bytes) (q : Bytes) → get (set_of ps) q ≡ marked (has q ps)
-get-set_of [] q = get-empty (slice_cmp nat_cmp) q
-get-set_of (p ∷ ps) q = ⊎_elim
-    (λ (e : q ≡ p). ap (get (insert (set_of ps) p tt)) e ∙ get-insert_same (set_of ps) p tt ∙ sym (ap (λ b. marked (b || has q ps)) (ap (same p) e ∙ same-refl p)))
-    (λ (n : q ≢ p). get-insert_other (set_of ps) p q tt n ∙ get-set_of ps q ∙ sym (ap (λ b. marked (b || has q ps)) (same-false p q (λ e. n (sym e)))))
-    (either q p)
-
-pub contains-set_of : (ps : List Bytes) (q : Bytes) → contains_key (set_of ps) q ≡ has q ps
-contains-set_of ps q = ap is_some (get-set_of ps q) ∙ some_marked (has q ps)
+use Rattle.zk_model.specs.PathSets.{set_of, has}
+use Rattle.zk_model.proofs.PathSets.{get-set_of, marked}
+use Rattle.zw_watch.specs.Sets.{others, StartsWith}
 
 has-none : (path : Bytes) (ps : List Bytes) → has path (others path ps) ≡ false
 has-none path ps = any-filter_same (λ p. same p path) (λ p. not (same p path)) false (λ k h. ap not h) ps
@@ -68,21 +49,6 @@ set_of-there path ps h = ext _ _ (λ q. ⊎_elim
     (λ (e : q ≡ path). ap (get (set_of ps)) e ∙ get-set_of ps path ∙ ap marked h ∙ sym (ap (get (insert (set_of ps) path tt)) e ∙ get-insert_same (set_of ps) path tt))
     (λ (n : q ≢ path). sym (get-insert_other (set_of ps) path q tt n))
     (either q path))
-
--- ---- the empty list
-
-not_zero : (n : ℕ) → (n ≡ 0 → ⊥) → (n == 0) ≡ false
-not_zero n h = elim (n == 0) as (λ b. (n == 0) ≡ b → b ≡ false) [ true ↦ λ e. absurd (h (eqb-true n 0 e)) | false ↦ λ e. refl ] refl
-
-cons_nil : (p : Bytes) (ps : List Bytes) → length (p ∷ ps) ≡ 0 → ⊥
-cons_nil p ps e = let n : (p ∷ ps) ≡ [] = nil_from_length (p ∷ ps) e in cc
-
-set_nil : (p : Bytes) (ps : List Bytes) → len (set_of (p ∷ ps)) ≡ 0 → ⊥
-set_nil p ps e = none_some (sym (get-none_from_len (set_of (p ∷ ps)) p e) ∙ get-insert_same (set_of ps) p tt)
-
-pub length-len : (ps : List Bytes) → (length ps == 0) ≡ (len (set_of ps) == 0)
-length-len [] = sym (ap (λ n. n == 0) (len-empty (slice_cmp nat_cmp) (Unit {0})))
-length-len (p ∷ ps) = not_zero (length (p ∷ ps)) (cons_nil p ps) ∙ sym (not_zero (len (set_of (p ∷ ps))) (set_nil p ps))
 
 -- ---- what stands behind a front
 

@@ -21,7 +21,8 @@ pub struct Armed {
 
 impl Model for Armed {
     ghost use Rattle.zk_model.specs.Watches.{Watches};
-    ghost use Rattle.zw_watch.specs.Armed.{coded_watches, watches_of};
+    ghost use Rattle.zk_model.specs.PathSets.{coded_watches};
+    ghost use Rattle.zw_watch.specs.Armed.{watches_of};
 
     ghost Value = { Watches };
 

@@ -2,7 +2,8 @@
 
 ghost use Rattle.std.specs.Prelude.{◌≡◌, ◌==◌, OnOk, OnErr};
 ghost use Rattle.std.specs.FinMap.{insert, len};
-ghost use Rattle.zw_watch.specs.Sets.{StartsWith, set_of, has, others};
+ghost use Rattle.zk_model.specs.PathSets.{set_of, has};
+ghost use Rattle.zw_watch.specs.Sets.{StartsWith, others};
 
 use std::alloc::Global;
 use zx_base::{Memory, Text};

@@ -1,6 +1,6 @@
 use Rattle.std.proofs.Common.{sym, ap, ◌∙◌, [], ◌∷◌, ◌++◌}
 use Rattle.zx_base.specs.Maps.{Bytes}
-use Rattle.zw_watch.specs.Sets.{set_of, has}
+use Rattle.zk_model.specs.PathSets.{set_of, has}
 use Rattle.zw_watch.proofs.SetLaws.{set_of-there, set_of-push}
 use Rattle.zw_watch.proofs.paths.add.Goals as goal
 

@@ -1,6 +1,6 @@
 use Rattle.std.proofs.Common.{◌∙◌}
-use Rattle.zw_watch.proofs.SetLaws.{length-len}
+use Rattle.zk_model.proofs.PathSets.{length-set_of}
 use Rattle.zw_watch.proofs.paths.is_empty.Goals as goal
 
 pub returns : goal.returns
-returns c = c.is_empty.ensures ∙ length-len c.args.paths.now
+returns c = c.is_empty.ensures ∙ length-set_of c.args.paths.now

@@ -1,7 +1,7 @@
 use Rattle.std.proofs.Common.{◌∙◌, ap, ℕ, Vec, Global, List}
 use Rattle.std.proofs.lemmas.List.Elements.{same_from_all_zip}
 use Rattle.zx_base.specs.Maps.{Bytes}
-use Rattle.zk_answers.specs.Sets.{set_of}
+use Rattle.zk_model.specs.PathSets.{set_of}
 use Rattle.zk_answers.proofs.SetLaws.{cloned-keys}
 use Rattle.zk_answers.proofs.paths.PathSet.copy.Goals as goal
 
