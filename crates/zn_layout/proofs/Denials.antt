@@ -39,7 +39,7 @@ writes-act_at k key (Some w) = refl
 writes-act_of : (k : Key) (c : Change) → writes (key_bytes k) (act_of c) ≡ writes_key k c
 writes-act_of k c = writes-act_at (key_bytes k) (key_bytes c.key) c.put ∙ same-key_bytes k c.key
 
--- the operations of changes, with a read behind them
+-- the operations of changes, followed by a read
 abbrev with_read : List Change → Bytes → List Act
 with_read cs read = acts_of cs ++ read_key read ∷ []
 

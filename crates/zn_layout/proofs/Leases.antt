@@ -32,7 +32,7 @@ lease_value-same r q f g e =
     let b = long_same r.attaches q.attaches _ _ f.attaches g.attaches a.1 in
     λ i. record { timeout = a.0 i; attaches = b.0 i; passwd = b.1 i }
 
--- a value has one record
+-- no two records have the same value
 pub lease_value-injective : (r q : LeaseRec) → IsLeaseRec r → IsLeaseRec q → lease_value r ≡ lease_value q → r ≡ q
 lease_value-injective r q f g e = lease_value-same r q (has_life r f) (has_life q g) e
 

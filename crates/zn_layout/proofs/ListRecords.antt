@@ -30,7 +30,7 @@ module _ {R A : Type 0} (items : R → List A) (value_of : R → Bytes) (IsWithi
   pub uncounted : (v numbers : Bytes) → v ≡ 1 ∷ numbers → IsNotCounted numbers → IsNoValue value_of IsWithin v
   uncounted v numbers begins none r is e = none (length (items r)) (flat_map each (items r)) (l.count r is) (behind (sym begins ∙ e ∙ l.is r))
 
-  -- the items in front of what is left behind a count
+  -- the items after a count, and what is left
   items_are : (v numbers left : Bytes) (n : ℕ) (r : R) → v ≡ 1 ∷ numbers → IsCounted numbers n left → IsWithin r → v ≡ value_of r → (n ≡ length (items r)) × (left ≡ flat_map each (items r))
   items_are v numbers left n r begins c is e = counts_same n (length (items r)) left (flat_map each (items r)) c.0 (l.count r is) (sym c.1 ∙ behind (sym begins ∙ e ∙ l.is r))
 
@@ -53,7 +53,7 @@ module _ {R A : Type 0} (items : R → List A) (value_of : R → Bytes) (IsWithi
       let all : left ≡ flat_map each (items r) = taken.2 ∙ ap (λ (b : Bytes). flat_map each (items r) ++ b) done ∙ append-nil (flat_map each (items r)) in
       begins ∙ ap (λ (b : Bytes). 1 ∷ b) (c.1 ∙ (λ i. count_bytes (sym taken.0 i) ++ all i)) ∙ sym (l.is r)
 
-  -- a value has one record's items
+  -- no two records have the same value, by their items
   pub one_list : (r q : R) → IsWithin r → IsWithin q → value_of r ≡ value_of q → items r ≡ items q
   one_list r q f g e =
       let both = counts_same (length (items r)) (length (items q)) (flat_map each (items r)) (flat_map each (items q)) (l.count r f) (l.count q g) (behind (sym (l.is r) ∙ e ∙ l.is q)) in

@@ -18,7 +18,7 @@ use Rattle.zk_jute.proofs.Lengths.{length-int_bytes}
 use Rattle.zn_layout.proofs.Nodes.{int_same}
 use Rattle.zn_layout.proofs.Paths.{path_short}
 
--- ---- a count, and a text behind its length
+-- ---- a count, and a text after its length
 
 count_fits : (n : ℕ) → n < 2 ^ 31 → FitsSigned w32 (pos n)
 count_fits n lt = record { sfits = lt }
@@ -54,11 +54,11 @@ uncounted-number old rest z fits begins not n rest2 lt e =
     let same : z ≡ pos n = (int_same z (pos n) rest rest2 fits (count_fits n lt) (sym begins ∙ e)).0 in
     not (subst (λ (x : ℤ). FitsUnsignedBits 64 x) (sym (to_z-of_z w32 z fits ∙ same)) (omega arith))
 
--- no path is where no count is
+-- where no count is, no path is
 pub path-uncounted : (old new : Bytes) → IsNotCounted old → TakesItem string_bytes IsValidPath old new None
 path-uncounted old new none p rest valid e = none (length p) (p ++ rest) (omega (arith, path_short p valid)) (e ∙ append_assoc (count_bytes (length p)) p rest)
 
--- the text in front of what is left behind a count
+-- the text after a count, and what is left
 text_is : (old left : Bytes) (n : ℕ) (p rest : Bytes) → IsCounted old n left → IsValidPath p → old ≡ string_bytes p ++ rest → (n ≡ length p) × (left ≡ p ++ rest)
 text_is old left n p rest c valid e = counts_same n (length p) left (p ++ rest) c.0 (omega (arith, path_short p valid)) (sym c.1 ∙ e ∙ append_assoc (count_bytes (length p)) p rest)
 
@@ -106,7 +106,7 @@ triggers_same t u r s vt vu e = absurd (omega (arith, same_kind t u r s e))
 -- ---- items one after the other
 
 module _ {A : Type 0} (each : A → Bytes) (IsItem : A → Type 0) (same : (x y : A) (r s : Bytes) → IsItem x → IsItem y → each x ++ r ≡ each y ++ s → (x ≡ y) × (r ≡ s)) where
-  -- what is left behind the first items of a list
+  -- what is left after the first items of a list
   pub rest_same : (xs ys : List A) (r s : Bytes) → All IsItem xs → All IsItem ys → length xs ≤ length ys → flat_map each xs ++ r ≡ flat_map each ys ++ s → r ≡ flat_map each (drop (length xs) ys) ++ s
   rest_same [] ys r s vx vy le e = e
   rest_same (x ∷ xs) [] r s vx vy le e = absurd (omega arith)
@@ -133,7 +133,7 @@ module _ {A : Type 0} (each : A → Bytes) (IsItem : A → Type 0) (same : (x y 
   next_there [] left rest new lt vy e none = absurd (omega arith)
   next_there (y ∷ ys) left rest new lt vy e none = none y (flat_map each ys ++ rest) (vy 0 y (omega arith)) (e ∙ append_assoc (each y) (flat_map each ys) rest)
 
-  -- where the next item isn't there, so many aren't
+  -- where the next item isn't there, so many items aren't
   pub not_taken : (old left new new2 : Bytes) (i n : ℕ) (items : List A) → AreTaken old i items left → i < n → TakesItem each IsItem left new None → TakesItems each IsItem n old new2 None
   not_taken old left new new2 i n items t lt none xs rest long valid e =
       let le : length items ≤ length xs = omega (arith, t.count) in

@@ -36,7 +36,7 @@ int_same m n r s fm fn e =
 
 -- ---- a node's record
 
--- the numbers, one behind the other
+-- the numbers, one after the other
 abbrev pub node_numbers : NodeRec → Bytes
 node_numbers r = long_bytes r.czxid ++ (int_bytes r.version ++ (long_bytes r.ctime ++ (long_bytes r.mtime ++ (long_bytes r.owner ++ r.content))))
 
@@ -68,7 +68,7 @@ same_numbers r q f g e =
 pub node_value-same : (r q : NodeRec) → HasNumbers r → HasNumbers q → node_value r ≡ node_value q → r ≡ q
 node_value-same r q f g e = same_numbers r q f g (ap (λ (l : Bytes). drop 1 l) (sym (node_value-is r) ∙ e ∙ node_value-is q))
 
--- a value has one record
+-- no two records have the same value
 pub node_value-injective : (r q : NodeRec) → IsNodeRec r → IsNodeRec q → node_value r ≡ node_value q → r ≡ q
 node_value-injective r q f g e = node_value-same r q (has_numbers r f) (has_numbers q g) e
 

@@ -1,4 +1,4 @@
--- Numbers as bytes, and back, with other bytes behind them.
+-- Numbers as bytes, and back, with other bytes after them.
 use Rattle.std.proofs.Common.{◌≡◌, ℕ, ◌+◌, ◌-◌, ◌*◌, ◌^◌, ◌<◌, ◌≤◌, ◌/◌, ◌%◌, zero, suc, ℤ, [], ◌∷◌, ◌++◌, length, take, drop, get_or, refl, sym, ap, ◌∙◌, arith}
 use Rattle.std.specs.Int.{w32, w64, byte_at, bytes_high_first, cast_signed, cast_unsigned}
 use lib.Signed.{mag}
@@ -86,7 +86,7 @@ drop-int n rest = drop_at (int_bytes n) rest 4 (length-int_bytes n)
 pub drop-long : (n : ℤ) (rest : Bytes) → drop 8 (long_bytes n ++ rest) ≡ rest
 drop-long n rest = drop_at (long_bytes n) rest 8 (length-long_bytes n)
 
--- bytes are those of the number in front of them, and the rest
+-- bytes are those of the number that they begin with, and the rest
 pub int_front : (xs : Bytes) → 4 ≤ length xs → AreBytes xs → xs ≡ int_bytes (cast_signed w32 (big_number 4 xs)) ++ drop 4 xs
 unfolding int_bytes
 int_front xs le bytes =

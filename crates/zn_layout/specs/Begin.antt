@@ -24,21 +24,21 @@ use Rattle.zn_layout.specs.Changes.{Change, put_key}
 use Rattle.zn_layout.specs.Updates.{update_txn}
 use Rattle.zn_layout.specs.Records.{node_value, counts_value, head_value}
 
--- the record of a node that this put makes
+-- the record of a new node. A czxid of 0 stands for the revision of the put
 abbrev pub new_record : Bytes → ℕ → ℤ → NodeRec
 new_record content now owner = record { czxid = pos 0; version = pos 0; ctime = pos now; mtime = pos now; owner = owner; content = content }
 
 abbrev pub no_counts : CountRec
 no_counts = record { creates = pos 0; children = pos 0 }
 
--- the root is made at this moment
+-- the root is made at this time, in milliseconds: it has no data and no children
 abbrev pub begin_changes : ℕ → List Change
 begin_changes now = put_key (DataKey root) (node_value (new_record [] now (pos 0))) ∷ put_key (CountsKey root) (counts_value no_counts) ∷ []
 
 abbrev pub head_is_absent : Guard
 head_is_absent = record { key = key_bytes HeadKey; mod_revision = pos 0 }
 
--- an update that nobody sees, where there is no head; otherwise the head is read
+-- where there is no head, the root and a head without triggers are put; otherwise the head is read
 unfoldable pub begin_ask : ℕ → Ask
 begin_ask now = ask.Txn (update_txn (head_is_absent ∷ []) (begin_changes now) [] (read_key (key_bytes HeadKey) ∷ []))
 
@@ -47,14 +47,14 @@ begin_ask now = ask.Txn (update_txn (head_is_absent ∷ []) (begin_changes now) 
 abbrev pub begin_lines : ℕ → List TranscriptLine
 begin_lines now = Update (record { zxid = pos 2; kind = Begin now }) ∷ []
 
--- the head as it puts it
+-- the head that it puts
 abbrev pub first_head : Kv
 first_head = record { key = key_bytes HeadKey; value = head_value []; create_revision = pos 2; mod_revision = pos 2; version = pos 1; lease = pos 0 }
 
 abbrev pub begin_parts : List ActAns
 begin_parts = part.Put ∷ part.Put ∷ part.Put ∷ part.Range (one_found (Some first_head)) ∷ []
 
--- it isn't denied, succeeds at revision 2, and the keys that it leaves stand for the state after its line
+-- it isn't denied, succeeds at revision 2, answers the head that it put, and leaves keys that stand for the state after its line
 pub record Begins (now : ℕ) : Type 0 where
   pub new : Store
   pub carried : carry new_store (begin_ask now) ≡ Some (new, answer.Txn (pos 2) true begin_parts)

@@ -16,7 +16,7 @@ pub record Put : Type 0 where
   pub value : Bytes
   pub lease : ℤ
 
--- a key is put, or deleted
+-- a key is put, or deleted where there is no put
 pub record Change : Type 0 where
   pub key : Key
   pub put : Option Put
@@ -54,7 +54,7 @@ abbrev pub or_else : Option (Option Put) → Option (Option Put) → Option (Opt
 or_else None y = y
 or_else (Some x) y = Some x
 
--- the last change of a key, none where it isn't written
+-- what the last change of a key does: a put or a delete; None where no change writes the key
 abbrev pub last : List Change → Key → Option (Option Put)
 last [] k = None
 last (c ∷ cs) k = or_else (last cs k) (cond (same_key k c.key) (Some c.put) None)
@@ -62,12 +62,12 @@ last (c ∷ cs) k = or_else (last cs k) (cond (same_key k c.key) (Some c.put) No
 abbrev pub writes_key : Key → Change → Bool
 writes_key k c = same_key k c.key
 
--- each key is written once
+-- no key is written twice
 abbrev pub are_distinct : List Change → Bool
 are_distinct [] = true
 are_distinct (c ∷ cs) = not (list_any (writes_key c.key) cs) && are_distinct cs
 
--- the lease of each put is 0, or one that is there
+-- the lease of a put is 0, or one that the store has
 abbrev pub has_its_lease : Store → Option Put → Bool
 has_its_lease s None = true
 has_its_lease s (Some w) = not (lacks_lease s w.lease)

@@ -11,16 +11,18 @@ abbrev pub left : ℤ → Option Put → Option Stored
 left z None = None
 left z (Some w) = Some (record { value = w.value; revision = z; lease = w.lease })
 
--- a key that isn't written means what it meant; one that is written means what is left
+-- a key that isn't written: whatever means the old state there means the new one; a key that is written: what is left there
+-- means the new state
 abbrev pub KeyFits : ℤ → Option (Option Put) → Key → State → State → Type 0
 KeyFits z None k old new = (o : Option Stored) → Means old k o → Means new k o
 KeyFits z (Some w) k old new = Means new k (left z w)
 
--- of the states only the tree and the sessions matter here: what the head says is `IsNext`
+-- at zxid z the changes turn keys that mean the old state into keys that mean the new one. Only the tree and the sessions of
+-- the states matter here; what the head means is `IsNext`
 pub record Fits (z : ℤ) (cs : List Change) (old new : State) : Type 0 where
   pub each : (k : Key) → KeyFits z (last cs k) k old new
 
--- the state after one update more, with zxid z and these triggers
+-- the new state has one update more than the old one, with zxid z and these triggers
 pub record IsNext (z : ℤ) (ts : List Trigger) (old new : State) : Type 0 where
   pub zxid : new.zxid ≡ z
   pub updates : new.updates ≡ old.updates + 1

@@ -11,10 +11,11 @@ pub data Key : Type 0 where
   SessionKey : ℕ → Key
   LeaseKey : ℕ → Key
 
--- a number below 10,000 as four digits
+-- the last decimal digit of a number
 abbrev pub digit : ℕ → ℕ
 digit n = 48 + n % 10
 
+-- a number below 10,000 as four digits
 abbrev pub four_digits : ℕ → Bytes
 four_digits n = digit (n / 1000) ∷ digit (n / 100) ∷ digit (n / 10) ∷ digit n ∷ []
 
@@ -25,12 +26,12 @@ node_key kind p = kind ++ four_digits (depth p) ++ p
 abbrev pub hex_digit : ℕ → ℕ
 hex_digit n = cond (nat_lt n 10) (48 + n) (87 + n)
 
--- so many digits and one more, the first of which takes all that is left of the number
+-- so many hex digits and one more in front of `rest`. The first one takes all that is left of the number
 unfoldable pub hex_digits : ℕ → ℕ → Bytes → Bytes
 hex_digits zero n rest = hex_digit n ∷ rest
 hex_digits (suc k) n rest = hex_digits k (n / 16) (hex_digit (n % 16) ∷ rest)
 
--- a kind, and the session's number as 16 digits
+-- a kind, and the session's number as 16 hex digits
 abbrev pub session_key : Bytes → ℕ → Bytes
 session_key kind n = kind ++ hex_digits 15 n []
 

@@ -8,22 +8,22 @@ use Rattle.zk_model.specs.Znodes.{Tree}
 use Rattle.zx_base.specs.Maps.{Bytes, same}
 use Rattle.zn_layout.specs.Keys.{four_digits}
 
--- what a path puts before the slash of its children: the root nothing
+-- what the paths of a node's children have before their last slash: nothing below the root
 abbrev pub base : Bytes → Bytes
 base p = cond (same p root) [] p
 
--- the kind and the depth of the children, before their paths
+-- what the data keys of the children have before the path: the kind, and the children's depth
 abbrev pub child_front : Bytes → Bytes
 child_front p = codes "zk/d/" ++ four_digits (depth p + 1)
 
--- from the path and a slash, up to the path and the byte after a slash
+-- the range begins at the path and a slash, and ends before the path and `0`, the byte that follows the slash
 abbrev pub children_from : Bytes → Bytes
 children_from p = child_front p ++ base p ++ 47 ∷ []
 
 abbrev pub children_end : Bytes → Bytes
 children_end p = child_front p ++ base p ++ 48 ∷ []
 
--- the keys that are found there
+-- the keys within that range
 abbrev pub children_found : Keys → Bytes → Keys
 children_found keys p = retain_keys keys (is_within (children_from p) (children_end p))
 

@@ -49,7 +49,7 @@ head_bytes r = head_value r.triggers
 abbrev pub IsHeadWithin : HeadRec → Type 0
 IsHeadWithin r = IsHeadRec r.triggers
 
--- ---- the nodes of a session, likewise
+-- ---- the nodes of a session, as a record with its list
 
 abbrev pub session_bytes : SessionRec → Bytes
 session_bytes r = session_value r.paths

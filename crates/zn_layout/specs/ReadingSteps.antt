@@ -15,7 +15,7 @@ use Rattle.zk_model.specs.Watches.{trigger_path}
 
 -- ---- numbers
 
--- numbers that their fields can have, within the bounds or not
+-- each number fits its field, be it within the record's bounds or not
 pub record HasNumbers (r : NodeRec) : Type 0 where
   pub czxid : FitsSigned w64 r.czxid
   pub version : FitsSigned w32 r.version
@@ -39,29 +39,30 @@ IsValidPath p = IsTrue (is_path p)
 abbrev pub IsValidTrigger : Trigger → Type 0
 IsValidTrigger t = IsValidPath (trigger_path t)
 
--- the path that a text is, or that it is none
+-- the text itself, which is a valid path; or None, where it is none
 abbrev pub IsPathOf : Bytes → Option Bytes → Type 0
 IsPathOf text (Some p) = (p ≡ text) × IsValidPath p
 IsPathOf text None = IsValidPath text → ⊥
 
--- the trigger of a number and a path, or that the number is none
+-- the trigger whose bytes are this number and this path; or None, where no trigger begins with the number
 abbrev pub IsOfKind : ℕ → Bytes → Option Trigger → Type 0
 IsOfKind kind p (Some t) = trigger_bytes t ≡ kind ∷ string_bytes p
 IsOfKind kind p None = (t : Trigger) (rest : Bytes) → trigger_bytes t ≡ kind ∷ rest → ⊥
 
--- a count in front of what is left, and that none is in front
+-- the bytes are a count below 2^31, and then what is left
 abbrev pub IsCounted : Bytes → ℕ → Bytes → Type 0
 IsCounted old n new = (n < 2 ^ 31) × (old ≡ count_bytes n ++ new)
 
+-- the bytes begin with no such count
 abbrev pub IsNotCounted : Bytes → Type 0
 IsNotCounted old = (n : ℕ) (rest : Bytes) → n < 2 ^ 31 → old ≡ count_bytes n ++ rest → ⊥
 
--- an item in front of what is left, or that none is in front
+-- the bytes are an item, and then what is left; or None, where they do not begin with one
 abbrev pub TakesItem : {A : Type 0} → (A → Bytes) → (A → Type 0) → Bytes → Bytes → Option A → Type 0
 TakesItem each IsItem old new (Some x) = IsItem x × (old ≡ each x ++ new)
 TakesItem {A = A} each IsItem old new None = (x : A) (rest : Bytes) → IsItem x → old ≡ each x ++ rest → ⊥
 
--- so many items in front of what is left, or that so many aren't
+-- the bytes are so many items, and then what is left; or None, where they do not begin with so many items
 abbrev pub TakesItems : {A : Type 0} → (A → Bytes) → (A → Type 0) → ℕ → Bytes → Bytes → Option (List A) → Type 0
 TakesItems each IsItem n old new (Some xs) = (length xs ≡ n) × All IsItem xs × (old ≡ flat_map each xs ++ new)
 TakesItems {A = A} each IsItem n old new None = (xs : List A) (rest : Bytes) → length xs ≡ n → All IsItem xs → old ≡ flat_map each xs ++ rest → ⊥

@@ -1,5 +1,5 @@
--- The values under the service's keys: a byte 1, and a record's fields, big-endian. Within its bounds a record has one value
--- and a value one record.
+-- The values under the service's keys: a byte 1, and a record's fields, big-endian. No two records of a kind that are within
+-- their bounds have the same value.
 use Rattle.std.specs.Prelude.{◌≡◌, ℤ, pos, ◌≤◌, ◌<◌, ◌^◌, ◌≤ℤ◌, List, ◌∷◌, ◌++◌, length, All, IsTrue}
 use Rattle.std.specs.List.Sorted.{IsStrictlySortedBy}
 use Rattle.std.specs.Ordering.{nat_cmp}

@@ -17,7 +17,7 @@ use Rattle.zn_layout.specs.Records.{node_value, counts_value, session_value, lea
 
 -- ---- what a key has, apart from what only the head needs
 
--- the value, the revision of its last put, the lease
+-- the value, the revision of its last put, and the lease, 0 for none
 pub record Stored : Type 0 where
   pub value : Bytes
   pub revision : ℤ
@@ -32,7 +32,7 @@ at keys k = get keys (key_bytes k)
 
 -- ---- what it means
 
--- a stored czxid of 0 says that the node was made by the put of this record
+-- a stored czxid of 0 stands for the revision of the record's put, which made the node
 abbrev pub czxid_of : ℤ → ℤ → ℤ
 czxid_of stored revision = cond (int_eq stored (pos 0)) revision stored
 
@@ -56,13 +56,14 @@ pub record IsCounts (o : Stored) (n : Node) (children : ℕ) : Type 0 where
   pub pzxid : n.pzxid ≡ o.revision
   pub free : o.lease ≡ pos 0
 
--- the key is there exactly where the node is
+-- the key is there exactly where the node is, and has its data
 abbrev pub DataMeans : Option Node → Option Stored → Type 0
 DataMeans None None = Unit {0}
 DataMeans None (Some o) = ⊥
 DataMeans (Some n) None = ⊥
 DataMeans (Some n) (Some o) = IsData o n
 
+-- the key is there exactly where the node is, and has the counts of its children
 abbrev pub CountsMean : Option Node → ℕ → Option Stored → Type 0
 CountsMean None children None = Unit {0}
 CountsMean None children (Some o) = ⊥
@@ -74,7 +75,7 @@ pub record IsNodes (o : Stored) (paths : List Bytes) : Type 0 where
   pub value : o.value ≡ session_value paths
   pub free : o.lease ≡ pos 0
 
--- for each open session
+-- the key is there exactly where the session is open, and has the paths of the nodes that it owns
 abbrev pub NodesMean : Option Session → List Bytes → Option Stored → Type 0
 NodesMean None paths None = Unit {0}
 NodesMean None paths (Some o) = ⊥
@@ -92,7 +93,7 @@ pub record IsLife (o : Stored) (id : ℕ) (x : Session) : Type 0 where
   pub leased : o.lease ≡ pos id
   pub alive : x.lapsed ≡ false
 
--- for each open session that isn't lapsed
+-- the key is there exactly where the session is open and hasn't lapsed, and is attached to its lease
 abbrev pub LifeMeans : ℕ → Option Session → Option Stored → Type 0
 LifeMeans id None None = Unit {0}
 LifeMeans id None (Some o) = ⊥

@@ -34,7 +34,7 @@ guards_at seen keys = map (guard_at seen) keys
 abbrev pub IsAsSeen : Keys → Keys → Bytes → Type 0
 IsAsSeen now seen k = mod_of (get now k) ≡ mod_of (get seen k)
 
--- an update that was decided on what these keys had: where one of them changed since, it reads them all again
+-- an update that was decided on what these keys had: where one of them changed since, it reads them all and the head again
 abbrev pub update_ask : Keys → List Bytes → List Act → Ask
 update_ask seen keys acts = ask.Txn (record { guards = guards_at seen keys; success = acts; failure = reads_of keys })
 

@@ -1,4 +1,4 @@
-//! Operations of a transaction.
+//! Operations of a transaction on the keys of nodes and of the head. A put has no lease.
 
 ghost use Rattle.std.specs.Prelude.{◌≡◌, ◌≤◌, length, pos, IfOk};
 ghost use Rattle.ev_types.specs.Reads.{read_key};
@@ -60,7 +60,7 @@ pub fn delete_counts(alloc: Global, path: &[u8]) -> Result<Act, Memory>
     })
 }
 
-/// Reads one key as it is then.
+/// Reads one key, as the transaction's earlier operations left it.
 pub fn get_key(alloc: Global, key: Bytes) -> Act
     ensures { result ≡ read_key key }
 {
@@ -73,7 +73,7 @@ pub fn get_key(alloc: Global, key: Bytes) -> Act
     })
 }
 
-/// Reads the head as it is then.
+/// Reads the head, as the transaction's earlier operations left it.
 pub fn get_head(alloc: Global) -> Result<Act, Memory>
     ensures { IfOk result (λ a. a ≡ read_key (key_bytes HeadKey)) }
 {

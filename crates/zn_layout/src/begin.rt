@@ -16,8 +16,8 @@ use zx_base::{Memory, Seq};
 
 const ROOT: &[u8] = b"/";
 
-/// Makes the root and the head of the first update, where there is no head yet, and otherwise reads the head. `now` is
-/// the moment in milliseconds since 1970, below 2^62.
+/// Makes the root and the head of the first update where there is no head yet, and otherwise reads the head. `now` is the
+/// time in milliseconds, below 2^62: the root's ctime and mtime.
 #[tactic(auto, unfolding(crate::specs::Begin::begin_ask))]
 pub fn begin_ask(alloc: Global, now: u64) -> Result<Ask, Memory>
     requires { now < 2 ^ 62 }

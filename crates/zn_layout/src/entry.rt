@@ -8,6 +8,7 @@ use zx_base::Seq;
 pub struct Entry {
     /// 1 for the store's first update, then one more for each.
     pub number: i64,
+    /// The revision of its transaction.
     pub zxid: i64,
     /// In the order in which they fire.
     pub triggers: Seq<Trigger>,

@@ -9,8 +9,9 @@ use zx_base::{Bytes, Memory};
 /// Why a stored value is not read as a record.
 #[derive(Debug, Drop)]
 pub enum RecordFault {
-    /// The value under this key is no record of its kind.
+    /// The value under this key is no record of its kind, or one out of its bounds.
     Damaged { key: Bytes, value: Bytes },
+    /// The allocator refused memory. It says nothing of the value.
     Memory,
 }
 
@@ -25,7 +26,7 @@ impl From<Memory> for RecordFault {
     }
 }
 
-/// The fault of a value that is no record.
+/// The fault of a value that is no record, with copies of the key and the value.
 pub(crate) fn damaged(alloc: Global, key: &[u8], value: &[u8]) -> RecordFault
     ensures { IsDamaged key.now value.now result }
 {

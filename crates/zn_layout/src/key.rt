@@ -12,7 +12,7 @@ const SLASH: u8 = b'/';
 
 const ROOT: &[u8] = b"/";
 
-/// The key of the last update.
+/// The key of the last update, `zk/head`.
 #[tactic(auto, unfolding(crate::specs::Keys::key_bytes))]
 pub fn head_key(alloc: Global) -> Result<Bytes, Memory>
     ensures { IfOk result (λ k. k ≡ key_bytes HeadKey) }
@@ -20,7 +20,7 @@ pub fn head_key(alloc: Global) -> Result<Bytes, Memory>
     Bytes::copy_of(alloc, b"zk/head".as_slice())
 }
 
-/// The key of a node's data. The path has at most 1,024 bytes.
+/// The key of a node's data: `zk/d/`, the path's depth as four digits, the path. The path has at most 1,024 bytes.
 #[tactic(auto, unfolding(crate::specs::Keys::key_bytes))]
 pub fn data_key(alloc: Global, path: &[u8]) -> Result<Bytes, Memory>
     requires { length path.now ≤ max_path }
@@ -29,7 +29,8 @@ pub fn data_key(alloc: Global, path: &[u8]) -> Result<Bytes, Memory>
     node_key(alloc, b"zk/d/", path)
 }
 
-/// The key of the counts of a node's children. The path has at most 1,024 bytes.
+/// The key of the counts of a node's children: `zk/c/`, the path's depth as four digits, the path. The path has at most
+/// 1,024 bytes.
 #[tactic(auto, unfolding(crate::specs::Keys::key_bytes))]
 pub fn counts_key(alloc: Global, path: &[u8]) -> Result<Bytes, Memory>
     requires { length path.now ≤ max_path }
@@ -38,7 +39,7 @@ pub fn counts_key(alloc: Global, path: &[u8]) -> Result<Bytes, Memory>
     node_key(alloc, b"zk/c/", path)
 }
 
-/// The key of the nodes of a session, whose number is at least 1.
+/// The key of the nodes of a session: `zk/s/` and its number, at least 1, as 16 hex digits.
 #[tactic(auto, unfolding(crate::specs::Keys::key_bytes))]
 pub fn session_key(alloc: Global, id: i64) -> Result<Bytes, Memory>
     requires { pos 1 ≤ℤ id }
@@ -47,7 +48,7 @@ pub fn session_key(alloc: Global, id: i64) -> Result<Bytes, Memory>
     numbered_key(alloc, b"zk/s/", id.unsigned_abs())
 }
 
-/// The key of the life of a session, whose number is at least 1.
+/// The key of the life of a session: `zk/l/` and its number, at least 1, as 16 hex digits.
 #[tactic(auto, unfolding(crate::specs::Keys::key_bytes))]
 pub fn lease_key(alloc: Global, id: i64) -> Result<Bytes, Memory>
     requires { pos 1 ≤ℤ id }

@@ -38,53 +38,54 @@ ghost use Rattle.zn_layout.specs.Records.{node_value, counts_value, session_valu
 ghost use Rattle.zn_layout.specs.StandsFor.{at, StandsFor};
 ghost use Rattle.zn_layout.specs.Updates.{with_head, guards_at, update_ask, update_txn, IsAsSeen};
 
-/// Keys with the same bytes are one key.
+/// No two keys have the same bytes.
 pub fn key_bytes_is_injective()
     ensures { (k l : Key) → key_bytes k ≡ key_bytes l → k ≡ l }
 {}
 
-/// A value has one node's record within its bounds.
+/// No two node's records within their bounds have the same value.
 pub fn node_value_is_injective()
     ensures { (r q : NodeRec) → IsNodeRec r → IsNodeRec q → node_value r ≡ node_value q → r ≡ q }
 {}
 
-/// A value has one record of counts within its bounds.
+/// No two records of counts within their bounds have the same value.
 pub fn counts_value_is_injective()
     ensures { (r q : CountRec) → IsCountRec r → IsCountRec q → counts_value r ≡ counts_value q → r ≡ q }
 {}
 
-/// A value has one record of a session's life within its bounds.
+/// No two records of a session's life within their bounds have the same value.
 pub fn lease_value_is_injective()
     ensures { (r q : LeaseRec) → IsLeaseRec r → IsLeaseRec q → lease_value r ≡ lease_value q → r ≡ q }
 {}
 
-/// A value has one record of a session's nodes within its bounds.
+/// No two records of a session's nodes within their bounds have the same value.
 pub fn session_value_is_injective()
     ensures { (ps qs : List Bytes) → IsSessionRec ps → IsSessionRec qs → session_value ps ≡ session_value qs → ps ≡ qs }
 {}
 
-/// A value has one head's record within its bounds.
+/// No two head's records within their bounds have the same value.
 pub fn head_value_is_injective()
     ensures { (ts us : List AnyTrigger) → IsHeadRec ts → IsHeadRec us → head_value ts ≡ head_value us → ts ≡ us }
 {}
 
-/// Changes that fit one step, and then changes that fit the next, fit both together.
+/// Changes that fit one step, followed by changes that fit the next at the same zxid, fit both steps together.
 pub fn fits_append()
     ensures { (z : ℤ) (cs ds : List Change) (old mid new : State) → Fits z cs old mid → Fits z ds mid new → Fits z (cs ++ ds) old new }
 {}
 
-/// Only what a list of changes says last of each key counts.
+/// Whether changes fit depends only on the last change of each key.
 pub fn fits_same()
     ensures { (z : ℤ) (cs ds : List Change) (old new : State) → ((k : Key) → last ds k ≡ last cs k) → Fits z cs old new → Fits z ds old new }
 {}
 
-/// Whatever keys stand for a state, after the operations of an update whose changes fit they stand for the next state.
+/// Where keys stand for a state and the changes of an update fit the step to the next one, the keys stand for the next state
+/// after the update's operations.
 pub fn stands_after()
     ensures { (z : ℤ) (cs : List Change) (ts : List AnyTrigger) (keys : Keys) (old new : State) → pos 1 ≤ℤ z → z ≤ℤ last_revision → IsHeadRec ts → last cs HeadKey ≡ None → IsNext z ts old new → StandsFor keys old → Fits z cs old new → StandsFor (acts_applied z keys (update_acts cs ts)) new }
 {}
 
-/// Where a lease lapses, the keys that are left stand for the state in which the session of that number has lapsed, and all
-/// else is as it was.
+/// Where a lease lapses, the keys that are left stand for the state in which the session of that number has lapsed and
+/// nothing else changed.
 pub fn lapse_stands()
     ensures { (s new : Store) (id : ℤ) (state : State) → StandsFor (present s) state → lapse s id ≡ Some new → StandsFor (present new) (lapsed_in state id (session_at id state)) }
 {}
@@ -104,8 +105,8 @@ pub fn reading_stands()
     ensures unchanged { (s new : Store) (t : TxnReq) (a : Answer) (state : State) → StandsFor (present s) state → (worked s (chosen_acts s t)).changes ≡ [] → carry s (ask.Txn t) ≡ Some (new, a) → StandsFor (present new) state }
 {}
 
-/// The first transaction stands: on a new store it isn't denied, succeeds at revision 2, answers the head that it put, and
-/// leaves keys that stand for the state after the line of the first update.
+/// On a new store the first transaction isn't denied, succeeds at revision 2, answers the head that it put, and leaves keys
+/// that stand for the state after the line of the first update.
 pub fn begin_stands()
     ensures { (now : ℕ) → now < 2 ^ 62 → Begins now }
 {}
@@ -133,19 +134,21 @@ pub fn update_is_sendable()
     ensures sendable { (guards : List Guard) (cs : List Change) (ts : List AnyTrigger) (again : List Act) → length guards ≤ max_operations → length cs + 2 ≤ max_operations → length again ≤ max_operations → sum_by guard_size guards + sum_by change_size cs + change_size (head_put ts) + length (key_bytes HeadKey) + sum_by act_size again ≤ max_txn_size → IsSendable (update_txn guards cs ts again) }
 {}
 
-/// The guards of an update hold exactly where each key that it looked up was put last at the revision that it saw.
+/// The guards of an update hold exactly where each key that it looked up was last put at the revision that it saw, or is
+/// absent as it was then.
 pub fn guards_tell_what_was_seen()
     ensures held { (now seen : Keys) (keys : List Bytes) → list_all (holds now) (guards_at seen keys) ≡ true → All (IsAsSeen now seen) keys }
     ensures hold { (now seen : Keys) (keys : List Bytes) → All (IsAsSeen now seen) keys → list_all (holds now) (guards_at seen keys) ≡ true }
 {}
 
-/// Where a guard fails an update changes nothing, and answers what the same keys and the head have now.
+/// Where a guard fails and the transaction isn't denied, an update changes nothing, and answers what the keys that it looked
+/// up and the head have now.
 pub fn update_looks_again()
     ensures { (s : Store) (seen : Keys) (keys : List Bytes) (acts : List Act) → is_denied s (update_ask seen keys acts) ≡ false → list_all (holds (present s)) (guards_at seen keys) ≡ false → carry s (update_ask seen keys acts) ≡ Some (s, answer.Txn (revision s) false (map (λ k. part.Range (one_found (get (present s) k))) (with_head keys))) }
 {}
 
-/// The keys that are found in the range of a node's children are the data keys of its children, in the order of the paths'
-/// bytes, where each path of the tree is valid, as in the state after each legal history.
+/// The range of a node's children finds exactly the data keys of its children, in the order of the paths' bytes, where the
+/// state is sound and each path of its tree is valid, as in a bounded state.
 pub fn children_listed()
     ensures found { (keys : Keys) (s : State) (p : Bytes) → StandsFor keys s → IsSound s → HasValidPaths s.tree → IsTrue (is_path p) → map_keys (children_found keys p) ≡ map (λ q. child_front p ++ q) (children s.tree p) }
     ensures valid { (first : ℤ) (s : State) → IsBounded first s → HasValidPaths s.tree }

@@ -1,13 +1,14 @@
 //! How the tree of znodes is kept under etcd's keys.
 //!
-//! A node has two keys, one for its data and one for the counts of its children, since a create below it must change the
-//! counts but leave the data, and its mod_revision is then the node's mzxid, or pzxid. The head holds the last update: its
-//! mod_revision is the zxid, its version the number of updates. A session has a key for the nodes that it owns, and one for
-//! its life, which is attached to its lease. `specs/Keys`, `specs/Records` and `specs/StandsFor` say all of it; the layout
-//! is this project's own.
+//! A node has two keys, one for its data and one for the counts of its children: a create below it changes the counts and
+//! leaves the data. So the data key's mod_revision is the node's mzxid, and the counts key's its pzxid. The head holds the
+//! last update: its mod_revision is the zxid, its version the number of updates. A session has a key for the nodes that it
+//! owns, and one for its life, which is attached to its lease. `specs/Keys`, `specs/Records` and `specs/StandsFor` say all of
+//! it; the layout is this project's own.
 //!
 //! Keys and records are written and read exactly: a value is read as a record where it is that record's value, and
-//! otherwise as damaged. Each call that gives bytes takes memory once for each key and value.
+//! otherwise as damaged. A key, and the value of a record that is no list, is allocated once at its full size; the value of
+//! a list grows as it is written.
 //!
 //! `specs/Changes` and `specs/Fits` say when changes of keys are those of one step of the service, and `specs/Commits` what
 //! an update's transaction does to a store. The laws on them are the functions of `laws`: what keys stand for after such

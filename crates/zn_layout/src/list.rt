@@ -18,12 +18,13 @@ use std::marker::Model;
 use zk_model::{Path, PathFault, Trigger};
 use zx_base::{Memory, Seq};
 
-/// The fewest bytes of a path behind its length, and of a trigger.
+/// The fewest bytes of a path with its length.
 const MIN_STRING: usize = 5;
 
+/// The fewest bytes of a trigger: its kind, and a path with its length.
 const MIN_TRIGGER: usize = 6;
 
-/// The head's record of which this is the value under this key.
+/// Reads the value under this key as the head's record. `Damaged` where it is none, with the key and the value.
 pub fn read_head(alloc: Global, key: &[u8], value: &[u8]) -> Result<HeadRec, RecordFault>
     ensures { MatchResult result (IsValueOf head_bytes IsHeadWithin value.now) (IsFault head_bytes IsHeadWithin key.now value.now) }
 {
@@ -33,7 +34,7 @@ pub fn read_head(alloc: Global, key: &[u8], value: &[u8]) -> Result<HeadRec, Rec
     }
 }
 
-/// The head's record of which this is the value, none where it is no record's.
+/// Reads a value as the head's record. `None` where it is no record within its bounds.
 pub fn head_in(alloc: Global, value: &[u8]) -> Result<Option<HeadRec>, Memory>
     ensures { IfOk result (IsReadAs head_bytes IsHeadWithin value.now) }
 {
@@ -54,7 +55,7 @@ pub fn head_in(alloc: Global, value: &[u8]) -> Result<Option<HeadRec>, Memory>
     }
 }
 
-/// The record of a session's nodes of which this is the value under this key.
+/// Reads the value under this key as the record of a session's nodes. `Damaged` where it is none, with the key and the value.
 pub fn read_session(alloc: Global, key: &[u8], value: &[u8]) -> Result<SessionRec, RecordFault>
     ensures { MatchResult result (IsValueOf session_bytes IsSessionWithin value.now) (IsFault session_bytes IsSessionWithin key.now value.now) }
 {
@@ -64,7 +65,8 @@ pub fn read_session(alloc: Global, key: &[u8], value: &[u8]) -> Result<SessionRe
     }
 }
 
-/// The record of a session's nodes of which this is the value, none where it is no record's.
+/// Reads a value as the record of a session's nodes. `None` where it is no record within its bounds, as where the paths do
+/// not rise.
 pub fn session_in(alloc: Global, value: &[u8]) -> Result<Option<SessionRec>, Memory>
     ensures { IfOk result (IsReadAs session_bytes IsSessionWithin value.now) }
 {
@@ -165,7 +167,7 @@ impl<'a> Reader<'a> {
     }
 }
 
-/// For how many of so many items, each of at least so many bytes, there is room to make: for no more than are left can hold.
+/// How many of `count` items to make room for: no more than `left` bytes can hold at `least` bytes each.
 fn room(count: usize, left: usize, least: usize) -> usize
     requires { 0 < least }
     ensures asked { result ≤ count }
@@ -174,7 +176,7 @@ fn room(count: usize, left: usize, least: usize) -> usize
     count.min(left / least)
 }
 
-/// Whether each path stands before the next by its bytes.
+/// Whether the paths rise strictly by their bytes.
 fn are_rising(paths: &[Path]) -> bool
     ensures { IsTrue result ↔ IsStrictlySortedBy (slice_cmp nat_cmp) paths.now }
 {
@@ -192,7 +194,7 @@ fn is_before(path: &Path, other: &Path) -> bool
     path.bytes().cmp(other.bytes()).is_lt()
 }
 
-/// A byte, and what stands behind it.
+/// The first byte, and the rest.
 fn split_byte(bytes: &[u8]) -> Option<(u8, &[u8])>
     ensures { MatchOption result (bytes.now ≡ []) (λ x. bytes.now ≡ x.0 ∷ x.1.now) }
 {
@@ -202,7 +204,7 @@ fn split_byte(bytes: &[u8]) -> Option<(u8, &[u8])>
     }
 }
 
-/// A length or a count, and what stands behind it.
+/// A length or a count, which is an int and not negative, and the rest.
 fn split_count(bytes: &[u8]) -> Option<(usize, &[u8])>
     ensures { MatchOption result (IsNotCounted bytes.now) (λ x. IsCounted bytes.now x.0 x.1.now) }
 {

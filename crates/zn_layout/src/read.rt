@@ -17,21 +17,22 @@ use std::alloc::Global;
 use zk_model::limit::{MAX_CREATES, MAX_FRAME};
 use zx_base::{Bytes, Memory};
 
-/// How many bytes of a node's record stand between the first and the data.
+/// How many bytes a node's value has between its first byte and its data.
 pub(crate) const NODE_NUMBERS: usize = 36;
 
-/// The range of a session's timeout, in milliseconds.
+/// The least session timeout, in milliseconds.
 const MIN_TIMEOUT: i32 = 4_000;
 
+/// The greatest session timeout, in milliseconds.
 const MAX_TIMEOUT: i32 = 40_000;
 
-/// How many bytes a session's life has behind the first.
+/// How many bytes the value of a session's life has after its first byte.
 const LEASE_NUMBERS: usize = 28;
 
-/// How many bytes a record of counts has behind the first.
+/// How many bytes the value of a record of counts has after its first byte.
 const COUNTS_NUMBERS: usize = 8;
 
-/// The node's record of which this is the value under this key.
+/// Reads the value under this key as a node's record. `Damaged` where it is none, with the key and the value.
 pub fn read_node(alloc: Global, key: &[u8], value: &[u8]) -> Result<NodeRec, RecordFault>
     ensures { MatchResult result (IsValueOf node_value IsNodeRec value.now) (IsFault node_value IsNodeRec key.now value.now) }
 {
@@ -41,7 +42,7 @@ pub fn read_node(alloc: Global, key: &[u8], value: &[u8]) -> Result<NodeRec, Rec
     }
 }
 
-/// The record of counts of which this is the value under this key.
+/// Reads the value under this key as a record of counts. `Damaged` where it is none, with the key and the value.
 pub fn read_counts(alloc: Global, key: &[u8], value: &[u8]) -> Result<CountRec, RecordFault>
     ensures { MatchResult result (IsValueOf counts_value IsCountRec value.now) (IsFault counts_value IsCountRec key.now value.now) }
 {
@@ -51,7 +52,7 @@ pub fn read_counts(alloc: Global, key: &[u8], value: &[u8]) -> Result<CountRec, 
     }
 }
 
-/// The record of a session's life of which this is the value under this key.
+/// Reads the value under this key as the record of a session's life. `Damaged` where it is none, with the key and the value.
 pub fn read_lease(alloc: Global, key: &[u8], value: &[u8]) -> Result<LeaseRec, RecordFault>
     ensures { MatchResult result (IsValueOf lease_value IsLeaseRec value.now) (IsFault lease_value IsLeaseRec key.now value.now) }
 {
@@ -73,7 +74,7 @@ fn node_in(alloc: Global, value: &[u8]) -> Result<Option<NodeRec>, Memory>
     Ok(bounded_node(node_of(alloc, numbers)?))
 }
 
-/// What stands behind a record's first byte.
+/// What follows the first byte of a record's value; `None` where that byte is not 1.
 pub(crate) fn behind_first(value: &[u8]) -> Option<&[u8]>
     ensures { MatchOption result ((rest : ListOfBytes) → value.now ≡ 1 ∷ rest → ⊥) (λ numbers. value.now ≡ 1 ∷ numbers.now) }
 {
@@ -83,7 +84,7 @@ pub(crate) fn behind_first(value: &[u8]) -> Option<&[u8]>
     }
 }
 
-/// The record of these numbers and the data behind them.
+/// The record of these numbers and the data that follow them.
 fn node_of(alloc: Global, numbers: &[u8]) -> Result<NodeRec, Memory>
     requires { NODE_NUMBERS ≤ length numbers.now }
     ensures value { IfOk result (λ n. 1 ∷ numbers.now ≡ node_value n) }
@@ -125,7 +126,7 @@ pub(crate) fn are_counts(m: i64, n: i64) -> bool
     m >= 0 && n >= 0
 }
 
-/// The record of counts of which this is the value, none where it is no record's.
+/// Reads a value as a record of counts. `None` where it is no record within its bounds.
 pub fn counts_in(value: &[u8]) -> Option<CountRec>
     ensures { IsReadAs counts_value IsCountRec value.now result }
 {
@@ -138,7 +139,7 @@ pub fn counts_in(value: &[u8]) -> Option<CountRec>
     bounded_counts(counts_of(numbers))
 }
 
-/// The record of these numbers.
+/// The record of counts with these numbers.
 fn counts_of(numbers: &[u8]) -> CountRec
     requires { length numbers.now ≡ COUNTS_NUMBERS }
     ensures value { 1 ∷ numbers.now ≡ counts_value result }
@@ -159,7 +160,7 @@ fn bounded_counts(counts: CountRec) -> Option<CountRec>
     Some(counts)
 }
 
-/// The record of a session's life of which this is the value, none where it is no record's.
+/// Reads a value as the record of a session's life. `None` where it is no record within its bounds.
 pub fn lease_in(value: &[u8]) -> Option<LeaseRec>
     ensures { IsReadAs lease_value IsLeaseRec value.now result }
 {
@@ -172,7 +173,7 @@ pub fn lease_in(value: &[u8]) -> Option<LeaseRec>
     bounded_lease(lease_of(numbers))
 }
 
-/// The record of these numbers and the password behind them.
+/// The record of these numbers and the password that follows them.
 fn lease_of(numbers: &[u8]) -> LeaseRec
     requires { length numbers.now ≡ LEASE_NUMBERS }
     ensures value { 1 ∷ numbers.now ≡ lease_value result }
@@ -199,7 +200,7 @@ fn bounded_lease(lease: LeaseRec) -> Option<LeaseRec>
     Some(lease)
 }
 
-/// Four bytes as a number, and what stands behind them.
+/// The first four bytes as an int, and the rest.
 pub(crate) fn split_int(bytes: &[u8]) -> (i32, &[u8])
     requires { 4 ≤ length bytes.now }
     ensures parts { bytes.now ≡ int_bytes result.0 ++ result.1.now }
@@ -209,7 +210,7 @@ pub(crate) fn split_int(bytes: &[u8]) -> (i32, &[u8])
     (BigEndian::read_i32(bytes), &bytes[4..])
 }
 
-/// Eight bytes as a number, and what stands behind them.
+/// The first eight bytes as a long, and the rest.
 pub(crate) fn split_long(bytes: &[u8]) -> (i64, &[u8])
     requires { 8 ≤ length bytes.now }
     ensures parts { bytes.now ≡ long_bytes result.0 ++ result.1.now }

@@ -3,26 +3,29 @@
 use zk_model::{Path, Trigger};
 use zx_base::{Bytes, Seq};
 
-/// A znode's data.
+/// A znode's data, and the fields of its Stat that no key's revision gives.
 #[derive(Debug, Drop)]
 pub struct NodeRec {
     /// The zxid of its create, or 0 where that is the revision of this record.
     pub czxid: i64,
+    /// How often its data was set, at least 0.
     pub version: i32,
-    /// Milliseconds since 1970.
+    /// The time of its create, in milliseconds.
     pub ctime: i64,
+    /// The time of the last setData, or of its create, in milliseconds.
     pub mtime: i64,
-    /// The session that owns it, or 0.
+    /// The session that owns it, 0 where it is not ephemeral.
     pub owner: i64,
     /// At most 1,048,575 bytes.
     pub content: Bytes,
 }
 
-/// How many children of a znode were made, and how many there are.
+/// How many children of a znode were created so far, and how many there are now.
 #[derive(Clone, Copy, Debug)]
 pub struct CountRec {
     /// At most 1,073,741,823.
     pub creates: i32,
+    /// At most `creates`.
     pub children: i32,
 }
 
@@ -32,18 +35,19 @@ pub struct SessionRec {
     pub paths: Seq<Path>,
 }
 
-/// A session's life, attached to its lease.
+/// A session's life. Its key is attached to the session's lease, and goes when the lease lapses.
 #[derive(Clone, Copy, Debug)]
 pub struct LeaseRec {
     /// Milliseconds, 4,000 to 40,000.
     pub timeout: i32,
-    /// How often it was attached to a connection, at least 1.
+    /// How often the session was begun or resumed, at least 1.
     pub attaches: i64,
     pub passwd: [u8; 16],
 }
 
-/// What watches see of the last update.
+/// The last update, as watches see it.
 #[derive(Debug, Drop)]
 pub struct HeadRec {
+    /// In the order in which they fire.
     pub triggers: Seq<Trigger>,
 }

@@ -11,7 +11,7 @@ use crate::read::{
 };
 use zk_model::limit::MAX_FRAME;
 
-/// How many bytes stand before a node's data.
+/// How many bytes a node's value has before its data.
 const BEFORE_DATA: usize = 37;
 
 /// A znode's record without its data.
@@ -19,37 +19,39 @@ const BEFORE_DATA: usize = 37;
 pub struct NodeNumbers {
     /// The zxid of its create, or 0 where that is the revision of this record.
     pub czxid: i64,
+    /// How often its data was set, at least 0.
     pub version: i32,
-    /// Milliseconds since 1970.
+    /// The time of its create, in milliseconds.
     pub ctime: i64,
+    /// The time of the last setData, or of its create, in milliseconds.
     pub mtime: i64,
-    /// The session that owns it, or 0.
+    /// The session that owns it, 0 where it is not ephemeral.
     pub owner: i64,
 }
 
-/// Whether this is the value of a node's record.
+/// Whether this is the value of a node's record within its bounds.
 pub fn is_node_record(value: &[u8]) -> bool
     ensures { IsTrue result ↔ IsSomeValue node_value IsNodeRec value.now }
 {
     node_numbers(value).is_some()
 }
 
-/// Whether this is the value of a record of counts.
+/// Whether this is the value of a record of counts within its bounds.
 pub fn is_counts_record(value: &[u8]) -> bool
     ensures { IsTrue result ↔ IsSomeValue counts_value IsCountRec value.now }
 {
     counts_in(value).is_some()
 }
 
-/// Whether this is the value of the record of a session's life.
+/// Whether this is the value of the record of a session's life within its bounds.
 pub fn is_lease_record(value: &[u8]) -> bool
     ensures { IsTrue result ↔ IsSomeValue lease_value IsLeaseRec value.now }
 {
     lease_in(value).is_some()
 }
 
-/// The numbers of the node's record of which this is the value, none where it is no record's. The data stand behind them
-/// ([`node_content`]).
+/// Reads the numbers of a node's value, which the data follow ([`node_content`]). `None` where the value is no node's record
+/// within its bounds.
 pub fn node_numbers(value: &[u8]) -> Option<NodeNumbers>
     ensures { MatchOption result (IsNoValue node_value IsNodeRec value.now) (λ n. IsValueOf node_value IsNodeRec value.now (node_record n (drop BEFORE_DATA value.now))) }
 {
@@ -63,7 +65,7 @@ pub fn node_numbers(value: &[u8]) -> Option<NodeNumbers>
     bounded_numbers(node, content)
 }
 
-/// The data in the value of a node's record.
+/// The data in a node's value: what follows its first 37 bytes.
 pub fn node_content(value: &[u8]) -> &[u8]
     requires { BEFORE_DATA ≤ length value.now }
     ensures { result.now ≡ drop BEFORE_DATA value.now }
@@ -71,7 +73,7 @@ pub fn node_content(value: &[u8]) -> &[u8]
     &value[BEFORE_DATA..]
 }
 
-/// The numbers, and the data behind them.
+/// The numbers, and the data that follow them.
 fn numbers_of(numbers: &[u8]) -> (NodeNumbers, &[u8])
     requires { NODE_NUMBERS ≤ length numbers.now }
     ensures value { 1 ∷ numbers.now ≡ node_value (node_record result.0 result.1.now) }

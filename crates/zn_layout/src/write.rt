@@ -12,19 +12,19 @@ use std::alloc::Global;
 use zk_model::{Path, Trigger};
 use zx_base::Memory;
 
-/// How many bytes stand before a node's data.
+/// How many bytes a node's value has before its data.
 const NODE_HEAD: usize = 37;
 
-/// How many bytes a record of counts has.
+/// How many bytes the value of a record of counts has.
 const COUNTS_LENGTH: usize = 9;
 
-/// How many bytes a session's life has.
+/// How many bytes the value of a session's life has.
 const LEASE_LENGTH: usize = 29;
 
-/// How many bytes stand before the items of a record that is a list.
+/// How many bytes the value of a list has before its items.
 const LIST_HEAD: usize = 5;
 
-/// The value of a node's record, which keeps its bounds.
+/// The value of a node's record, which is within its bounds.
 #[tactic(auto, unfolding(crate::specs::Records::node_value))]
 pub fn write_node(alloc: Global, node: &NodeRec) -> Result<Vec<u8>, Memory>
     requires { IsNodeRec node.now }
@@ -40,7 +40,7 @@ pub fn write_node(alloc: Global, node: &NodeRec) -> Result<Vec<u8>, Memory>
     Ok(value.into_vec())
 }
 
-/// The value of a record of counts, which keeps its bounds.
+/// The value of a record of counts, which is within its bounds.
 #[tactic(auto, unfolding(crate::specs::Records::counts_value))]
 pub fn write_counts(alloc: Global, counts: &CountRec) -> Result<Vec<u8>, Memory>
     requires { IsCountRec counts.now }
@@ -52,7 +52,7 @@ pub fn write_counts(alloc: Global, counts: &CountRec) -> Result<Vec<u8>, Memory>
     Ok(value.into_vec())
 }
 
-/// The value of a session's nodes, which keep their bounds.
+/// The value of the record of a session's nodes, which is within its bounds: its paths rise strictly by their bytes.
 #[tactic(auto, unfolding(crate::specs::Records::session_value))]
 pub fn write_session(alloc: Global, session: &SessionRec) -> Result<Vec<u8>, Memory>
     requires { IsSessionRec session.now.paths }
@@ -66,7 +66,7 @@ pub fn write_session(alloc: Global, session: &SessionRec) -> Result<Vec<u8>, Mem
     Ok(value.into_vec())
 }
 
-/// The value of a session's life, which keeps its bounds.
+/// The value of the record of a session's life, which is within its bounds.
 #[tactic(auto, unfolding(crate::specs::Records::lease_value))]
 pub fn write_lease(alloc: Global, lease: &LeaseRec) -> Result<Vec<u8>, Memory>
     requires { IsLeaseRec lease.now }
@@ -79,7 +79,7 @@ pub fn write_lease(alloc: Global, lease: &LeaseRec) -> Result<Vec<u8>, Memory>
     Ok(value.into_vec())
 }
 
-/// The value of the head, which keeps its bounds.
+/// The value of the head's record, which is within its bounds.
 #[tactic(auto, unfolding(crate::specs::Records::head_value))]
 pub fn write_head(alloc: Global, head: &HeadRec) -> Result<Vec<u8>, Memory>
     requires { IsHeadRec head.now.triggers }

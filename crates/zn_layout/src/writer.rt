@@ -1,4 +1,4 @@
-//! A record's value as far as it is written.
+//! A record's value while it is written.
 
 ghost use Rattle.std.specs.Prelude.{◌≡◌, ◌<◌, ◌^◌, ◌∷◌, [], ◌++◌, length, IfOk, OnOk};
 ghost use Rattle.zk_jute.specs.JuteWriting.{int_bytes, long_bytes, count_bytes, string_bytes};
@@ -24,7 +24,7 @@ impl Model for Writer {
 }
 
 impl Writer {
-    /// The first byte of a record, with room for so many bytes in all.
+    /// A value that is its first byte so far, with room for `capacity` bytes in all.
     pub(crate) fn new(alloc: Global, capacity: usize) -> Result<Writer, Memory>
         ensures { IfOk result (λ w. w ≡ 1 ∷ []) }
     {
@@ -76,7 +76,7 @@ impl Writer {
         self.int(n as i32)
     }
 
-    /// The bytes behind their length.
+    /// The bytes, after their length as an int.
     pub(crate) fn string(&mut self, bytes: &[u8]) -> Result<(), Memory>
         requires { length bytes.now < 2 ^ 31 }
         ensures { OnOk result (self.new ≡ self.old ++ string_bytes bytes.now) }
