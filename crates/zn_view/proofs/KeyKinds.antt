@@ -47,7 +47,7 @@ pub seen-found : (k : Bytes) (xs : List SeenKey) (kv : Kv) → All IsSeen xs →
 seen-found k [] kv all h = absurd (cc)
 seen-found k (x ∷ xs) kv all h = seen_at_first k x xs kv (same x.key k) refl (seen-found k xs kv) all h
 
--- the same, of whatever was found
+-- what was seen under a key, if anything was found there, is kept under that key
 pub seen-kept : (k : Bytes) (xs : List SeenKey) (o : Option Kv) → All IsSeen xs → seen_in k xs ≡ Some o → IfSome o (IsFound k)
 seen-kept k xs None all h = tt
 seen-kept k xs (Some kv) all h = seen-found k xs kv all h

@@ -40,7 +40,7 @@ picked-seen v (j ∷ ks) k o e =
       ] refl h
     ] refl e
 
--- and each that was picked is
+-- each picked key that was looked up is seen among the picked ones
 pub picked-told : (v : View) (ks : List Bytes) (k : Bytes) (o : Option Kv) → In k ks → seen v k ≡ Some o → seen_in k (picked v ks) ≡ Some o
 picked-told v [] k o h e = absurd h
 picked-told v (j ∷ ks) k o h e =

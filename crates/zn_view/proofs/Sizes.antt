@@ -86,7 +86,7 @@ head_value-size ts within = omega (
 pub head_put-size : (ts : List Trigger) → IsHeadRec ts → change_size (head_put ts) ≤ 12 + 1029 * length ts
 head_put-size ts within = omega (arith, head-size, head_value-size ts within)
 
--- a node's record has 37 bytes in front of its data
+-- a node's value has 37 bytes before its data
 pub node_value-size : (r : NodeRec) → length (node_value r) ≡ 37 + length r.content
 unfolding node_value
 node_value-size r = omega (

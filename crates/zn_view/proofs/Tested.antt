@@ -58,7 +58,7 @@ expired-decides r who v least plain saw = λ s sound valid of.
 moved-by : (r : Request) (who : Who) (s : State) (x : Session) (n : ℤ) (b : Bool) → int_eq x.attached who.mine ≡ b → b ≡ false → x.attached ≡ n → IsBySession s who r (Moved n) (Some x)
 moved-by r who s x n b e f is = subst (λ (c : Bool). MatchBool c (IsByTree r (Moved n) (tree_reply s.tree (limit_of x) who.session no_watches r)) (Moved n ≡ Moved x.attached)) (sym (e ∙ f)) (ap (λ (k : ℤ). Moved k) (sym is))
 
--- or it was written at another revision
+-- the record was put at another revision
 pub moved-decides : (r : Request) (who : Who) (v : View) (kv : Kv) → pos 1 ≤ℤ who.session → plain_request no_watches r ≡ None → life_seen v who ≡ Some (Some kv) → int_eq kv.mod_revision who.mine ≡ false → IsDecision r who v (Moved kv.mod_revision)
 moved-decides r who v kv least plain saw apart = λ s sound valid of.
     let lives = lives-seen v who s (Some kv) least saw of in
@@ -69,7 +69,7 @@ moved-decides r who v kv least plain saw apart = λ s sound valid of.
 tree-by : (r : Request) (who : Who) (s : State) (x : Session) (d : Decision) → int_eq x.attached who.mine ≡ true → IsByTree r d (tree_reply s.tree (limit_of x) who.session no_watches r) → IsBySession s who r d (Some x)
 tree-by r who s x d e h = subst (λ (c : Bool). MatchBool c (IsByTree r d (tree_reply s.tree (limit_of x) who.session no_watches r)) (d ≡ Moved x.attached)) (sym e) h
 
--- and otherwise the tree decides
+-- the record was put at the attachment's revision: the tree decides
 pub tree-decides : (r : Request) (who : Who) (v : View) (d : Decision) (kv : Kv) → pos 1 ≤ℤ who.session → plain_request no_watches r ≡ None → life_seen v who ≡ Some (Some kv) → int_eq kv.mod_revision who.mine ≡ true
     → ((m : Keys) (s : State) (x : Session) → IsSound s → HasValidPaths s.tree → StandsFor m s → Agrees v m → live (session_at who.session s) ≡ Some x → IsByTree r d (tree_reply s.tree (limit_of x) who.session no_watches r))
     → IsDecision r who v d

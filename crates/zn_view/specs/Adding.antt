@@ -44,7 +44,7 @@ AreNumbersIn a = All AreCounts (found_in a)
 abbrev pub AreNumbers : List ActAns → Type 0
 AreNumbers parts = All AreNumbersIn parts
 
--- what a part shows of a key that is wanted
+-- what a part shows of a wanted key; of wanted children it shows no record
 abbrev pub shown_to : Want → ActAns → Option Kv
 shown_to (want.Key k) a = kept_under k (found_in a)
 shown_to (want.Children p) a = None
@@ -57,7 +57,7 @@ AreRecords [] parts = Unit {0}
 AreRecords (w ∷ ws) [] = Unit {0}
 AreRecords (w ∷ ws) (a ∷ more) = IsRecordPart w a × AreRecords ws more
 
--- what was found for a want is this, and it is no record
+-- what was found for a want has this key and this value, and is no record
 pub record IsDamagedPart (w : Want) (a : ActAns) (key value : Bytes) : Type 0 where
   pub kv : Kv
   pub shown : shown_to w a ≡ Some kv
@@ -65,12 +65,13 @@ pub record IsDamagedPart (w : Want) (a : ActAns) (key value : Bytes) : Type 0 wh
   pub value_is : value ≡ kv.value
   pub broken : IsRecord kv → ⊥
 
--- the first in the order of the wants
+-- the first such part in the order of the wants
 abbrev pub IsFirstDamaged : List Want → List ActAns → Bytes → Bytes → Type 0
 IsFirstDamaged [] parts key value = ⊥
 IsFirstDamaged (w ∷ ws) [] key value = ⊥
 IsFirstDamaged (w ∷ ws) (a ∷ more) key value = IsDamagedPart w a key value ⊎ (IsRecordPart w a × IsFirstDamaged ws more key value)
 
+-- why a view took nothing; the revision is tested first
 abbrev pub IsViewFault : View → List Want → ℤ → List ActAns → ViewFault → Type 0
 IsViewFault v ws r parts (OtherRevision view found) = IsOtherRevision v r × (view ≡ v.revision) × (found ≡ r)
 IsViewFault v ws r parts (Damaged key value) = (IsOtherRevision v r → ⊥) × IsFirstDamaged ws parts key value
@@ -78,7 +79,7 @@ IsViewFault v ws r parts Memory = Unit {0}
 
 -- ---- a view that is being extended
 
--- only further keys and lists stand behind the old ones
+-- the new view has the old keys and lists, and further ones after them
 pub record IsGrown (old new : View) : Type 0 where
   pub revision : new.revision ≡ old.revision
   pub keys : List SeenKey
@@ -92,6 +93,7 @@ with_key v x = record v { keys = v.keys ++ x ∷ [] }
 abbrev pub with_list : View → SeenChildren → View
 with_list v x = record v { lists = v.lists ++ x ∷ [] }
 
+-- the view with so many of its first keys and lists
 abbrev pub first_of : View → ℕ → ℕ → View
 first_of v keys lists = record v { keys = take keys v.keys; lists = take lists v.lists }
 

@@ -36,7 +36,7 @@ children_start p = layout.children_from p
 unfoldable pub children_end : Bytes → Bytes
 children_end p = layout.children_end p
 
--- of children only the keys
+-- the range that shows what is wanted; of children it shows the keys without their values
 abbrev pub range_of : ℤ → Want → RangeReq
 range_of r (want.Key k) = record { key = k; end = []; revision = r; limit = pos 0; keys_only = false }
 range_of r (want.Children p) = record { key = children_start p; end = children_end p; revision = r; limit = pos 0; keys_only = true }
@@ -62,12 +62,12 @@ found_in part.Put = []
 found_in (part.Deleted n) = []
 found_in (part.Range a) = a.kvs
 
--- the one that is kept under this key: another key that was found is passed over
+-- the first that is kept under this key; any other key that was found is passed over
 abbrev pub kept_under : Bytes → List Kv → Option Kv
 kept_under k [] = None
 kept_under k (kv ∷ kvs) = if same kv.key k then Some kv else kept_under k kvs
 
--- a child's path stands behind the nine bytes of its key's kind and depth
+-- a child's path follows the nine bytes of its key's kind and depth
 abbrev pub path_in : Kv → Bytes
 path_in kv = drop 9 kv.key
 
@@ -87,7 +87,7 @@ with_parts v [] parts = v
 with_parts v (w ∷ ws) [] = v
 with_parts v (w ∷ ws) (a ∷ more) = with_parts (with_part v w a) ws more
 
--- the last part shows the head
+-- what the last part found: of a plan that succeeds, the head
 abbrev pub last_part : List ActAns → List Kv
 last_part [] = []
 last_part (a ∷ []) = found_in a
@@ -123,7 +123,7 @@ abbrev pub guarded_wants : List SeenKey → List Want
 guarded_wants [] = []
 guarded_wants (x ∷ xs) = if same x.key (key_bytes HeadKey) then guarded_wants xs else want.Key x.key ∷ guarded_wants xs
 
--- and the head last
+-- the guarded keys, and the head last
 abbrev pub again_of : List SeenKey → List Want
 again_of xs = guarded_wants xs ++ head_want ∷ []
 
@@ -158,7 +158,7 @@ pub record WritesOwnKeys (p : Plan) : Type 0 where
   pub triggers : IsHeadRec p.triggers
   pub reads : are_present_reads (ranges_of (pos 0) p.again) ≡ true
 
--- and each of them once
+-- it writes keys of the service alone, and none of them twice
 pub record WritesOnce (p : Plan) : Type 0 where
   pub own : WritesOwnKeys p
   pub once : are_distinct (own.changes ++ head_put p.triggers ∷ []) ≡ true

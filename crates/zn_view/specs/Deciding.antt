@@ -28,7 +28,7 @@ IsToldByForm r d = (t : Told) → plain_request no_watches r ≡ Some t → d �
 
 -- ---- the session is tested
 
--- the session does not decide
+-- the decision is neither that the session has expired nor that it has moved
 abbrev pub is_by_tree : Decision → Bool
 is_by_tree Expired = false
 is_by_tree (Moved found) = false
@@ -60,9 +60,8 @@ pub record IsTaken (p : Plan) : Type 0 where
   pub allowed : (t : Store) → revision t <ℤ last_revision → is_denied t (transaction p) ≡ false
 
 -- A good plan carries the update out, and its finished draft is the update's reply. It may be asked of an etcd, and guards what the
--- request reads and nothing else. It writes keys of the service alone, and of these, since it is right in each state in which
--- its guards hold, only those that the update changes. On a view of a sound state an etcd takes it: it has at most 128 guards,
--- 128 operations in a list, and 1,500,000 bytes of keys and values, and no key twice.
+-- request reads and nothing else. It writes keys of the service alone. On a view of a sound state an etcd takes it: it has at most
+-- 128 guards, 128 operations in a list, and 1,500,000 bytes of keys and values, and isn't denied while there is a revision to come.
 pub record IsGood (r : Request) (who : Who) (now : ℕ) (v : View) (p : Plan) : Type 0 where
   pub commits : IsPlan r who now v p (λ z. finished z p.draft)
   pub asked : IsAskedPlan who v p

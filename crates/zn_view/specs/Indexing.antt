@@ -14,7 +14,7 @@ abbrev pub or_seen : Bytes → Option (Option Kv) → SeenKey → Option (Option
 or_seen k None x = if same x.key k then Some x.found else None
 or_seen k (Some found) x = Some found
 
--- and what more keys show of it, one after the other
+-- what was found under a key before, or else what the first of more keys shows of it
 abbrev pub seen_from : Bytes → Option (Option Kv) → List SeenKey → Option (Option Kv)
 seen_from k o [] = o
 seen_from k o (x ∷ xs) = seen_from k (or_seen k o x) xs

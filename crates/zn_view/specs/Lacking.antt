@@ -18,7 +18,7 @@ with_want v ws k = cond (is_some (seen v k) || list_any (is_want_of k) ws) ws (w
 abbrev pub lacking : View → List Bytes → List Want
 lacking v ks = fold (with_want v) [] ks
 
--- whether a key was known, or is one of these
+-- whether a key was known before, or is one of these
 abbrev pub known_from : Bytes → Bool → List SeenKey → Bool
 known_from k known [] = known
 known_from k known (x ∷ xs) = known_from k (known || same x.key k) xs

@@ -20,7 +20,8 @@ pub record IsShown (s new : Store) (v : View) (ws : List Want) (parts : List Act
   pub same : new ≡ s
   pub agrees : Agrees (with_parts v ws parts) m
 
--- the guards held, the keys are those after the plan's operations, and the last part shows the head
+-- the guards held, the answer's revision is the new store's, the keys are those after the plan's operations, and the last part
+-- shows the head
 pub record IsCarriedOut (s new : Store) (p : Plan) (r : ℤ) (parts : List ActAns) : Type 0 where
   pub holds : list_all (holds (present s)) p.guards ≡ true
   pub revision_is : r ≡ revision new

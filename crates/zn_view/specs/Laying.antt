@@ -4,7 +4,7 @@ use Rattle.zx_base.specs.Maps.{same}
 use Rattle.zn_view.specs.declared.snapshot.SeenKey.{SeenKey}
 use Rattle.zn_view.specs.Seen.{View}
 
--- where the key stands first, or behind the others
+-- the first key with the same bytes gives way to this one; where there is none, this one comes after the others
 abbrev pub placed : SeenKey → List SeenKey → List SeenKey
 placed x [] = x ∷ []
 placed x (y ∷ ys) = if same y.key x.key then x ∷ ys else y ∷ placed x ys

@@ -20,7 +20,7 @@ sees v k = seen v (key_bytes k)
 abbrev pub found_at : View → Key → Option Kv
 found_at v k = found_of (sees v k)
 
--- a node's numbers, whose data stand behind them in the value
+-- a node's numbers, which its data follow in the value
 abbrev pub IsNodeIn : Kv → NodeNumbers → Type 0
 IsNodeIn kv n = IsValueOf node_value IsNodeRec kv.value (node_record n (drop 37 kv.value))
 

@@ -56,21 +56,21 @@ IsLacking v (want.Children p) = listed v p ≡ None
 
 -- ---- what the parts of a multi read besides
 
--- the owner of a node has a list of its nodes
+-- the key of the nodes of the session that owns the node at p, as the view saw it
 abbrev pub FollowsOwner : View → Bytes → Want → Type 0
 FollowsOwner v p w = (r : NodeRec) × SawNode v p r × (r.owner ≡ pos 0 → ⊥) × (w ≡ key_want (SessionKey (nat_abs r.owner)))
 
--- the creates that a view saw below a node, none where it saw none
+-- the creates that a view saw below a node: None where it did not look, or saw no node
 abbrev pub IsCreatesSeen : Option (Option Kv) → Option ℕ → Type 0
 IsCreatesSeen None creates = creates ≡ None
 IsCreatesSeen (Some None) creates = creates ≡ None
 IsCreatesSeen (Some (Some kv)) creates = (r : CountRec) × IsValueOf counts_value IsCountRec kv.value r × (creates ≡ Some (nat_abs r.creates))
 
--- The creates below q once one node more is made: one more where it is a child of q, and none yet where it is q itself.
+-- The creates below q once one more node is made: one more where it is a child of q, and 0 where it is q itself.
 abbrev pub with_made : Bytes → Option ℕ → Bytes → Option ℕ
 with_made q creates p = if same p q then Some 0 else (if is_child q p then option_map suc creates else creates)
 
--- and once these are made in turn
+-- the creates below q once these nodes are made in turn
 abbrev pub creates_after : Option ℕ → Bytes → List Bytes → Option ℕ
 creates_after creates q made = fold (with_made q) creates made
 
@@ -84,10 +84,11 @@ pub record IsNumbered (v : View) (made : List Bytes) (prefix p : Bytes) : Type 0
   pub counted : creates_after first above made ≡ Some number
   pub named : p ≡ sequence_path prefix number
 
+-- the path of the node that a create makes: a numbered one where it is sequential, and otherwise its own
 abbrev pub IsPathMade : View → List Bytes → ℤ → Bytes → Bytes → Type 0
 IsPathMade v made flags path p = MatchBool (is_sequential flags) (IsNumbered v made path p) (p ≡ path)
 
--- the paths of the nodes that were made, in turn, with that of a part's node behind these
+-- the paths of the nodes that were made before, in turn, followed by that of the node that a part makes, if it makes one
 abbrev pub PartMakes : View → List Bytes → Part → List Bytes → Type 0
 PartMakes v before (part.Create path d a f) made = (p : Bytes) × IsPathMade v before f path p × (made ≡ before ++ p ∷ [])
 PartMakes v before _ made = made ≡ before
@@ -97,11 +98,12 @@ abbrev pub Makes : View → List Part → List Bytes → Type 0
 Makes v [] made = made ≡ []
 Makes v (p ∷ parts) made = (form_refusal p ≡ None) × (before : List Bytes) × Makes v parts before × PartMakes v before p made
 
+-- where a part deletes a node, the nodes of its owner were looked up
 abbrev pub OwnerSeen : View → Part → Type 0
 OwnerSeen v (part.Delete p x) = (w : Want) → FollowsOwner v p w → IsLacking v w → ⊥
 OwnerSeen v _ = Unit {0}
 
--- all that these parts read was looked up, so that it shows what they do
+-- all that these parts read was looked up, so that the view shows what they do
 pub record WereSeen (id : ℤ) (v : View) (parts : List Part) (made : List Bytes) : Type 0 where
   pub keys : (k : Key) → Contains (flat_map (part_reads id) parts) k → seen v (key_bytes k) ≡ None → ⊥
   pub nodes : (p : Bytes) → Contains made p → seen v (key_bytes (DataKey p)) ≡ None → ⊥
@@ -115,7 +117,7 @@ FollowsPart id v before (part.Create path d a f) w =
 FollowsPart id v before (part.Delete p x) w = FollowsOwner v p w
 FollowsPart id v before _ w = ⊥
 
--- and for some part behind these
+-- what follows for one of these parts, after the parts before them, of which the latest comes first
 abbrev pub FollowsFrom : ℤ → View → List Part → List Part → Want → Type 0
 FollowsFrom id v before [] w = ⊥
 FollowsFrom id v before (p ∷ parts) w = ((form_refusal p ≡ None) × FollowsPart id v before p w) ⊎ FollowsFrom id v (p ∷ before) parts w
@@ -145,12 +147,12 @@ IsRead r who v w = (w ≡ head_want) ⊎ (w ≡ life_want who.session) ⊎ ((k :
 abbrev pub LacksNothing : Request → Who → View → Type 0
 LacksNothing r who v = (w : Want) → IsRead r who v w → IsLacking v w → ⊥
 
--- nothing is lacking by which it is decided: what its form decides reads nothing
+-- nothing is lacking by which the request is decided: one that its form decides reads nothing
 abbrev pub IsWhole : Request → Who → View → Type 0
 IsWhole r who v = plain_request no_watches r ≡ None → LacksNothing r who v
 
--- The wants name what is read and lacking, all of it at once and each once, and so nothing only where nothing is lacking. What
--- needs no tree reads nothing.
+-- The wants are what the request reads and the view lacks: all of it at once, and each once. So there are none only where nothing
+-- is lacking. A request that needs no tree has none.
 pub record AreNeeds (r : Request) (who : Who) (v : View) (ws : List Want) : Type 0 where
   pub only : (w : Want) → Contains ws w → IsRead r who v w × IsLacking v w
   pub enough : ws ≡ [] → plain_request no_watches r ≡ None → (w : Want) → IsRead r who v w → IsLacking v w → ⊥
@@ -167,7 +169,7 @@ pub record GuardsReads (r : Request) (who : Who) (v : View) (p : Plan) : Type 0 
   pub all : (k : Bytes) → IsRead r who v (want.Key k) → Contains keys k
   pub only : (k : Bytes) → Contains keys k → IsRead r who v (want.Key k)
 
--- ---- a draft has 0 in each place of the zxid that its update gets
+-- ---- a draft has 0 wherever the zxid goes that its update gets
 
 abbrev pub own : ℤ → ℤ → ℤ
 own zxid x = if int_eq x (pos 0) then zxid else x

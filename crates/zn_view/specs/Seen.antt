@@ -18,7 +18,7 @@ View = Snapshot
 abbrev pub empty_view : View
 empty_view = record { revision = pos 0; keys = []; lists = [] }
 
--- what was found under a key: None where it wasn't looked up
+-- what was found under a key: None where it wasn't looked up, Some None where it was absent
 abbrev pub seen_in : Bytes → List SeenKey → Option (Option Kv)
 seen_in k [] = None
 seen_in k (x ∷ xs) = if same x.key k then Some x.found else seen_in k xs
@@ -64,11 +64,11 @@ kind_in first =
     else if same first (codes "zk/l/") then Some Life
     else None
 
--- None where the key is none of the layout
+-- the kind that a key's first bytes tell; each key of the layout has one
 abbrev pub kind_of : Bytes → Option Kind
 kind_of key = if same key (codes "zk/head") then Some Head else kind_in (take 5 key)
 
--- a value is a record of a kind, within the record's bounds
+-- a value is a record of a kind, within the record's bounds; without a kind any value will do
 abbrev pub IsOfKind : Option Kind → Bytes → Type 0
 IsOfKind None value = Unit {0}
 IsOfKind (Some Head) value = IsSomeValue head_value IsHeadRec value
@@ -90,7 +90,7 @@ pub record AreCounts (kv : Kv) : Type 0 where
   pub revision : IsCount kv.mod_revision
   pub version : IsCount kv.version
 
--- what was found is kept under the key that was looked up
+-- what was found is kept under the key that was looked up, is a record of the key's kind, and has numbers in an etcd's range
 pub record IsFound (key : Bytes) (kv : Kv) : Type 0 where
   pub named : kv.key ≡ key
   pub value : IsRecord kv

@@ -43,7 +43,7 @@ use Rattle.zn_view.specs.Seen.{View, seen}
 unfoldable pub children_kept : Keys → Bytes → List Bytes
 children_kept m p = map (drop 9) (keys (retain_keys m (is_within (children_start p) (children_end p))))
 
--- each thing that the view saw is so in these keys
+-- what the view saw under each key, and listed of each node's children, is so in these keys
 pub record Agrees (v : View) (m : Keys) : Type 0 where
   pub keys : All (λ (x : SeenKey). get m x.key ≡ x.found) v.keys
   pub lists : All (λ (x : SeenChildren). x.paths ≡ children_kept m x.path) v.lists
@@ -56,7 +56,7 @@ IsOf v s = (m : Keys) × StandsFor m s × Agrees v m
 abbrev pub AreAsSeen : View → Keys → Type 0
 AreAsSeen v m = (k : Bytes) (o : Option Kv) → (k ≡ key_bytes HeadKey → ⊥) → seen v k ≡ Some o → get m k ≡ o
 
--- each thing that the view saw, but for the head, is so in these keys
+-- what each entry of the view says of a key, but for the head, is so in these keys
 abbrev pub IsUnchanged : View → Keys → Type 0
 IsUnchanged v m = All (λ (x : SeenKey). (x.key ≡ key_bytes HeadKey → ⊥) → get m x.key ≡ x.found) v.keys
 
@@ -84,7 +84,7 @@ own_data flags p = if is_sequential flags then [] else DataKey p ∷ []
 abbrev pub valid : List Bytes → List Bytes
 valid ps = filter is_path ps
 
--- the keys that follow from a part of a multi: those that the same request reads alone
+-- the keys that follow from a part of a multi: those that it would read as a request of its own
 abbrev pub part_keys : ℤ → Part → List Key
 part_keys id (part.Create p d a f) = about_parent (parent (named f p)) ++ own_data f p ++ own_nodes f id
 part_keys id (part.Delete p v) = about_path p ++ counts_of_parent (parent p)
@@ -146,23 +146,24 @@ IsBySession s who r d None = d ≡ Expired
 IsBySession s who r d (Some x) =
     MatchBool (int_eq x.attached who.mine) (IsByTree r d (tree_reply s.tree (limit_of x) who.session no_watches r)) (d ≡ Moved x.attached)
 
--- and the request's form before the session
+-- the request's form is tested before the session
 abbrev pub IsByForm : State → Who → Request → Decision → Option Told → Type 0
 IsByForm s who r d (Some t) = d ≡ Answered t.reply None
 IsByForm s who r d None = IsBySession s who r d (live (session_at who.session s))
 
--- a decision on a view is the service's in each sound state that the view is of. Its paths are valid, for only so do the four
--- digits of a depth tell a node's children apart from those of deeper nodes
+-- a decision on a view is the service's in each sound state with valid paths that the view is of. Were the paths not valid, the
+-- four digits of a depth would not tell a node's children apart from deeper nodes
 abbrev pub IsDecision : Request → Who → View → Decision → Type 0
 IsDecision r who v d = (s : State) → IsSound s → HasValidPaths s.tree → IsOf v s → IsByForm s who r d (plain_request no_watches r)
 
 -- ---- what a plan is worth
 
--- what was found was put at a revision that a store can have
+-- what was found was put at revision 1 or later
 abbrev pub WasPut : SeenKey → Type 0
 WasPut x = IfSome x.found (λ kv. pos 1 ≤ℤ kv.mod_revision)
 
--- the guards hold in these keys, and each guarded key that is there is as the view saw it
+-- the guards hold in these keys, each guarded key that is there is as the view saw it, and all that the view saw was put at
+-- revision 1 or later
 pub record MayCommit (p : Plan) (v : View) (m : Keys) : Type 0 where
   pub holds : IsTrue (list_all (holds m) p.guards)
   pub same : All (λ (g : Guard). (kv : Kv) → get m g.key ≡ Some kv → seen v g.key ≡ Some (Some kv)) p.guards
@@ -172,11 +173,12 @@ pub record MayCommit (p : Plan) (v : View) (m : Keys) : Type 0 where
 abbrev pub limit_at : ℤ → State → ℕ
 limit_at id s = limit_in (session_at id s)
 
--- what an update of a session does at a zxid and a moment, and what it answers
+-- what an update of a session does at a zxid and a time in milliseconds, and what it answers
 abbrev pub done_by : State → ℤ → ℤ → Request → ℕ → Option Commit
 done_by s z session req.Close now = Some (record { response = body.Empty; tree = (session_ended s z session).tree; triggers = (session_ended s z session).triggers })
 done_by s z session r now = commit s.tree (limit_at session s) session r z now
 
+-- the state after it
 abbrev pub state_after : State → ℤ → ℤ → Request → ℕ → State
 state_after s z session req.Close now = session_ended s z session
 state_after s z session r now = committed s z (commit s.tree (limit_at session s) session r z now)
@@ -188,20 +190,21 @@ pub record IsDone (s : State) (z session : ℤ) (r : Request) (now : ℕ) (ts : 
   pub triggers : ts ≡ made.triggers
   pub answers : answer ≡ reply.Good made.response
 
--- Carried out at a revision, it makes of keys that stand for a state keys that stand for that state after the update.
+-- Carried out at a later zxid, where it may commit, the plan makes of keys that stand for a sound state keys that stand for the
+-- state after the update. Its triggers are the update's, and so is the reply that `finish` gives for the zxid.
 pub record IsPlan (r : Request) (who : Who) (now : ℕ) (v : View) (p : Plan) (finish : ℤ → Reply) : Type 0 where
   pub carries : (m : Keys) (s : State) (z : ℤ) → IsSound s → StandsFor m s → MayCommit p v m → s.zxid <ℤ z → z ≤ℤ last_revision
       → StandsFor (acts_applied z m p.success) (state_after s z who.session r now)
   pub answers : (m : Keys) (s : State) (z : ℤ) → IsSound s → StandsFor m s → MayCommit p v m → s.zxid <ℤ z → z ≤ℤ last_revision
       → IsDone s z who.session r now p.triggers (finish z)
 
--- what one transaction of an etcd may have
+-- the plan is within what one transaction of an etcd may have
 abbrev pub IsSmallPlan : Plan → Type 0
 IsSmallPlan p = IsSendable (plan_txn p)
 
 -- ---- what is to be shown of a request that is an update
 
--- the changes of keys are those of the update, which is done
+-- the update is done, and the changes of keys lead from the state to the one after it
 pub record IsMade (r : Request) (who : Who) (now : ℕ) (finish : ℤ → Reply) (cs : List Change) (ts : List Trigger) (s : State) (z : ℤ) : Type 0 where
   pub is_done : IsDone s z who.session r now ts (finish z)
   pub fits : Fits z cs s (state_after s z who.session r now)

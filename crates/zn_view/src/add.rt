@@ -25,7 +25,7 @@ fn found_in(part: &ActAns) -> &[Kv]
     }
 }
 
-/// The one that is kept under this key.
+/// The first that is kept under this key.
 fn kept_under<'a>(kvs: &'a [Kv], key: &[u8]) -> Option<&'a Kv>
     ensures { option_copied result ≡ kept_under key.now kvs.now }
 {
@@ -50,7 +50,7 @@ fn copy(alloc: Global, kv: &Kv) -> Result<Kv, Memory>
     })
 }
 
-/// The fault of a value that is no record.
+/// The fault of a value that is no record, with copies of the key and the value.
 fn damaged(alloc: Global, kv: &Kv) -> ViewFault
     ensures { IsDamagedFault kv.now result }
 {
@@ -63,7 +63,7 @@ fn damaged(alloc: Global, kv: &Kv) -> ViewFault
     }
 }
 
-/// What was found under a key, if it is a record.
+/// A copy of what was found under a key. It is a fault where the value is no record of the key's kind.
 fn tested(alloc: Global, found: Option<&Kv>) -> Result<Option<Kv>, ViewFault>
     ensures ok { IfOk result (λ o. o ≡ option_copied found.entry) }
     ensures kept { IfOk result (λ o. IfSome (option_copied found.entry) IsRecord) }
@@ -80,10 +80,10 @@ fn tested(alloc: Global, found: Option<&Kv>) -> Result<Option<Kv>, ViewFault>
 
 impl View {
     /// Adds what was found for some wants at a revision, a part for each want in their order. A key that was found and
-    /// that its want does not name is passed over, and the first round's revision stays the view's. The view is as it was
-    /// where the revision is another (`OtherRevision`), where a value is no record of its key's kind (`Damaged`: the
-    /// first in the order of the wants), and without memory. The revision and the numbers of what was found are 0 to
-    /// 2^62 - 1. It copies each key and value once.
+    /// that its want does not name is passed over. The revision of the first round stays the view's. The view is as it was
+    /// where this revision is another (`OtherRevision`), where a value is no record of its key's kind (`Damaged`: the
+    /// first in the order of the wants), and without memory. The revision and the numbers of what was found are from 0 to
+    /// 2^62 - 1. It copies each value once, and a key once for itself and once with its value.
     pub fn add(&mut self, wants: &[Want], revision: i64, parts: &[ActAns]) -> Result<(), ViewFault>
         requires revision { IsCount revision }
         requires numbers { AreNumbers parts.now }
@@ -124,7 +124,7 @@ impl View {
         }
     }
 
-    /// Takes the parts before the first that it cannot take.
+    /// Takes part after part, up to the first that it cannot take.
     fn take_all(&mut self, wants: &[Want], parts: &[ActAns]) -> Result<(), ViewFault>
         requires { AreNumbers parts.now }
         ensures ok { OnOk result (self.new ≡ with_parts self.old wants.now parts.now) }
@@ -138,7 +138,7 @@ impl View {
         Ok(())
     }
 
-    /// Takes a part, or is as it was.
+    /// Takes a part. Where it fails the view is as it was.
     fn take(&mut self, want: &Want, part: &ActAns) -> Result<(), ViewFault>
         requires { AreNumbersIn part.now }
         ensures ok { OnOk result (self.new ≡ with_part self.old want.now part.now) }

@@ -16,13 +16,13 @@ use zx_base::{Bytes, Memory, Seq};
 
 const SLASH: u8 = b'/';
 
-/// The byte that stands behind a slash.
+/// The byte that follows the slash in the order of bytes.
 const BEHIND_SLASH: u8 = b'0';
 
-/// How many bytes of a data key stand before its path.
+/// How many bytes a data key has before its path.
 const BEFORE_PATH: usize = 9;
 
-/// The first key that a child of a node can have.
+/// The start of the range of the data keys of a node's children: of `/a` it is `zk/d/0002/a/`.
 #[tactic(auto, unfolding(crate::specs::Asks::children_start))]
 pub fn children_start(alloc: Global, path: &Path) -> Result<Bytes, Memory>
     ensures { IfOk result (λ k. k ≡ first_child path.now) }
@@ -30,7 +30,7 @@ pub fn children_start(alloc: Global, path: &Path) -> Result<Bytes, Memory>
     bound(alloc, path, SLASH)
 }
 
-/// The end of the range of the keys of a node's children, which is not in it.
+/// The end of the range of the data keys of a node's children, which is not in it: of `/a` it is `zk/d/0002/a0`.
 #[tactic(auto, unfolding(crate::specs::Asks::children_end))]
 pub fn children_end(alloc: Global, path: &Path) -> Result<Bytes, Memory>
     ensures { IfOk result (λ k. k ≡ behind_children path.now) }
@@ -52,7 +52,7 @@ fn bound(alloc: Global, path: &Path, last: u8) -> Result<Bytes, Memory>
     Ok(Bytes::from_vec(key))
 }
 
-/// The path, of the root nothing.
+/// The path, or nothing for the root.
 fn own_bytes(path: &Path) -> &[u8]
     ensures { result.now ≡ base path.now }
 {
@@ -71,7 +71,7 @@ fn digit(n: u64) -> u8
     b'0' + (n % 10) as u8
 }
 
-/// Whether a key is from the one on and before the other.
+/// Whether a key is in the range from `start` up to `end`, without `end`.
 fn is_between(key: &[u8], start: &[u8], end: &[u8]) -> bool
     ensures { result ≡ (not (comes_before key.now start.now) && comes_before key.now end.now) }
 {
@@ -85,7 +85,7 @@ fn path_of(key: &[u8]) -> &[u8]
     &key[key.len().min(BEFORE_PATH)..]
 }
 
-/// Adds a key's path, if it is in the range.
+/// Adds the path in a data key, if the key is in the range.
 fn push_child(
     paths: &mut Seq<Bytes>,
     alloc: Global,

@@ -5,10 +5,11 @@ use zx_base::Bytes;
 /// Why a view was not extended.
 #[derive(Debug, Drop)]
 pub enum ViewFault {
-    /// The view is of one revision, and what was found is of another.
+    /// The view is of the revision `view`, and what was found is of `found`.
     OtherRevision { view: i64, found: i64 },
     /// The value found under this key is no record of the key's kind.
     Damaged { key: Bytes, value: Bytes },
+    /// The allocator refused memory. It says nothing of what was found.
     Memory,
 }
 

@@ -21,7 +21,7 @@ fn is_head(key: &Bytes) -> bool
     key.is(b"zk/head")
 }
 
-/// The revision at which a key was put last, 0 where it is absent.
+/// The revision at which a key was last put, 0 where it is absent.
 fn put_at(found: Option<&Kv>) -> i64
     ensures { result ≡ mod_of (option_copied found.entry) }
 {
@@ -59,7 +59,7 @@ fn push_guard_on(guards: &mut Seq<Guard>, view: &View, key: &Bytes) -> Result<()
     }
 }
 
-/// Wants a key under which this was found, unless it is the head.
+/// Wants a key, unless it is the head. What was found under it does not matter.
 fn push_want_at(
     wants: &mut Seq<Want>,
     alloc: Global,
@@ -96,8 +96,8 @@ fn wants_on(view: &View, keys: &[Bytes]) -> Result<Seq<Want>, Memory>
 }
 
 impl View {
-    /// A guard on each of these keys that was looked up but for the head, at the mod_revision that was seen, 0 for a key that
-    /// was not there. It copies each key once.
+    /// A guard on each of these keys that was looked up, but for the head, at the mod_revision that was seen: 0 for a key that
+    /// was absent. It copies each key once.
     pub fn guards_on(&self, keys: &[Bytes]) -> Result<Seq<Guard>, Memory>
         ensures { IfOk result (λ guards. guards ≡ guards_of (picked self.now keys.now)) }
     {
@@ -108,7 +108,7 @@ impl View {
         Ok(guards)
     }
 
-    /// What a plan with these guards reads where one does not hold: the keys that it guards, and the head.
+    /// What a plan reads where a guard on these keys does not hold: the keys that it guards ([`View::guards_on`]), and the head.
     pub fn again_on(&self, keys: &[Bytes]) -> Result<Seq<Want>, Memory>
         ensures { IfOk result (λ wants. wants ≡ again_of (picked self.now keys.now)) }
     {

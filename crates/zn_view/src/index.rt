@@ -14,10 +14,10 @@ use std::alloc::Global;
 use std::collections::BTreeMap;
 use zx_base::Memory;
 
-/// What was found under each key.
+/// What was found under each key that was looked up.
 pub type Index<'a> = BTreeMap<Name<'a>, Option<&'a Kv>>;
 
-/// Takes a key in behind others: of a key that was looked up twice the first is kept.
+/// Adds a key. Of a key that was looked up twice the first is kept.
 fn take_in<'a>(index: &mut Index<'a>, seen: &'a SeenKey) -> Result<(), Memory>
     ensures { OnOk result ((q : ByteList) → option_map option_copied (tree.get (slice_cmp nat_cmp) index.new q) ≡ or_seen q (option_map option_copied (tree.get (slice_cmp nat_cmp) index.old q)) seen.now) }
 {
@@ -42,7 +42,8 @@ fn index_of<'a>(alloc: Global, keys: &'a [SeenKey]) -> Result<Index<'a>, Memory>
 }
 
 impl View {
-    /// The keys that were seen, by their bytes. It copies none of them; a look-up takes the logarithm of their number.
+    /// The keys that were seen, by their bytes. It copies none of them; a look-up takes time in proportion to the logarithm of
+    /// their number.
     pub fn index(&self) -> Result<Index<'_>, Memory>
         ensures { IfOk result (λ index. IsIndex self.now (λ q. option_map option_copied (tree.get (slice_cmp nat_cmp) index q))) }
     {
@@ -50,7 +51,7 @@ impl View {
     }
 }
 
-/// What was found under a key: none where it was not looked up.
+/// What was found under a key: `None` where it was not looked up, `Some(None)` where it was absent.
 pub fn found_by<'a>(index: &Index<'a>, key: &'a [u8]) -> Option<Option<&'a Kv>>
     ensures { option_map option_copied result ≡ option_map option_copied (tree.get (slice_cmp nat_cmp) index.now key.now) }
 {

@@ -12,10 +12,15 @@ use zx_base::Memory;
 /// The kinds of key of the layout.
 #[derive(Clone, Copy, Debug)]
 pub enum Kind {
+    /// The last update.
     Head,
+    /// A node's data.
     Data,
+    /// The counts of a node's children.
     Counts,
+    /// The nodes that a session owns.
     Nodes,
+    /// A session's life.
     Life,
 }
 
@@ -66,7 +71,7 @@ fn is_of_kind(alloc: Global, kind: Kind, value: &[u8]) -> Result<bool, Memory>
     }
 }
 
-/// Whether the value is a record of its key's kind. A node's data are not copied.
+/// Whether the value is a record of its key's kind; so is any value whose key is of no kind. A node's data are not copied.
 pub(crate) fn is_record(alloc: Global, kv: &Kv) -> Result<bool, Memory>
     ensures { IfOk result (λ b. IsTrue b ↔ IsRecord kv.now) }
 {

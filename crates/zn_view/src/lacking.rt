@@ -52,7 +52,7 @@ fn want_key(wants: &mut Seq<Want>, key: Bytes, view: &View) -> Result<(), Memory
     wants.push(Want::Key(key))
 }
 
-/// Knows a key; whether it was not known before.
+/// Adds a key to those that are known, and says whether it is new.
 fn know<'a>(known: &mut BTreeSet<Name<'a>>, key: &'a [u8]) -> Result<bool, Memory>
     ensures new { IfOk result (λ new. new ≡ not (set.contains (slice_cmp nat_cmp) known.old key.now)) }
     ensures known { OnOk result ((q : ByteList) → set.contains (slice_cmp nat_cmp) known.new q ≡ (set.contains (slice_cmp nat_cmp) known.old q || same key.now q)) }
@@ -71,7 +71,7 @@ fn known_keys<'a>(alloc: Global, keys: &'a [SeenKey]) -> Result<BTreeSet<Name<'a
     Ok(known)
 }
 
-/// Names a key that is not known, and knows it.
+/// Names a key that is not known, which is known from then on.
 fn want_unknown<'a>(
     alloc: Global,
     known: &mut BTreeSet<Name<'a>>,
@@ -103,9 +103,9 @@ fn want_all_unknown<'a>(
 }
 
 impl View {
-    /// A want for each of these keys that was not looked up, once, as [`View::lacking`] gives them. For many keys: it takes time in
-    /// proportion to their number and that of the keys that were seen, times the logarithm of these, and copies each key that is
-    /// wanted.
+    /// A want for each of these keys that was not looked up, each once, as [`View::lacking`] gives them. It is for many keys: it
+    /// takes time in proportion to the number of these and of the seen keys, times the logarithm of that number. It copies each
+    /// key that is wanted.
     pub fn lacking_many(&self, keys: &[Bytes]) -> Result<Seq<Want>, Memory>
         ensures { IfOk result (λ ws. ws ≡ lacking_of self.now keys.now) }
     {
@@ -113,7 +113,8 @@ impl View {
         want_all_unknown(self.allocator(), known, keys)
     }
 
-    /// A want for each of these keys that was not looked up, once. Takes time in proportion to the square of their number.
+    /// A want for each of these keys that was not looked up, each once. It takes time in proportion to the number of these keys
+    /// times that of these and the seen keys.
     pub fn lacking(&self, keys: Seq<Bytes>) -> Result<Seq<Want>, Memory>
         ensures { IfOk result (λ ws. ws ≡ lacking_of self.now keys) }
     {

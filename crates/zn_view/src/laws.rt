@@ -36,8 +36,8 @@ ghost use Rattle.zn_view.specs.Needs.{IsLacking};
 ghost use Rattle.zn_view.specs.Seen.{View, empty_view, head_number, head_of, head_zxid, seen, listed};
 ghost use Rattle.zn_view.specs.Views.{Agrees, AreAsSeen, IsByTree, IsDecision, IsMade, IsPlan, IsUnchanged, MayCommit, WasPut, live};
 
-/// A view agrees with the keys that answered it: its first round with the present, each further one with the revision of
-/// the first. A reading changes nothing.
+/// A view agrees with the keys that answered it: after its first round with the present ones, and after each further round with
+/// those of the first one's revision. A reading changes nothing.
 pub fn a_round_agrees()
     ensures first { (s new : Store) (ws : List AnyWant) (r : ℤ) (b : Bool) (parts : List ActAns) → carry s (reading (pos 0) ws) ≡ Some (new, answer.Txn r b parts) → (r ≡ revision new) × IsShown s new (record empty_view { revision = r }) ws parts (present s) }
     ensures later { (s new : Store) (v : View) (n : ℕ) (ws : List AnyWant) (r : ℤ) (b : Bool) (parts : List ActAns) → v.revision ≡ pos n → 1 ≤ n → Agrees v (store_at s n) → carry s (reading v.revision ws) ≡ Some (new, answer.Txn r b parts) → IsShown s new v ws parts (store_at s n) }
@@ -50,7 +50,7 @@ pub fn a_plan_is_answered()
     ensures succeeded { (s new : Store) (p : AnyPlan) (r : ℤ) (parts : List ActAns) → ShowsHead p.success → carry s (transaction p) ≡ Some (new, answer.Txn r true parts) → IsCarriedOut s new p r parts }
 {}
 
-/// A view that takes further parts sees what it saw before, and each thing that was wanted.
+/// A view that takes further parts sees what it saw before and, where there is a part for each want, all that was wanted.
 pub fn what_was_wanted_is_seen()
     ensures seen { (v : View) (ws : List AnyWant) (parts : List ActAns) (k : ByteList) (o : Option KeyValue) → seen v k ≡ Some o → seen (with_parts v ws parts) k ≡ Some o }
     ensures listed { (v : View) (ws : List AnyWant) (parts : List ActAns) (p : ByteList) (ps : List ByteList) → listed v p ≡ Some ps → listed (with_parts v ws parts) p ≡ Some ps }
@@ -68,8 +68,8 @@ pub fn the_last_update_is_told()
     ensures { (v : View) (m : Keys) (s : State) → StandsFor m s → Agrees v m → (seen v (key_bytes HeadKey) ≡ None → ⊥) → (head_zxid (head_of v) ≡ s.zxid) × (head_number (head_of v) ≡ pos s.updates) }
 {}
 
-/// Each key that a view saw has what was seen, in keys that it agrees with; and but for the head also in keys in which the
-/// guards of a plan made on it hold. They do hold wherever nothing that the view saw has changed, but for the head.
+/// Each key that a view saw has what was seen, in keys that the view agrees with; and, but for the head, also in keys in which a
+/// plan that guards all of them may commit. Its guards hold wherever no key that the view saw has changed, but for the head.
 pub fn guarded_keys_are_as_seen()
     ensures agrees { (v : View) (m : Keys) → Agrees v m → AreAsSeen v m }
     ensures commits { (p : AnyPlan) (v : View) (m : Keys) → p.guards ≡ guards_of v.keys → MayCommit p v m → AreAsSeen v m }
@@ -77,8 +77,8 @@ pub fn guarded_keys_are_as_seen()
 {}
 
 /// A view with some of its keys alone shows these as the whole view does, and agrees with all that the whole view agrees with.
-/// A plan that guards these keys alone is worth on the whole view what it is worth on them. So what a plan guards had, in keys
-/// that the view agrees with, what was found.
+/// A plan that guards these keys alone is worth on the whole view what it is worth on them. In keys that the view agrees with,
+/// each key that a plan guards has what was found.
 pub fn some_keys_are_enough()
     ensures shown { (v : View) (ks : List ByteList) (k : ByteList) → Contains ks k → seen (narrowed v ks) k ≡ seen v k }
     ensures agrees { (v : View) (ks : List ByteList) (m : Keys) → Agrees v m → Agrees (narrowed v ks) m }
@@ -86,21 +86,21 @@ pub fn some_keys_are_enough()
     ensures found { (who : AnyWho) (v : View) (p : AnyPlan) (m : Keys) → (asked : IsAskedPlan who v p) → Agrees v m → All (λ (x : AnySeen). get m x.key ≡ x.found) asked.keys }
 {}
 
-/// A plan carries out its update where its changes are those of the update in each sound state whose keys have what the
-/// view saw.
+/// A plan that guards all that its view saw carries its update out where its changes are those of the update in each sound state
+/// whose keys have what the view saw.
 pub fn a_plan_commits()
     ensures { (r : Request) (who : AnyWho) (now : ℕ) (v : View) (p : AnyPlan) (finish : ℤ → AnyReply) (cs : List Change) → p.guards ≡ guards_of v.keys → p.success ≡ update_acts cs p.triggers → IsHeadRec p.triggers → last cs HeadKey ≡ None → ((m : Keys) (s : State) (z : ℤ) → IsSound s → StandsFor m s → AreAsSeen v m → s.zxid <ℤ z → z ≤ℤ last_revision → IsMade r who now finish cs p.triggers s z) → IsPlan r who now v p finish }
 {}
 
-/// A plan with the guards of its view, what the view guards to be read again, and an update's operations may be asked of an
-/// etcd where the view saw that the session is attached here. What a view of a state saw was put at a revision.
+/// A plan that guards all that its view saw, reads it again, and has an update's operations may be asked of an etcd where the
+/// view saw that the session is attached here. What a view of a state saw was put at revision 1 or later.
 pub fn a_plan_may_be_asked()
     ensures asked { (who : AnyWho) (v : View) (p : AnyPlan) (cs : List Change) (ts : List AnyTrigger) (kv : KeyValue) → p.guards ≡ guards_of v.keys → p.again ≡ again_of v.keys → p.success ≡ update_acts cs ts → life_seen v who ≡ Some (Some kv) → kv.mod_revision ≡ who.mine → IsAskedPlan who v p }
     ensures put { (v : View) (m : Keys) (s : State) → StandsFor m s → Agrees v m → All WasPut v.keys }
 {}
 
-/// The form of a request decides before the session, and the session before the tree: it has expired where the record of its
-/// life is not there, and has moved where that was written at another revision than this connection's attachment.
+/// The form of a request decides before the session, and the session before the tree. A session has expired where the record of
+/// its life is not there, and has moved where that was put at another revision than `who.mine`.
 pub fn a_session_is_tested()
     ensures form { (r : Request) (who : AnyWho) (v : View) (t : Told) → plain_request no_watches r ≡ Some t → IsDecision r who v (Answered t.reply None) }
     ensures expired { (r : Request) (who : AnyWho) (v : View) → pos 1 ≤ℤ who.session → plain_request no_watches r ≡ None → life_seen v who ≡ Some None → IsDecision r who v Expired }

@@ -2,18 +2,18 @@
 //!
 //! A request is answered in rounds. What it has to look up is a list of [`Want`]s; what an etcd answers to them is added to
 //! a [`View`], all of whose keys are of one revision; and when nothing is wanted any more, a [`Decision`] is made on the
-//! view. A [`Plan`] is an update: a transaction that guards what its request read, so that it takes place only where these
-//! keys still are as they were seen, and otherwise reads them again.
+//! view. A [`Plan`] is an update: a transaction that guards what its request read. It takes place only where these keys still
+//! are as they were seen, and otherwise reads them again.
 //!
 //! In `specs/`, in reading order: `Seen` (a view, and what it saw), `Asks` (the ranges that are read, and what their
 //! answers show), `Adding` (what a view takes), `Views` (which states a view is of, and what a decision and a plan are
 //! worth), `Needs` (what a request looks up), `Deciding` (what is asked of each decision), `Lacking`, `Indexing`, `Laying`,
 //! `Lookups`, `Laws`. The laws are the functions of `laws`, and stand in `proofs/` by topic: `SeenAfter`, `Showing`, `AsSeen`,
-//! `Narrowing`, `Tested`, `Committing`, `Asked`. Who shows that a request's changes are those of its update, in each state whose
-//! keys have what the view saw, has shown that its plan carries it out ([`a_plan_commits`]).
+//! `Narrowing`, `Tested`, `Committing`, `Asked`. A plan carries its update out if its changes are those of the update in each
+//! state whose keys have what the view saw ([`a_plan_commits`]); so that is what a request's crate shows.
 //!
-//! A look-up goes over the keys that were seen and copies nothing of a value; for many there is an index ([`View::index`]). Adding
-//! to a view copies each key and value that is kept once.
+//! A look-up goes over the keys that were seen and copies no value; for many look-ups there is an index ([`View::index`]). Adding
+//! to a view copies each value that is kept once.
 #![tactic(auto)]
 
 mod add;

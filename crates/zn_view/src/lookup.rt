@@ -19,7 +19,7 @@ use zn_layout::{
 };
 use zx_base::{Bytes, Memory};
 
-/// What was found under a key: none where it was not looked up.
+/// What was found under a key: `None` where it was not looked up, `Some(None)` where it was absent.
 fn found_among<'a>(keys: &'a [SeenKey], key: &[u8]) -> Option<Option<&'a Kv>>
     ensures { option_map option_copied result ≡ seen_in key.now keys.now }
 {
@@ -31,7 +31,7 @@ fn found_among<'a>(keys: &'a [SeenKey], key: &[u8]) -> Option<Option<&'a Kv>>
     None
 }
 
-/// The paths that were listed as a node's children: none where they were not.
+/// The paths of a node's children: `None` where they were not listed.
 fn listed_among<'a>(lists: &'a [SeenChildren], path: &[u8]) -> Option<&'a [Bytes]>
     ensures { MatchOption result (listed_in path.now lists.now ≡ None) (λ ps. listed_in path.now lists.now ≡ Some ps.now) }
 {
@@ -43,7 +43,7 @@ fn listed_among<'a>(lists: &'a [SeenChildren], path: &[u8]) -> Option<&'a [Bytes
     None
 }
 
-/// The head.
+/// The head: `None` where it was not looked up or was absent.
 #[tactic(auto, unfolding(zn_layout::specs::Keys::key_bytes))]
 fn head_among(keys: &[SeenKey]) -> Option<&Kv>
     ensures { option_copied result ≡ found_of (seen_in (key_bytes HeadKey) keys.now) }
@@ -96,14 +96,14 @@ fn nodes_in(alloc: Global, found: Option<&Kv>) -> Result<Option<SessionRec>, Mem
 }
 
 impl View {
-    /// What was found under a key: none where it was not looked up.
+    /// What was found under a key: `None` where it was not looked up, `Some(None)` where it was absent.
     pub fn found(&self, key: &[u8]) -> Option<Option<&Kv>>
         ensures { option_map option_copied result ≡ seen self.now key.now }
     {
         found_among(self.keys(), key)
     }
 
-    /// The paths of a node's children in the order of their bytes: none where they were not listed.
+    /// The paths of a node's children, in the order in which they were found: `None` where they were not listed.
     pub fn listed(&self, path: &[u8]) -> Option<&[Bytes]>
         ensures { MatchOption result (listed self.now path.now ≡ None) (λ ps. listed self.now path.now ≡ Some ps.now) }
     {
@@ -130,8 +130,8 @@ impl View {
         }
     }
 
-    /// A node's numbers and the key with its value, in which the data stand behind them: none where the node is not
-    /// there. Its key was looked up.
+    /// A node's numbers, and its data key with the value, in which the data follow them: `None` where the node is not there.
+    /// The data key was looked up.
     pub fn node_at(&self, path: &[u8]) -> Result<Option<(NodeNumbers, &Kv)>, Memory>
         requires short { length path.now ≤ max_path }
         requires seen { HasSeen self.now (DataKey path.now) }
@@ -141,7 +141,7 @@ impl View {
         Ok(node_in(self.found_there(key.as_slice())))
     }
 
-    /// The counts of a node's children and the key with their value: none where the node is not there. Their key was
+    /// The counts of a node's children, and their key with its value: `None` where the node is not there. The counts key was
     /// looked up.
     pub fn counts_at(&self, path: &[u8]) -> Result<Option<(CountRec, &Kv)>, Memory>
         requires short { length path.now ≤ max_path }
@@ -152,7 +152,7 @@ impl View {
         Ok(counts_of(self.found_there(key.as_slice())))
     }
 
-    /// The paths of the nodes that a session owns: none where the session is not open. Their key was looked up.
+    /// The paths of the nodes that a session owns: `None` where the session is not open. Their key was looked up.
     pub fn nodes_of(&self, session: i64) -> Result<Option<SessionRec>, Memory>
         requires least { pos 1 ≤ℤ session }
         requires seen { HasSeen self.now (SessionKey (nat_abs session)) }
@@ -162,8 +162,8 @@ impl View {
         nodes_in(self.allocator(), self.found_there(key.as_slice()))
     }
 
-    /// The record of a session's life and the key with its value: none where the session is closed or has lapsed. Its key
-    /// was looked up.
+    /// The record of a session's life, and its key with the value: `None` where the session is closed or has lapsed. The key was
+    /// looked up.
     pub fn life_of(&self, session: i64) -> Result<Option<(LeaseRec, &Kv)>, Memory>
         requires least { pos 1 ≤ℤ session }
         requires seen { HasSeen self.now (LeaseKey (nat_abs session)) }

@@ -38,8 +38,8 @@ fn all_counts(parts: &[ActAns]) -> bool
     parts.iter().all(|part| are_counts(part))
 }
 
-/// Whether the revisions and versions of all keys that these answers show are numbers of an etcd, as [`View::add`](crate::View::add)
-/// asks of them.
+/// Whether the mod_revisions and versions of all keys that these answers show are from 0 to 2^62 - 1, as
+/// [`View::add`](crate::View::add) requires.
 pub fn are_numbers(parts: &[ActAns]) -> bool
     ensures { IsTrue result ↔ AreNumbers parts.now }
 {

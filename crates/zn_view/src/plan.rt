@@ -8,8 +8,9 @@ use zx_base::Seq;
 /// A session, as one of its connections knows it.
 #[derive(Clone, Copy, Debug)]
 pub struct Who {
+    /// The session's number.
     pub session: i64,
-    /// The mod_revision that the record of the session's life got when this connection was attached.
+    /// The mod_revision that the record of the session's life got when the session was attached to this connection.
     pub mine: i64,
 }
 
@@ -24,11 +25,11 @@ pub struct Arm {
 /// An update: a transaction, and the reply that it earns where it succeeds.
 #[derive(Debug, Drop)]
 pub struct Plan {
-    /// What the keys had that it was decided on, but for the head.
+    /// Each key that it was decided on, but for the head, at the revision that was seen.
     pub guards: Seq<Guard>,
     /// The update's changes; the head is put last, and then read.
     pub success: Seq<Act>,
-    /// What is read where a guard does not hold.
+    /// What is read where a guard does not hold: the guarded keys, and the head.
     pub again: Seq<Want>,
     /// The reply, with 0 in place of the zxid that the update gets.
     pub draft: Reply,
@@ -36,14 +37,15 @@ pub struct Plan {
     pub triggers: Seq<Trigger>,
 }
 
-/// What is decided on a request by a view.
+/// What a request comes to on a view.
 #[derive(Debug, Drop)]
 pub enum Decision {
     /// A reply that changes nothing, and the watch that is armed with it.
     Answered { reply: Reply, arm: Option<Arm> },
+    /// An update, which is yet to be carried out.
     Planned(Plan),
     /// The session is closed or has lapsed.
     Expired,
-    /// The session is attached to another connection, since this revision.
+    /// The session was attached to another connection, at this revision.
     Moved { found: i64 },
 }

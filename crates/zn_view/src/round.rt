@@ -31,7 +31,7 @@ fn range(alloc: Global, revision: i64, want: &Want) -> Result<RangeReq, Memory>
     }
 }
 
-/// A range for each want, in their order, at a revision of an etcd; 0: the present.
+/// A range for each want, in their order, at this revision of an etcd; 0 is the present.
 pub fn ranges(alloc: Global, revision: i64, wants: &[Want]) -> Result<Seq<Act>, Memory>
     ensures { IfOk result (λ acts. acts ≡ ranges_of revision wants.now) }
 {
@@ -42,7 +42,8 @@ pub fn ranges(alloc: Global, revision: i64, wants: &[Want]) -> Result<Seq<Act>, 
     Ok(acts)
 }
 
-/// The ask that reads what is wanted: of a view's first round at revision 0, and of each further one at the view's.
+/// The ask that reads what is wanted at this revision: 0, the present, for a view's first round, and the view's revision for
+/// each further one.
 pub fn reading(alloc: Global, revision: i64, wants: &[Want]) -> Result<Ask, Memory>
     ensures { IfOk result (λ ask. ask ≡ reading_ask revision wants.now) }
 {

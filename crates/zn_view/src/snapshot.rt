@@ -8,10 +8,11 @@ use zx_base::{Bytes, Seq};
 #[derive(Debug, Drop)]
 pub struct SeenKey {
     pub key: Bytes,
+    /// `None` where the key was absent.
     pub found: Option<Kv>,
 }
 
-/// A node whose children were listed, and their paths in the order of their bytes.
+/// A node whose children were listed, and their paths in the order in which they were found: an etcd's is that of the bytes.
 #[derive(Debug, Drop)]
 pub struct SeenChildren {
     pub path: Path,
@@ -23,7 +24,7 @@ pub struct SeenChildren {
 pub struct Snapshot {
     /// 0 where nothing was looked up yet.
     pub revision: i64,
-    /// In the order in which they were looked up.
+    /// In the order in which they were added.
     pub keys: Seq<SeenKey>,
     pub lists: Seq<SeenChildren>,
 }

@@ -37,7 +37,7 @@ impl Model for View {
     ghost invariant = { λ v. IsCount v.revision × All IsSeen v.keys.items };
 }
 
-/// The first place at which this key stands, or that behind all keys.
+/// The first place at which this key stands; where it is not there, the number of keys.
 fn place_of(keys: &[SeenKey], key: &[u8]) -> usize
     ensures is { (x : AnySeen) → x.key ≡ key.now → placed x keys.now ≡ take result keys.now ++ x ∷ drop (result + 1) keys.now }
     ensures within { result ≤ length keys.now }
@@ -49,7 +49,7 @@ fn place_of(keys: &[SeenKey], key: &[u8]) -> usize
     place
 }
 
-/// Puts a key in the place where it stands, or behind the others.
+/// Puts a key in the place where it stands, or after the others. Without memory the keys are as they were.
 fn lay_in(keys: &mut Vec<SeenKey>, seen: SeenKey) -> Result<(), Memory>
     ensures ok { OnOk result (keys.new.items ≡ placed seen keys.old.items) }
     ensures err { OnErr result (keys.new.items ≡ keys.old.items) }
@@ -101,7 +101,7 @@ impl View {
         self.lists.as_slice()
     }
 
-    /// Adds a key behind the others, or is as it was.
+    /// Adds a key after the others. Without memory the view is as it was.
     pub(crate) fn push_key(&mut self, seen: SeenKey) -> Result<(), Memory>
         requires { IsSeen seen }
         ensures ok { OnOk result (self.new ≡ with_key self.old seen) }
@@ -111,7 +111,7 @@ impl View {
         Ok(())
     }
 
-    /// Adds a list behind the others, or is as it was.
+    /// Adds a list after the others. Without memory the view is as it was.
     pub(crate) fn push_list(&mut self, seen: SeenChildren) -> Result<(), Memory>
         ensures ok { OnOk result (self.new ≡ with_list self.old seen) }
         ensures err { OnErr result (self.new ≡ self.old) }
@@ -120,7 +120,7 @@ impl View {
         Ok(())
     }
 
-    /// Keeps the first keys and lists.
+    /// Keeps so many of the first keys and of the first lists.
     pub(crate) fn keep_first(&mut self, keys: usize, lists: usize)
         ensures { self.new ≡ first_of self.old keys lists }
     {
@@ -128,7 +128,7 @@ impl View {
         self.lists.truncate(lists);
     }
 
-    /// Sets the revision of the first round.
+    /// Sets the revision, where none is set yet.
     pub(crate) fn begin_at(&mut self, revision: i64)
         requires { IsCount revision }
         ensures { self.new ≡ at_revision self.old revision }
@@ -138,7 +138,7 @@ impl View {
         }
     }
 
-    /// Puts a key in place of what was seen of it, or behind the others. Otherwise it is as it was.
+    /// Puts a key in place of what was first seen of it, or after the others. Without memory the view is as it was.
     pub fn lay(&mut self, seen: SeenKey) -> Result<(), Memory>
         requires { IsSeen seen }
         ensures ok { OnOk result (self.new ≡ with_laid self.old seen) }
@@ -147,7 +147,7 @@ impl View {
         lay_in(&mut self.keys, seen)
     }
 
-    /// The keys that were seen, in the order in which they were looked up.
+    /// The keys that were seen, in the order in which they were added.
     pub fn into_keys(self) -> Seq<SeenKey>
         ensures { result ≡ self.keys }
     {

@@ -6,7 +6,7 @@ use zx_base::Bytes;
 /// What a request still has to read.
 #[derive(Debug, Drop)]
 pub enum Want {
-    /// The record under this key.
+    /// What is kept under this key.
     Key(Bytes),
     /// The paths of this node's children.
     Children(Path),
