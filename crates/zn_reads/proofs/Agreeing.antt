@@ -1,4 +1,4 @@
--- What a view saw is what the keys of each state have that it is of.
+-- What a view saw is what the keys have that stand for a state that the view is of.
 use Rattle.std.proofs.Common.{◌≡◌, true, false, cond, suc, List, [], ◌∷◌, Option, Some, None, refl, sym, ap, ◌∙◌, subst, arith}
 use Rattle.std.specs.Prelude.{All, IsTrue}
 use Rattle.std.specs.FinMap.{get}
@@ -46,7 +46,7 @@ found-means v s k of looked =
     let is : at of.0 k ≡ found_at v k = seen-kept v of.0 (key_bytes k) (found_at v k) of.2 (looked_is (seen v (key_bytes k)) looked) in
     subst (λ (o : Option Kv). Means s k (stored_of o)) is (of.1.each k)
 
--- the same of what was found by the key's bytes
+-- what was found by the bytes of a key that was looked up means what the key has to
 pub found-at : (v : View) (s : State) (k : Key) (key : Bytes) (o : Option Kv) → o ≡ found_of (seen v key) → key ≡ key_bytes k → IsOf v s → (seen v (key_bytes k) ≡ None → ⊥) → Means s k (stored_of o)
 found-at v s k key o found is of looked =
     let same_found : found_at v k ≡ o = sym (found ∙ ap (λ (x : Bytes). found_of (seen v x)) is) in

@@ -1,4 +1,4 @@
--- Of the requests that read only setWatches has no path of its own.
+-- Of the requests that read, setWatches alone has no path of its own.
 use Rattle.std.proofs.Common.{◌≡◌, ℤ, Bool, true, Some, None, refl, sym, subst, List}
 use Rattle.zx_base.specs.Maps.{Bytes}
 use Rattle.zk_model.specs.declared.reply.Body.TheVariants as body

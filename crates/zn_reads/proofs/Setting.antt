@@ -41,7 +41,7 @@ counts_put None k (Some kv) h = absurd h
 counts_put (Some n) k None h = absurd h
 counts_put (Some n) k (Some kv) h = ap (λ (z : ℤ). Some z) (sym h.pzxid)
 
--- the same of a path that may not be valid
+-- when it changed, at a path that may not be valid
 if_valid : (b : Bool) (o : Option ℤ) (f : Node → ℤ) (n : Option Node) → (b ≡ true → o ≡ option_map f n) → (if b then o else None) ≡ option_map f (if b then n else None)
 if_valid true o f n h = h refl
 if_valid false o f n h = refl

@@ -41,7 +41,7 @@ set_watches-needed since who v datas exists children keys ws keys_are is =
     subst (λ (l : List Want). AreNeeds r who v l) (ap (lacking v) (set_watches_read since who datas exists children ∙ sym keys_are) ∙ sym is)
     (wanted-needed r who v [] false (no_listing r who v [] (λ w f. f)) (set_watches_formed since exists datas children))
 
--- a text more
+-- the keys with one more text
 valid-more : (texts : List Bytes) (i : ℕ) (t : Bytes) → i < length texts → t ≡ get_or texts i t → valid (take (i + 1) texts) ≡ valid (take i texts) ++ valid (t ∷ [])
 valid-more texts i t h is = ap valid (take_more texts i t h ∙ ap (λ (x : Bytes). take i texts ++ x ∷ []) (sym is)) ∙ filter-append is_path (take i texts) (t ∷ [])
 

@@ -1,4 +1,4 @@
--- Requests that read, and when one is decided right.
+-- Which requests read, and when the decision on one is right.
 use Rattle.std.specs.Prelude.{◌≡◌, ℕ, ℤ, Bool, true, false, None}
 use Rattle.zk_model.specs.declared.request.Request.{Request}
 use Rattle.zk_model.specs.declared.request.Request.TheVariants as req
@@ -32,14 +32,14 @@ lists (req.GetChildren p watch) = true
 lists (req.GetChildren2 p watch) = true
 lists _ = false
 
--- Elsewhere it is the tree's, in each sound state that the view is of, whoever asks. Children are listed by a range of keys,
--- which is theirs alone where each path of the tree is valid.
+-- Where the form does not decide and the view lacks nothing, the decision is the tree's in each sound state that the view is of,
+-- whoever asks. Children are listed by a range of keys, which is theirs alone where each path of the tree is valid.
 abbrev pub IsDecided : Request → View → Decision → Type 0
 IsDecided r v d =
     (who : Who) → LacksNothing r who v → (s : State) → IsSound s → (lists r ≡ true → HasValidPaths s.tree) → IsOf v s
     → plain_request no_watches r ≡ None → (limit : ℕ) (session : ℤ) → IsByTree r d (tree_reply s.tree limit session no_watches r)
 
--- nothing is planned, and no session is tested
+-- it is an answer: nothing is planned, and no session is tested
 abbrev pub IsAnswered : Decision → Type 0
 IsAnswered (Answered reply arm) = Unit {0}
 IsAnswered (Planned p) = ⊥
@@ -49,6 +49,7 @@ IsAnswered (Moved found) = ⊥
 abbrev pub IsAnsweredBy : Request → View → Decision → Type 0
 IsAnsweredBy r v d = IsAnswered d × IsDecided r v d
 
+-- the decision is an answer: by the form where that decides, and otherwise by the tree
 pub record IsReadDecision (r : Request) (v : View) (d : Decision) : Type 0 where
   pub by_form : IsToldByForm r d
   pub decided : IsDecided r v d

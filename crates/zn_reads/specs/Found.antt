@@ -20,8 +20,8 @@ abbrev pub HasLooked : View → List Key → Type 0
 HasLooked v [] = Unit {0}
 HasLooked v (k ∷ ks) = HasSeen v k × HasLooked v ks
 
--- what a client is shown of a node by its numbers, the length of its data, the counts of its children, and the revisions of
--- the two puts
+-- what a client is shown of a node, by its numbers, the length of its data, the counts of its children, and the revisions at which
+-- its two keys were put
 abbrev pub stat_by : NodeNumbers → ℕ → ℤ → CountRec → ℤ → Stat
 stat_by d content_length data_revision c counts_revision = record {
   czxid = czxid_of d.czxid data_revision;
@@ -41,11 +41,11 @@ stat_by d content_length data_revision c counts_revision = record {
 abbrev pub stat_in : State → Bytes → Option Stat
 stat_in s p = option_map (stat_of s.tree p) (get s.tree p)
 
--- the stat by the view, where the node's two keys were looked up
+-- where the node's two keys were looked up, this is its stat in each state that the view is of
 abbrev pub IsStatAt : View → Bytes → Option Stat → Type 0
 IsStatAt v p st = HasLooked v (about_path p) → (s : State) → IsOf v s → stat_in s p ≡ st
 
--- the node's data by the view, where the data's key was looked up
+-- where the data key was looked up, this is the node's data in each state that the view is of and that has the node
 abbrev pub IsContentAt : View → Bytes → Bytes → Type 0
 IsContentAt v p content = HasLooked v (DataKey p ∷ []) → (s : State) → IsOf v s → (n : Node) → get s.tree p ≡ Some n → content ≡ n.content
 
@@ -53,9 +53,10 @@ IsContentAt v p content = HasLooked v (DataKey p ∷ []) → (s : State) → IsO
 abbrev pub version_in : State → Bytes → Option ℤ
 version_in s p = option_map (λ (n : Node). n.version) (get s.tree p)
 
+-- where the data key was looked up, this is the data's version in each state that the view is of
 abbrev pub IsVersionAt : View → Bytes → Option ℤ → Type 0
 IsVersionAt v p version = HasLooked v (DataKey p ∷ []) → (s : State) → IsOf v s → version_in s p ≡ version
 
--- the names of the children by the view, where they were listed
+-- where the children were listed, these are their names in each sound state with valid paths that the view is of
 abbrev pub AreNamesAt : View → Bytes → List Bytes → Type 0
 AreNamesAt v p names = (listed v p ≡ None → ⊥) → (s : State) → IsSound s → HasValidPaths s.tree → IsOf v s → names ≡ child_names s.tree p

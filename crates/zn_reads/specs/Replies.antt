@@ -34,7 +34,7 @@ abbrev pub names_stat_reply : List Bytes → Option Stat → Reply
 names_stat_reply names None = reply.Refused no_node
 names_stat_reply names (Some st) = fitting (body.NamesStat names st)
 
--- by the version of the node's data
+-- the reply to a check, by the version of the node's data
 abbrev pub check_reply : ℤ → Option ℤ → Reply
 check_reply asked None = reply.Refused no_node
 check_reply asked (Some version) = if matches asked version then reply.Good body.Empty else reply.Refused bad_version

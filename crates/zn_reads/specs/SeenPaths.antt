@@ -19,7 +19,7 @@ use Rattle.zn_view.specs.Lookups.{found_at}
 
 -- ---- what was found
 
--- the key that tells when the node's data, or its children, changed last
+-- the key whose last put tells when what the watch waits for changed last: the node's data, or its children
 abbrev pub changing_key : WatchList → Bytes → Key
 changing_key Datas p = DataKey p
 changing_key Exists p = DataKey p
@@ -29,16 +29,16 @@ abbrev pub put_at : Option Kv → Option ℤ
 put_at None = None
 put_at (Some kv) = Some kv.mod_revision
 
--- the same of a path that may not be valid
+-- the bytes of that key; None where the path isn't valid
 abbrev pub key_at : WatchList → Bytes → Option Bytes
 key_at list p = if is_path p then Some (key_bytes (changing_key list p)) else None
 
--- what was found by such a key
+-- the revision at which the key was last put, by what the view found; None where it found nothing, or there is no key
 abbrev pub at_by : View → Option Bytes → Option ℤ
 at_by v None = None
 at_by v (Some k) = put_at (found_of (seen v k))
 
--- a path that isn't valid counts as absent
+-- what was found at a path; one that isn't valid counts as absent
 abbrev pub seen_path : View → WatchList → Bytes → SeenPath
 seen_path v list p = record { path = p; list = list; at = if is_path p then put_at (found_at v (changing_key list p)) else None }
 
@@ -47,7 +47,7 @@ seen_paths v datas exists children = map (seen_path v Datas) datas ++ map (seen_
 
 -- ---- what comes of it
 
--- what the service sets on the tree of each state that the view is of is what comes of these
+-- where nothing is lacking, these make of a setWatches what the service makes of it on the tree of each state that the view is of
 abbrev pub IsSetBy : View → List Bytes → List Bytes → List Bytes → List SeenPath → Type 0
 IsSetBy v datas exists children xs =
     (who : Who) (since : ℤ) → LacksNothing (req.SetWatches since exists datas children) who v → (s : State) → IsOf v s

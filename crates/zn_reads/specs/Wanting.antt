@@ -1,4 +1,4 @@
--- What a request still wants, as it is found.
+-- What a request still wants, as the code computes it.
 use Rattle.std.specs.Prelude.{◌≡◌, nat_abs, Bool, true, cond, List, [], ◌∷◌, ◌++◌, map, None}
 use Rattle.zx_base.specs.Maps.{Bytes}
 use Rattle.zk_model.specs.declared.request.Request.{Request}
@@ -15,28 +15,29 @@ use Rattle.zn_view.specs.Views.{reads, about_path}
 
 -- ---- children
 
--- the children are due where they were not listed yet
+-- the listing of the children is due exactly where they were not listed yet
 pub record IsListingDue (v : View) (p : Bytes) (due : Bool) : Type 0 where
   pub lacks : due ≡ true → listed v p ≡ None
   pub all : listed v p ≡ None → due ≡ true
 
+-- the wants, and the listing of the node's children after them where it is due
 abbrev pub with_listing : Bytes → Bool → List Want → List Want
 with_listing p due ws = cond due (ws ++ want.Children p ∷ []) ws
 
--- ---- requests that are formed by their path alone, and read the keys of that path
+-- ---- requests whose form is their path's alone, and which read the keys of that path
 
 -- the form is refused exactly where the path isn't valid
 abbrev pub IsFormed : Request → Bytes → Type 0
 IsFormed r text = plain_request no_watches r ≡ told_of_path no_watches text
 
--- what is needed of each request of this path that looks up these keys and nothing that follows from them
+-- what is needed by each request with this path that looks up these keys and nothing that follows from the view
 abbrev pub AreKeyNeeds : Bytes → List Key → Who → View → List Want → Type 0
 AreKeyNeeds text ks who v ws = (r : Request) → IsFormed r text → reads r who.session ≡ ks → ((w : Want) → Follows r who.session v w → ⊥) → AreNeeds r who v ws
 
--- the keys of each request: the head's, the session's life, and those of the row
+-- the keys that every request looks up: the head's, and that of the session's life
 abbrev pub first_keys : Who → List Key
 first_keys who = HeadKey ∷ LeaseKey (nat_abs who.session) ∷ []
 
--- the keys of a path that weren't looked up, and the listing where it is due
+-- a want for each of these keys and those of the path that wasn't looked up, and the listing where it is due
 abbrev pub AreListingWants : Bytes → Who → View → List Want → Type 0
 AreListingWants p who v ws = (due : Bool) × IsListingDue v p due × (ws ≡ with_listing p due (lacking v (map key_bytes (first_keys who ++ about_path p))))

@@ -1,4 +1,4 @@
-//! GetACL (ZooKeeper API, `getACL`): there is one access list.
+//! GetACL (ZooKeeper API, `getACL`): every node has the one access list.
 
 ghost use Rattle.std.specs.Prelude.{IsTrue, ◌≡◌, IfOk};
 ghost use Rattle.zk_model.specs.Paths.{is_path};

@@ -18,7 +18,7 @@ fn is_good(reply: &Reply) -> bool
     matches!(reply, Reply::Good(_))
 }
 
-/// A watch on a path, where one is asked for.
+/// A watch on a path, where one is asked for: a child watch, or else a data watch.
 pub(crate) fn watch_if(
     alloc: Global,
     is_asked: bool,
@@ -37,7 +37,7 @@ pub(crate) fn watch_if(
     }
 }
 
-/// A watch on a path, where one is asked for and the reply is good.
+/// A watch on a path, where one is asked for and the reply is no refusal.
 pub(crate) fn watch_if_good(
     alloc: Global,
     reply: &Reply,

@@ -1,4 +1,4 @@
-//! A check by itself (Programmer's Guide, "multi"): a read of the version of a node's data.
+//! A check outside a multi (ZooKeeper API, `Op.check`): a read of the version of a node's data.
 
 ghost use Rattle.std.specs.Prelude.{IsTrue, ◌≡◌, IfOk};
 ghost use Rattle.zk_model.specs.Paths.{is_path};
@@ -16,7 +16,7 @@ use zk_model::{Body, Path, Reply};
 use zn_view::{Decision, View};
 use zx_base::Memory;
 
-/// -1 matches any version.
+/// Whether this version is the one that is asked for; -1 asks for any.
 fn matches(asked: i32, version: i32) -> bool
     ensures { result ≡ matches asked version }
 {

@@ -42,7 +42,7 @@ fn is_there(version: Option<i32>) -> bool
     matches!(version, Some(_))
 }
 
-/// Arms a child watch where the node is there.
+/// Arms a child watch where the node is there and its names fit a frame.
 fn get_children_at(alloc: Global, path: &Path, watch: bool, view: &View) -> Result<Decision, Memory>
     requires { IsTrue (is_path path.now) }
     ensures { IfOk result (IsAnsweredBy (req.GetChildren path.now watch) view.now) }
@@ -67,7 +67,7 @@ pub(crate) fn get_children(
     }
 }
 
-/// Arms a child watch where the node is there.
+/// Arms a child watch where the node is there and its names fit a frame.
 fn get_children2_at(
     alloc: Global,
     path: &Path,

@@ -15,9 +15,9 @@ use zk_model::Request;
 use zn_view::{Decision, View};
 use zx_base::Memory;
 
-/// Decides a request that reads. Where the view lacks nothing that the request looks up, the reply is the one by the tree of
-/// each sound state that the view is of; a request whose path is not valid is refused with -8. A setWatches arms nothing
-/// here (see [`seen_paths`](crate::seen_paths)).
+/// Decides a request that reads: exists, getData, getACL, getChildren with or without Stat, check, sync or setWatches. Where the
+/// view lacks nothing that the request looks up, the reply is the one by the tree of each sound state that the view is of. A
+/// request whose path is not valid is refused with -8. A setWatches arms nothing here (see [`seen_paths`](crate::seen_paths)).
 pub fn decide_read(alloc: Global, request: &Request, view: &View) -> Result<Decision, Memory>
     requires { is_read request.now ≡ true }
     ensures { IfOk result (IsReadDecision request.now view.now) }

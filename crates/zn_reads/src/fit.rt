@@ -12,12 +12,13 @@ use zx_base::{Seq, Text};
 /// The most bytes of a frame, by the range of its length.
 const MAX_INT: usize = 2147483647;
 
-/// The bytes of a reply's header and of a count.
+/// The bytes of a reply's header and of the count of its names.
 const HEADER_AND_COUNT: usize = 20;
 
+/// The bytes of a Stat.
 const STAT: usize = 68;
 
-/// Whether texts, each behind its length of four bytes, take at most so many bytes.
+/// Whether the texts, each with its length of four bytes, take at most `room` bytes.
 fn fit(texts: &[Text], room: usize) -> bool
     ensures { result ≡ nat_le (sum_by (λ t. 4 + length t) texts.now) room }
 {

@@ -7,7 +7,7 @@ use std::alloc::Global;
 use zk_model::{Path, PathFault};
 use zx_base::Memory;
 
-/// A request's path, none where it is not valid.
+/// A request's path; `None` where it is not valid.
 pub(crate) fn read_path(alloc: Global, text: &[u8]) -> Result<Option<Path>, Memory>
     ensures { IfOk result (IsPathOf text.now) }
 {

@@ -1,8 +1,8 @@
 //! Requests that read: what each looks up, and what it is answered by what was found.
 //!
 //! [`read_needs`] names what a request still has to look up, and [`decide_read`] decides it on a view that lacks nothing: the
-//! reply is the one by the tree of each state that the view is of, with the watch that it arms. A setWatches is answered
-//! alone; what its paths show is [`seen_paths`].
+//! reply is the one by the tree of each sound state that the view is of, with the watch that it arms. The decision on a
+//! setWatches is its reply alone; what was found at its paths is given by [`seen_paths`].
 //!
 //! A node's data is copied once, into the reply. Each look-up goes over what the view saw; a setWatches, which has many, makes
 //! an index of it first.

@@ -9,7 +9,7 @@ use zk_model::Path;
 use zn_view::View;
 use zx_base::{Bytes, Memory, Seq, Text};
 
-/// What stands behind the last slash.
+/// What follows the last slash; nothing where there is none.
 fn last_name(path: &[u8]) -> &[u8]
     ensures { result.now ≡ last_name path.now }
 {
@@ -31,7 +31,7 @@ fn names_of(alloc: Global, paths: &[Bytes]) -> Result<Seq<Text>, Memory>
     Ok(names)
 }
 
-/// The names of the children of the node at a path, in the order of their bytes: none where they were not listed.
+/// The names of the children of the node at a path, in the order in which they were listed; no names where they were not listed.
 pub(crate) fn names_at(alloc: Global, path: &Path, view: &View) -> Result<Seq<Text>, Memory>
     requires { IsTrue (is_path path.now) }
     ensures { IfOk result (AreNamesAt view.now path.now) }

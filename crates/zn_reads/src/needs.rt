@@ -20,14 +20,14 @@ use zn_layout::{head_key, lease_key};
 use zn_view::{View, Want, Who};
 use zx_base::{Bytes, Memory, Seq, Text};
 
-/// Each key once that was not looked up.
+/// A want for each of these keys that was not looked up, each once.
 fn lacking(keys: Vec<Bytes>, view: &View) -> Result<Vec<Want>, Memory>
     ensures { IfOk result (λ ws. ws.items ≡ lacking view.now keys.items) }
 {
     Ok(view.lacking(Seq::from_vec(keys))?.into_vec())
 }
 
-/// The same of many keys.
+/// A want for each of many keys that was not looked up, each once.
 fn lacking_many(keys: &[Bytes], view: &View) -> Result<Vec<Want>, Memory>
     ensures { IfOk result (λ ws. ws.items ≡ lacking view.now keys.now) }
 {
@@ -74,7 +74,7 @@ fn about_wants(alloc: Global, path: &Path, who: Who, view: &View) -> Result<Vec<
     lacking(keys, view)
 }
 
-/// Of exists, getData and getACL.
+/// What exists, getData and getACL still have to look up.
 fn about_needs(alloc: Global, text: &[u8], who: Who, view: &View) -> Result<Vec<Want>, Memory>
     requires { pos 1 ≤ℤ who.session }
     ensures { IfOk result (λ ws. AreKeyNeeds text.now (about_path text.now) who view.now ws.items) }
@@ -95,7 +95,7 @@ fn data_wants(alloc: Global, path: &Path, who: Who, view: &View) -> Result<Vec<W
     lacking(keys, view)
 }
 
-/// Of a check.
+/// What a check still has to look up.
 fn check_needs(alloc: Global, text: &[u8], who: Who, view: &View) -> Result<Vec<Want>, Memory>
     requires { pos 1 ≤ℤ who.session }
     ensures { IfOk result (λ ws. AreKeyNeeds text.now (DataKey text.now ∷ []) who view.now ws.items) }
@@ -247,8 +247,8 @@ fn set_watches_needs(
     lacking_many(&keys, view)
 }
 
-/// What a request that reads still has to look up; nothing where the view lacks nothing, and where the request's path is not
-/// valid. All that the view determines is named at once, each key once.
+/// What a request that reads still has to look up: nothing where the view lacks nothing, and where the request's path is not
+/// valid. All that the view determines is named at once, each key once. The session's number is at least 1.
 pub fn read_needs(
     alloc: Global,
     request: &Request,

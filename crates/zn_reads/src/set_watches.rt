@@ -38,7 +38,7 @@ pub(crate) fn set_watches() -> Decision
     }
 }
 
-/// The key whose last put is the change that a watch of this list waits for.
+/// The key whose last put tells when what a watch of this list waits for changed last: the node's data, or its children.
 fn changing_key(alloc: Global, list: WatchList, path: &Path) -> Result<Bytes, Memory>
     requires { IsTrue (is_path path.now) }
     ensures { IfOk result (λ k. k ≡ key_bytes (changing_key list path.now)) }
@@ -58,7 +58,7 @@ fn put_at(found: Option<&Kv>) -> Option<i64>
     }
 }
 
-/// The key whose last put is the change that a watch on this path waits for, none where the path is not valid.
+/// That key ([`changing_key`]) as its bytes; `None` where the path is not valid.
 fn key_at(alloc: Global, list: WatchList, text: &[u8]) -> Result<Option<Bytes>, Memory>
     ensures { IfOk result (λ k. k ≡ key_at list text.now) }
 {
@@ -78,7 +78,7 @@ fn keys_at(alloc: Global, list: WatchList, texts: &[Text]) -> Result<Vec<Option<
     Ok(keys)
 }
 
-/// A path that is not valid counts as absent.
+/// The revision at which a key was last put; `None` where it was absent, and for a path that is not valid.
 fn at<'a>(index: &Index<'a>, key: &'a Option<Bytes>) -> Option<i64>
     ensures { (v : AnyView) → IsIndex v (λ q. option_map option_copied (tree.get (slice_cmp nat_cmp) index.now q)) → result ≡ at_by v key.now }
 {
@@ -91,7 +91,7 @@ fn at<'a>(index: &Index<'a>, key: &'a Option<Bytes>) -> Option<i64>
     }
 }
 
-/// Adds what was found at the paths of a list, each by its key.
+/// Adds what was found at each path of a list, by its key.
 fn push_seen<'a>(
     alloc: Global,
     list: WatchList,
@@ -113,7 +113,7 @@ fn push_seen<'a>(
     Ok(())
 }
 
-/// The keys of the paths of the three lists.
+/// The keys of the paths of the three lists; `None` for a path that is not valid.
 #[derive(Drop)]
 struct Keys {
     datas: Vec<Option<Bytes>>,
@@ -121,7 +121,7 @@ struct Keys {
     children: Vec<Option<Bytes>>,
 }
 
-/// What was found at the paths of the three lists, one list behind the other.
+/// What was found at the paths of the three lists, one list after the other.
 fn seen_by<'a>(
     alloc: Global,
     datas: &[Text],
@@ -181,10 +181,10 @@ fn seen_in_turn(
     seen_by(alloc, datas, exists, children, &keys, view)
 }
 
-/// What was found at each path of a setWatches, in the order in which they are gone through: its data paths, its exist
-/// paths, its child paths. Where the view lacks nothing that the request looks up, arming and telling by this list is what
-/// the service does on the tree of each state that the view is of. It takes time in proportion to the number of paths and of
-/// the keys that were seen, times the logarithm of the latter.
+/// What was found at each path of a setWatches: first its data paths, then its exist paths, then its child paths. Where the view
+/// lacks nothing that the request looks up, telling and arming by this list is what the service does on the tree of each state
+/// that the view is of. It takes time in proportion to the number of paths and of the keys that were seen, times the logarithm
+/// of the latter.
 pub fn seen_paths(
     alloc: Global,
     datas: &[Text],

@@ -20,14 +20,14 @@ use zn_layout::{
 use zn_view::View;
 use zx_base::{Bytes, Memory};
 
-/// A stored czxid of 0 is the revision of the record.
+/// A stored czxid of 0 stands for the revision of the record.
 fn czxid(stored: i64, revision: i64) -> i64
     ensures { result ≡ czxid_of stored revision }
 {
     if stored == 0 { revision } else { stored }
 }
 
-/// How often the children changed: each create and each delete counts.
+/// How often the children changed: each create and each delete of a child counts.
 fn cversion(counts: CountRec) -> i32
     requires { IsCountRec counts }
     ensures { result ≡ (pos 2 *ℤ counts.creates) -ℤ counts.children }
@@ -93,7 +93,7 @@ fn stat_of_found(own: Option<&Kv>, counts: Option<&Kv>) -> Option<Stat>
     }
 }
 
-/// What a client is shown of the node at a path, none where there is none.
+/// The Stat of the node at a path; `None` where there is no node.
 pub(crate) fn stat_at(alloc: Global, path: &Path, view: &View) -> Result<Option<Stat>, Memory>
     requires { IsTrue (is_path path.now) }
     ensures { IfOk result (IsStatAt view.now path.now) }
@@ -137,7 +137,7 @@ fn version_of_found(own: Option<&Kv>) -> Option<i32>
     version_of(own?)
 }
 
-/// The version of the data of the node at a path, none where there is none.
+/// The version of the data of the node at a path; `None` where there is no node.
 pub(crate) fn version_at(alloc: Global, path: &Path, view: &View) -> Result<Option<i32>, Memory>
     requires { IsTrue (is_path path.now) }
     ensures { IfOk result (IsVersionAt view.now path.now) }

@@ -1,4 +1,5 @@
-//! Sync (ZooKeeper API, `sync`): the path is given back. What a view shows is never older than the request.
+//! Sync (ZooKeeper API, `sync`): the path is given back. There is nothing to wait for, since a view is never older than its
+//! request.
 
 ghost use Rattle.std.specs.Prelude.{◌≡◌, None, IfOk};
 ghost use Rattle.zk_model.specs.declared.request.Request.TheVariants as req;
