@@ -42,7 +42,7 @@ read-otherwise r single plain update = elim (is_read r) as (λ b. is_read r ≡ 
 told_needed : (r : Request) (who : Who) (v : View) (t : Told) → plain_request no_watches r ≡ Some t → AreNeeds r who v []
 told_needed r who v t plain = no-needs r who v t [] refl plain
 
--- and looks up nothing
+-- a request that reads nothing and changes nothing looks up nothing
 pub plain-needed : (r : Request) (who : Who) (v : View) (ws : List Want) → is_single r ≡ true → is_update r ≡ false → is_read r ≡ false → ws ≡ [] → AreNeeds r who v ws
 plain-needed r who v ws single update read is =
     let told = plain_told r single update read in

@@ -23,8 +23,8 @@ use zn_updates::decide_update;
 use zn_view::{Decision, View, Who};
 use zx_base::Memory;
 
-/// The revision at which the record of a session's life was put, by the connection that the session is attached to: none
-/// where the session is closed or has lapsed.
+/// The revision at which the record of a session's life was last put, which is when the session was last begun or resumed.
+/// `None` where the session is closed or has lapsed. The record's key was looked up; the session's number is at least 1.
 pub fn attached_at(view: &View, session: i64) -> Result<Option<i64>, Memory>
     requires real { pos 1 ≤ℤ session }
     requires seen { HasSeen view.now (LeaseKey (nat_abs session)) }
@@ -36,7 +36,7 @@ pub fn attached_at(view: &View, session: i64) -> Result<Option<i64>, Memory>
     }
 }
 
-/// Of a session that is attached to this connection.
+/// Decides a request of a session that is attached to this connection.
 fn decide_by_tree(
     alloc: Global,
     request: &Request,
@@ -62,7 +62,7 @@ fn decide_by_tree(
     Ok(decide_read(alloc, request, view)?)
 }
 
-/// Of a request whose form is not refused.
+/// Decides a request that its form does not decide.
 fn decide_by_session(
     alloc: Global,
     request: &Request,
@@ -90,13 +90,14 @@ fn decide_by_session(
     Ok(decide_by_tree(alloc, request, who, now, view)?)
 }
 
-/// Decides a request on a view that lacks nothing which it reads: what [`needs`](crate::needs) names of that view is nothing.
-/// The request is neither a multi nor a closeSession; of a setWatches the reply alone is decided. `now` is in milliseconds
-/// since 1970, below 2^62; the session's number is at least 1.
+/// Decides a request on a view that lacks nothing that the request reads, so that [`needs`](crate::needs) names nothing. The
+/// request is neither a multi nor a closeSession ([`is_single`](crate::is_single)), and its data is no longer than a frame may
+/// be ([`is_short`](crate::is_short)); of a setWatches the reply alone is decided. `now` is the time in milliseconds, below
+/// 2^62; the session's number is at least 1.
 ///
-/// A request that its form decides is answered so. Otherwise it has expired where the record of the session's life is not
-/// there, and has moved where that was put at another revision than `who.mine`; and otherwise the tree decides. What is planned
-/// is a good plan, which writes each key once.
+/// Where the request's form decides, the decision is that answer. Otherwise the session has expired where the record of its
+/// life is not there, and has moved where that was put at another revision than `who.mine`; and otherwise the tree decides. A
+/// plan is a good one (`IsGood` of `zn_view`), and writes no key twice.
 pub fn decide(
     alloc: Global,
     request: &Request,

@@ -64,8 +64,8 @@ fn refusal_of_path(alloc: Global, text: &[u8]) -> Result<Option<Reply>, Memory>
     Ok(refusal(path_refusal(alloc, text)?))
 }
 
-/// The answer to a request that its form decides: a ping, an authentication, or a request that is refused by its form (an
-/// invalid path, flags or access list). None where the session and the tree decide.
+/// The answer to a request that its form decides: a ping, an `auth`, or a request that is refused for its form (an invalid path,
+/// flags or access list, a delete of the root, or a multi of more than 24 parts). `None` where the session and the tree decide.
 #[tactic(auto, unfolding(zk_transcript::specs::Answers::plain_request, zk_model::specs::Single::form_refusal))]
 pub fn plain_reply(alloc: Global, request: &Request) -> Result<Option<Reply>, Memory>
     ensures { IfOk result (λ reply. told_by reply ≡ plain_request no_watches request.now) }

@@ -9,7 +9,7 @@ ghost use Rattle.zn_updates.specs.Deciding.{content_in, is_update};
 use zk_model::Request;
 use zk_model::limit::MAX_FRAME;
 
-/// Whether a request is decided here: it is neither a multi nor a closeSession.
+/// Whether [`decide`](crate::decide) takes this request: any but a multi and a closeSession.
 pub fn is_single(request: &Request) -> bool
     ensures { result ≡ is_single request.now }
 {
@@ -31,7 +31,8 @@ pub fn is_single(request: &Request) -> bool
     }
 }
 
-/// Whether a create's or a setData's data is within what a frame may have, as [`decide`](crate::decide) asks.
+/// Whether a create's or a setData's data has at most 1,048,575 bytes, as [`decide`](crate::decide) requires. Any other request
+/// is short.
 pub fn is_short(request: &Request) -> bool
     ensures { IsTrue result ↔ length (content_in request.now) ≤ max_frame }
 {
@@ -76,7 +77,7 @@ pub(crate) fn is_update(request: &Request) -> bool
     }
 }
 
-/// Whether this reads the tree or its watches, and changes no znode.
+/// Whether this is an exists, getData, getACL, getChildren with or without Stat, check, sync or setWatches.
 pub(crate) fn is_read(request: &Request) -> bool
     ensures { result ≡ is_read request.now }
 {

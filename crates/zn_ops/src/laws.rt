@@ -14,8 +14,9 @@ ghost use Rattle.zn_view.specs.declared.plan.Who.{Who as AnyWho};
 ghost use Rattle.zn_view.specs.Seen.{View};
 ghost use Rattle.zn_view.specs.Views.{IsDecision, IsOf, IsPlanned, live};
 
-/// On a view of a sound state in which the session is attached to this connection, a request whose form is not refused is
-/// planned exactly where the tree does not answer it; and only a create, a delete or a setData is.
+/// On a view of a sound state with valid paths in which the session is attached to this connection, a request that its form does
+/// not decide is planned exactly where the tree does not answer it. Of the single requests only a create, a delete or a setData
+/// is ever planned.
 pub fn planned_where_not_refused()
     ensures planned { (r : Request) (who : AnyWho) (v : View) (d : AnyDecision) (s : State) (x : Session) → IsDecision r who v d → IsSound s → HasValidPaths s.tree → IsOf v s → plain_request no_watches r ≡ None → live (session_at who.session s) ≡ Some x → int_eq x.attached who.mine ≡ true → (IsPlanned d ↔ (tree_reply s.tree (limit_of x) who.session no_watches r ≡ None)) }
     ensures update { (r : Request) (who : AnyWho) (v : View) (d : AnyDecision) (s : State) → is_single r ≡ true → IsDecision r who v d → IsSound s → HasValidPaths s.tree → IsOf v s → IsPlanned d → is_update r ≡ true }

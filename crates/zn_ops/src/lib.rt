@@ -5,7 +5,7 @@
 //! What is decided is an answer with the watch that it arms, or the plan of an update, whose reply [`finish`] gives once the
 //! update has its zxid. A multi and a closeSession are not decided here ([`is_single`]).
 //!
-//! A path is tested twice, once for the form and once for what it looks up; a view is read as `zn_view` says.
+//! [`decide`] tests a path twice, once for the form and once for what it looks up; a view is read as `zn_view` says.
 #![tactic(auto)]
 
 mod deciding;

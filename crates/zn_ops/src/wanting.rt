@@ -12,9 +12,9 @@ use zn_updates::update_needs;
 use zn_view::{View, Want, Who};
 use zx_base::{Memory, Seq};
 
-/// What the request reads, as far as the view determines it, and the view lacks: nothing where the view has all, and where
-/// the request's form alone decides it. All that is determined is named at once, each key once. The request is neither a
-/// multi nor a closeSession; the session's number is at least 1.
+/// What the request reads, as far as the view determines it, and the view lacks: nothing where the view has it all, and where the
+/// request's form decides. All that is determined is named at once, each key once. The request is neither a multi nor a
+/// closeSession; the session's number is at least 1.
 pub fn needs(alloc: Global, request: &Request, who: Who, view: &View) -> Result<Seq<Want>, Memory>
     requires single { is_single request.now ≡ true }
     requires real { pos 1 ≤ℤ who.session }

@@ -1,4 +1,4 @@
--- The record of the session's life was looked up, and is not there, or was put elsewhere.
+-- The record of the session's life was looked up, and is not there, or was put at another revision.
 use Rattle.std.proofs.Common.{◌≡◌, ℤ, false, Option, sym, subst, w64, rules, arith}
 use Rattle.std.specs.Prelude.{nat_abs}
 use Rattle.std.specs.Ordering.{int_eq}
