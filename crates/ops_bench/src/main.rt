@@ -1,6 +1,7 @@
 //! How fast requests are decided: `ops_bench COUNT` decides a getChildren of a node with so many children and a setData of
-//! 1,048,575 bytes, and goes through a setWatches of so many paths, each on a view that has what it reads. It prints how many
-//! names, bytes and nodes came of it. `ops_bench COUNT time` prints the microseconds too. `bench/listing.sh` runs it.
+//! 1,048,575 bytes, and looks through the paths of a setWatches with so many, each on a view that has what it reads. It prints
+//! how many names the reply lists, how many bytes the plan puts, and at how many paths a node was found. COUNT is at most
+//! 1,000,000. `ops_bench COUNT time` prints the microseconds of the three too. `bench/listing.sh` runs it.
 #![tactic(auto)]
 
 use ev_types::{Act, ActAns, Kv, RangeAns};
@@ -17,7 +18,7 @@ use zn_reads::seen_paths;
 use zn_view::{Decision, Plan, View, ViewFault, Want, Who, are_numbers};
 use zx_base::{Bytes, Memory, Seq, Text};
 
-/// The session that asks, as it was attached at revision 3.
+/// The session that asks; it was attached at revision 3.
 const WHO: Who = Who {
     session: 1,
     mine: 3,
@@ -31,7 +32,7 @@ fn digit(number: u32) -> u8 {
     b'0' + (number % 10) as u8
 }
 
-/// `/c` and six digits.
+/// `/c` and the last six digits of a number.
 fn name_of(number: u32) -> [u8; 8] {
     [
         b'/',
@@ -70,7 +71,7 @@ fn one(alloc: Global, kv: Kv) -> Result<ActAns, Memory> {
     Ok(shown(kvs))
 }
 
-/// A node without data under this key.
+/// A node without data, kept under this key.
 fn node(alloc: Global, key: Bytes) -> Result<Kv, Memory> {
     let node = NodeRec {
         czxid: 2,
@@ -83,7 +84,7 @@ fn node(alloc: Global, key: Bytes) -> Result<Kv, Memory> {
     Ok(kept(key, write_node(alloc, &node)?))
 }
 
-/// The keys of so many children of the root, as a range with keys alone shows them.
+/// The keys of so many children of the root, as a range without values shows them.
 fn children(alloc: Global, count: u32) -> Result<ActAns, Memory> {
     let mut kvs = Seq::new(alloc);
     for number in 0..count {
@@ -92,7 +93,7 @@ fn children(alloc: Global, count: u32) -> Result<ActAns, Memory> {
     Ok(shown(kvs))
 }
 
-/// What is read of the root by a session that is attached here.
+/// What is found for [`root_wants`]: the session is attached here, and the root has so many children listed.
 fn root_parts(alloc: Global, count: u32) -> Result<Vec<ActAns>, Memory> {
     let head = HeadRec {
         triggers: Seq::new(alloc),
@@ -121,6 +122,7 @@ fn root_parts(alloc: Global, count: u32) -> Result<Vec<ActAns>, Memory> {
     Ok(parts)
 }
 
+/// What a getChildren of the root reads, which is all that the setData reads too.
 fn root_wants(alloc: Global) -> Result<Vec<Want>, Memory> {
     let mut wants = Vec::new(alloc);
     wants.push(Want::Key(head_key(alloc)?))?;
@@ -133,7 +135,7 @@ fn root_wants(alloc: Global) -> Result<Vec<Want>, Memory> {
     Ok(wants)
 }
 
-/// A view of what was found.
+/// A view of what was found at revision 3.
 fn added(alloc: Global, wants: &[Want], parts: &[ActAns]) -> Result<View, Memory> {
     let mut view = View::empty(alloc);
     if !are_numbers(parts) {
@@ -145,7 +147,7 @@ fn added(alloc: Global, wants: &[Want], parts: &[ActAns]) -> Result<View, Memory
     }
 }
 
-/// A view with all that requests read of the root.
+/// A view with all that the getChildren and the setData read.
 fn root_view(alloc: Global, count: u32) -> Result<View, Memory> {
     added(alloc, &root_wants(alloc)?, &root_parts(alloc, count)?)
 }
@@ -159,7 +161,7 @@ fn paths(alloc: Global, count: u32) -> Result<Vec<Text>, Memory> {
     Ok(paths)
 }
 
-/// A view with a node at each path of so many children of the root, and with what requests read of the root.
+/// A view with a node at each path of so many children of the root, beside what a getChildren of the root reads.
 fn nodes_view(alloc: Global, count: u32) -> Result<View, Memory> {
     let mut wants = root_wants(alloc)?;
     let mut parts = root_parts(alloc, 0)?;
@@ -170,7 +172,7 @@ fn nodes_view(alloc: Global, count: u32) -> Result<View, Memory> {
     added(alloc, &wants, &parts)
 }
 
-/// The decision, where the view lacks nothing.
+/// The decision; `None` where the view lacks something, or `decide` does not take the request.
 fn decision(alloc: Global, request: &Request, view: &View) -> Result<Option<Decision>, Memory> {
     if !is_single(request) || !is_short(request) {
         return Ok(None);
@@ -196,7 +198,7 @@ fn names_in_reply(reply: &Reply) -> usize {
     }
 }
 
-/// How many names a reply lists.
+/// How many names the reply lists.
 fn names_in(decision: &Option<Decision>) -> usize {
     match decision {
         Some(Decision::Answered { reply, .. }) => names_in_reply(reply),
@@ -204,7 +206,7 @@ fn names_in(decision: &Option<Decision>) -> usize {
     }
 }
 
-/// How many bytes the first put of a plan has in its value.
+/// How many bytes the value of the plan's first put has.
 fn bytes_in(decision: &Option<Decision>) -> usize {
     match decision {
         Some(Decision::Planned(plan)) => first_put(plan),
@@ -245,7 +247,7 @@ fn watch_again(alloc: Global, paths: Vec<Text>) -> Request {
     }
 }
 
-/// At how many of its paths a setWatches finds a node, where the view lacks nothing.
+/// At how many of its paths a setWatches finds a node; 0 where the view lacks something.
 fn nodes_found(alloc: Global, request: &Request, view: &View) -> Result<usize, Memory> {
     let Request::SetWatches {
         datas,
@@ -269,7 +271,6 @@ fn nodes_found(alloc: Global, request: &Request, view: &View) -> Result<usize, M
     Ok(seen.iter().filter(|seen| seen.at.is_some()).count())
 }
 
-/// Out of memory.
 fn no_memory() -> io::Error {
     io::Error::from(io::ErrorKind::OutOfMemory)
 }

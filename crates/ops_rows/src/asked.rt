@@ -17,10 +17,10 @@ use zn_ops::{decide, finish, is_short, is_single, needs};
 use zn_view::{Arm, Decision, View, Want, Who, ranges};
 use zx_base::{Memory, Seq};
 
-/// The moments that are decided at are below this one, in milliseconds since 1970.
+/// The time of a decision is below this, in milliseconds.
 const MOMENTS: u64 = 4_611_686_018_427_387_904;
 
-/// What a single request or a multi needs; none of another.
+/// What a single request or a multi needs; `None` for a closeSession, or a session number below 1.
 fn wanted(
     alloc: Global,
     request: &Request,
@@ -54,7 +54,7 @@ fn are_short(parts: &[Part]) -> bool
     parts.iter().all(|part| is_short_part(part))
 }
 
-/// The decision on a single request, where nothing is lacking.
+/// The decision on a single request; `None` where something is lacking, the request is no single one, or its data is too long.
 fn decision_alone(
     alloc: Global,
     request: &Request,
@@ -75,7 +75,7 @@ fn decision_alone(
     Ok(Some(decide(alloc, request, who, now, view)?))
 }
 
-/// The decision on a multi of these parts, where nothing is lacking.
+/// The decision on a multi of these parts; `None` where something is lacking, or a part's data is too long.
 fn decision_on_parts(
     alloc: Global,
     parts: &[Part],
@@ -96,7 +96,7 @@ fn decision_on_parts(
     Ok(Some(decide_multi(alloc, parts, who, now, view)?))
 }
 
-/// The decision, where nothing is lacking.
+/// The decision; `None` where something is lacking, or `decide` and `decide_multi` do not take these arguments.
 fn decision(
     alloc: Global,
     request: &Request,
@@ -123,7 +123,7 @@ fn push_want(text: &mut String, want: &Want) -> Result<(), Memory> {
     }
 }
 
-/// What the request of the words `SESSION REQUEST` needs.
+/// `SESSION REQUEST`: what the request needs
 fn wants_of(alloc: Global, view: &View, words: Words) -> Result<Option<Seq<Want>>, Memory> {
     let mut words = words;
     let Some(session) = words.long() else {
@@ -135,7 +135,7 @@ fn wants_of(alloc: Global, view: &View, words: Words) -> Result<Option<Seq<Want>
     wanted(alloc, &request, Who { session, mine: 0 }, view)
 }
 
-/// `SESSION REQUEST`
+/// `SESSION REQUEST`: its wants, in words
 pub fn needed(alloc: Global, view: &View, words: Words) -> Result<Option<String>, Memory> {
     let Some(wants) = wants_of(alloc, view, words)? else {
         return Ok(None);
@@ -182,7 +182,7 @@ fn decision_text(alloc: Global, decision: &Decision) -> Result<String, Memory> {
     }
 }
 
-/// `SESSION MINE NOW REQUEST`
+/// `SESSION MINE NOW REQUEST`: the decision, in words
 pub fn decided(alloc: Global, view: &View, words: Words) -> Result<Option<String>, Memory> {
     let mut words = words;
     let (Some(session), Some(mine), Some(now)) = (words.long(), words.long(), words.place()) else {
@@ -197,7 +197,7 @@ pub fn decided(alloc: Global, view: &View, words: Words) -> Result<Option<String
     }
 }
 
-/// `SESSION MINE NOW ZXID REQUEST`: the reply of its plan at that zxid
+/// `SESSION MINE NOW ZXID REQUEST`: the reply that its plan earns at that zxid
 pub fn finished(alloc: Global, view: &View, words: Words) -> Result<Option<String>, Memory> {
     let mut words = words;
     let (Some(session), Some(mine), Some(now)) = (words.long(), words.long(), words.place()) else {

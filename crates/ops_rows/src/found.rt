@@ -1,4 +1,4 @@
-//! What a view takes.
+//! Rows of what was found, which a view takes.
 
 use crate::replies::word_of;
 use crate::values::value;
@@ -9,7 +9,7 @@ use zk_model::{Path, PathFault};
 use zn_view::{View, ViewFault, Want, are_numbers, is_count};
 use zx_base::{Bytes, Memory, Seq};
 
-/// A key that was put more than once was created at revision 2.
+/// A key with its value. One that was put more than once was created at revision 2.
 fn kept(
     alloc: Global,
     key: &str,
@@ -27,7 +27,7 @@ fn kept(
     })
 }
 
-/// Adds what was found for one want; None where a number is not an etcd's.
+/// Adds what was found for one want. `None` where a number is not one of an etcd's, which is from 0 to 2^62 - 1.
 fn add(
     alloc: Global,
     view: &mut View,
@@ -74,7 +74,7 @@ fn one(alloc: Global, kv: Kv) -> Result<Seq<Kv>, Memory> {
     Ok(kvs)
 }
 
-/// What is found under a key, or under another than the one that is wanted: `KEY MOD_REVISION VERSION RECORD`.
+/// `KEY MOD_REVISION VERSION RECORD`: what is found for the wanted key, which is this one where no other is named
 fn found_for(
     alloc: Global,
     view: &mut View,
@@ -100,7 +100,7 @@ fn found_for(
     add(alloc, view, want, revision, kvs)
 }
 
-/// `KEY MOD_REVISION VERSION RECORD`
+/// `KEY MOD_REVISION VERSION RECORD`: what is found under the key that is wanted
 pub fn saw(
     alloc: Global,
     view: &mut View,
@@ -122,7 +122,7 @@ pub fn other(
     found_for(alloc, view, revision, wanted, words)
 }
 
-/// `KEY`
+/// `KEY`: nothing is found under it
 pub fn absent(
     alloc: Global,
     view: &mut View,
@@ -136,7 +136,7 @@ pub fn absent(
     add(alloc, view, key_of(alloc, key)?, revision, Seq::new(alloc))
 }
 
-/// Adds a key; false where there is none.
+/// Adds a key without a value; false where there is none to add.
 fn push_key(alloc: Global, kvs: &mut Seq<Kv>, key: Option<&str>) -> Result<bool, Memory> {
     let Some(key) = key else {
         return Ok(false);

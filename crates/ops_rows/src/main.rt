@@ -1,7 +1,7 @@
 //! Tries the rows of the files `decisions` and `multis`, and says on standard error where a row differs.
 //!
-//! A row is LEFT = RIGHT ([`row_files`]); the file says in its first lines what its rows are. Expected values are by hand from
-//! the Programmer's Guide, `KeeperException.Code` and the layout's tables in `docs/FORMATS.md`. A new row needs no proof.
+//! A row is LEFT = RIGHT ([`row_files`]); the file says in its first lines what its rows are. Expected values were worked out by
+//! hand from the Programmer's Guide, `KeeperException.Code` and the layout's tables in `docs/FORMATS.md`. A new row needs no proof.
 #![tactic(auto)]
 
 mod asked;
@@ -20,7 +20,7 @@ use std::process::ExitCode;
 use zn_view::View;
 use zx_base::Memory;
 
-/// The view that the rows before left, and the revision that the next keys are found at.
+/// The view that the earlier rows left, and the revision at which the next keys are found.
 #[derive(Drop)]
 struct Looking {
     view: View,
@@ -71,7 +71,7 @@ impl Looking {
     }
 }
 
-/// Looks in the file that its first argument names, and without one in `decisions` and `multis`.
+/// Tries the file that its first argument names, and without one `decisions` and `multis`. It fails where a row differs.
 fn main(rt: HostRuntime) -> Result<ExitCode> {
     let alloc = rt.alloc();
     let given = env::args(&rt)?.nth(1);

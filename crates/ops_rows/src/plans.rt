@@ -8,8 +8,8 @@ use zn_layout::{RecordFault, read_counts, read_head, read_node, read_session};
 use zn_view::{Plan, Want};
 use zx_base::Memory;
 
-/// `planned if GUARDS do OPERATIONS else KEYS shows TRIGGERS draft REPLY`; a head that is put with other triggers stands there
-/// with them.
+/// `planned if GUARDS do OPERATIONS else KEYS shows TRIGGERS draft REPLY`. A head that is put with other triggers than these is
+/// followed by its own.
 pub fn plan_text(alloc: Global, plan: &Plan) -> Result<String, Memory> {
     let mut text = String::from_str(alloc, "planned if")?;
     for guard in plan.guards.as_slice() {
@@ -40,7 +40,7 @@ fn triggers_text(alloc: Global, triggers: &[Trigger]) -> Result<String, Memory> 
     Ok(text)
 }
 
-/// ` [ TRIGGERS ]` behind a put of the head, where they are not those that are shown
+/// ` [ TRIGGERS ]` after a put of the head, where they are not those that are shown
 fn push_other_head(alloc: Global, text: &mut String, act: &Act, shown: &str) -> Result<(), Memory> {
     let Act::Put { key, value, .. } = act else {
         return Ok(());
@@ -78,7 +78,7 @@ fn push_again(text: &mut String, want: &Want) -> Result<(), Memory> {
     }
 }
 
-/// ` put KEY RECORD` with `lease ID` behind it where it has one, ` delete KEY`, or a range
+/// ` put KEY RECORD`, followed by ` lease ID` where it has one; ` delete KEY`; or a range
 pub fn push_act(alloc: Global, text: &mut String, act: &Act) -> Result<(), Memory> {
     match act {
         Act::Put { key, value, lease } => {
@@ -95,8 +95,8 @@ pub fn push_act(alloc: Global, text: &mut String, act: &Act) -> Result<(), Memor
     }
 }
 
-/// ` get KEY`, or ` keys KEY` where the values are left out; behind it the end of the range, `@REVISION` and `limit NUMBER`,
-/// where it has one
+/// ` get KEY`, or ` keys KEY` where the values are left out, followed by the range's end, `@REVISION` and ` limit NUMBER`, where it
+/// has them
 fn push_range(alloc: Global, text: &mut String, range: &RangeReq) -> Result<(), Memory> {
     push_word(text, if range.keys_only { "keys" } else { "get" })?;
     push_word(text, word_of(range.key.as_slice()))?;
@@ -107,7 +107,7 @@ fn push_range(alloc: Global, text: &mut String, range: &RangeReq) -> Result<(), 
     push_number(alloc, text, " limit ", range.limit)
 }
 
-/// A number behind its name, 0 for none.
+/// A number after its name; nothing for 0.
 fn push_number(alloc: Global, text: &mut String, name: &str, number: i64) -> Result<(), Memory> {
     if number == 0 {
         return Ok(());
@@ -117,7 +117,7 @@ fn push_number(alloc: Global, text: &mut String, name: &str, number: i64) -> Res
     Ok(())
 }
 
-/// The record by the key's kind, but for the head's.
+/// The record of a node, of its counts or of a session's nodes, by the key's kind; nothing for any other key.
 fn push_record(alloc: Global, text: &mut String, key: &[u8], value: &[u8]) -> Result<(), Memory> {
     let name = word_of(key);
     if name.starts_with("zk/d/") {

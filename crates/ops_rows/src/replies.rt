@@ -4,7 +4,7 @@ use std::alloc::Global;
 use zk_model::{Body, PartResult, Reply, Stat};
 use zx_base::{Memory, Text};
 
-/// Bytes as a word, `-` for none.
+/// Bytes as a word: `-` for no bytes, `?` where they are no UTF-8.
 pub fn word_of<'a>(bytes: &'a [u8]) -> &'a str {
     if bytes.is_empty() {
         return "-";
@@ -15,7 +15,7 @@ pub fn word_of<'a>(bytes: &'a [u8]) -> &'a str {
     }
 }
 
-/// A node's data as a word: `~NUMBER` of more than 64 `x`.
+/// A node's data as a word: `~NUMBER` for more than 64 bytes that are all `x`.
 pub fn data_word(alloc: Global, bytes: &[u8]) -> Result<String, Memory> {
     let length = bytes.len();
     if length > 64 && bytes.iter().all(|byte| *byte == b'x') {
@@ -24,6 +24,7 @@ pub fn data_word(alloc: Global, bytes: &[u8]) -> Result<String, Memory> {
     Ok(String::from_str(alloc, word_of(bytes))?)
 }
 
+/// Appends a blank and the word.
 pub fn push_word(text: &mut String, word: &str) -> Result<(), Memory> {
     text.push_str(" ")?;
     text.push_str(word)?;

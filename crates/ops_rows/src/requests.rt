@@ -1,4 +1,4 @@
-//! Requests.
+//! Requests, as the words of a row spell them.
 
 use crate::values::{content_of, push_data};
 use row_files::Words;
@@ -6,8 +6,8 @@ use std::alloc::Global;
 use zk_model::{Acl, Part, Request};
 use zx_base::{Bytes, Memory, Seq, Text};
 
-/// The request that the rest of a row spells: `create PATH DATA FLAGS`, with `closed` behind it where its access list is not
-/// the open one, `delete PATH VERSION`, `set PATH DATA VERSION`, `exists`, `get`, `children` and `children2 PATH WATCH`,
+/// The request that the rest of a row spells: `create PATH DATA FLAGS`, followed by `closed` where its access list is not the
+/// open one, `delete PATH VERSION`, `set PATH DATA VERSION`, `exists`, `get`, `children` and `children2 PATH WATCH`,
 /// `acl PATH`, `check PATH VERSION`, `sync PATH`, `ping`, `auth SCHEME`, `watches SINCE DATA EXIST CHILD` with one path in
 /// each list, `multi PART ; PART ; ..`, `close`. A watch is 1 or 0, `-` is no bytes, and data of `~NUMBER` so many `x`.
 pub fn request(alloc: Global, words: Words) -> Result<Option<Request>, Memory> {
@@ -190,7 +190,7 @@ fn part(alloc: Global, kind: &str, words: &mut Words) -> Result<Option<Part>, Me
     }
 }
 
-/// A part as it is, but a create with an access list that is not the open one.
+/// The part, where it is a create with an access list that is not the open one.
 fn closed(alloc: Global, part: Part) -> Result<Part, Memory> {
     match part {
         Part::Create {
@@ -208,7 +208,7 @@ fn closed(alloc: Global, part: Part) -> Result<Part, Memory> {
     }
 }
 
-/// At most 30 parts.
+/// `PART ; PART ; ..`, at most 30 parts; a create may be followed by `closed`
 fn multi(alloc: Global, words: Words) -> Result<Option<Request>, Memory> {
     let mut words = words;
     let mut parts = Seq::new(alloc);

@@ -14,12 +14,12 @@ fn int(out: &mut Vec<u8>, number: i32) -> Result<(), Memory> {
     Ok(())
 }
 
-/// The bytes of a word, `-` for none.
+/// The bytes of a word; `-` is no bytes.
 pub fn content_of<'a>(word: &'a str) -> &'a [u8] {
     if word == "-" { &[] } else { word.as_bytes() }
 }
 
-/// Appends the bytes of a node's data: those of its word, or of `~NUMBER` so many `x`.
+/// Appends the bytes of a node's data: those of its word, or for `~NUMBER` so many `x`.
 pub fn push_data(out: &mut Vec<u8>, word: &str) -> Result<(), Memory> {
     let number = match word.strip_prefix("~") {
         Some(digits) => digits.parse::<u32>().unwrap_or(0),
@@ -34,8 +34,8 @@ pub fn push_data(out: &mut Vec<u8>, word: &str) -> Result<(), Memory> {
     Ok(())
 }
 
-/// `node CZXID VERSION CTIME MTIME OWNER DATA`, `counts CREATES CHILDREN`, `life TIMEOUT`, `nodes COUNT PATH..` (at most 40),
-/// `head`, or `hex DIGITS`
+/// The value that the rest of a row spells: `node CZXID VERSION CTIME MTIME OWNER DATA`, `counts CREATES CHILDREN`,
+/// `life TIMEOUT`, `nodes COUNT PATH..` (at most 40 paths), `head` (without triggers), or `hex DIGITS`.
 pub fn value(alloc: Global, words: Words) -> Result<Option<Vec<u8>>, Memory> {
     let mut words = words;
     let Some(kind) = words.word() else {
@@ -84,7 +84,7 @@ fn counts(alloc: Global, words: Words) -> Result<Option<Vec<u8>>, Memory> {
     Ok(Some(out))
 }
 
-/// A life that was attached once, with a password of zeros.
+/// The life of a session that was attached once, with a password of zeros.
 fn life(alloc: Global, words: Words) -> Result<Option<Vec<u8>>, Memory> {
     let mut words = words;
     let Some(timeout) = words.int() else {

@@ -17,7 +17,7 @@ struct Lists {
     children: Vec<Text>,
 }
 
-/// Adds a path to the list of this name; false where there is none.
+/// Adds a path to the list of this name; false where no list has it.
 fn push_path(alloc: Global, lists: &mut Lists, list: &str, path: &str) -> Result<bool, Memory> {
     let path = Text::copy_of(alloc, content_of(path))?;
     match list {
