@@ -10,8 +10,8 @@ use Rattle.zn_layout.specs.Keys.{HeadKey}
 use Rattle.zn_layout.specs.StandsFor.{at}
 use Rattle.zn_layout.specs.Changes.{Change, update_acts}
 
--- the changes and the head are put at the store's next revision, which is the zxid, and the last part of the answer shows the
--- head as it then is
+-- the changes are made and the head is put at the store's next revision, which is the zxid, and the last part of the answer
+-- shows the head as it then is
 pub record IsCommitted (old : Store) (cs : List Change) (ts : List Trigger) (new : Store) (zxid : ℤ) (parts : List ActAns) : Type 0 where
   pub zxid_is : zxid ≡ revision old +ℤ pos 1
   pub revision_is : revision new ≡ zxid

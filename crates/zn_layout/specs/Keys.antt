@@ -26,7 +26,7 @@ node_key kind p = kind ++ four_digits (depth p) ++ p
 abbrev pub hex_digit : ℕ → ℕ
 hex_digit n = cond (nat_lt n 10) (48 + n) (87 + n)
 
--- so many hex digits and one more in front of `rest`. The first one takes all that is left of the number
+-- so many hex digits and one more, in front of `rest`. The first of them takes all that is left of the number
 unfoldable pub hex_digits : ℕ → ℕ → Bytes → Bytes
 hex_digits zero n rest = hex_digit n ∷ rest
 hex_digits (suc k) n rest = hex_digits k (n / 16) (hex_digit (n % 16) ∷ rest)

@@ -8,7 +8,7 @@ use Rattle.zk_model.specs.Znodes.{Tree}
 use Rattle.zx_base.specs.Maps.{Bytes, same}
 use Rattle.zn_layout.specs.Keys.{four_digits}
 
--- what the paths of a node's children have before their last slash: nothing below the root
+-- what the paths of a node's children have before their last slash: the node's path, or nothing for the root
 abbrev pub base : Bytes → Bytes
 base p = cond (same p root) [] p
 
@@ -16,7 +16,7 @@ base p = cond (same p root) [] p
 abbrev pub child_front : Bytes → Bytes
 child_front p = codes "zk/d/" ++ four_digits (depth p + 1)
 
--- the range begins at the path and a slash, and ends before the path and `0`, the byte that follows the slash
+-- the range begins at that, the path and a slash, and ends before that, the path and `0`, the byte that follows the slash
 abbrev pub children_from : Bytes → Bytes
 children_from p = child_front p ++ base p ++ 47 ∷ []
 
