@@ -61,7 +61,7 @@ answer-is s new t r b parts e =
       parts_are = sym a.3 ∙ ap (λ (w : Done). w.parts) same;
     }
 
--- and what is answered where it isn't denied
+-- a transaction that isn't denied: the next store and the answer, by what its operations do
 pub carried : (s : Store) (t : TxnReq) (b : Bool) → is_denied s (ask.Txn t) ≡ false → succeeds s t ≡ b → carry s (ask.Txn t) ≡ Some (txn_answer s b (worked s (chosen b t)))
 unfolding carry carried_out txn_done
 carried s t b allowed succeeded =

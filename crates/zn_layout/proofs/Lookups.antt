@@ -121,6 +121,6 @@ found_head : (keys : Keys) (s : State) (o : Option Kv) → at keys HeadKey ≡ o
 found_head keys s None e h = absurd h
 found_head keys s (Some kv) e h = record { kv = kv; there = e; is = h }
 
--- it is always there
+-- the head is always there
 pub head_found : (keys : Keys) (s : State) → StandsFor keys s → FoundHead keys s
 head_found keys s stands = found_head keys s (at keys HeadKey) refl stands.head

@@ -14,7 +14,7 @@ use Rattle.zk_jute.specs.JuteWriting.{int_bytes, long_bytes}
 use Rattle.zk_jute.proofs.Lengths.{length-int_bytes, length-long_bytes}
 use Rattle.zx_base.specs.Maps.{Bytes}
 
--- each is a byte
+-- each of these numbers is below 256
 abbrev pub AreBytes : Bytes → Type 0
 AreBytes xs = (k : ℕ) → get_or xs k 0 < 256
 

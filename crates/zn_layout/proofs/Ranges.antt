@@ -27,7 +27,7 @@ begins [] k = true
 begins (a ∷ s) [] = false
 begins (a ∷ s) (x ∷ k) = eqb x a && begins s k
 
--- it isn't before the first, and is before the second
+-- a key isn't before the start of a range, and is before its end
 abbrev is_between : Bytes → Bytes → Bytes → Bool
 is_between from end k = not (is_lt (slice_cmp nat_cmp k from)) && is_lt (slice_cmp nat_cmp k end)
 
@@ -151,7 +151,7 @@ pub child-key : (p q : Bytes) → parent q ≡ Some p → key_bytes (DataKey q) 
 unfolding key_bytes
 child-key p q h = ap (λ (n : ℕ). codes "zk/d/" ++ four_digits n ++ q) (depth_child q p h)
 
--- it is in the range
+-- the data key of a child is in the range
 pub is_within-child : (p q : Bytes) → parent q ≡ Some p → is_within (children_from p) (children_end p) (key_bytes (DataKey q)) ≡ true
 is_within-child p q h =
     let n = named-from_parent q p h in

@@ -88,7 +88,7 @@ all_applied z cs ts keys = ap (acts_applied z keys) (map-append act_of cs (head_
 pub head_there : (z : ℤ) (cs : List Change) (ts : List Trigger) (keys : Keys) → at (acts_applied z keys (acts_of (all_of cs ts))) HeadKey ≡ Some (put_over z (key_bytes HeadKey) (head_value ts) (pos 0) (at (acts_applied z keys (acts_of cs)) HeadKey))
 head_there z cs ts keys = ap (λ (m : Keys). at m HeadKey) (all_applied z cs ts keys) ∙ get-insert_same (acts_applied z keys (acts_of cs)) (key_bytes HeadKey) _
 
--- it is put over what it was, since no change before wrote it
+-- the head is put over what it was, since no change before wrote it
 head_left : (z : ℤ) (cs : List Change) (ts : List Trigger) (keys : Keys) → last cs HeadKey ≡ None → at (acts_applied z keys (acts_of (all_of cs ts))) HeadKey ≡ Some (put_over z (key_bytes HeadKey) (head_value ts) (pos 0) (at keys HeadKey))
 head_left z cs ts keys none =
     head_there z cs ts keys ∙ ap (λ (o : Option Kv). Some (put_over z (key_bytes HeadKey) (head_value ts) (pos 0) o)) (at-unwritten z cs keys HeadKey none)

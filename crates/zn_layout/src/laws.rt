@@ -43,7 +43,7 @@ pub fn key_bytes_is_injective()
     ensures { (k l : Key) → key_bytes k ≡ key_bytes l → k ≡ l }
 {}
 
-/// No two node's records within their bounds have the same value.
+/// No two records of a node within their bounds have the same value.
 pub fn node_value_is_injective()
     ensures { (r q : NodeRec) → IsNodeRec r → IsNodeRec q → node_value r ≡ node_value q → r ≡ q }
 {}
@@ -63,7 +63,7 @@ pub fn session_value_is_injective()
     ensures { (ps qs : List Bytes) → IsSessionRec ps → IsSessionRec qs → session_value ps ≡ session_value qs → ps ≡ qs }
 {}
 
-/// No two head's records within their bounds have the same value.
+/// No two records of the head within their bounds have the same value.
 pub fn head_value_is_injective()
     ensures { (ts us : List AnyTrigger) → IsHeadRec ts → IsHeadRec us → head_value ts ≡ head_value us → ts ≡ us }
 {}

@@ -13,7 +13,7 @@ use Rattle.zn_view.specs.Seen.{View}
 use Rattle.zn_reads.specs.Deciding.{is_read, IsReadDecision}
 use Rattle.zn_reads.proofs.Answering.{set_watches-decided}
 
--- its form is never refused
+-- the form of a setWatches is never refused
 set_watches_plain : (since : ℤ) (exists datas children : List Bytes) (t : Told) → plain_request no_watches (req.SetWatches since exists datas children) ≡ Some t → ⊥
 unfolding plain_request
 set_watches_plain since exists datas children t h = cc
@@ -25,7 +25,7 @@ set_watches_read since exists datas children v = record {
   answered = tt;
 }
 
--- it is none of the others
+-- a request that is none of the other reads
 pub record IsNoOther (r : Request) : Type 0 where
   pub exists : (p : Bytes) (w : Bool) → r ≡ req.Exists p w → ⊥
   pub get_data : (p : Bytes) (w : Bool) → r ≡ req.GetData p w → ⊥

@@ -54,7 +54,7 @@ IfPlanned P (Answered x arm) = Unit {0}
 IfPlanned P Expired = Unit {0}
 IfPlanned P (Moved found) = Unit {0}
 
--- it is small enough, and an etcd that has room does not deny it: it writes no key twice
+-- it is small enough, and an etcd that has a revision to come does not deny it; so it writes no key twice
 pub record IsTaken (p : Plan) : Type 0 where
   pub small : IsSmallPlan p
   pub allowed : (t : Store) → revision t <ℤ last_revision → is_denied t (transaction p) ≡ false
