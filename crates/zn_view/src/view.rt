@@ -138,7 +138,8 @@ impl View {
         }
     }
 
-    /// Puts a key in place of what was first seen of it, or after the others. Without memory the view is as it was.
+    /// Puts a key in place of what was first seen of it, or after the others. Without memory the view is as it was. So a multi lays
+    /// what its earlier parts leave over what was seen; the view is then no longer one that an etcd showed.
     pub fn lay(&mut self, seen: SeenKey) -> Result<(), Memory>
         requires { IsSeen seen }
         ensures ok { OnOk result (self.new ≡ with_laid self.old seen) }
