@@ -23,7 +23,7 @@ use Rattle.zp_step.specs.declared.action.Action.TheVariants as action
 use Rattle.zp_step.specs.Replies.{Is, closed_by}
 use Rattle.zp_step.specs.Stages.{Core, Connecting, Ready, Shut}
 
--- the moment of the last grant or keepalive, with this ask
+-- the time of the last grant or keepalive, once this is asked too
 abbrev pub kept_by : ℕ → ℕ → Ask → ℕ
 kept_by now kept (ask.Grant id seconds) = now
 kept_by now kept (ask.Alive id) = now
@@ -33,8 +33,8 @@ kept_by now kept _ = kept
 abbrev pub attached_core : Core → Who → ℤ → ℤ → ℤ → Core
 attached_core c who timeout number zxid = record c { stage = Ready; zxid = zxid; cursor = number; watches = no_watches; who = who; timeout = timeout }
 
--- what comes of a step of the connect: its next ask; the welcome; or the end, of which only a resume of no open session is
--- told
+-- what comes of a step of the connect: its next ask, the welcome, or the end. The client is told of an end only where its resume
+-- is refused
 abbrev pub connected : Core → ℕ → Connect → ConnectStep → Core × List Action
 connected c now new (steps.Ask q) = (record c { stage = Connecting new; kept = kept_by now c.kept q }, action.Ask q ∷ [])
 connected c now new (steps.Attached response who timeout number zxid) =
@@ -49,7 +49,7 @@ pub record StepsConnect (c : Core) (connect : Connect) (a : Option Answer) (now 
   pub steps : Steps connect a step new
   pub is : Is (connected c now new step) c' out
 
--- a value that was found and is no record ends the connection
+-- a value was found that is no record, and the connection ends
 pub record EndsConnect (c : Core) (connect : Connect) (a : Option Answer) (c' : Core) (out : List Action) : Type 0 where
   pub key : Bytes
   pub value : Bytes
@@ -64,6 +64,7 @@ Connects c connect a now c' out = EndsConnect c connect a c' out ⊎ StepsConnec
 abbrev pub begun : ConnectRequest → Fresh → Connect
 begun r fresh = record { request = r; fresh = fresh; phase = Unasked }
 
+-- it is a connect, or the connection ends
 abbrev pub Opens : Core → ℕ → Fresh → ℕ → Core → List Action → Option ConnectRequest → Type 0
 Opens c place fresh now c' out None = Is (closed_by c (cause.NoHeader place)) c' out
 Opens c place fresh now c' out (Some r) = Connects c (begun r fresh) None now c' out

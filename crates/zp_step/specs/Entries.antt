@@ -1,5 +1,5 @@
--- How an update is told to a client (ZooKeeper Programmer's Guide, "ZooKeeper Watches"): it fires what is armed, and a reply
--- that has waited for it is sent. An entry comes only where it is awaited (see `IsNextEntry`).
+-- How an update is told to a client (ZooKeeper Programmer's Guide, "ZooKeeper Watches"): it fires what is armed, and then a reply
+-- that waited for it is sent. An entry comes only where it is awaited (see `IsNextEntry`).
 use Rattle.std.specs.Prelude.{List, ◌++◌}
 use Rattle.zk_model.specs.Watches.{fire_all}
 use Rattle.zn_layout.specs.declared.entry.Entry.{Entry}
@@ -12,10 +12,11 @@ entered c e =
     let f = fire_all c.watches e.triggers in
     (record c { zxid = e.zxid; cursor = e.number; watches = f.0 }, send_notices f.1)
 
+-- the same core, with these actions first
 abbrev pub behind : List Action → Core × List Action → Core × List Action
 behind first x = (x.0, first ++ x.1)
 
--- the reply that waits in this stage is sent where it is due now
+-- a reply that waits in this stage is sent if it is due now
 abbrev pub then_reply : Core × List Action → Stage → Core × List Action
 then_reply x (Waiting p) = behind x.1 (waits x.0 p)
 then_reply x _ = x

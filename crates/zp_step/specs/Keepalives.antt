@@ -1,6 +1,6 @@
--- A session's lease is kept alive by its requests (ZooKeeper Programmer's Guide, "ZooKeeper Sessions"): a frame that is taken
--- up when a third of the timeout has passed asks for a keepalive first. Where the lease had no seconds left, the session may
--- be gone or moved: then the record of its life is looked at.
+-- A session's lease is kept alive by its requests (ZooKeeper Programmer's Guide, "ZooKeeper Sessions"): if a third of the timeout
+-- has passed since the lease was last asked for, a frame that is taken up asks for a keepalive first. If the lease then has no
+-- seconds left, the session may be gone or moved, and the record of its life is looked at.
 use Rattle.std.specs.Prelude.{ℕ, pos, List, [], ◌∷◌, Option, Some, None, MatchBool}
 use Rattle.std.specs.Ordering.{int_eq}
 use Rattle.ev_types.specs.declared.answer.Answer.{Answer}
@@ -38,7 +38,7 @@ KeptAlive c bytes now c' out a = OfAlive a (λ seconds. MatchBool (int_eq second
 
 -- ---- the look at the session
 
--- by the record of its life
+-- by the record of its life: it is gone, still as this connection's attachment put it, or put by another attachment
 abbrev pub StillMine : Core → List ℕ → View → ℕ → Core → List Action → Option Kv → Type 0
 StillMine c bytes v now c' out None = Is (waits c (expired v (xid_of (read_request bytes)))) c' out
 StillMine c bytes v now c' out (Some kv) =

@@ -12,7 +12,7 @@ use Rattle.zp_step.specs.Steps.{Steps}
 abbrev pub ShutForGood : Type 0
 ShutForGood = (c c' : Core) (x : Input) (now : ℕ) (out : List Action) → is_shut c.stage ≡ true → Steps c x now c' out → (c' ≡ c) × (out ≡ [])
 
--- the cause for which an input shuts a connection whatever its stage
+-- the cause for which an input shuts a connection, whatever its stage
 abbrev pub end_by : Input → Option Cause
 end_by input.Failed = Some cause.LinkFault
 end_by (input.BadLength place length) = Some (cause.BadLength place length)

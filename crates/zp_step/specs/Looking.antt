@@ -1,5 +1,5 @@
--- What is asked and decided on a view. A request asks in rounds for what it still lacks, all at one revision; when nothing is
--- lacking it is decided.
+-- What is asked and decided on a view. A request asks in rounds, all at one revision, for what is still lacking; when nothing
+-- is, it is decided.
 use Rattle.std.specs.Prelude.{◌≢◌, ℕ, ℤ, ◌⊎◌, List, [], ◌∷◌, take, Option, Some, None}
 use Rattle.ev_types.specs.declared.answer.ActAns.{ActAns}
 use Rattle.zk_model.specs.Codes.{session_expired, session_moved}
@@ -29,14 +29,14 @@ use Rattle.zp_step.specs.Replies.{Is, closed_by, waits}
 
 -- ---- what an answer shows
 
--- the first value that was found under one of these keys and is no record ends the connection
+-- the first value found under one of these keys that is no record ends the connection
 pub record EndsDamaged (c : Core) (ws : List Want) (parts : List ActAns) (c' : Core) (out : List Action) : Type 0 where
   pub key : Bytes
   pub value : Bytes
   pub found : IsFirstDamaged ws parts key value
   pub is : Is (closed_by c (cause.Damaged key value)) c' out
 
--- either a value that was found is no record, which ends the connection, or all are records and it goes on so
+-- either a value that was found is no record, and the connection ends; or all are records, and `Next` holds
 abbrev pub IfRecords : Core → List Want → List ActAns → Core → List Action → Type 0 → Type 0
 IfRecords c ws parts c' out Next = EndsDamaged c ws parts c' out ⊎ (AreRecords ws parts × Next)
 
@@ -46,21 +46,22 @@ IfRecords c ws parts c' out Next = EndsDamaged c ws parts c' out ⊎ (AreRecords
 abbrev pub pending : View → ℤ → Reply → WatchChange → Option Cause → Pending
 pending v xid r change ends = record { number = head_number (head_of v); zxid = head_zxid (head_of v); xid = xid; answer = r; change = change; ends = ends }
 
--- the session is closed or has lapsed, as of the view; or it is attached to another connection since its own attachment
+-- the session is closed or has lapsed, as of the view
 abbrev pub expired : View → ℤ → Pending
 expired v xid = pending v xid (reply.Refused session_expired) (AddsWatch None) (Some (cause.Expired v.revision))
 
+-- the session was attached to another connection, by the update with zxid `found`
 abbrev pub moved : Who → View → ℤ → ℤ → Pending
 moved who v found xid = pending v xid (reply.Refused session_moved) (AddsWatch None) (Some (cause.Moved who.mine found))
 
--- a setWatches sets what was seen at its paths; any other request at most the watch that it asks for
+-- a setWatches arms by what was seen at its paths; any other request arms at most the watch that it asks for
 abbrev pub change_by : Request → View → Option Arm → WatchChange
 change_by (req.SetWatches since exists datas children) v arm = SetsWatches since (seen_paths v datas exists children)
 change_by _ v arm = AddsWatch arm
 
 -- ---- the next ask, or the decision
 
--- the most ranges of an ask that reads
+-- the most ranges in one ask that reads
 abbrev pub max_ranges : ℕ
 max_ranges = 100
 
@@ -73,18 +74,18 @@ decided c xid r v now (Planned p) = (record c { stage = Committing xid r v p now
 decided c xid r v now Expired = waits c (expired v xid)
 decided c xid r v now (Moved found) = waits c (moved c.who v found xid)
 
--- a plan is a good one, and there is nothing to ask of any other decision
+-- a plan is a good one; of any other decision nothing is required
 abbrev pub IsBacked : Request → Who → ℕ → View → Decision → Type 0
 IsBacked r who now v d = IfPlanned (IsGood r who now v) d
 
--- something is lacking still, and it is asked for
+-- something is still lacking, and is asked for, at most `max_ranges` of it at once
 pub record AsksOn (c : Core) (xid : ℤ) (r : Request) (v : View) (c' : Core) (out : List Action) : Type 0 where
   pub lacking : List Want
   pub needs : AreNeeds r c.who v lacking
   pub some : lacking ≢ []
   pub is : Is (asks_for c xid r v (take max_ranges lacking)) c' out
 
--- nothing is: the decision is the service's in each state that the view is of
+-- nothing is lacking: the decision is the service's in each sound state that the view is of
 pub record Decides (c : Core) (xid : ℤ) (r : Request) (v : View) (now : ℕ) (c' : Core) (out : List Action) : Type 0 where
   pub decision : Decision
   pub whole : AreNeeds r c.who v []

@@ -27,7 +27,7 @@ ReadOn c xid r v ws now c' out a = OfTxn a (λ revision succeeded parts.
 
 -- ---- a plan
 
--- behind a closeSession the connection is closed
+-- after a closeSession the connection is closed
 abbrev pub end_behind : Request → Option Cause
 end_behind req.Close = Some cause.Closed
 end_behind _ = None
@@ -43,7 +43,8 @@ finishes xid r p revision parts = record {
   ends = end_behind r;
 }
 
--- where a guard failed, what was read again is a new view
+-- The guards held, and the reply is sent or waits. Or one failed: what was read again is a new view, on which the request is
+-- looked up or decided anew.
 abbrev pub Committed : Core → ℤ → Request → Plan → ℕ → Core → List Action → ℤ → Bool → List ActAns → Type 0
 Committed c xid r p now c' out revision true parts = Is (waits c (finishes xid r p revision parts)) c' out
 Committed c xid r p now c' out revision false parts =

@@ -1,6 +1,6 @@
--- How a connection ends, and how a reply is sent: once the entries up to its number were told, or at once where nothing is
+-- How a connection ends, and how a reply is sent: once the entries up to its number have been told, or at once where nothing is
 -- armed (ZooKeeper Programmer's Guide, "What ZooKeeper Guarantees about Watches": a client sees the event of a watch before
--- it sees data that are newer).
+-- it sees newer data).
 use Rattle.std.specs.Prelude.{◌≡◌, ◌+◌, Bool, true, List, [], ◌∷◌, ◌++◌, map, Option, Some, None, if◌then◌else◌}
 use Rattle.std.specs.Ordering.{int_eq}
 use Rattle.zk_jute.specs.Packets.{reply_packet, notice_packet}
@@ -22,7 +22,7 @@ closed_by c why = (record c { stage = Shut }, action.Close why ∷ [])
 abbrev pub send_notices : List Notice → List Action
 send_notices ns = map (λ (n : Notice). action.Send (notice_packet n)) ns
 
--- the entries up to its number were taken, or there is nothing that they could fire
+-- the entries up to its number were taken, or nothing is armed that they could fire
 abbrev pub is_due : Core → Pending → Bool
 is_due c p = if is_unarmed c.watches then true else int_eq c.cursor p.number
 
@@ -42,6 +42,6 @@ replied c p =
       send_notices s.notices ++ (action.Send (reply_packet p.xid p.zxid p.answer) ∷ close_behind p.ends),
     )
 
--- sent where it is due, and else it waits
+-- a reply is sent if it is due; otherwise it waits
 abbrev pub waits : Core → Pending → Core × List Action
 waits c p = if is_due c p then replied c p else (record c { stage = Waiting p }, [])

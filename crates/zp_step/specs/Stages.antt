@@ -24,44 +24,46 @@ use Rattle.zp_step.specs.declared.wants.Wants.TheVariants as wants
 
 -- ---- a reply that waits for its entries
 
--- what a reply tells of watches, and what it leaves armed
+-- what a reply does to the watches
 pub data WatchChange : Type 0 where
   -- the watch that a read asks for, if any
   AddsWatch : (arm : Option Arm) → WatchChange
-  -- the watches of a setWatches, by what was seen at their paths: what changed behind the zxid `since` is told at once
+  -- a setWatches arms its watches by what was seen at their paths, or tells at once that they fired; `since` is the zxid that the
+  -- client has seen
   SetsWatches : (since : ℤ) (seen : List SeenPath) → WatchChange
 
--- what a reply tells and leaves armed, where these watches are armed once the entries up to it were taken
+-- the notices that stand before a reply, and what it leaves armed, where these watches were armed before it
 abbrev pub seen_by : WatchChange → Watches → Seen
 seen_by (AddsWatch arm) w = unseen (armed_by arm w)
 seen_by (SetsWatches since xs) w = see_paths since (unseen w) xs
 
+-- a reply that is ready, and is sent once it is due
 pub record Pending : Type 0 where
-  -- the number and the zxid of the last update of its state, which are those of the reply
+  -- the number and the zxid of the last update in the state that it is computed at; its header has that zxid
   pub number : ℤ
   pub zxid : ℤ
   pub xid : ℤ
   pub answer : Reply
   pub change : WatchChange
-  -- the cause for which the connection is closed behind it
+  -- the cause for which the connection is closed after it, if any
   pub ends : Option Cause
 
 -- ---- stages
 
 pub data Stage : Type 0 where
-  -- no frame came yet; what a new session would be made with
+  -- no frame has come yet; `fresh` is what a new session would be made with
   Unconnected : (fresh : Fresh) → Stage
-  -- the connection gets its session: an ask of its connect is out
+  -- the connection is getting its session: an ask of its connect is out
   Connecting : (connect : Connect) → Stage
-  -- nothing is out, and no frame waits
+  -- the session is attached, no ask is out and no reply waits; between two steps no frame waits either
   Ready : Stage
-  -- a frame was taken up, and a keepalive is out before anything else
+  -- a frame was taken up, and before anything else a keepalive is out
   KeepingAlive : (frame : List ℕ) → Stage
-  -- the lease had no seconds left: a look at the record of the session's life and the head is out
+  -- the keepalive found no seconds left: a look at the record of the session's life and at the head is out
   Checking : (frame : List ℕ) → Stage
   -- a request was taken up, and what it asked for is out, to be added to the view
   Reading : (xid : ℤ) (request : Request) (view : View) (asked : List Want) → Stage
-  -- the transaction of a plan is out; the plan was made on this view, at this moment in milliseconds
+  -- the transaction of a plan is out; the plan was made on this view, at this time (in milliseconds)
   Committing : (xid : ℤ) (request : Request) (view : View) (plan : Plan) (moment : ℕ) → Stage
   -- a reply waits for the entries up to its number
   Waiting : (pending : Pending) → Stage
@@ -70,15 +72,15 @@ pub data Stage : Type 0 where
 
 pub record Core : Type 0 where
   pub stage : Stage
-  -- the frames that weren't taken up yet, the oldest first
+  -- the frames that were not taken up yet, the oldest first
   pub waiting : List (List ℕ)
-  -- the bytes of the client's stream in all frames so far, with their lengths
+  -- the number of bytes that all frames so far took in the client's stream, their lengths included
   pub taken : ℕ
-  -- the zxid up to which the client has been told, and the number of the last entry that was taken
+  -- the zxid up to which the client has been told, and the number of that update
   pub zxid : ℤ
   pub cursor : ℤ
   pub watches : Watches
-  -- the session, its timeout, and the moment of the last grant or keepalive that was asked, both in milliseconds
+  -- the session; its timeout, and the time at which a grant or a keepalive was last asked for, both in milliseconds
   pub who : Who
   pub timeout : ℤ
   pub kept : ℕ
@@ -104,7 +106,7 @@ abbrev pub is_shut : Stage → Bool
 is_shut Shut = true
 is_shut _ = false
 
--- a count of 64 bits stands still at its end
+-- a count of 64 bits stays at its greatest value
 abbrev pub max_count : ℕ
 max_count = 18446744073709551615
 
@@ -113,7 +115,7 @@ counted_up n = min n max_count
 
 -- ---- what is out, and what is waited for
 
--- the ask that is out in a stage of this session
+-- the ask that is out in a stage, of a connection with this session
 abbrev pub asked_of : Who → Stage → Option Ask
 asked_of who (Unconnected fresh) = None
 asked_of who (Connecting connect) = asked_in connect connect.phase
@@ -125,7 +127,8 @@ asked_of who (Committing xid r v p moment) = Some (transaction p)
 asked_of who (Waiting p) = None
 asked_of who Shut = None
 
--- an entry is waited for where something is armed, while no ask is out
+-- While an ask is out its answer is waited for, and no entry. A reply waits for the next entry; a connection that is ready takes
+-- one where something is armed.
 abbrev pub wanted_in : Core → Stage → Wants
 wanted_in c (Unconnected fresh) = wants.Frame
 wanted_in c (Connecting connect) = wants.Answer

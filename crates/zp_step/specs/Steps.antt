@@ -23,25 +23,25 @@ use Rattle.zp_step.specs.Stages.{Core, Stage, Unconnected, Connecting, Ready, Ke
 
 -- ---- which inputs may be handed in
 
--- an entry is waited for: one that came while an ask is out would lead past the answer
+-- An entry is awaited. None is while an ask is out: it could take the client past the state that the answer shows.
 abbrev pub awaits_entry : Wants → Bool
 awaits_entry (wants.Entry cursor) = true
 awaits_entry (wants.FrameOrEntry cursor) = true
 awaits_entry _ = false
 
--- the one behind the cursor
+-- an entry is awaited, and this is the one after the cursor
 pub record IsNextEntry (c : Core) (e : Entry) : Type 0 where
   pub awaited : awaits_entry (wants_of c) ≡ true
   pub number : e.number ≡ c.cursor +ℤ pos 1
 
--- it is not kept any more
+-- an entry is awaited, and the one after the cursor is no longer kept
 pub record IsLag (c : Core) (cursor floor : ℤ) : Type 0 where
   pub awaited : awaits_entry (wants_of c) ≡ true
   pub behind : cursor ≡ c.cursor
   pub above : cursor <ℤ floor
 
--- A frame is of the service's size, an answer or a failure is of what is out, and an entry is the one that is waited for. Of
--- a client's end and of a bad length nothing is asked.
+-- A frame is within the limit; an answer fits the ask that is out, and a failure needs one; an entry, a lag or a closed feed comes
+-- where an entry is awaited. A bad length and the client's end may come at any time.
 abbrev pub IsFit : Core → Input → Type 0
 IsFit c (input.Frame bytes) = length bytes ≤ max_frame
 IsFit c (input.Answer a) = IsAwaited (asked_of c.who c.stage) (Some a)
@@ -66,14 +66,14 @@ Answers c a now c' out (Reading xid r v ws) = ReadOn c xid r v ws now c' out a
 Answers c a now c' out (Committing xid r v p moment) = CommitAnswered c xid r p now c' out a
 Answers c a now c' out _ = ⊥
 
--- a frame has its length, four bytes, before it
+-- the frame's bytes are counted, and the four of the length before it
 abbrev pub counted : Core → List ℕ → Core
 counted c bytes = record c { taken = counted_up (c.taken + 4 + length bytes) }
 
 abbrev pub queued : Core → List ℕ → Core
 queued c bytes = let d = counted c bytes in record d { waiting = d.waiting ++ bytes ∷ [] }
 
--- the first frame is the connect; any other one waits, but for one without a header, which ends the connection when it comes
+-- the first frame is the connect; a later one waits, unless it has no header: then the connection ends as soon as it comes
 abbrev pub Comes : Core → List ℕ → ℕ → Core → List Action → Stage → Type 0
 Comes c bytes now c' out (Unconnected fresh) = Opens (counted c bytes) c.taken fresh now c' out (read_connect bytes)
 Comes c bytes now c' out _ = MatchBool (has_header (read_request bytes)) (Is (queued c bytes, []) c' out) (Is (closed_by c (cause.NoHeader c.taken)) c' out)
@@ -90,7 +90,7 @@ Handles c (input.ClientEnd place) now c' out = Is (closed_by c (cause.ClientEnd 
 
 -- ---- the frames that wait
 
--- it rests where it is not ready or no frame waits, and else takes up the oldest one, and goes on
+-- it rests where it is not ready or no frame waits; otherwise it takes up the oldest one, and goes on
 pub data Goes (now : ℕ) : Core → Core → List Action → Type 0 where
   rests : {c c' : Core} {out : List Action} → (c.stage ≢ Ready) ⊎ (c.waiting ≡ []) → c' ≡ c → out ≡ [] → Goes now c c' out
   takes : {c c' : Core} {out : List Action} (d : Core) (frame : List ℕ) (more : List (List ℕ)) (first later : List Action)
@@ -106,7 +106,7 @@ pub record StepsOpen (c : Core) (x : Input) (now : ℕ) (c' : Core) (out : List 
   pub goes : Goes now mid c' later
   pub joined : out ≡ first ++ later
 
--- From a core by an input, at a moment in milliseconds, to the next core, with the actions. One that is shut stays so, and
--- does nothing.
+-- A step leads from a core, by an input that comes at a time (in milliseconds), to the next core and the actions. A core that
+-- is shut stays as it is, and nothing is done.
 abbrev pub Steps : Core → Input → ℕ → Core → List Action → Type 0
 Steps c x now c' out = MatchBool (is_shut c.stage) ((c' ≡ c) × (out ≡ [])) (StepsOpen c x now c' out)

@@ -1,4 +1,4 @@
--- How a frame is taken up: what needs no tree is answered at once, and anything else begins to look.
+-- How a frame is taken up: what needs no tree is answered at once, and anything else is looked up.
 use Rattle.std.specs.Prelude.{ℕ, ℤ, ◌+◌, Bool, true, false, List, ◌∷◌, Option, Some, None}
 use Rattle.zk_jute.specs.Packets.{reply_packet}
 use Rattle.zk_jute.specs.Requests.{Frame, Asks, read_request}
@@ -15,7 +15,7 @@ use Rattle.zp_step.specs.Looking.{Looks}
 use Rattle.zp_step.specs.Replies.{Is, close_behind, stage_behind}
 use Rattle.zp_step.specs.Stages.{Core, counted_up}
 
--- behind the refusal of an authentication no request is answered
+-- the connection is closed after it has refused an `auth`
 abbrev pub end_of_plain : Bool → Option Cause
 end_of_plain true = Some cause.AuthRefused
 end_of_plain false = None
@@ -26,7 +26,7 @@ plainly c xid r =
     let ends = end_of_plain (is_auth_refusal r) in
     (record c { stage = stage_behind ends; next = counted_up (c.next + 1) }, action.Send (reply_packet xid c.zxid r) ∷ close_behind ends)
 
--- a frame without a header never waits (see `Comes`), so that case does not arise
+-- a frame without a header never waits (see `Comes`), so the last case does not arise
 abbrev pub TakesReadable : Core → ℕ → Core → List Action → Frame → Option Told → Type 0
 TakesReadable c now c' out x (Some t) = Is (plainly c (xid_of x) t.reply) c' out
 TakesReadable c now c' out (Asks xid r) None = Looks c xid r empty_view now c' out

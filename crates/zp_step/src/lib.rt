@@ -1,15 +1,15 @@
-//! One connection as a state machine: what it is handed, what it does at that, and what a step of it is.
+//! One connection as a state machine: what it is handed, what it does then, and what a step of it is.
 //!
-//! A connection is handed an [`Input`] at a time, with the moment at which it comes, and answers with [`Action`]s: asks for
-//! an etcd, packets for its client, and at last the [cause](zk_transcript::Cause) for which it is closed. It has one ask out
-//! at most, answers the frames of its client in their order, and tells the client of each update for which it has set a
-//! watch before it answers at or behind that update (ZooKeeper Programmer's Guide, "ZooKeeper Sessions", "ZooKeeper Watches",
+//! A connection is handed one [`Input`] at a time, with the time at which it comes, and answers with [`Action`]s: asks for
+//! etcd, packets for its client, and at last the [cause](zk_transcript::Cause) for which it is closed. It has at most one ask
+//! out, and answers its client's frames in order. The client is told of an update that fires one of its watches before it is sent
+//! a reply computed on a state with that update (ZooKeeper Programmer's Guide, "ZooKeeper Sessions", "ZooKeeper Watches",
 //! "Consistency Guarantees").
 //!
-//! What a step is stands in `specs/` alone, as a relation (`Steps`); the code that takes the steps is in a crate above. A
-//! relation, since what is asked for a request and what is decided on it are said by what they are worth (`AreNeeds`,
-//! `IsDecision`, `IsPlan`), for every kind of request in the same way. No definition looks at what a request is, but for a
-//! setWatches, which arms many watches at once, and for a closeSession, which ends the connection.
+//! A step is defined in `specs/` alone, as a relation (`Steps`); the code that takes the steps is in `zp_core`. It is a
+//! relation because what a request asks for and what is decided on it are defined by what must be true of them (`AreNeeds`,
+//! `IsDecision`, `IsPlan`), in the same way for every kind of request. Two kinds alone are named here: a setWatches, which
+//! arms many watches at once, and a closeSession, which ends the connection.
 //!
 //! In `specs/`, in reading order:
 //!
@@ -17,17 +17,17 @@
 //! - `Replies`: how a reply waits for its entries and is sent;
 //! - `Looking`: what is asked and decided on a view;
 //! - `Taking`: how a frame is taken up;
-//! - `Keepalives`: the keepalive before that, and the look at the session behind it;
+//! - `Keepalives`: the keepalive before that, and the look at the session that may follow it;
 //! - `Plans`: what follows the answer to a plan's transaction;
 //! - `Connects`: how the connection gets its session;
 //! - `Entries`: how an update is told;
 //! - `Steps`: a whole step (`Steps`), and which inputs may be handed in (`MayTake`);
 //! - `Laws`: what the functions of `laws` say.
 //!
-//! `MayTake` says which inputs may be handed in. An answer is of the kind of the ask that is out, with numbers that an etcd can
-//! have; an entry is the one after the cursor, and comes while one is awaited. No step is defined for another answer. A value
-//! under a key of the service that is no record ends the connection, with that key and value as the cause, and sends nothing. A
-//! connection that is shut takes any input and does nothing.
+//! `MayTake` says which inputs may be handed in. An answer is of the kind of the ask that is out, and a transaction's has numbers
+//! that etcd can have; no step is defined for an answer of another kind. An entry is the one after the cursor, and comes while
+//! one is awaited. If a value is found under a key of the service and is no record, the connection ends with that key and value
+//! as the cause, and sends nothing. A connection that is shut takes any input and does nothing.
 #![tactic(auto)]
 
 mod action;
