@@ -1,4 +1,4 @@
--- Bytes of a client arrive: each frame that is whole with them is shown and handed in, in order.
+-- Bytes of a client arrive: each frame that is whole with them is shown and then handed in, in order.
 use Rattle.std.specs.Prelude.{◌≡◌, ℕ, ◌+◌, ◌-◌, ℤ, List, [], ◌∷◌, ◌++◌, length, Option, Some, None, MatchBool}
 use Rattle.zk_jute.specs.Frames.{Framed, bad_length}
 use Rattle.zk_transcript.specs.declared.transcript.TranscriptLine.{TranscriptLine}
@@ -11,7 +11,8 @@ use Rattle.zp_happen.specs.Handing.{Handed}
 
 -- ---- the frames
 
--- with these bytes the stream has these whole frames, and what is left begins with this length out of range, if with one
+-- With these bytes the stream has these whole frames. If what is left begins with a length out of range, `bad` is that length, and
+-- what the new stream holds begins with it too; otherwise the new stream holds what is left.
 pub record Cuts (old : Stream) (bytes : List ℕ) (frames : List (List ℕ)) (bad : Option ℤ) (new : Stream) : Type 0 where
   pub rest : List ℕ
   pub framed : Framed (old.rest ++ bytes) frames rest
@@ -29,14 +30,14 @@ frame_lines c i zxid (frame ∷ frames) = FrameLine c i zxid frame ∷ frame_lin
 abbrev pub shown_frame : ℕ → World → Conn → List ℕ → World
 shown_frame c w x frame = record (with_conn w c (record x { frames = counted_up (x.frames + 1) })) { lines = w.lines ++ FrameLine c x.frames (zxid_at w.store) frame ∷ [] }
 
--- ---- they are handed in, as long as the connection is open: those behind the frame that closes it are shown before its end
+-- ---- they are handed in, as long as the connection is open: those after the frame that closes it are shown before its end
 abbrev pub FramesArrive : ℕ → World → List (List ℕ) → World → Type 0
 FramesArrive c w [] w' = w' ≡ w
 FramesArrive c w (frame ∷ more) w' = (x : Conn) × (mid : World) × (conn_at c w ≡ Some x)
     × Handed c (frame_lines c (counted_up (x.frames + 1)) (zxid_at w.store) more) (shown_frame c w x frame) (input.Frame frame) mid
     × MatchBool (is_open_conn (conn_at c mid)) (FramesArrive c mid more w') (w' ≡ mid)
 
--- a length out of range behind them closes it too
+-- a length out of range after them closes it, if it is still open
 abbrev pub EndsBadly : ℕ → World → ℕ → Option ℤ → World → Type 0
 EndsBadly c w place None w' = w' ≡ w
 EndsBadly c w place (Some n) w' = MatchBool (is_open_conn (conn_at c w)) (Handed c [] w (input.BadLength place n) w') (w' ≡ w)

@@ -1,4 +1,4 @@
--- The store carries out an ask. Where that changed the head it was an update, which has a line and an entry.
+-- The store carries out an ask. Where that changes the head, the ask was an update, and gets a line and an entry.
 use Rattle.std.specs.Prelude.{◌≡◌, ℕ, ◌+◌, ◌-◌, [], ◌∷◌, ◌++◌, length, slice_set, Option, Some, None, MatchBool}
 use Rattle.std.specs.Ordering.{int_eq}
 use Rattle.ev_types.specs.declared.answer.Answer.{Answer}
@@ -22,8 +22,8 @@ use Rattle.zp_happen.specs.Faults.{left_at}
 abbrev pub update_line : Store → UpdateKind → TranscriptLine
 update_line s kind = Update (record { zxid = zxid_at s; kind = kind })
 
--- the head changed, by an ask of this kind; an ask without a kind reads alone, so that in a run it never changes the head (what is
--- in the air reads or is an update: `every_line_is_accounted_for` of `zp_whole`)
+-- The head changed, by an ask of this kind. An ask without a kind changes no key, so in a run it never changes the head
+-- (`every_line_is_accounted_for` of `zp_whole`).
 abbrev pub ShowsUpdate : World → Store → Option UpdateKind → World → Type 0
 ShowsUpdate w s None w' = w' ≡ record w { store = s }
 ShowsUpdate w s (Some kind) w' = (e : Entry) × IsEntryOf (length w.entries + 1) (at (present s) HeadKey) e
@@ -42,7 +42,7 @@ CarriedBy w kind flight w' (Some x) = (flight ≡ Carried x.1) × HasStore w x.0
 abbrev pub CarriesOut : World → Asking → Flight → World → Type 0
 CarriesOut w asking flight w' = CarriedBy w asking.kind flight w' (carry w.store asking.ask)
 
--- what c asked; its answer is delivered later
+-- what c asked is carried out; its answer is delivered later
 pub record Executes (c : ℕ) (w w' : World) : Type 0 where
   pub conn : Conn
   pub asking : Asking
@@ -53,7 +53,7 @@ pub record Executes (c : ℕ) (w w' : World) : Type 0 where
   pub carries : CarriesOut w asking flight mid
   pub result : w' ≡ with_conn mid c (record conn { flight = Some flight })
 
--- stray k, whose answer nobody takes
+-- stray k is carried out, and nobody takes its answer
 pub record ExecutesStray (k : ℕ) (w w' : World) : Type 0 where
   pub asking : Asking
   pub left : left_at k w.strays ≡ Some asking

@@ -1,4 +1,4 @@
--- The parts of a transcript that are shown apart: its updates, and the lines of each connection.
+-- The lines of each connection in a transcript, apart.
 use Rattle.std.specs.Prelude.{ℕ, Bool, false, ◌==◌, List, map, filter, Option, Some, None}
 use Rattle.std.specs.List.{filter_map}
 use Rattle.zk_transcript.specs.declared.transcript.Conversation.{Conversation}
@@ -9,7 +9,7 @@ abbrev pub opened_by : TranscriptLine → Option ℕ
 opened_by (Open c p id passwd) = Some c
 opened_by _ = None
 
--- a line of connection c, but its updates
+-- a line of connection c, its updates left out
 abbrev pub is_line_of : ℕ → TranscriptLine → Bool
 is_line_of c (Open d p id passwd) = c == d
 is_line_of c (Frame d i zxid bytes) = c == d

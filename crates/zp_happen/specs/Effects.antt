@@ -41,7 +41,7 @@ new_reap id = record { session = id; phase = Unasked }
 abbrev pub new_reaper : ℕ → ℤ → Conn
 new_reaper p id = new_conn p (Reaper (new_reap id))
 
--- ---- the answer to what was asked is delivered; of what the store denied, a failure
+-- ---- an answer is delivered, or a failure where the store denied the ask
 
 abbrev pub Delivers : ℕ → World → World → Option Flight → Type 0
 Delivers c w w' (Some (Carried a)) = AnswerComes c (landed c w) a w'
@@ -62,12 +62,12 @@ abbrev pub LagsBy : ℕ → World → World → Option ℤ → Type 0
 LagsBy c w w' None = ⊥
 LagsBy c w w' (Some cursor) = Handed c [] w (input.Lagged cursor (pos (length w.entries - max_kept))) w'
 
--- the client's stream ends behind all bytes that came
+-- the client's stream ends after all the bytes that came
 abbrev pub EndsBy : ℕ → World → World → Option Conn → Type 0
 EndsBy c w w' None = ⊥
 EndsBy c w w' (Some x) = Handed c [] w (input.ClientEnd (counted_up (x.stream.place + length x.stream.rest))) w'
 
--- ---- a proxy restarts: all its open activities close, in rising order of their numbers
+-- ---- a proxy restarts: all its open connections and reapers end, in rising order of their numbers
 
 abbrev pub is_open_at : ℕ → Conn → Bool
 is_open_at p x = (p == x.proxy) && not (is_closed x.actor)
@@ -78,7 +78,7 @@ stopped p w e = if is_open_at p e.1 then leaves e.0 w e.1 Closed (ended_by e.0 c
 abbrev pub restarted : ℕ → World → World
 restarted p w = fold (stopped p) w (entries w.conns)
 
--- ---- the store changes by itself
+-- ---- a lease lapses, or another user puts a key
 
 abbrev pub LapsesTo : ℤ → World → World → Option Store → Type 0
 LapsesTo id w w' None = ⊥

@@ -15,7 +15,7 @@ use Rattle.zp_happen.specs.Worlds.{World, Conn, Actor, Connection, conn_at}
 
 -- ---- the entry of an update, by the head that it left
 
--- what a value records; one that is no record, as no update puts, would record nothing
+-- the triggers that a head's value records; none where it is no record, which no update puts
 abbrev pub triggers_of : Option HeadRec → List Trigger
 triggers_of None = []
 triggers_of (Some r) = r.triggers
@@ -24,7 +24,7 @@ abbrev pub AreTriggersOf : Option Kv → List Trigger → Type 0
 AreTriggersOf None ts = ts ≡ []
 AreTriggersOf (Some head) ts = (r : Option HeadRec) × IsReadAs head_bytes IsHeadWithin head.value r × (ts ≡ triggers_of r)
 
--- it is entry n
+-- e is entry n, of the update that left this head
 pub record IsEntryOf (n : ℕ) (head : Option Kv) (e : Entry) : Type 0 where
   pub number : e.number ≡ pos n
   pub zxid : e.zxid ≡ mod_of head
@@ -32,18 +32,18 @@ pub record IsEntryOf (n : ℕ) (head : Option Kv) (e : Entry) : Type 0 where
 
 -- ---- what a connection may take
 
--- the number of the last entry that it took, where it waits for the next one
+-- the cursor of a connection that waits for an entry
 abbrev pub cursor_wanted : Wants → Option ℤ
 cursor_wanted (wants.Entry cursor) = Some cursor
 cursor_wanted (wants.FrameOrEntry cursor) = Some cursor
 cursor_wanted _ = None
 
--- (it does where it is attached, has a watch armed, and has no ask out)
+-- A reaper waits for none. In a run a connection waits for one where it is attached, has a watch armed and has no ask out.
 abbrev pub cursor_of : Actor → Option ℤ
 cursor_of (Connection core) = cursor_wanted (wants_of core)
 cursor_of _ = None
 
--- the entry behind this one
+-- the entry after the one of this number
 abbrev pub entry_behind : List Entry → ℤ → Option Entry
 entry_behind es (pos n) = slice_get es n
 entry_behind es (negsuc n) = None
@@ -54,11 +54,11 @@ cursor_at c w = option_and_then (λ (x : Conn). cursor_of x.actor) (conn_at c w)
 abbrev pub next_entry : ℕ → World → Option Entry
 next_entry c w = option_and_then (entry_behind w.entries) (cursor_at c w)
 
--- so many of the newest entries are kept
+-- how many of the newest entries are kept
 abbrev pub max_kept : ℕ
 max_kept = 4096
 
--- more than those are behind the cursor
+-- more than so many come after the cursor
 abbrev pub is_lagging_at : ℕ → Option ℤ → Bool
 is_lagging_at last None = false
 is_lagging_at last (Some cursor) = int_lt (cursor +ℤ pos max_kept) (pos last)

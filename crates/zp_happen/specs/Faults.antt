@@ -24,17 +24,18 @@ if_fails b x later = if b then Some x else later
 
 -- ---- the tests of a number
 
+-- the number was never used
 abbrev pub new_fault : ℕ → World → Option Why → Option Why
 new_fault c w later = if_fails (is_some (conn_at c w)) why.NumberInUse later
 
--- there is one of this number, and it is open
+-- there is a connection or a reaper of this number, and it is open
 abbrev pub open_fault : ℕ → World → Option Why → Option Why
 open_fault c w later = elim (conn_at c w) [ None ↦ Some why.NoSuchConnection | Some x ↦ if_fails (is_closed x.actor) why.ConnectionClosed later ]
 
--- and it is no reaper
 abbrev pub is_reaper_at : ℕ → World → Bool
 is_reaper_at c w = elim (conn_at c w) [ None ↦ false | Some x ↦ is_reaper x.actor ]
 
+-- and it is no reaper
 abbrev pub connection_fault : ℕ → World → Option Why → Option Why
 connection_fault c w later = open_fault c w (if_fails (is_reaper_at c w) why.NotAConnection later)
 
@@ -47,30 +48,34 @@ abbrev pub is_to_carry_out : Option Flight → Bool
 is_to_carry_out (Some (Out asking)) = true
 is_to_carry_out _ = false
 
+-- it is open, and has an ask that is not answered
 abbrev pub ask_fault : ℕ → World → Option Why → Option Why
 ask_fault c w later = open_fault c w (if_fails (is_none (flight_at c w)) why.NoRequestOut later)
 
+-- and the ask is not carried out
 abbrev pub carry_fault : ℕ → World → Option Why
 carry_fault c w = ask_fault c w (if_fails (not (is_to_carry_out (flight_at c w))) why.AlreadyCarriedOut None)
 
+-- it is an open connection, has no ask out, and has an entry to take
 abbrev pub entry_fault : ℕ → World → Option Why → Option Why
 entry_fault c w later = connection_fault c w (if_fails (is_some (flight_at c w)) why.RequestOut (if_fails (is_none (next_entry c w)) why.NoEntry later))
 
 -- ---- the others
 
--- bytes of a frame came that is not whole
+-- a part of a frame has come
 abbrev pub has_part : Option Conn → Bool
 has_part None = false
 has_part (Some x) = nat_lt 0 (length x.stream.rest)
 
--- strays are numbered from 1
+-- stray k, where it is still to be carried out; strays are numbered from 1
 abbrev pub left_at : ℕ → List (Option Asking) → Option Asking
 left_at k strays = if nat_lt 0 k then option_and_then (λ (o : Option Asking). o) (slice_get strays (k - 1)) else None
 
--- these changes would be a revision behind the last one (a lease that has no key lapses without one)
+-- these changes would need a revision after the last that there can be (a lease without keys lapses without a revision)
 abbrev pub full_fault : Store → List Change → Option Why
 full_fault s changes = if_fails (is_full s changes) why.StoreFull None
 
+-- a key that no other user may put: the empty one, or one that begins with `zk/`
 abbrev pub is_kept_key : Bytes → Bool
 is_kept_key k = same k [] || starts_with nat_eq k front
 

@@ -1,4 +1,4 @@
--- Something is handed to a connection or a reaper, which takes a step, and what it does is done.
+-- Something is handed to a connection or a reaper: it takes a step, which leaves its outcome in the world.
 use Rattle.std.specs.Prelude.{◌≡◌, ◌⊎◌, ℕ, List, [], Option, Some, None}
 use Rattle.ev_types.specs.declared.answer.Answer.{Answer}
 use Rattle.zk_transcript.specs.declared.transcript.Cause.TheVariants as cause
@@ -19,7 +19,8 @@ use Rattle.zp_happen.specs.StepOutcomes.{acts_all, reap_acts, ended_by, leaves}
 
 -- ---- to a connection
 
--- connection c is handed this; where it closes, these lines of frames that came at once stand before the line of its end
+-- connection c is handed this input. If it closes, the lines `behind`, of frames that arrived with it and come later, stand before
+-- its `close` line
 pub record Handed (c : ℕ) (behind : List TranscriptLine) (w : World) (x : Input) (w' : World) : Type 0 where
   pub conn : Conn
   pub core : Core
@@ -38,7 +39,7 @@ pub record ReapSteps (c : ℕ) (w : World) (conn : Conn) (reap : Reap) (a : Opti
   pub stepped : Steps reap a step next
   pub result : w' ≡ leaves c w conn (behind_reap next) (reap_acts c (kind_asked c (Reaper next)) conn.flight step)
 
--- a value that was found and is no record ends it
+-- a value was found that is no record, and the reaper ends
 pub record ReapEnds (c : ℕ) (w : World) (conn : Conn) (reap : Reap) (a : Option Answer) (w' : World) : Type 0 where
   pub key : Bytes
   pub value : Bytes
@@ -56,7 +57,7 @@ AnswerComesTo c w x a w' (Connection core) = Handed c [] w (input.Answer a) w'
 AnswerComesTo c w x a w' (Reaper reap) = Reaps c w (Some a) w' x reap
 AnswerComesTo c w x a w' Closed = ⊥
 
--- that its ask failed, at which a reaper ends too
+-- the news that its ask failed, at which a reaper ends too
 abbrev pub FailureComesTo : ℕ → World → Conn → World → Actor → Type 0
 FailureComesTo c w x w' (Connection core) = Handed c [] w input.Failed w'
 FailureComesTo c w x w' (Reaper reap) = w' ≡ leaves c w x Closed (ended_by c cause.LinkFault x.flight)
@@ -68,7 +69,7 @@ AnswerComes c w a w' = (x : Conn) × (conn_at c w ≡ Some x) × AnswerComesTo c
 abbrev pub FailureComes : ℕ → World → World → Type 0
 FailureComes c w w' = (x : Conn) × (conn_at c w ≡ Some x) × FailureComesTo c w x w' x.actor
 
--- nothing of it is out any more
+-- its ask is no longer out
 abbrev pub landed_conn : ℕ → World → Option Conn → World
 landed_conn c w None = w
 landed_conn c w (Some x) = with_conn w c (record x { flight = None })

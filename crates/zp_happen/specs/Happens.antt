@@ -23,7 +23,7 @@ abbrev pub is_waiting : Actor → Bool
 is_waiting (Connection core) = wants_entry (wants_of core)
 is_waiting _ = false
 
--- the entry is there
+-- a reply waits for an entry, and it is there
 abbrev pub entry_line : ℕ → World → Conn → Option Happening
 entry_line c w x = if is_waiting x.actor then (if is_some (next_entry c w) then Some (line.Entry c) else None) else None
 
@@ -41,18 +41,18 @@ settling_conn c w (Some x) = if is_closed x.actor then None else flight_line c w
 abbrev pub settling : ℕ → World → Option Happening
 settling c w = settling_conn c w (conn_at c w)
 
--- at most so many
+-- settle does its lines, at most this many
 abbrev pub Settles : ℕ → ℕ → World → World → Type 0
 Settles zero c w w' = w' ≡ w
 Settles (suc n) c w w' = elim (settling c w) [ None ↦ w' ≡ w | Some h ↦ (mid : World) × Does w h mid × Settles n c mid w' ]
 
--- Each frame has 64 asks, and one for each path that it may name, of which each takes a byte or more; each ask is carried out and
--- answered, and each update has an entry. In a run no settle is cut off by this number where it is below 2^64 - 1 (`every_settle_ends`
--- of `zp_ends`).
+-- at most so many asks are to come: 64 for each frame, and one for each path that a frame may name, which takes a byte or more
 abbrev pub asks_at : Option Conn → ℕ
 asks_at None = 0
 asks_at (Some x) = 64 * (x.frames + 1) + x.stream.place
 
+-- Each ask is carried out and answered, and may be an update, whose entry is taken; so are the entries so far. In a run this number
+-- cuts off no settle, where it is below 2^64 - 1 (`every_settle_ends` of `zp_ends`).
 abbrev pub max_settling : ℕ → World → ℕ
 max_settling c w = counted_up (3 * asks_at (conn_at c w) + length w.entries)
 

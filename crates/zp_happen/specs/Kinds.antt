@@ -1,4 +1,4 @@
--- What an ask is as a line of the transcript, where its transaction changes the head.
+-- Which update the transcript shows for an ask, where its transaction changes the head.
 use Rattle.std.specs.Prelude.{ℕ, ℤ, Option, Some, None}
 use Rattle.zk_model.specs.declared.request.Request.{Request}
 use Rattle.zk_model.specs.declared.request.Request.TheVariants as req
@@ -12,13 +12,13 @@ use Rattle.zs_reap.specs.declared.reap.Phase.TheVariants.{Removing}
 use Rattle.zp_step.specs.Stages.{Core, Stage, Connecting, Committing}
 use Rattle.zp_happen.specs.Worlds.{Actor, Connection, Reaper, Closed}
 
--- a connect that gets its session
+-- the transaction by which a connect gets its session
 abbrev pub kind_of_connect : ℕ → Connect → Phase → Option UpdateKind
 kind_of_connect c x Creating = Some (NewSession x.fresh.id c)
 kind_of_connect c x (Attaching seen life) = Some (Attach x.request.session c)
 kind_of_connect c x _ = None
 
--- request i of c, under this session, planned at this moment
+-- the request in frame i of c, of this session, planned at this time (in milliseconds)
 abbrev pub kind_of_request : ℕ → ℕ → ℤ → ℕ → Request → UpdateKind
 kind_of_request c i id moment req.Close = ClosedSession id c i
 kind_of_request c i id moment _ = Asked c i moment
@@ -32,7 +32,7 @@ abbrev pub kind_of_reap : ℤ → ReapPhase → Option UpdateKind
 kind_of_reap id (Removing again) = Some (Reaped id)
 kind_of_reap id _ = None
 
--- what the connection or the reaper of this number has asked; None where that is no update
+-- the update that the connection or the reaper of this number has asked for; None where it has asked for none
 abbrev pub kind_asked : ℕ → Actor → Option UpdateKind
 kind_asked c (Connection core) = kind_in_stage c core core.stage
 kind_asked c (Reaper reap) = kind_of_reap reap.session reap.phase

@@ -11,13 +11,15 @@ use Rattle.zt_text.specs.declared.script.Happening.{Happening}
 use Rattle.zp_happen.specs.Worlds.{World}
 use Rattle.zp_happen.specs.Happens.{Happens}
 
--- Begin, at moment 0 and revision 2
+-- the entry of Begin, which is update 1 and has zxid 2
 abbrev pub first_entry : Entry
 first_entry = record { number = pos 1; zxid = pos 2; triggers = [] }
 
+-- over this store, with Begin alone in the transcript and the clock at 0
 abbrev pub world_over : Store → World
 world_over s = record { store = s; clock = 0; conns = empty; strays = []; lines = begin_lines 0; entries = first_entry ∷ [] }
 
+-- Begin was carried out in a new store
 abbrev pub IsFirst : World → Type 0
 IsFirst w = (s : Store) × (a : Answer) × (carry new_store (begin_ask 0) ≡ Some (s, a)) × (w ≡ world_over s)
 
@@ -25,7 +27,7 @@ IsFirst w = (s : Store) × (a : Answer) × (carry new_store (begin_ask 0) ≡ So
 abbrev pub tick_of : World → Tick
 tick_of w = record { clock = w.clock; lines = length w.lines }
 
--- several happenings, in order, each with what it left
+-- several happenings, in order, each with the clock and the number of lines that it left
 abbrev pub RunsFrom : World → List Happening → List Tick → World → Type 0
 RunsFrom w [] ticks w' = (ticks ≡ []) × (w' ≡ w)
 RunsFrom w (h ∷ hs) ticks w' = (mid : World) × (more : List Tick) × Happens w h mid × (ticks ≡ tick_of mid ∷ more) × RunsFrom mid hs more w'

@@ -15,34 +15,35 @@ use Rattle.zs_reap.specs.declared.reap.Phase.TheVariants.{Over}
 use Rattle.zp_happen.specs.declared.flight.Asking.{Asking}
 use Rattle.zp_happen.specs.declared.flight.Flight.{Flight}
 
--- what answers to a number: an open connection, a reaper at work, or nothing any more
+-- what a number stands for: an open connection, a reaper at work, or one of these that has ended
 pub data Actor : Type 0 where
   Connection : (core : Core) → Actor
   Reaper : (reap : Reap) → Actor
   Closed : Actor
 
+-- a connection or a reaper
 pub record Conn : Type 0 where
   pub proxy : ℕ
   pub actor : Actor
   -- the bytes that are no whole frame yet, and how many came before them
   pub stream : Stream
-  -- how many frames were handed in; the first is the connect. This count, like that of bytes, stands still at its type's end
+  -- how many frames were handed in, the connect first. This count and that of bytes stay at 2^64 - 1 once they reach it
   pub frames : ℕ
-  -- what it asked, while the answer is not delivered
+  -- what it asked, until the answer is delivered
   pub flight : Option Flight
 
--- by their numbers
+-- connections and reapers, by their numbers
 abbrev pub Conns : Type 0
 Conns = FinMap nat_cmp Conn
 
 pub record World : Type 0 where
   pub store : Store
-  -- milliseconds
+  -- in milliseconds
   pub clock : ℕ
   -- open and closed
   pub conns : Conns
-  -- what was asked by those that ended before it was carried out, in the order of their ends; None where the store carried it
-  -- out since
+  -- what was asked by those that ended before it was carried out, in the order of their ends; None once the store has carried it
+  -- out or denied it
   pub strays : List (Option Asking)
   pub lines : List TranscriptLine
   -- the updates as they are told to those who watch, one for each, in order
@@ -66,7 +67,7 @@ abbrev pub is_over : Phase → Bool
 is_over Over = true
 is_over _ = false
 
--- what is left of a connection, or of a reaper, behind a step
+-- what a connection, or a reaper, is after a step
 abbrev pub behind_step : Core → Actor
 behind_step core = if is_shut core.stage then Closed else Connection core
 

@@ -3,7 +3,7 @@
 use ev_types::{Answer, Ask};
 use zk_transcript::UpdateKind;
 
-/// An ask, with what its transaction is as a line of the transcript where it changes the head.
+/// An ask, with the update that the transcript shows for it where it changes the head.
 #[derive(Debug, Drop)]
 pub struct Asking {
     pub ask: Ask,
@@ -14,8 +14,9 @@ pub struct Asking {
 /// How far the ask of a connection or a reaper has come, until its answer is delivered.
 #[derive(Debug, Drop)]
 pub enum Flight {
-    /// It is not carried out.
+    /// It is not carried out yet.
     Out(Asking),
+    /// The store carried it out, with this answer.
     Carried(Answer),
     /// The store denied it, which is delivered as a failure.
     Denied,

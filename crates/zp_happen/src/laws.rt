@@ -1,4 +1,4 @@
-//! What holds of a script's lines by their tests. Each function does nothing, and its contract is the law.
+//! What holds of a script's lines by the tests that they must pass. Each function does nothing, and its contract is the law.
 
 ghost use Rattle.std.specs.Prelude.{◌≡◌, ℕ, ℤ, List, None};
 ghost use Rattle.zt_text.specs.declared.script.Happening.TheVariants as line;
@@ -11,7 +11,7 @@ pub fn numbers_are_used_once()
     ensures reap { (w : World) (c p : ℕ) (id : ℤ) → fault w (line.Reap c p id) ≡ None → conn_at c w ≡ None }
 {}
 
-/// A proxy can restart at any time, also where nothing of it is open.
+/// A proxy can restart at any time, even when none of its connections and reapers is open.
 pub fn restarts_are_always_possible()
     ensures { (w : World) (p : ℕ) → fault w (line.Restart p) ≡ None }
 {}
