@@ -25,7 +25,7 @@ first-comes old mid new fresh frame now m e h =
     opens-at (counted (core_of old (Unconnected fresh)) frame) Ready (core_of new (stage_of m.stage)) m.actions old.taken fresh now (read_connect frame)
     (subst (λ (d : Client). Leads (λ c out. Opens (ready d) old.taken fresh now c out (read_connect frame)) new m) e h)
 
--- what becomes of a frame behind the first
+-- what becomes of a frame after the first
 abbrev pub ComesLater : Client → Stage → List ℕ → Client → Move → Type 0
 ComesLater old s frame = Leads (λ c out. MatchBool (has_header (read_request frame)) (Is (queued (core_of old (stage_of s)) frame, []) c out) (Is (closed_by (core_of old (stage_of s)) (cause.NoHeader old.taken)) c out))
 

@@ -8,7 +8,7 @@ use Rattle.zk_model.specs.declared.node.Trigger.{Trigger}
 use Rattle.zk_model.specs.declared.reply.Notice.{Notice}
 use Rattle.zw_watch.specs.Armed.{fired_of}
 
--- behind some changes these watches are armed and these notices came, and the rest is to come
+-- after some changes these watches are armed and these notices were given; the other changes are to come
 abbrev pub Fires : Watches → List Trigger → Watches → List Notice → List Trigger → Type 0
 Fires start all w ns rest = fire_all start all ≡ ((fire_all w rest).0, ns ++ (fire_all w rest).1)
 

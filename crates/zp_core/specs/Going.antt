@@ -1,4 +1,4 @@
--- How a step goes on with the frames that wait, behind what it did at its input.
+-- How a step goes on with the frames that wait, after what it did at its input.
 use Rattle.std.specs.Prelude.{◌≡◌, ℕ, List, [], ◌∷◌, ◌++◌, ◌⊎◌}
 use Rattle.zp_step.specs.declared.action.Action.{Action}
 use Rattle.zp_step.specs.Stages.{Core, Stage, Ready}
@@ -6,7 +6,7 @@ use Rattle.zp_step.specs.Steps.{Goes}
 use Rattle.zp_core.specs.Meanings.{ready}
 use Rattle.zp_core.specs.declared.client.Client.{Client}
 
--- behind these first actions
+-- after these first actions
 pub record GoesOn (now : ℕ) (c : Core) (first : List Action) (c' : Core) (out : List Action) : Type 0 where
   pub later : List Action
   pub goes : Goes now c c' later

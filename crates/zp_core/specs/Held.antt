@@ -1,4 +1,4 @@
--- What each core keeps.
+-- What is true of every core.
 use Rattle.std.specs.Prelude.{◌≡◌, ℕ, ℤ, pos, ◌≤◌, ◌≤ℤ◌, true, List, length, All, MatchBool}
 use Rattle.zk_jute.specs.Records.{contents_of}
 use Rattle.zk_jute.specs.Requests.{read_request}
@@ -9,12 +9,12 @@ use Rattle.zn_view.specs.Seen.{IsCount}
 use Rattle.zs_session.specs.Connecting.{IsHeld as IsHeldConnect}
 use Rattle.zp_step.specs.Stages.{Core, Stage, Unconnected, Connecting, Ready, KeepingAlive, Checking, Reading, Committing, Waiting, Shut, is_shut}
 
--- a frame that may wait: of the service's size, with a header
+-- a frame that may wait: within the limit, and with a header
 pub record IsFrame (bytes : List ℕ) : Type 0 where
   pub short : length bytes ≤ max_frame
   pub headed : has_header (read_request bytes) ≡ true
 
--- a request that came in such a frame: the data that it carries, in each of its parts where it has some, fit a frame
+-- a request that came in such a frame: the data that it carries, and that each of its parts carries, fits a frame
 pub record IsRequest (r : Request) : Type 0 where
   pub short : All (λ content. length content ≤ max_frame) (contents_of r)
 
@@ -22,6 +22,7 @@ pub record IsRequest (r : Request) : Type 0 where
 abbrev pub IsReal : ℤ → Type 0
 IsReal session = pos 1 ≤ℤ session
 
+-- what a stage holds, in a connection of this session
 abbrev pub IsHeldIn : ℤ → Stage → Type 0
 IsHeldIn session (Unconnected fresh) = IsReal fresh.id
 IsHeldIn session (Connecting connect) = IsHeldConnect connect
@@ -37,5 +38,6 @@ pub record IsServing (c : Core) : Type 0 where
   pub frames : All IsFrame c.waiting
   pub stage : IsHeldIn c.who.session c.stage
 
+-- of a core that is shut nothing is required
 abbrev pub IsHeld : Core → Type 0
 IsHeld c = MatchBool (is_shut c.stage) (Unit {0}) (IsServing c)

@@ -69,13 +69,13 @@ core_of c s = record {
   next = c.next;
 }
 
--- the core of a client that has nothing out and whose frames all wait
+-- the core of a client in the stage `Ready`
 abbrev pub ready : Client → step.Core
 ready c = core_of c step.Ready
 
 -- ---- what a move does
 
--- this holds of the core behind a move, and of what it does
+-- R holds of the core after a move, and of the move's actions
 abbrev pub Leads : (step.Core → List Action → Type 0) → Client → Move → Type 0
 Leads R c m = R (core_of c (stage_of m.stage)) m.actions
 

@@ -23,7 +23,7 @@ use zs_close::needs_close;
 use zx_base::{Memory, Seq};
 use zx_history::GhostHistory;
 
-/// The most ranges of an ask that reads.
+/// The most ranges in one ask that reads. etcd takes 128 operations in a transaction by default (`--max-txn-ops`).
 const MAX_RANGES: usize = 100;
 
 /// What a request still has to look up.
@@ -51,7 +51,7 @@ fn front(wants: Seq<Want>) -> Seq<Want>
     Seq::from_vec(wants)
 }
 
-/// Asks for what is lacking, at the view's revision.
+/// Asks for the first `MAX_RANGES` of what is lacking, at the view's revision.
 pub(crate) fn ask_for(
     alloc: Global,
     client: &Client,

@@ -24,7 +24,7 @@ use zn_view::Plan;
 use zs_session::{StepFault, look as look_at, number_in};
 use zx_base::{Memory, Seq};
 
-/// Behind a closeSession the connection is closed.
+/// After a closeSession the connection is closed.
 fn end_behind(request: &Request) -> Option<Cause>
     ensures { result ≡ end_of request.now }
 {
@@ -34,7 +34,7 @@ fn end_behind(request: &Request) -> Option<Cause>
     }
 }
 
-/// The update was made at this revision, which is its zxid.
+/// The update was made at this revision, which is its zxid: its reply is sent, or waits.
 fn done(
     alloc: Global,
     client: &mut Client,
@@ -66,7 +66,7 @@ fn done(
     reply_in_turn(alloc, client, pending)
 }
 
-/// A guard failed: what was read again is a new view.
+/// A guard failed: what was read again is a new view, on which the request goes on.
 fn look_again(
     alloc: Global,
     client: &mut Client,
@@ -115,7 +115,7 @@ fn commit_at(
     look_again(alloc, client, xid, request, commit, now, revision, parts)
 }
 
-/// The answer to the transaction of a plan.
+/// At the answer to the transaction of a plan.
 pub(crate) fn committed(
     alloc: Global,
     client: &mut Client,

@@ -28,7 +28,7 @@ use zs_session::{ConnectStep, Connecting, StepFault};
 use zw_watch::Armed;
 use zx_base::Memory;
 
-/// The moment of the last grant or keepalive, with this ask.
+/// The time of the last grant or keepalive, once this is asked too.
 fn kept_by(now: u64, kept: u64, ask: &Ask) -> u64
     ensures { result ≡ kept_by now kept ask.now }
 {
@@ -54,7 +54,7 @@ fn ask(
     })
 }
 
-/// The session is attached, by the update of this number and zxid.
+/// The session is attached, by the update of this number and zxid, and the client is welcomed.
 fn attach(
     alloc: Global,
     client: &mut Client,
@@ -78,7 +78,7 @@ fn attach(
     })
 }
 
-/// The answer to a resume of no open session.
+/// The answer to a resume that is refused: timeout, session and password are 0.
 fn refusal(request: &ConnectRequest) -> ConnectResponse
     ensures { result ≡ refusal_of request.now }
 {
@@ -148,7 +148,7 @@ pub(crate) fn connect(
     }
 }
 
-/// The first frame, at a place of the client's stream.
+/// The first frame, at a place of the client's stream: a connect, or the connection is closed.
 pub(crate) fn open(
     alloc: Global,
     client: &mut Client,

@@ -25,7 +25,7 @@ use zn_view::{Arm, Decision, View, Who};
 use zs_close::plan_close;
 use zx_base::{Memory, Seq};
 
-/// The decision on a request, on a view that lacks nothing which it reads.
+/// Decides a request on a view that lacks nothing of what it reads.
 pub(crate) fn decide(
     alloc: Global,
     request: &Request,
@@ -48,7 +48,7 @@ pub(crate) fn decide(
     }
 }
 
-/// What the reply to a request tells of watches, and what it leaves armed.
+/// What the reply to a request does to the watches.
 fn change(
     alloc: Global,
     request: &Request,
@@ -80,7 +80,7 @@ fn change(
     }
 }
 
-/// A reply by the state of a view.
+/// A reply computed on a view, whose head gives its number and its zxid.
 fn pending(
     view: &View,
     xid: i32,
@@ -115,7 +115,7 @@ pub(crate) fn expired(view: &View, xid: i32) -> Pending
     )
 }
 
-/// The refusal of a session that is attached to another connection, since this revision.
+/// The refusal of a session that was attached to another connection, by the update with zxid `found`.
 pub(crate) fn moved(who: Who, view: &View, found: i64, xid: i32) -> Pending
     ensures { pending_of result ≡ moved who view.now found xid }
 {

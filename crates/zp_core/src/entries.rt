@@ -1,4 +1,4 @@
-//! How an update is told: it fires what is armed, and a reply that has waited for it is sent.
+//! How an update is told: it fires what is armed, and then a reply that waited for it is sent.
 
 ghost use Rattle.std.specs.Prelude.{◌≡◌, ◌++◌, IfOk, OnOk};
 ghost use Rattle.std.specs.Option.{option_to_list};
@@ -19,7 +19,7 @@ use zp_step::Action;
 use zw_watch::Armed;
 use zx_base::{Memory, Seq};
 
-/// Adds a notice behind the others, if there is one.
+/// Adds a notice at the end, if there is one.
 fn tell_of(notices: &mut Seq<Notice>, notice: Option<Notice>) -> Result<(), Memory>
     ensures { OnOk result (notices.new ≡ notices.old ++ option_to_list notice) }
 {
@@ -49,7 +49,7 @@ fn enter(alloc: Global, client: &mut Client, entry: &Entry) -> Result<Seq<Action
     send_notices(alloc, notices.as_slice())
 }
 
-/// Tells the client of an update, and sends the reply that waits in this stage where it is due then.
+/// Tells the client of an update, and then sends a reply that waits, if it is due.
 pub(crate) fn tell(
     alloc: Global,
     client: &mut Client,

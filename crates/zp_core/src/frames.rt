@@ -1,4 +1,4 @@
-//! How a frame is taken up: what needs no tree is answered at once, and anything else begins to look.
+//! How a frame is taken up: what needs no tree is answered at once, and anything else is looked up.
 
 ghost use Rattle.std.specs.Prelude.{◌≡◌, ◌≤ℤ◌, pos, IfOk, ◌<◌, ◌^◌};
 ghost use Rattle.zk_jute.specs.Requests.{Asks, read_request as read_as};
@@ -23,7 +23,7 @@ use zn_ops::plain_reply;
 use zn_view::View;
 use zx_base::Memory;
 
-/// Behind the refusal of an authentication no request is answered.
+/// The connection is closed after it has refused an `auth`.
 fn end_of(reply: &Reply) -> Option<Cause>
     ensures { result ≡ end_of_plain (is_auth_refusal reply.now) }
 {
@@ -65,7 +65,7 @@ fn take_request(
     }
 }
 
-/// Takes up a frame.
+/// Takes up a frame: answers it at once where it needs no tree, and begins to look it up otherwise.
 pub(crate) fn take(
     alloc: Global,
     client: &mut Client,
@@ -90,7 +90,7 @@ pub(crate) fn take(
     }
 }
 
-/// The xid of a frame.
+/// The xid of a frame, 0 where it has no header. Reads the whole frame.
 pub(crate) fn xid_of(alloc: Global, frame: &[u8]) -> Result<i32, Memory>
     ensures { IfOk result (λ xid. xid ≡ xid_in (read_as frame.now)) }
 {

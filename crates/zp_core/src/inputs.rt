@@ -28,10 +28,10 @@ use zk_transcript::Cause;
 use zp_step::{Action, Input};
 use zx_base::{Bytes, Memory, Seq};
 
-/// The bytes of a header, its xid and its type.
+/// The length of a request's header in bytes: its xid and its type (zookeeper.jute, `RequestHeader`).
 const HEADER: usize = 8;
 
-/// The bytes of a frame's length.
+/// How many bytes the length before a frame takes.
 const LENGTH: u64 = 4;
 
 fn answered(
@@ -68,7 +68,7 @@ fn answered(
     }
 }
 
-/// A frame has its length before it.
+/// Counts the bytes of a frame, and those of the length before it.
 fn count(client: &mut Client, frame: &[u8])
     ensures { client.new ≡ record client.old { taken = counted_up (client.old.taken + 4 + length frame.now) } }
 {
@@ -78,7 +78,7 @@ fn count(client: &mut Client, frame: &[u8])
         .saturating_add(frame.len() as u64);
 }
 
-/// A frame waits behind the others.
+/// Adds a frame after those that wait.
 fn queue(alloc: Global, client: &mut Client, frame: &[u8]) -> Result<(), Memory>
     ensures { OnOk result (ready client.new ≡ queued (ready client.old) frame.now) }
 {
@@ -87,7 +87,7 @@ fn queue(alloc: Global, client: &mut Client, frame: &[u8]) -> Result<(), Memory>
     Ok(())
 }
 
-/// A frame behind the first waits, but for one without a header.
+/// A frame after the first one waits, unless it has no header: then the connection is closed.
 fn come_later(
     alloc: Global,
     client: &mut Client,
@@ -104,7 +104,7 @@ fn come_later(
     Ok(rest(alloc, stage))
 }
 
-/// A frame that came.
+/// A frame comes; the first one is the connect.
 fn come(
     alloc: Global,
     client: &mut Client,
@@ -126,7 +126,7 @@ fn come(
     }
 }
 
-/// The cause for which an input shuts a connection whatever its stage.
+/// The cause for which an input shuts a connection, whatever its stage.
 fn end_by(input: &Input) -> Option<Cause>
     ensures { result ≡ end_of input.now }
 {
@@ -146,7 +146,7 @@ fn end_by(input: &Input) -> Option<Cause>
     }
 }
 
-/// What an open connection does at an input that does not shut it whatever its stage.
+/// What an open connection does at a frame, an answer or an entry.
 fn handle_open(
     alloc: Global,
     client: &mut Client,

@@ -1,4 +1,4 @@
-//! The keepalive before a frame is taken up, and the look at the session behind it.
+//! The keepalive before a frame is taken up, and the look at the session that may follow it.
 
 ghost use Rattle.std.specs.Prelude.{◌≡◌, ◌≤ℤ◌, pos, IfOk, MatchBool, option_map, ◌<◌, ◌^◌};
 ghost use Rattle.std.specs.Ordering.{int_eq};
@@ -65,7 +65,7 @@ pub(crate) fn take_up(
     take(alloc, client, frame.as_slice(), now)
 }
 
-/// Asks for the record of the session's life.
+/// Asks for the record of the session's life, and for the head.
 fn check(alloc: Global, client: &Client, frame: Bytes) -> Result<Move, Memory>
     requires { pos 1 ≤ℤ client.now.who.session }
     ensures { IfOk result (Leads (Is (checks (ready client.now) frame)) client.now) }
@@ -78,7 +78,7 @@ fn check(alloc: Global, client: &Client, frame: Bytes) -> Result<Move, Memory>
     })
 }
 
-/// The answer to the keepalive.
+/// At the keepalive's answer: takes up the frame, or looks at the session where the lease had no seconds left.
 pub(crate) fn kept_alive(
     alloc: Global,
     client: &mut Client,
@@ -111,7 +111,7 @@ fn life_seen(alloc: Global, view: &View, session: i64) -> Result<Option<i64>, Me
     }
 }
 
-/// The session is closed or has lapsed.
+/// Refuses the frame: the session is closed or has lapsed.
 fn refuse_expired(
     alloc: Global,
     client: &mut Client,
@@ -124,7 +124,7 @@ fn refuse_expired(
     reply_in_turn(alloc, client, expired(view, xid))
 }
 
-/// The session is attached to another connection, since this revision.
+/// Refuses the frame: the session was attached to another connection, by the update with zxid `found`.
 fn refuse_moved(
     alloc: Global,
     client: &mut Client,
@@ -139,7 +139,7 @@ fn refuse_moved(
     reply_in_turn(alloc, client, pending)
 }
 
-/// By the revision of the record of the session's life.
+/// Takes up the frame where this connection's attachment put the record of the session's life, and refuses it where another did.
 fn take_or_refuse(
     alloc: Global,
     client: &mut Client,
@@ -159,7 +159,7 @@ fn take_or_refuse(
     take(alloc, client, frame, now)
 }
 
-/// By the record of the session's life.
+/// Takes up the frame or refuses it, by the record of the session's life.
 fn look_at(
     alloc: Global,
     client: &mut Client,
@@ -202,7 +202,7 @@ fn check_at(
     }
 }
 
-/// The answer to the look at the session.
+/// At the answer to the look at the session.
 pub(crate) fn checked(
     alloc: Global,
     client: &mut Client,

@@ -14,7 +14,7 @@ use zk_model::Request;
 use zn_view::View;
 use zx_base::Memory;
 
-/// Asks for what is lacking still, or decides.
+/// Asks for what is still lacking, or decides.
 pub(crate) fn look(
     alloc: Global,
     client: &mut Client,

@@ -18,7 +18,7 @@ pub struct Move {
     pub actions: Seq<Action>,
 }
 
-/// One action.
+/// A list of one action.
 pub(crate) fn only(alloc: Global, action: Action) -> Result<Seq<Action>, Memory>
     ensures { IfOk result (λ actions. actions ≡ action ∷ []) }
 {
@@ -47,7 +47,7 @@ pub(crate) fn close(alloc: Global, why: Cause) -> Result<Move, Memory>
     })
 }
 
-/// Behind these actions the connection is ready, or is closed for a cause.
+/// After these actions the connection is ready, or is closed for a cause.
 pub(crate) fn end_behind(mut actions: Seq<Action>, ends: Option<Cause>) -> Result<Move, Memory>
     ensures stage { IfOk result (λ m. stage_of m.stage ≡ stage_behind ends) }
     ensures actions { IfOk result (λ m. m.actions ≡ actions ++ close_behind ends) }
@@ -67,7 +67,7 @@ pub(crate) fn end_behind(mut actions: Seq<Action>, ends: Option<Cause>) -> Resul
     }
 }
 
-/// Further actions.
+/// Adds further actions at the end.
 pub(crate) fn append(actions: &mut Vec<Action>, more: Seq<Action>) -> Result<(), Memory>
     ensures { OnOk result (actions.new.items ≡ actions.old.items ++ more) }
 {

@@ -1,4 +1,4 @@
-//! Replies: each is sent once the entries up to its number were told, or at once where nothing is armed.
+//! Replies: each is sent once the entries up to its number have been told, or at once where nothing is armed.
 
 ghost use Rattle.std.specs.Prelude.{◌≡◌, IfOk, OnOk};
 ghost use Rattle.zn_view.specs.Views.{armed_by};
@@ -25,7 +25,7 @@ fn arm(watches: &mut Armed, arm: Option<Arm>) -> Result<(), Memory>
     }
 }
 
-/// What a reply tells and leaves armed.
+/// Changes the watches as a reply does, and gives the notices that stand before it.
 fn see(alloc: Global, watches: &mut Armed, change: WatchChange) -> Result<Vec<Notice>, Memory>
     ensures { IfOk result (λ notices. record { watches = watches.new; notices = notices.items } ≡ seen_by (change_of change) watches.old) }
 {
@@ -38,7 +38,7 @@ fn see(alloc: Global, watches: &mut Armed, change: WatchChange) -> Result<Vec<No
     }
 }
 
-/// Whether the entries up to its number were taken, or there is nothing that they could fire.
+/// Whether the entries up to a reply's number were taken, or nothing is armed that they could fire.
 fn is_due(client: &Client, pending: &Pending) -> bool
     ensures { result ≡ is_due (ready client.now) (pending_of pending.now) }
 {
@@ -57,7 +57,7 @@ fn reply(alloc: Global, client: &mut Client, pending: Pending) -> Result<Move, M
     end_behind(actions, pending.ends)
 }
 
-/// Sends a reply where it is due, and else it waits.
+/// Sends a reply if it is due; otherwise it waits.
 pub(crate) fn reply_in_turn(
     alloc: Global,
     client: &mut Client,

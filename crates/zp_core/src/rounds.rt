@@ -20,7 +20,7 @@ use zk_transcript::Cause;
 use zn_view::{View, ViewFault, Want};
 use zx_base::{Memory, Seq};
 
-/// The revision of a view that got a round at this one.
+/// The revision of a view after a round at this one: that of its first round.
 fn revision_with(view: &View, revision: i64) -> i64
     requires first { IsCount view.now.revision }
     requires revision { IsCount revision }

@@ -10,70 +10,85 @@ use zw_watch::SeenPath;
 use zx_base::{Bytes, Seq};
 use zx_history::GhostHistory;
 
-/// What a reply tells of watches, and what it leaves armed.
+/// What a reply does to the watches.
 #[derive(Debug, Drop)]
 pub enum WatchChange {
     /// The watch that a read asks for, if any.
     Adds(Option<Arm>),
-    /// The watches of a setWatches, by what was seen at their paths: what changed behind the zxid `since` is told at once.
+    /// Arms the watches of a setWatches by what was seen at their paths, or tells at once that they fired. `since` is the zxid
+    /// that the client has seen.
     Sets { since: i64, seen: Seq<SeenPath> },
 }
 
-/// A reply that waits for the entries up to its number.
+/// A reply that is ready, and is sent once the entries up to its number were told.
 #[derive(Debug, Drop)]
 pub struct Pending {
+    /// The number of the last update in the state that the reply is computed at.
     pub number: i64,
+    /// The zxid of that update, which is the reply's.
     pub zxid: i64,
     pub xid: i32,
     pub answer: Reply,
     pub change: WatchChange,
-    /// The cause for which the connection is closed behind it.
+    /// The cause for which the connection is closed after it, if any.
     pub ends: Option<Cause>,
 }
 
 /// What is left of a plan whose transaction is out.
 #[derive(Drop)]
 pub struct Commit {
-    /// What was asked, for proofs alone.
+    /// The transaction that was asked, for proofs alone.
     pub asked: GhostHistory<TxnReq>,
+    /// What is read where a guard does not hold.
     pub again: Seq<Want>,
+    /// The reply, with 0 in place of the zxid that the update gets.
     pub draft: Reply,
+    /// What watches see of the update.
     pub triggers: Seq<Trigger>,
     /// The view that the plan was made on, for proofs alone.
     pub view: GhostHistory<View>,
-    /// When it was made, in milliseconds.
+    /// When the plan was made, in milliseconds.
     pub moment: u64,
 }
 
-/// How far a connection has come, and what is out.
+/// How far a connection has come, and what is out. The ask that is out in each stage is `asked_of` in `zp_step`.
 #[derive(Drop)]
 pub enum Stage {
+    /// No frame has come yet.
     Unconnected {
         fresh: Fresh,
     },
+    /// An ask of the connect is out.
     Connecting {
         connecting: Connecting,
     },
+    /// No ask is out and no reply waits.
     Ready,
+    /// A keepalive is out, before this frame is answered.
     KeepingAlive {
         frame: Bytes,
     },
+    /// The keepalive found no seconds left: a look at the session is out.
     Checking {
         frame: Bytes,
     },
+    /// A round of this request is out.
     Reading {
         xid: i32,
         request: Request,
         view: View,
         asked: Seq<Want>,
     },
+    /// The transaction of this request's plan is out.
     Committing {
         xid: i32,
         request: Request,
         commit: Commit,
     },
+    /// A reply waits for its entries.
     Waiting {
         pending: Pending,
     },
+    /// The connection is closed.
     Shut,
 }

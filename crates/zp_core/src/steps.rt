@@ -46,7 +46,7 @@ fn step_open(
     })
 }
 
-/// A connection: how far it has come, and what its client was told.
+/// A connection: how far it has come, and what its client was told. Contracts see the core of `zp_step`.
 #[derive(Drop)]
 pub struct Core {
     stage: Stage,
@@ -97,7 +97,8 @@ impl Core {
         }
     }
 
-    /// What the connection waits for.
+    /// What the connection waits for. An answer or an entry may be handed in only where this names it; a frame may come at any
+    /// time.
     pub fn wants(&self) -> Wants
         ensures { result ≡ wants_of self.now }
     {
@@ -116,8 +117,8 @@ impl Core {
         }
     }
 
-    /// What the transaction that is out does where it changes the head, as a line of a transcript tells it in which the
-    /// connection has this number: none where no such transaction is out.
+    /// The update that the transaction which is out makes if it changes the head, as a transcript shows it in which this
+    /// connection has the number `connection`. None where no transaction of an update is out.
     pub fn update_asked(&self, connection: u32) -> Option<UpdateKind>
         ensures asked { result ≡ kind_in_stage connection self.now self.now.stage }
         ensures held { IsHeld self.now }
@@ -125,8 +126,8 @@ impl Core {
         asked_in(connection, &self.client, &self.stage)
     }
 
-    /// Takes an input at a moment in milliseconds since 1970, and answers with what the connection does then. Without memory the
-    /// connection is shut, and nothing is done.
+    /// Takes an input at the time `now`, and answers with what the connection does then. `now` is in milliseconds, since 1970 in
+    /// a server: an update stores it as ctime and mtime. Without memory the connection is shut, and nothing is done.
     pub fn step(&mut self, input: &Input, now: u64) -> Result<Vec<Action>, Memory>
         requires may { MayTake self.old input.now }
         requires moment { now < 2 ^ 62 }

@@ -48,8 +48,8 @@ fn of_request(connection: u32, index: u64, id: i64, moment: u64, request: &Reque
     }
 }
 
-/// What the transaction that is out does where it changes the head, in a line of a transcript that gives this connection its
-/// number: none where no such transaction is out.
+/// The update that the transaction which is out makes if it changes the head, as a transcript shows it in which this
+/// connection has the number `connection`. None where no transaction of an update is out.
 pub(crate) fn asked_in(connection: u32, client: &Client, stage: &Stage) -> Option<UpdateKind>
     ensures { result ≡ kind_in_stage connection (core_of client.now (stage_of stage.now)) (stage_of stage.now) }
 {

@@ -1,4 +1,4 @@
--- It goes on behind its input.
+-- It goes on after its input.
 use Rattle.std.proofs.Common.{List, ◌++◌, ap, ◌∙◌}
 use Rattle.zp_step.specs.declared.action.Action.{Action}
 use Rattle.zp_core.specs.Going.{GoesOn}
