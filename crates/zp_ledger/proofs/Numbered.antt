@@ -4,7 +4,7 @@ use Rattle.std.specs.Prelude.{Some, slice_get}
 use Rattle.zn_layout.specs.declared.entry.Entry.{Entry}
 use Rattle.zp_ledger.specs.Entering.{AreNumbered, IsNumbered}
 
--- those of a list whose first number is one behind k
+-- the entries of a list whose first one has number k + 1
 abbrev AreNumberedFrom : ℕ → List Entry → Type 0
 AreNumberedFrom k es = (n : ℕ) (e : Entry) → slice_get es n ≡ Some e → IsNumbered (k + n + 1) e
 

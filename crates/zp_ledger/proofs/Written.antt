@@ -1,4 +1,4 @@
--- The updates and the form of the lines are kept by each line more.
+-- One line more leaves the list of updates and the form of the lines right.
 use Rattle.std.proofs.Common.{◌≡◌, List, [], ◌∷◌, ◌++◌, sym, ap, ◌∙◌, append-nil}
 use Rattle.std.specs.Prelude.{None}
 use Rattle.std.specs.List.{AllByRecursion, filter_map}

@@ -8,7 +8,7 @@ abbrev pub places_in : Option (List ℕ) → List ℕ
 places_in None = []
 places_in (Some places) = places
 
--- none where it has no line
+-- no places where it has no line
 abbrev pub places_at : ℕ → List (ℕ × List ℕ) → List ℕ
 places_at c entries = places_in (lookup (is_at (nat_cmp c)) entries)
 
@@ -16,5 +16,6 @@ abbrev pub is_number : ℕ → Option ℕ → Bool
 is_number c None = false
 is_number c (Some d) = c == d
 
+-- the place, where it is one of these
 abbrev pub placed : Bool → ℕ → List ℕ
 placed b place = if b then place ∷ [] else []

@@ -6,7 +6,7 @@ use Rattle.zk_transcript.specs.declared.transcript.UpdateRec.{UpdateRec}
 use Rattle.zk_transcript.specs.History.{updates}
 use Rattle.zt_text.specs.Transcripts.{IsWellFormed}
 
--- the updates among them, and that their text has one reading
+-- the updates are those among the lines, and the text of the lines has one reading
 pub record IsWritten (lines : List TranscriptLine) (us : List UpdateRec) : Type 0 where
   pub updates_are : us ≡ updates lines
   pub formed : AllByRecursion IsWellFormed lines

@@ -11,8 +11,8 @@ use std::collections::BTreeMap;
 use zk_transcript::{Cause, Conversation, Ended, TranscriptLine};
 use zx_base::{Bytes, Memory, Seq};
 
-/// The lines of each connection but its updates, in the order in which they opened. Each line is copied once, and found by its
-/// connection's number in the logarithm of their count.
+/// The lines of each connection, its updates left out, in the order in which the connections opened. Each line is copied once. It
+/// takes the logarithm of the number of connections to find the one that a line belongs to.
 pub(crate) fn conversations_in(
     alloc: Global,
     lines: &[TranscriptLine],
@@ -57,7 +57,7 @@ fn places_in(alloc: Global, lines: &[TranscriptLine]) -> Result<BTreeMap<u32, Se
     Ok(places)
 }
 
-/// One more place of a connection, if it is one's.
+/// Notes the place of a line, if the line is a connection's.
 fn note_if(
     alloc: Global,
     places: &mut BTreeMap<u32, Seq<usize>>,
@@ -72,7 +72,7 @@ fn note_if(
     }
 }
 
-/// One more place of a connection.
+/// Notes one more place of a connection's lines.
 fn note(
     alloc: Global,
     places: &mut BTreeMap<u32, Seq<usize>>,
@@ -99,7 +99,7 @@ fn places_of(places: &BTreeMap<u32, Seq<usize>>, connection: u32) -> &[usize]
     }
 }
 
-/// The lines at these places, as those of a connection.
+/// The conversation of a connection whose lines stand at these places.
 fn conversation_at(
     alloc: Global,
     lines: &[TranscriptLine],
@@ -133,7 +133,7 @@ fn add(
     }
 }
 
-/// The connection that opens with this line.
+/// The connection that this line opens, if it opens one.
 fn opened_by(line: &TranscriptLine) -> Option<u32>
     ensures { result ≡ opened_by line.now }
 {
@@ -147,7 +147,7 @@ fn opened_by(line: &TranscriptLine) -> Option<u32>
     }
 }
 
-/// The connection of this line, where it is no update.
+/// The connection whose line this is. None for an update and for a lapse.
 fn connection_of(line: &TranscriptLine) -> Option<u32>
     ensures { (c : ℕ) → is_line_of c line.now ≡ is_number c result }
 {

@@ -16,7 +16,7 @@ use zk_model::Trigger;
 use zn_layout::{Entry, RecordFault, read_head};
 use zx_base::{Memory, Seq};
 
-/// An entry for each update, in order. Contracts see the entries.
+/// An entry for each update, in order. Contracts see the list of entries.
 #[derive(Drop)]
 pub struct Entries {
     alloc: Global,
@@ -37,7 +37,7 @@ impl Model for Entries {
 }
 
 impl Entries {
-    /// No update has been made.
+    /// Before the first update: no entries.
     pub fn new(alloc: Global) -> Entries
         ensures { result ≡ [] }
     {
@@ -47,13 +47,14 @@ impl Entries {
         }
     }
 
+    /// How many entries there are, which is the number of the last one.
     pub fn len(&self) -> usize
         ensures { result ≡ length self.now }
     {
         self.shared.len()
     }
 
-    /// Proof only: entry n stands at place n - 1, and tells what a head's record can hold.
+    /// Proof only: entry n stands at place n - 1, and has triggers that a head's record can hold.
     pub fn are_numbered(&self)
         ensures { AreNumbered self.now }
     {
@@ -72,7 +73,7 @@ impl Entries {
         Ok(())
     }
 
-    /// The entry behind this number, shared with who takes it.
+    /// The entry after the one of number `cursor`, shared with those that take it. None where there is no such entry.
     pub fn behind(&self, cursor: i64) -> Result<Option<Arc<Entry, Global>>, Memory>
         ensures { IfOk result (λ o. option_map arc_value o ≡ entry_behind self.now cursor) }
     {
@@ -86,7 +87,7 @@ impl Entries {
     }
 }
 
-/// The triggers that the value of a head records; none where it is no record.
+/// The triggers that the value of a head records; no triggers where it is no record.
 fn triggers_in(alloc: Global, head: &Kv) -> Result<Seq<Trigger>, Memory>
     ensures told { IfOk result (λ ts. AreTriggersOf (Some head.now) ts) }
     ensures within { IfOk result IsHeadRec }
@@ -98,7 +99,7 @@ fn triggers_in(alloc: Global, head: &Kv) -> Result<Seq<Trigger>, Memory>
     }
 }
 
-/// The entry of this number.
+/// The entry of this number, by the head that its update left.
 fn entry_of(alloc: Global, number: i64, head: Option<&Kv>) -> Result<Entry, Memory>
     ensures number { IfOk result (λ e. e.number ≡ number) }
     ensures zxid { IfOk result (λ e. e.zxid ≡ mod_of (option_copied head.entry)) }

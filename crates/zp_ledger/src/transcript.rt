@@ -33,7 +33,7 @@ impl Model for Transcript {
 }
 
 impl Transcript {
-    /// Nothing has happened.
+    /// Before anything happened: no lines.
     pub fn new(alloc: Global) -> Transcript
         ensures { result ≡ [] }
     {
@@ -51,21 +51,21 @@ impl Transcript {
         self.lines.as_slice()
     }
 
-    /// The updates, in order.
+    /// The updates among the lines, in order.
     pub fn updates(&self) -> &[UpdateRec]
         ensures { result.now ≡ updates_of self.now }
     {
         self.updates.as_slice()
     }
 
-    /// The lines of each connection, in the order in which they opened.
+    /// The lines of each connection, its updates left out, in the order in which the connections opened.
     pub fn conversations(&self, alloc: Global) -> Result<Vec<Conversation>, Memory>
         ensures { IfOk result (λ found. found.items ≡ conversations self.now) }
     {
         conversations_in(alloc, self.lines.as_slice())
     }
 
-    /// Adds a line that is no update. Without memory the lines stay as they were, here and below.
+    /// Adds a line that is no update. Without memory the lines stay as they were.
     pub fn push(&mut self, line: TranscriptLine) -> Result<(), Memory>
         requires other { update_in line ≡ None }
         requires formed { IsWellFormed line }
@@ -76,7 +76,7 @@ impl Transcript {
         Ok(())
     }
 
-    /// Adds the line of an update.
+    /// Adds the line of an update. Without memory the lines and the updates stay as they were.
     pub fn push_update(&mut self, zxid: i64, kind: UpdateKind) -> Result<(), Memory>
         requires { IsWellFormedKind kind }
         ensures ok { OnOk result (self.new ≡ self.old ++ Update (record { zxid = zxid; kind = kind }) ∷ []) }
