@@ -1,4 +1,4 @@
--- What a connection's session is at a moment behind its attachment.
+-- What a connection's session is at a moment after its attachment.
 use Rattle.std.proofs.Common.{◌≡◌, ℕ, zero, suc, ◌+◌, ◌≤◌, ◌<◌, List, [], ◌∷◌, take, refl, sym, ap, ◌∙◌, arith, Bool, true, false, pos}
 use Rattle.std.specs.Prelude.{Option, Some, None, not, ◌≤ℤ◌, ◌==◌, if◌then◌else◌, slice_get}
 use Rattle.std.proofs.lemmas.Bool.Decides.{nat_tests}
@@ -34,7 +34,7 @@ first_place-take {A} show k (suc m) (l ∷ ls) i y h lt = go (show l) h (λ e. f
     go (Some z) e ih = e
     go None e ih = ih e
 
--- ---- the state behind a legal history
+-- ---- the state after a legal history
 
 abbrev pub HasFirst : List TranscriptLine → Type 0
 HasFirst lines = (u : UpdateRec) × (first_shown update_in lines ≡ Some u)
@@ -48,7 +48,7 @@ first-there (l ∷ ls) (suc k) u h = go (update_in l) (first-there ls k u h)
     go (Some x) f = (x, refl)
     go None f = f
 
--- ---- behind an attachment
+-- ---- after an attachment
 
 pub record IsAttached (lines : List TranscriptLine) (conn : ℕ) (who : Who) (looked : ℕ) : Type 0 where
   pub legal : is_legal (take looked lines) ≡ true

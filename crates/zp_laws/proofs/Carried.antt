@@ -1,4 +1,4 @@
--- A plan that was carried out: its draft is the service's reply, as of right behind its own line.
+-- A plan that was carried out: its draft is the service's reply, as of right after its own line.
 use Rattle.std.proofs.Common.{◌≡◌, ℕ, ◌+◌, ◌≤◌, List, length, take, take-take, refl, sym, ap, ◌∙◌, subst, arith, Bool, true, ℤ, pos, inl, inr}
 use Rattle.std.specs.Prelude.{Option, Some, None, is_some, option_map, option_and_then, ◌⊎◌, ◌≤ℤ◌, ◌<ℤ◌, ◌==◌, Contains, if◌then◌else◌, nat_abs}
 use Rattle.std.specs.FinMap.{get}
@@ -55,7 +55,7 @@ use Rattle.zp_laws.proofs.Revisions.{may-commit}
 
 -- ---- the guard on the record of the session's life
 
--- the session lives, and was attached last at this zxid
+-- the session is open, and was attached last at this zxid
 pub record IsHeld (s : State) (id mine : ℤ) : Type 0 where
   pub session : Session
   pub there : session_at id s ≡ Some session

@@ -1,4 +1,4 @@
--- Each frame that came is taken up or waits behind the others.
+-- Each frame that came is taken up or waits after the others.
 use Rattle.std.proofs.Common.{◌≡◌, ℕ, suc, take, ◌+◌, ◌≤◌, List, [], ◌∷◌, length, refl, sym, ap, ◌∙◌, subst, arith, Bool, true, false, ℤ, pos, inl, inr}
 use Rattle.std.specs.Prelude.{Option, Some, None, ◌⊎◌, if◌then◌else◌, MatchBool}
 use Rattle.std.specs.Arc.{arc_value}

@@ -35,7 +35,7 @@ use Rattle.zp_laws.proofs.Counting.{counted-small}
 use Rattle.zp_laws.proofs.Strides.{UpTo, placed, strides-none, strides-one, turn-next, walks-append, walks-is}
 use Rattle.zp_laws.proofs.WalkMoves.{plain-move}
 
--- the next frame is at work, and those that wait stand behind it
+-- the next frame is at work, and those that wait come after it
 pub record Works (lines : List TranscriptLine) (conn : ℕ) (c : Core) (w : Walker) (bytes : List ℕ) : Type 0 where
   pub legal : is_legal lines ≡ true
   pub matches : Matches lines c w
@@ -44,7 +44,7 @@ pub record Works (lines : List TranscriptLine) (conn : ℕ) (c : Core) (w : Walk
   pub turn : is_not_overtaken lines conn c.next ≡ true
   pub ahead : is_ahead lines conn c.next ≡ true
 
--- the index behind that of a frame
+-- the index after that of a frame
 pub index-behind : (lines : List TranscriptLine) (conn i : ℕ) (bytes : List ℕ) → IsFrameAt lines conn i bytes → counted_up (i + 1) ≡ i + 1
 index-behind lines conn i bytes f = counted-small (i + 1) (omega (arith, f.small))
 
@@ -76,7 +76,7 @@ close-sends bytes None = refl
 close-sends bytes (Some why) = refl
 
 module _ (store : Store) (lines : List TranscriptLine) (conn : ℕ) where
-  -- the core behind a plain reply
+  -- the core after a plain reply
   abbrev plain_core : Core → Bool → Core
   plain_core c b = record c { stage = stage_behind (end_of_plain b); next = counted_up (c.next + 1) }
 

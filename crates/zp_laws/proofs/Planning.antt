@@ -1,4 +1,4 @@
--- A plan is made at the moment of the step that asks its transaction.
+-- A plan is made at the time of the step that asks its transaction.
 use Rattle.zp_step.specs.Looking.{asks_for}
 use Rattle.std.proofs.Common.{◌≡◌, ℕ, List, [], ◌++◌, take, refl, sym, ap, ◌∙◌, subst, Bool, true, false, ℤ, pos, inl, inr, append-nil}
 use Rattle.std.specs.Prelude.{Option, Some, None, ◌⊎◌, if◌then◌else◌, MatchBool}

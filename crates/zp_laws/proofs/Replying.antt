@@ -44,8 +44,8 @@ pub record Busy (lines : List TranscriptLine) (conn : ℕ) (c : Core) (w : Walke
 
 -- ---- the zxid and the moment
 
--- A moment that isn't before the last update told: its state isn't below the core's zxid, nor its number below the cursor, and
--- the lines before it are a legal history.
+-- A moment that isn't before the last update told: neither its state's zxid nor its number is below the core's, and the lines
+-- before it are a legal history.
 pub record Past (lines : List TranscriptLine) (c : Core) (w : Walker) (looked : ℕ) : Type 0 where
   pub zxid : c.zxid ≤ℤ (state_at lines looked).zxid
   pub cursor : c.cursor ≤ℤ pos (state_at lines looked).updates
@@ -106,7 +106,7 @@ reply_due lines w p looked k =
     due_notices (after_update (state_at lines looked).zxid (take looked lines)) (seen_by p.change w.watches).notices
     ++ ((later_of (length (take looked lines)) (k + 1), reply_packet p.xid (state_at lines looked).zxid p.answer) ∷ [])
 
--- the core behind a reply
+-- the core after a reply
 abbrev replied_core : Core → Pending → Option Cause → Core
 replied_core c p o = record c { stage = stage_behind o; zxid = p.zxid; cursor = p.number; watches = (seen_by p.change c.watches).watches; next = counted_up (c.next + 1) }
 

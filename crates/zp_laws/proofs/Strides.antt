@@ -136,14 +136,14 @@ below-more : (i : ℕ) (o : Option ℕ) → is_below (i + 1) o ≡ true → is_b
 below-more i None h = refl
 below-more i (Some j) h = grind (arith, nat_tests)
 
--- the requests behind the next one are fewer after a reply
+-- where no request after i was carried out, none after i + 1 was
 pub turn-next : (lines : List TranscriptLine) (conn i : ℕ) → is_not_overtaken lines conn i ≡ true → is_not_overtaken lines conn (i + 1) ≡ true
 turn-next [] conn i h = refl
 turn-next (l ∷ ls) conn i h =
     let q = and_parts (is_below (i + 1) (index_shown conn l)) (is_not_overtaken ls conn i) h in
     and_from (is_below (i + 1 + 1) (index_shown conn l)) (is_not_overtaken ls conn (i + 1)) (below-more i (index_shown conn l) q.0) (turn-next ls conn i q.1)
 
--- a request without a line of its own, where none behind it has one
+-- a request without a line of its own, where no later one has a line
 none-first : {A : Type 0} (show : TranscriptLine → Option A) (k : ℕ) (l : TranscriptLine) (ls : List TranscriptLine) → first_place show k (l ∷ ls) ≡ None → (show l ≡ None) × (first_place show (k + 1) ls ≡ None)
 none-first {A} show k l ls h = go (show l) h
   where

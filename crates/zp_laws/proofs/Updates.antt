@@ -1,4 +1,4 @@
--- The last update before a moment, and the next one behind an update, by their numbers.
+-- The last update before a moment, and the next one after an update, by their numbers.
 use Rattle.std.proofs.Common.{◌≡◌, ℕ, zero, suc, ◌+◌, ◌≤◌, ◌<◌, List, take, refl, sym, ap, ◌∙◌, subst, arith, Bool, true, false, ℤ, inl, inr}
 use Rattle.std.specs.Prelude.{Option, Some, None, ◌<ℤ◌, ◌≤ℤ◌, nat_lt, int_lt, slice_get}
 use Rattle.std.proofs.lemmas.Int.{ints}
@@ -17,15 +17,15 @@ use Rattle.zk_least.proofs.Exchange.{not-above}
 use Rattle.zk_least.proofs.Rising.{at-line, below-state, not-below, rising, state_at-end, state_at-line}
 use Rattle.zk_least.proofs.SameZxid.{get-take}
 
--- the lines up to a moment behind an update are a legal history
+-- the lines up to a moment after an update are a legal history
 pub legal-before : (lines : List TranscriptLine) (m k : ℕ) (u : UpdateRec) → is_legal lines ≡ true → slice_get lines k ≡ Some (Update u) → k < m → is_legal (take m lines) ≡ true
 legal-before lines m k u h at lt = is_legal-take lines m (begins-take lines m k u lt at (is_legal-begins lines h)) h
 
--- the numbers and the zxids of two moments go together
+-- two moments with one number of updates have one zxid
 pub same-count : (lines : List TranscriptLine) (k m : ℕ) → is_legal lines ≡ true → k ≤ m → 0 < (state_at lines k).updates → (state_at lines m).updates ≡ (state_at lines k).updates → (state_at lines m).zxid ≡ (state_at lines k).zxid
 same-count lines k m h le some e = elim (rising lines k m h le some) [ inl a ↦ a.1 | inr a ↦ absurd (omega (arith, a.0, e)) ]
 
--- nothing is above a zxid that the state at the moment doesn't pass
+-- no update before a moment is above a zxid that the state then doesn't pass
 pub none-above : (lines : List TranscriptLine) (m : ℕ) (p : ℤ) → is_legal lines ≡ true → (state_at lines m).zxid ≤ℤ p → NoneAbove p (take m lines)
 none-above lines m p h le = λ j l e. not-above p l (λ v s.
     let q = get-take m j lines l e in
@@ -78,7 +78,7 @@ last-update lines (suc m) h some =
 
 -- ---- the next update
 
--- the update at e is the next one behind that at k
+-- the update at e is the next one after that at k
 pub record IsNext (lines : List TranscriptLine) (k e : ℕ) (u v : UpdateRec) : Type 0 where
   pub legal : is_legal lines ≡ true
   pub last : slice_get lines k ≡ Some (Update u)

@@ -181,7 +181,7 @@ module _ (c mid : Core) (now : ℕ) (first : List Action) where
   handled-to input.FeedClosed t n h = inl (closed c mid first c cause.FeedClosed refl h)
   handled-to (input.ClientEnd place) t n h = inl (closed c mid first c (cause.ClientEnd place) refl h)
 
--- ---- behind the input no frame is taken up but behind the welcome
+-- ---- after the input no frame is taken up, except after the welcome
 
 unready : (st : Stage) → (is_connecting st ≡ true) ⊎ (st ≡ Shut) → st ≡ Ready → ⊥
 unready st (inl e) r = let f : false ≡ true = sym (ap is_connecting r) ∙ e in cc

@@ -51,13 +51,13 @@ pub record EndsWell (c c' : Core) (x : Input) (out : List Action) : Type 0 where
 abbrev pub StepsEndWell : Type 0
 StepsEndWell = (c c' : Core) (x : Input) (now : ℕ) (out : List Action) → is_shut c.stage ≡ false → Steps c x now c' out → EndsWell c c' x out
 
--- ---- the frames: each one that came was taken up or waits behind the others, and no other one
+-- ---- the frames: each one that came was taken up or waits after the others, and no other one
 
 abbrev pub comes_in : Input → ℕ
 comes_in (input.Frame bytes) = 1
 comes_in _ = 0
 
--- the connect is frame 0
+-- before the connect, which is frame 0, the next frame to answer has index 1
 abbrev pub IsNumbered : Core → Stage → Type 0
 IsNumbered c (Unconnected fresh) = c.next ≡ 1
 IsNumbered c _ = Unit {0}
@@ -69,7 +69,7 @@ pub record CountsOn (c c' : Core) (x : Input) : Type 0 where
   -- no frame waits while it is ready
   pub rested : c'.stage ≡ Ready → c'.waiting ≡ []
 
--- while the indices are of 64 bits
+-- while the indices stay within 64 bits
 abbrev pub StepsCount : Type 0
 StepsCount = (c c' : Core) (x : Input) (now : ℕ) (out : List Action) → is_shut c.stage ≡ false → IsNumbered c c.stage → next_frame c + comes_in x ≤ max_count → Steps c x now c' out
     → (is_shut c'.stage ≡ true) ⊎ CountsOn c c' x

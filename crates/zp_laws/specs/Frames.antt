@@ -8,7 +8,7 @@ use Rattle.zp_step.specs.Stages.{Core, Stage, Unconnected, Connecting, Ready, Ke
 
 -- ---- in a transcript
 
--- a frame with a header, whose index is of 64 bits
+-- frame i of a connection, which has a header; i is below 2^64 - 1
 pub record IsFrameAt (lines : List TranscriptLine) (conn i : ℕ) (bytes : List ℕ) : Type 0 where
   pub place : ℕ
   pub framed : placed_frame conn i lines ≡ Some (place, bytes)
@@ -20,14 +20,15 @@ pub record IsRequestAt (lines : List TranscriptLine) (conn i : ℕ) (xid : ℤ) 
   pub frame : IsFrameAt lines conn i bytes
   pub reads : read_request bytes ≡ Asks xid r
 
--- from this index on
+-- these are the frames from index i on
 abbrev pub AreFrames : List TranscriptLine → ℕ → ℕ → List (List ℕ) → Type 0
 AreFrames lines conn i [] = Unit {0}
 AreFrames lines conn i (f ∷ fs) = IsFrameAt lines conn i f × AreFrames lines conn (i + 1) fs
 
 -- ---- in a core
 
--- the index of the first frame that waits: the next one to answer, or the one behind it where that one was taken up
+-- the index of the first frame that waits: the next one to answer, or the one after it where that one was taken up; before the
+-- connect has come, 0
 abbrev pub waits_from : Stage → ℕ → ℕ
 waits_from (Unconnected fresh) n = 0
 waits_from (Connecting connect) n = n
@@ -38,7 +39,7 @@ waits_from _ n = n + 1
 abbrev pub next_frame : Core → ℕ
 next_frame c = waits_from c.stage c.next + length c.waiting
 
--- the frame at work is the next one of the transcript
+-- the frame at work, if there is one, is frame i of the transcript
 abbrev pub IsAtWork : List TranscriptLine → ℕ → ℕ → Stage → Type 0
 IsAtWork lines conn i (KeepingAlive bytes) = IsFrameAt lines conn i bytes
 IsAtWork lines conn i (Checking bytes) = IsFrameAt lines conn i bytes

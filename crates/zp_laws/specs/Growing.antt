@@ -1,4 +1,4 @@
--- What leaves an attached core where it stands: lines behind the transcript and revisions behind the store.
+-- What leaves an attached core where it stands: further lines of the transcript and further revisions of the store.
 use Rattle.std.specs.Prelude.{◌≡◌, ℕ, true, List, ◌++◌}
 use Rattle.ev_types.specs.Store.{Store}
 use Rattle.zk_transcript.specs.Legal.{is_legal}
@@ -12,7 +12,8 @@ pub record Grows (store store' : Store) (lines more : List TranscriptLine) (conn
   pub legal : is_legal lines ≡ true
   pub still_legal : is_legal (lines ++ more) ≡ true
   pub before : Precedes store store'
-  -- the request of a reply that waits keeps its line, or has none still; none behind it gets one
+  -- the request of a reply that waits keeps its line, or still has none; no request after the next one has a line, nor has the
+  -- next one where the core is ready
   pub own : (p : Pending) → c.stage ≡ Waiting p → own_update conn c.next (lines ++ more) ≡ own_update conn c.next lines
   pub turn : is_not_overtaken (lines ++ more) conn c.next ≡ true
   pub ahead : c.stage ≡ Ready → is_ahead (lines ++ more) conn c.next ≡ true

@@ -40,13 +40,13 @@ pub record IsEntryOf (lines : List TranscriptLine) (e : Entry) : Type 0 where
   pub number : e.number ≡ pos (state_at lines (place + 1)).updates
   pub triggers : e.triggers ≡ (state_at lines (place + 1)).triggers
 
--- no ask is out
+-- an attached connection takes entries while no ask is out
 abbrev pub takes_entries : Stage → Bool
 takes_entries Ready = true
 takes_entries (Waiting p) = true
 takes_entries _ = false
 
--- it is the next one, and is handed in where something is armed and no ask is out
+-- it is the next one, and is handed in where something is armed and entries are taken
 pub record IsTrueEntry (lines : List TranscriptLine) (c : Core) (e : Entry) : Type 0 where
   pub of : IsEntryOf lines e
   pub next : e.number ≡ c.cursor +ℤ pos 1
@@ -55,12 +55,13 @@ pub record IsTrueEntry (lines : List TranscriptLine) (c : Core) (e : Entry) : Ty
 
 -- ---- an answer
 
--- a store at an earlier time
+-- s may be u at an earlier time: each revision of s has the same keys in u
 pub record Precedes (s u : Store) : Type 0 where
   pub longer : length s.revisions ≤ length u.revisions
   pub same : (r : ℕ) → r ≤ length s.revisions → store_at u r ≡ store_at s r
 
--- the answer is as of the moment at which it was given: it is no later round of a view
+-- an answer in this stage shows the keys as they were when it was given: it is no later round of a view, which is read at the
+-- first one's revision
 abbrev pub is_first : Stage → Bool
 is_first (Checking bytes) = true
 is_first (Reading xid r v ws) = int_eq v.revision (pos 0)
@@ -72,7 +73,7 @@ pub record StoodAt (store : Store) (lines : List TranscriptLine) (conn : ℕ) (w
   pub stands : StandsFor (present store) (state_at lines looked)
   pub moment : IsMoment lines conn who w looked
 
--- the view that a stage holds is of a revision that the store had
+-- the view's revision is one that the store `before` had
 abbrev pub IsOfEarlier : View → Store → Type 0
 IsOfEarlier v before = (r : ℕ) → v.revision ≡ pos r → r ≤ length before.revisions
 
@@ -81,12 +82,12 @@ IsOfEarlierIn (Reading xid r v ws) before = IsOfEarlier v before
 IsOfEarlierIn (Committing xid r v p moment) before = IsOfEarlier v before
 IsOfEarlierIn _ before = Unit {0}
 
--- the kind of the update of a request that was planned at a moment
+-- the update of request i of c, planned at this time (in milliseconds)
 abbrev pub kind_for : Request → ℤ → ℕ → ℕ → ℕ → UpdateKind
 kind_for req.Close id c i now = kinds.Closed id c i
 kind_for _ id c i now = kinds.Asked c i now
 
--- the request at work has its line, right before the moment
+-- the request at work has its line, right before the moment; the store that carried it out stood for the state before that line
 pub record IsOwnLine (lines : List TranscriptLine) (conn : ℕ) (c : Core) (w : Walker) (before : Store) (request : Request) (moment : ℕ) (revision : ℤ) (looked : ℕ) : Type 0 where
   pub place : ℕ
   pub update : UpdateRec
@@ -98,7 +99,7 @@ pub record IsOwnLine (lines : List TranscriptLine) (conn : ℕ) (c : Core) (w : 
   pub stood : StandsFor (present before) (state_at lines place)
   pub planned : IsMoment lines conn c.who w place
 
--- a plan that was carried out has its line; and else the request at work has none
+-- a plan that was carried out has its line; otherwise the request at work has none
 abbrev pub IsOwn : List TranscriptLine → ℕ → Core → Walker → Store → ℕ → Stage → Answer → Type 0
 IsOwn lines conn c w before looked (Committing xid r v p moment) (answer.Txn revision true parts) = IsOwnLine lines conn c w before r moment revision looked
 IsOwn lines conn c w before looked stage a = own_update conn c.next lines ≡ None
@@ -119,7 +120,7 @@ pub record IsTrueAnswer (store : Store) (lines : List TranscriptLine) (conn : �
 
 -- ---- any input
 
--- a frame is the next one of the transcript
+-- the frame is the next one that the transcript shows
 pub record IsNextFrame (lines : List TranscriptLine) (conn : ℕ) (c : Core) (bytes : List ℕ) : Type 0 where
   pub place : ℕ
   pub framed : placed_frame conn (next_frame c) lines ≡ Some (place, bytes)

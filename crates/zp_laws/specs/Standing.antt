@@ -23,10 +23,10 @@ use Rattle.zp_step.specs.Replies.{is_due}
 use Rattle.zp_step.specs.Stages.{Core, Pending, Stage, Unconnected, Connecting, Ready, Reading, Committing, Waiting, seen_by}
 use Rattle.zp_laws.specs.Frames.{AreFrames, IsAtWork, IsFrameAt, waits_from}
 
--- ---- a moment at which an answer was given, for the next request of a walk
+-- ---- a moment as of which the next request of a walk may be answered
 
--- It is neither before that of the last reply, nor before the last update told, nor before the line of the frame or that of
--- the attachment.
+-- It is within the lines, not before the moment of the last reply, and after the last update told, the line of the frame and
+-- that of the attachment.
 pub record IsMoment (lines : List TranscriptLine) (conn : ℕ) (who : Who) (w : Walker) (looked : ℕ) : Type 0 where
   pub past : looked ≤ length lines
   pub later : w.moment ≤ looked
@@ -38,6 +38,7 @@ pub record IsMoment (lines : List TranscriptLine) (conn : ℕ) (who : Who) (w : 
 
 -- ---- what a stage holds
 
+-- nothing was seen yet
 abbrev pub IsNoView : View → Type 0
 IsNoView v = (v.revision ≡ pos 0) × (v.keys ≡ []) × (v.lists ≡ [])
 
@@ -55,7 +56,7 @@ pub record IsViewAt (store : Store) (lines : List TranscriptLine) (conn : ℕ) (
 abbrev pub IsForTree : Request → Type 0
 IsForTree r = plain_request no_watches r ≡ None
 
--- the plan was made on a view of a revision of the store
+-- the plan is a good one, made on a view of a revision of the store
 pub record IsBoundPlan (store : Store) (who : Who) (request : Request) (v : View) (p : Plan) (moment : ℕ) : Type 0 where
   pub number : ℕ
   pub revision : v.revision ≡ pos number
@@ -75,7 +76,7 @@ pub record IsReply (lines : List TranscriptLine) (conn : ℕ) (who : Who) (w : W
   pub told : (ws : Watches) → told_as_of (take looked lines) conn who.session (read_request bytes) ws (own_update conn w.next lines)
       ≡ Some (is_some p.ends, record { reply = p.answer; notices = (seen_by p.change ws).notices; watches = (seen_by p.change ws).watches })
 
--- neither the request at an index nor one behind it was carried out
+-- neither request i nor a later one was carried out
 abbrev pub is_ahead : List TranscriptLine → ℕ → ℕ → Bool
 is_ahead lines conn i = list_all (λ l. is_below i (index_shown conn l)) lines
 
@@ -98,6 +99,7 @@ pub record IsAt (lines : List TranscriptLine) (c : Core) : Type 0 where
   pub zxid : c.zxid ≡ update.zxid
   pub cursor : c.cursor ≡ pos (state_at lines (line + 1)).updates
 
+-- the walker has come as far as the core
 pub record Matches (lines : List TranscriptLine) (c : Core) (w : Walker) : Type 0 where
   pub zxid : w.zxid ≡ c.zxid
   pub since : w.since ≡ after_update c.zxid lines
@@ -111,11 +113,11 @@ pub record Stands (store : Store) (lines : List TranscriptLine) (conn : ℕ) (c 
   pub matches : Matches lines c w
   pub work : IsAtWork lines conn c.next c.stage
   pub waiting : AreFrames lines conn (waits_from c.stage c.next) c.waiting
-  -- no request behind the next one was carried out
+  -- no request after the next one was carried out
   pub turn : is_not_overtaken lines conn c.next ≡ true
   pub knows : Knows store lines conn c w looked c.stage
 
--- a closed core stands nowhere any more
+-- of a closed core nothing is said
 abbrev pub StandsOpen : Bool → Store → List TranscriptLine → ℕ → Core → Walker → ℕ → Type 0
 StandsOpen true store lines conn c w looked = Stands store lines conn c w looked
 StandsOpen false store lines conn c w looked = Unit {0}

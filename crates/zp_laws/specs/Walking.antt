@@ -24,7 +24,7 @@ sent_in (action.Close why) = None
 abbrev pub sends : List Action → List (List ℕ)
 sends out = filter_map sent_in out
 
--- fresh and in turn, some choices lead from a walker to another, and give these packets, none later than the last line
+-- some choices, fresh and in turn, lead from one walker to another and give these packets, none of them due after the last line
 pub record Strides (lines : List TranscriptLine) (conn : ℕ) (id : ℤ) (w walker : Walker) (out : List Action) : Type 0 where
   pub choices : List Choice
   pub due : List Due
@@ -36,7 +36,7 @@ pub record Strides (lines : List TranscriptLine) (conn : ℕ) (id : ℤ) (w walk
 
 -- ---- the law
 
--- a core that is at work on a request which has no line yet
+-- in a stage that is ready or at work on a request, neither the next request nor a later one has a line
 abbrev pub IsAheadIn : List TranscriptLine → ℕ → Core → Stage → Type 0
 IsAheadIn lines conn c (Waiting p) = Unit {0}
 IsAheadIn lines conn c (Unconnected fresh) = Unit {0}
@@ -69,7 +69,7 @@ pub record IsAskedFor (store : Store) (lines : List TranscriptLine) (conn : ℕ)
   pub out : asked_of c'.who c'.stage ≡ Some a
   pub walker : Walker
   pub stands : Stands store lines conn c' walker looked
-  -- neither the request that is asked for nor one behind it has its line
+  -- neither the request that is asked for nor a later one has a line
   pub ahead : IsAheadIn lines conn c' c'.stage
 
 abbrev pub PlansAreBound : Type 0

@@ -55,7 +55,7 @@ pub record IsRefusal (c c' : Core) (x : Input) (out : List Action) : Type 0 wher
 
 -- ---- the welcome
 
--- the line of the attachment stands at this place, and the frames that wait are those behind the connect, none of which was
+-- the line of the attachment stands at this place, and the frames that wait are those after the connect, none of which was
 -- carried out
 pub record IsAttachment (lines : List TranscriptLine) (conn : ℕ) (c : Core) (number zxid : ℤ) (place : ℕ) : Type 0 where
   pub legal : is_legal lines ≡ true

@@ -21,26 +21,27 @@ pub fn sends_are_walks()
     ensures { SendsAreWalks }
 {}
 
-/// A step sends packets, and then it asks once, or closes, or neither. It closes exactly where the connection is shut behind
-/// it. What it asks is what is out then; where it asks nothing, nothing is out, or what was out before an input that is no
-/// answer and no failure.
+/// A step sends packets, and then it asks once, or closes, or neither. It closes exactly where the connection is shut after
+/// it. What it asks is what is out then. Where it asks nothing and stays open, nothing is out, or what was out before stays so:
+/// then the input is no answer and no failure.
 pub fn steps_end_well()
     ensures { StepsEndWell }
 {}
 
-/// A plan is made at the moment of the step that asks its transaction; a step that makes none asks nothing for the plan that is out.
+/// A plan is made at the time of the step that asks its transaction. After a step the plan that is out, if one is, was made in it,
+/// or the stage is what it was and the step asked nothing.
 pub fn plans_are_made_now()
     ensures { PlansAreMadeNow }
 {}
 
-/// Each frame that came was taken up or waits behind the others, and no other one: a step that leaves the connection open
-/// raises the index of the next frame by one where its input is a frame, and otherwise leaves it. None waits while it is ready.
+/// Each frame that came was taken up or waits after the others, and no other one: a step that leaves the connection open raises
+/// the index of the next frame to come by one where its input is a frame, and otherwise leaves it. None waits while it is ready.
 pub fn steps_count()
     ensures { StepsCount }
 {}
 
 /// While a connection has no session, a step sends nothing, or the refusal and ends it, or the welcome; and what it sends
-/// behind the welcome is a walk from the attachment on.
+/// after the welcome is a walk from the attachment on.
 pub fn connects_are_answered()
     ensures { ConnectsAre }
 {}

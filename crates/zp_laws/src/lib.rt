@@ -1,11 +1,11 @@
-//! What holds of each step of a connection (`zp_step`), for those who put connections beside each other over one store.
+//! What holds of each step of a connection (`zp_step`), for a proof about many connections over one store.
 //!
 //! A transcript of many connections is a run of the service if each connection's packets are a walk of it, and each update is
-//! one that the service could make. Both are shown step by step, from what one connection knows: where its core *stands*
-//! (`Stands`), that is, at which walker of its conversation, with which frames, and what its stage holds is true of the
-//! store. The laws say that a step leads from there to where it stands next, by moves of the walk; that what it asks is bound
-//! to the store; and that it keeps each frame. Their premises are where the core stands and that the input is true; none is an
-//! assumption on an etcd, on histories or on plans, which are definitions and theorems of the crates below.
+//! one that the service could make. Both are shown step by step, from what is known of one connection: where its core *stands*
+//! (`Stands`), that is, at which walker of its conversation and with which frames, and that what its stage holds is true of
+//! the store. The laws say that a step leads from there to where the core stands next, by moves of the walk; that what it asks is
+//! bound to the store; and that it loses no frame. Their premises are that the core stands somewhere and that the input is true.
+//! None assumes anything of etcd, of histories or of plans: those are definitions and theorems of the crates below.
 //!
 //! In `specs/`, in reading order:
 //!
@@ -14,7 +14,7 @@
 //! - `Inputs`: which inputs are true of the store and of the transcript;
 //! - `Walking`: a step is a walk (`SendsAreWalks`), and what it asks is bound (`PlansAreBound`);
 //! - `Ending`: the order of its actions (`StepsEndWell`), and its frames (`StepsCount`);
-//! - `Planning`: the moment of a plan (`PlansAreMadeNow`);
+//! - `Planning`: the time of a plan (`PlansAreMadeNow`);
 //! - `Welcomes`: a step without a session (`ConnectsAre`);
 //! - `Growing`: what leaves a core where it stands (`StandingLasts`);
 //! - `Honest`: an etcd that keeps its guarantees shows records.
