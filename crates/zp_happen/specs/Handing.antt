@@ -19,8 +19,8 @@ use Rattle.zp_happen.specs.StepOutcomes.{acts_all, reap_acts, ended_by, leaves}
 
 -- ---- to a connection
 
--- connection c is handed this input. If it closes, the lines `behind`, of frames that arrived with it and come later, stand before
--- its `close` line
+-- connection c is handed this input. If it closes, these lines of later frames, which arrived with this one, stand before its
+-- `close` line
 pub record Handed (c : ℕ) (behind : List TranscriptLine) (w : World) (x : Input) (w' : World) : Type 0 where
   pub conn : Conn
   pub core : Core

@@ -138,7 +138,7 @@ acts-within w w' c k a d = elim (either-number d c) [
 
 -- ---- what is left of it
 
--- the world behind a step: c is this actor, with this flight
+-- the world after a step: c is this actor, with this flight
 pub leaves-acts : (w w' : World) (c : ℕ) (x : Conn) (actor : Actor) (o : StepOutcome) → conn_at c w ≡ Some x → w' ≡ leaves c w x actor o → list_all (is_own c) o.lines ≡ true → Whole w' → IsKnownAs w.store (w.lines ++ o.lines) c (record x { actor = actor; flight = o.flight }) actor → (IsInConnection w.lines c → IsInConnection (w.lines ++ o.lines) c) → Acts w w' c
 leaves-acts w w' c x actor o was is own whole known within = record {
   whole = whole;

@@ -50,7 +50,7 @@ acts-accounted w w' c k a = record { whole = a.whole; known = acts-known w w' c 
 
 -- ---- a frame is shown and handed in
 
--- what was done behind the line of the frame was done behind the world before it
+-- who acts once the frame's line was added acts from the world before that
 acts-shown : (w w' : World) (c : ℕ) (x : Conn) (frame : List ℕ) → conn_at c w ≡ Some x → x.frames < max_count → Acts (shown_frame c w x frame) w' c → Acts w w' c
 acts-shown w w' c x frame there small a = record {
   whole = a.whole;
@@ -147,7 +147,7 @@ frames-accounted c w w' x (f ∷ fs) there small count k (y, mid, found, hd, res
     go true later r = later a.now a.there (acts-accounted w mid c k a) r
     go false later r = subst IsAccounted (sym r) (acts-accounted w mid c k a)
 
--- ---- a length out of range behind them
+-- ---- a length out of range after them
 
 ends-badly : (c : ℕ) (w w' : World) (place : ℕ) (bad : Option ℤ) → EndsBadly c w place bad w' → IsAccounted w → IsAccounted w'
 ends-badly c w w' place None h k = subst IsAccounted (sym h) k

@@ -1,4 +1,4 @@
--- Bytes of a client arrive: each frame is shown, and handed to its connection, which takes it up, puts it behind the others, or
+-- Bytes of a client arrive: each frame is shown, and handed to its connection, which takes it up, puts it after those that wait, or
 -- ends. A length out of range ends it.
 use Rattle.zp_laws.proofs.Steps.{frames-push, knows-still}
 use Rattle.zp_whole.proofs.Closing.{shown-but}
@@ -170,7 +170,7 @@ module _ (c c' : Core) (bytes : List ℕ) (now : ℕ) where
       let s = steps-open c c' (input.Frame bytes) now out (busy-open c.stage busy) h in
       subst (Arrived c c' bytes) (sym s.joined) (settled busy s.mid s.first s.later (has_header (read_request bytes)) refl (comes-in c.stage s.mid s.first busy s.handled) s.goes)
 
--- ---- it waits behind the others
+-- ---- it waits after the others
 
 module _ (s : Store) (lines : List TranscriptLine) (c : ℕ) (core : Core) (bytes : List ℕ) where
   own-queued : (w : Walker) (before : Store) (looked : ℕ) (st : Stage) (a : Answer) → IsOwn lines c core w before looked st a → IsOwn lines c (queued core bytes) w before looked st a

@@ -64,7 +64,7 @@ use Rattle.zs_session.specs.declared.connect.Phase.TheVariants.{Attaching, Creat
 use Rattle.zs_session.specs.declared.connect.Phase.{Phase}
 use Rattle.zx_base.proofs.Options.{none_some, some_is}
 
--- ---- the session behind its line
+-- ---- the session after its line
 
 session-new : (lines : List TranscriptLine) (s : State) (z id : ℤ) (c : ℕ) → session_at id (updated lines s z (NewSession id c)) ≡ Some (new_session (opening c lines) (connect c lines) c z)
 unfolding updated
@@ -166,7 +166,7 @@ module _ (s u : Store) (lines : List TranscriptLine) (c : ℕ) (core : Core) (x 
   bound-at : (p : Phase) → x.phase ≡ p → IsBoundAs s lines (kind_of_connect c x p) a.ask
   bound-at p e = connect-bound s lines c x awaiting p a.ask (subst (RestsOn s (after lines).zxid x.request) e out.rests) (ap (asked_in x) (sym e) ∙ out.asked)
 
-  -- the connection behind it
+  -- the connection after that
   abbrev Carries_to : List TranscriptLine → Type 0
   Carries_to ls = IsConnecting u ls c core x (Some (Carried b))
 

@@ -1,4 +1,4 @@
--- The entry behind a connection's cursor is true of the transcript; and an update that is carried out adds its own entry.
+-- The entry after a connection's cursor is true of the transcript; and an update that is carried out adds its own entry.
 use Rattle.std.proofs.Common.{◌≡◌, ℕ, zero, suc, ◌+◌, List, [], ◌∷◌, ◌++◌, length, refl, sym, ap, ◌∙◌, subst, arith, Bool, true, false, ℤ, pos, negsuc, inl, inr}
 use Rattle.std.specs.Prelude.{Option, Some, None, ◌+ℤ◌, slice_get, option_and_then, if◌then◌else◌, MatchBool}
 use Rattle.std.specs.Ordering.{int_eq}

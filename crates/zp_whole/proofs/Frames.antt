@@ -1,4 +1,4 @@
--- A frame comes, in whatever stage its connection is: what is known of the connection behind it.
+-- A frame comes, in whatever stage its connection is: what is known of the connection after it.
 use Rattle.ev_types.specs.Store.{Store}
 use Rattle.std.proofs.Common.{Bool, List, [], ap, append-nil, arith, false, inl, inr, length, refl, subst, sym, true, ℕ, ℤ, ◌++◌, ◌+◌, ◌∙◌, ◌∷◌, ◌≡◌, ◌≤◌}
 use Rattle.std.proofs.lemmas.Bool.Decides.{nat_tests}
@@ -80,7 +80,7 @@ lined-frame lines c n z bytes k = record {
         both-off true = refl
         both-off false = refl
 
--- ---- it waits behind the others
+-- ---- it waits after the others
 
 stage-queued : (s : Store) (lines : List TranscriptLine) (c : ℕ) (core : Core) (bytes : List ℕ) (f : Option Flight) (st : Stage) → is_busy st ≡ true → core.stage ≡ st → IsFrameAt lines c (next_frame core) bytes → IsInStage s lines c core f st → IsInStage s lines c (queued core bytes) f st
 stage-queued s lines c core bytes f (Connecting x) busy e came k = record {

@@ -1,4 +1,4 @@
--- The world behind the answer to a connection without a session.
+-- The world after the answer to a connection without a session.
 use Rattle.ev_types.specs.declared.answer.Answer.{Answer}
 use Rattle.ev_types.specs.declared.ask.Ask.{Ask}
 use Rattle.std.proofs.Common.{List, [], ap, append-nil, append_assoc, arith, false, inl, inr, length, pos, refl, subst, sym, true, ℕ, ℤ, ◌++◌, ◌+◌, ◌<◌, ◌∙◌, ◌∷◌, ◌≡◌, ◌≤◌}
@@ -96,7 +96,7 @@ first-packet c n bytes ps = ap (λ b. if b then (n, bytes) ∷ packets_from c (n
 
 -- ---- it asks
 
--- the connect of a connection to which nothing was sent, and the frames behind it
+-- the connect of a connection to which nothing was sent, and the frames after it
 pub record IsConnectAt (lines : List TranscriptLine) (c : ℕ) (core : Core) (x : Connect) : Type 0 where
   pub untouched : IsUntouched lines c x.fresh
   pub next : core.next ≡ 1

@@ -1,5 +1,5 @@
 -- An open connection of which nothing may still be carried out takes an input, and its conversation goes on by what it sends: the
--- world behind its step is whole.
+-- world after its step is whole.
 use Rattle.ev_types.specs.Store.{Store}
 use Rattle.ev_types.specs.declared.ask.Ask.{Ask}
 use Rattle.std.proofs.Common.{List, [], ap, append-nil, append_assoc, arith, false, inl, inr, length, pos, refl, subst, sym, true, ℕ, ℤ, ◌++◌, ◌+◌, ◌∙◌, ◌∷◌, ◌≡◌, ◌≤◌}
@@ -70,8 +70,8 @@ core-same p q e = cc
 none-stays : (w w' : Who) (st : Stage) → w' ≡ w → asked_of w st ≡ None → asked_of w' st ≡ None
 none-stays w w' st e h = ap (λ q. asked_of q st) e ∙ h
 
--- What a step sends goes on the connection's conversation, or begins it; the core stands where that leads, and what the step asks is
--- what is out then. These packets are what it sends.
+-- What a step sends goes on with the connection's conversation, or begins it; the core stands where that leads, and what the step
+-- asks is what is out then. These packets are what it sends.
 pub record GoesOn (w : World) (c : ℕ) (next : Core) (out : List Action) (ls : List TranscriptLine) : Type 0 where
   pub place : ℕ
   pub who : Who

@@ -79,7 +79,7 @@ closed-same w w' c e t = (t.0, e ∙ t.1, t.2)
 pub true-false : true ≡ false → ⊥
 true-false e = cc
 
--- what is left of a connection is left behind its end
+-- an open connection has no strays
 pub no-stray : (w : World) (c : ℕ) (x : Conn) → ((k d : ℕ) (a : Asking) → air w (Left k) ≡ Some a → asker_in a ≡ Some d → IsClosedAt w d) → conn_at c w ≡ Some x → is_closed x.actor ≡ false → (k : ℕ) (a : Asking) → air w (Left k) ≡ Some a → asker_in a ≡ Some c → ⊥
 no-stray w c x left e opens k a g r =
     let t = left k c a g r in

@@ -50,7 +50,7 @@ use Rattle.zx_base.proofs.Options.{none_some, some_is}
 
 -- ---- its ask has landed
 
--- what was done behind that was done behind the world before it
+-- who acts once its ask has landed acts from the world before that
 acts-landed : (w w' : World) (c : ℕ) (x : Conn) → conn_at c w ≡ Some x → Acts (with_conn w c (record x { flight = None })) w' c → Acts w w' c
 acts-landed w w' c x there a = record {
   whole = a.whole;

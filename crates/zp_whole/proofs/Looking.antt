@@ -1,4 +1,4 @@
--- The moment that is now may be that of an answer; and a request without a line, or with the line that was just added.
+-- The moment after all lines may be that of an answer; and a request without a line, or with the line that was just added.
 use Rattle.std.proofs.Common.{◌≡◌, ℕ, zero, suc, ◌+◌, ◌≤◌, ◌<◌, List, [], ◌∷◌, ◌++◌, length, take, refl, sym, ap, ◌∙◌, arith, Bool, true, false, ℤ}
 use Rattle.std.specs.Prelude.{Option, Some, None, ◌&&◌, ◌==◌, slice_get}
 use Rattle.std.proofs.lemmas.Bool.{and_parts}

@@ -177,7 +177,7 @@ reaps-to store reap (answer.Range r f) k phase step h = absurd h
 reaps-to store reap (answer.Granted r i t) k phase step h = absurd h
 reaps-to store reap (answer.Alive r i t) k phase step h = absurd h
 
--- ---- the world behind it
+-- ---- the world after its answer
 
 -- what it asks is an update where it removes, and bound
 reap-bound : (store : Store) (lines : List TranscriptLine) (id : ℤ) (phase : Phase) (q : Ask) → IsReapAsk store id phase q → IsBoundAs store lines (kind_of_reap id phase) q

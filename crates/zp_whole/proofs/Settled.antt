@@ -39,7 +39,7 @@ same-due : (core : Core) (p : Pending) (b : Bool) → core.cursor ≡ p.number �
 same-due core p true e = refl
 same-due core p false e = (Decides-int_eq core.cursor p.number).1 e
 
--- where none is behind its cursor, the cursor is at the last one
+-- where no entry comes after its cursor, the cursor is at the last one
 at-end : (lines : List TranscriptLine) (entries : List Entry) (cursor line looked : ℕ) → AreEntries lines entries → entry_behind entries (pos cursor) ≡ None → cursor ≡ (state_at lines (line + 1)).updates
     → (state_at lines (line + 1)).updates ≤ (state_at lines looked).updates → (state_at lines looked).updates ≤ (after lines).updates → (state_at lines looked).updates ≡ cursor
 at-end lines entries cursor line looked all none is up most = elim (slice_get_cases entries cursor).1 [

@@ -1,5 +1,5 @@
--- Whatever may be carried out behind a line of a script could be before it, or its plan was made at the clock of now; and so it is
--- with each update that the line added.
+-- What may be carried out after a line of a script could be carried out before it, or its plan was made at the clock's time now; and
+-- so it is with each update that the line added.
 use Rattle.zp_happen.specs.StepOutcomes.{quiet, acts_all}
 use Rattle.zp_happen.specs.Kinds.{kind_asked}
 use Rattle.zp_whole.proofs.Running.{answers, carries, enters}
@@ -75,7 +75,7 @@ use Rattle.zt_text.specs.declared.script.Happening.TheVariants as line
 use Rattle.zt_text.specs.declared.script.Happening.{Happening}
 use Rattle.zx_base.proofs.Options.{none_some, some_is}
 
--- ---- an update's moment
+-- ---- an update's time
 
 -- it is the plan of a request that was made now, if of any
 abbrev pub IsOfNow : ℕ → Option UpdateKind → Type 0

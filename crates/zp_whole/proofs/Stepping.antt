@@ -1,4 +1,4 @@
--- A connection takes a step: what is known of it behind the step, and that it acted by itself.
+-- A connection takes a step: what is known of it after the step, and that it acted by itself.
 use Rattle.std.proofs.Common.{Bool, List, [], ap, append_assoc, arith, false, inl, inr, refl, subst, sym, true, ℕ, ℤ, ◌++◌, ◌+◌, ◌∙◌, ◌∷◌, ◌≡◌, ◌≤◌}
 use Rattle.std.specs.List.{list_all}
 use Rattle.std.specs.Prelude.{Option, Some, if◌then◌else◌}

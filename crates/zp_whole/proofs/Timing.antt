@@ -1,4 +1,4 @@
--- The moment of each update is the script's clock at a line between that of its frame and its own.
+-- The time of each request's update is the script's clock at a line between that of its frame and its own.
 use Rattle.ev_types.specs.Store.{Store}
 use Rattle.ev_types.specs.declared.ask.Ask.TheVariants as ask
 use Rattle.ev_types.specs.declared.ask.Ask.{Ask}
@@ -53,7 +53,7 @@ still-between ticks more first last now b =
     let short : b.0 < length ticks = slice_get_within ticks b.0 b.1 b.2 in
     (b.0, b.1, slice_get-front ticks more b.0 short ∙ b.2, b.3, b.4, subst (λ (n : ℕ). n ≤ last) (sym (lines_before-front ticks more b.0 (omega (arith, short)))) b.5)
 
--- a line of the script left this clock, behind a line of the transcript
+-- a line of the script left this clock, after the line at `first` of the transcript
 abbrev pub IsTickAt : List Tick → ℕ → ℕ → Type 0
 IsTickAt ticks first now = (k : ℕ) × (t : Tick) × (slice_get ticks k ≡ Some t) × (t.clock ≡ now) × (first < t.lines)
 
@@ -70,7 +70,7 @@ frame_place-bound c i ls first f = go (placed_frame c i ls) refl f
     go None e t = absurd (none_some t)
     go (Some x) e t = let b = first_place-bound (frame_shown c i) 0 ls x e in omega (arith, b, some_is t)
 
--- ---- what holds of the clocks behind a line of the script
+-- ---- what holds of the clocks after a line of the script
 
 pub record IsTimed (ticks : List Tick) (w : World) : Type 0 where
   pub asked : (o : Source) (x : Asking) (c i m first : ℕ) → air w o ≡ Some x → x.kind ≡ Some (Asked c i m) → frame_place c i w.lines ≡ Some first → IsTickAt ticks first m

@@ -1,4 +1,4 @@
--- The packets of each connection stand within it: the answer to the connect first, none behind the close.
+-- The packets of each connection stand within it: the answer to the connect first, none after the close.
 use Rattle.std.proofs.Common.{Bool, List, [], ap, append-nil, append_assoc, arith, false, length, refl, subst, suc, sym, true, ℕ, ℤ, ◌++◌, ◌+◌, ◌<◌, ◌∙◌, ◌∷◌, ◌≡◌, ◌≤◌}
 use Rattle.std.proofs.lemmas.Bool.Decides.{nat_tests}
 use Rattle.std.proofs.lemmas.List.Elements.{All-cons, All-head, All-nil, All-tail}
@@ -156,7 +156,7 @@ within-shown lines c z (l ∷ ls) (f, more) k =
     subst (λ m. IsInConnection m c) (append_assoc lines (l ∷ []) ls)
     (within-shown (lines ++ l ∷ []) c z ls more (subst (λ m. IsInConnection (lines ++ m ∷ []) c) (sym f.is) (within-frame lines c f.index z f.bytes k)))
 
--- its end, behind frames that came at once
+-- its end, after the frames that came with the last one
 pub within-end : (lines : List TranscriptLine) (c : ℕ) (z : ℤ) (behind : List TranscriptLine) (end : Ended) → AreShown c z behind → IsInConnection lines c → IsInConnection (lines ++ (behind ++ Close c end ∷ [])) c
 within-end lines c z behind end h k = subst (λ l. IsInConnection l c) (append_assoc lines behind (Close c end ∷ [])) (within-close (lines ++ behind) c end (within-shown lines c z behind h k))
 
@@ -183,7 +183,7 @@ module _ (lines : List TranscriptLine) (c n : ℕ) (ps : List (List ℕ)) (lined
   attach-same : attach_of c (lines ++ said c ps) ≡ attach_of c lines
   attach-same = attach-speech c c lines (said c ps) (said-speech c ps)
 
-  -- behind the welcome
+  -- after the welcome
   pub within-more : (a : ℕ × Attachment) (p : Due) (qs : List Due) → attach_of c lines ≡ Some a → packets c lines ≡ p ∷ qs → IsInConnection lines c → IsInConnection (lines ++ said c ps) c
   within-more a p qs attached sent k = record {
     silent = λ e. absurd (is-open e);

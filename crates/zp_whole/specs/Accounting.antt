@@ -14,16 +14,16 @@ pub record IsAccounted (w : World) : Type 0 where
   pub whole : Whole w
   pub known : Known w
   pub entries : AreEntries w.lines w.entries
-  -- what each connection was sent stands within it
+  -- what each connection was sent begins with the answer to its connect, and stands before its close
   pub within : (c : ℕ) → IsInConnection w.lines c
 
 -- ---- what a script has to be for that
 
--- A connection offers a number that sessions have, and a password of 16 bytes. A line of a text that is read does.
+-- A connection offers a number that sessions have, and a password of 16 bytes. So does each line that is read from a text.
 abbrev pub OffersSession : Happening → Type 0
 OffersSession (line.Open c p id passwd) = IsOffer (record { id = id; passwd = passwd })
 OffersSession _ = Unit {0}
 
--- each connection has had fewer frames than can be counted
+-- each connection has had fewer than 2^64 - 1 frames
 pub record IsWithinCounts (w : World) : Type 0 where
   pub frames : (c : ℕ) (x : Conn) → conn_at c w ≡ Some x → x.frames < max_count

@@ -127,12 +127,12 @@ IsBound s lines (Asked c i now) t = IsBoundRequest s lines c i (Asked c i now) t
 IsBound s lines (Closed sid c i) t = IsBoundRequest s lines c i (Closed sid c i) t
 IsBound s lines (Reaped id) t = IsBoundReap s id t
 
--- whether its guards hold or not
+-- it only reads, whether its guards hold or not
 pub record IsReading (t : TxnReq) : Type 0 where
   pub success : only_reads t.success ≡ true
   pub failure : only_reads t.failure ≡ true
 
--- an update is a bound transaction, whose failure only reads; and what is no update changes no key
+-- an update is a bound transaction that only reads where a guard fails; what is no update changes no key
 abbrev pub IsBoundAs : Store → List TranscriptLine → Option UpdateKind → Ask → Type 0
 IsBoundAs s lines (Some kind) (ask.Txn t) = IsBound s lines kind t × (only_reads t.failure ≡ true)
 IsBoundAs s lines (Some kind) _ = ⊥

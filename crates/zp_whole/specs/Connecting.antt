@@ -40,7 +40,7 @@ pub record IsOffer (fresh : Fresh) : Type 0 where
   pub most : fresh.id ≤ℤ max_long
   pub long : length fresh.passwd ≡ 16
 
--- nothing was sent to it, and nothing was carried out for it
+-- nothing was sent to it, none of its requests was carried out, and its `open` line shows this offer
 pub record IsUntouched (lines : List TranscriptLine) (c : ℕ) (fresh : Fresh) : Type 0 where
   pub silent : packets c lines ≡ []
   pub turn : is_ahead lines c 1 ≡ true
@@ -91,13 +91,13 @@ pub record IsOwnSession (lines : List TranscriptLine) (c : ℕ) (id timeout : �
   pub timeout_is : session.timeout ≡ timeout
   pub passwd_is : session.passwd ≡ passwd
 
--- a transaction of a session that was carried out has its line; and else the connection has none
+-- a transaction that attached a session has its line; otherwise the connection has no own line
 abbrev pub HasOwnLine : List TranscriptLine → ℕ → Connect → Phase → Answer → Type 0
 HasOwnLine lines c x Creating (answer.Txn revision true parts) = IsOwnSession lines c x.fresh.id (timeout_in x) x.fresh.passwd revision (number_shown parts)
 HasOwnLine lines c x (Attaching seen life) (answer.Txn revision true parts) = IsOwnSession lines c x.request.session life.timeout life.passwd revision (number_shown parts)
 HasOwnLine lines c x phase a = attach_of c lines ≡ None
 
--- it was carried out at this moment, behind the connect's line
+-- what the phase asks was carried out at the moment `looked`, after the connect's line
 pub record IsConnectAnswer (store : Store) (lines : List TranscriptLine) (c place : ℕ) (x : Connect) (a : Answer) : Type 0 where
   pub asked : Ask
   pub out : asked_in x x.phase ≡ Some asked
@@ -108,7 +108,7 @@ pub record IsConnectAnswer (store : Store) (lines : List TranscriptLine) (c plac
   pub looked : ℕ
   pub behind : place < looked
   pub within : looked ≤ length lines
-  -- no later update has a lesser zxid
+  -- the last zxid has not fallen since
   pub risen : (state_at lines looked).zxid ≤ℤ (after lines).zxid
   pub stands : StandsFor (present then_store) (state_at lines looked)
   pub sound : IsSound (state_at lines looked)
@@ -117,7 +117,7 @@ pub record IsConnectAnswer (store : Store) (lines : List TranscriptLine) (c plac
 
 -- ---- both
 
--- what the phase asks, which is carried out at any later time
+-- what the phase asks, which may be carried out at any later time
 pub record IsConnectOut (store : Store) (lines : List TranscriptLine) (c : ℕ) (x : Connect) (a : Asking) : Type 0 where
   pub asked : asked_in x x.phase ≡ Some a.ask
   pub kind : a.kind ≡ kind_of_connect c x x.phase

@@ -21,7 +21,7 @@ use Rattle.zp_whole.specs.Holding.{Holds, Left, Talks, air, asker_in}
 
 -- ---- what is out, or was carried out and waits to be delivered
 
--- it is what the stage asks, for a request that has no line yet
+-- it is what the stage asks, and neither the request at work nor a later one has a line
 pub record IsOut (lines : List TranscriptLine) (c : ℕ) (core : Core) (x : Asking) : Type 0 where
   pub asked : asked_of core.who core.stage ≡ Some x.ask
   pub kind : x.kind ≡ kind_in_stage c core core.stage
@@ -63,9 +63,9 @@ HasSmallFrames lines c = (i : ℕ) (bytes : List ℕ) → frame c i lines ≡ So
 pub record Whole (w : World) : Type 0 where
   pub holds : Holds w
   pub serving : (c : ℕ) (x : Conn) (core : Core) → conn_at c w ≡ Some x → x.actor ≡ Connection core → is_served core.stage ≡ true → IsServing w.store w.lines c core x.flight
-  -- one that has closed keeps no core
+  -- a connection that is shut keeps no core
   pub unshut : (c : ℕ) (x : Conn) (core : Core) → conn_at c w ≡ Some x → x.actor ≡ Connection core → is_shut core.stage ≡ false
-  -- what is out of a connection is its own, and what is left of one is left behind its end
+  -- an update that is out was asked by the connection for which it is made; where it is a stray, that connection has closed
   pub own : (c d : ℕ) (x : Conn) (a : Asking) → conn_at c w ≡ Some x → x.flight ≡ Some (Out a) → asker_in a ≡ Some d → d ≡ c
   pub left : (k c : ℕ) (a : Asking) → air w (Left k) ≡ Some a → asker_in a ≡ Some c → IsClosedAt w c
   pub small : (c : ℕ) → HasSmallFrames w.lines c

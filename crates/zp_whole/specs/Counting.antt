@@ -8,7 +8,7 @@ use Rattle.zp_laws.specs.Ending.{IsNumbered}
 use Rattle.zp_laws.specs.Frames.{next_frame}
 use Rattle.zp_step.specs.Stages.{Core, Ready, max_count}
 
--- it has its line where it opened and no `close` line, and no frame from this index on has a line
+-- it has its `open` line and no `close` line, and no frame from index `frames` on has a line
 pub record IsLined (lines : List TranscriptLine) (c frames : ℕ) : Type 0 where
   pub offer : ℤ × List ℕ
   pub opened : opening c lines ≡ Some offer

@@ -10,15 +10,16 @@ pub record IsOneHistory (lines : List TranscriptLine) : Type 0 where
   pub legal : is_legal lines ≡ true
   -- each request is carried out at most once, and those of a connection in order
   pub ordered : is_ordered lines ≡ true
+  -- each frame's line shows the zxid of the last update before it
   pub shown : IsShownFresh lines
-  -- behind the welcome: some choices, fresh and in turn, give the packets, each not before its due place
+  -- after the welcome: some choices, fresh and in turn, give the packets, none of which stands before its due place
   pub walks : (c k : ℕ) (a : Attachment) → attach_of c lines ≡ Some (k, a) → IsWalk lines c a.session a.zxid (k + 1) (later_packets c lines)
 
--- What every run of a script gives, where its lines left these clocks: one history, at moments of the script, and each connection is
--- served, whatever became of it. That is, it was sent first the answer to its connect, behind a welcome a walk from its attachment
--- on, and nothing behind its close.
+-- What every run of a script gives, where its lines left these ticks: one history, made at times of the script's clock, in which
+-- each connection is served, whatever became of it. That is, it was sent first the answer to its connect, after a welcome a walk
+-- from its attachment on, and nothing after its close.
 pub record IsServedRun (ticks : List Tick) (lines : List TranscriptLine) : Type 0 where
   pub history : IsOneHistory lines
-  -- the moment of an update is the clock's between its frame and itself
+  -- the time of a request's update is one of the clock's between its frame and itself
   pub punctual : IsPunctual ticks lines
   pub served : (c : ℕ) → IsServed lines c

@@ -21,7 +21,7 @@ use Rattle.zp_whole.specs.Bounds.{IsBoundAsk}
 
 -- ---- what may still be carried out
 
--- what is out of a connection or a reaper, and the strays (counted from 0)
+-- where an ask that may still be carried out is: out of connection or reaper c, or stray k (counted from 0)
 pub data Source : Type 0 where
   Of : (c : ℕ) → Source
   Left : (k : ℕ) → Source
@@ -76,7 +76,7 @@ asker_in x = option_and_then made_for x.kind
 
 -- ---- conversations
 
--- some choices, fresh and in turn, lead from the attachment to this walker, and give the packets behind the welcome
+-- some choices, fresh and in turn, lead from the attachment to this walker, and give the packets after the welcome
 pub record Talks (lines : List TranscriptLine) (c k : ℕ) (a : Attachment) (w : Walker) : Type 0 where
   pub choices : List Choice
   pub due : List Due
@@ -85,7 +85,7 @@ pub record Talks (lines : List TranscriptLine) (c k : ℕ) (a : Attachment) (w :
   pub fresh : are_fresh lines c 1 choices ≡ true
   pub in_turn : are_in_turn lines c 1 choices ≡ true
 
--- what may still be carried out of a connection is its next request: it has no line and no reply, nor has one behind it
+-- request i, which may still be carried out, has no reply yet, and neither it nor a later one has a line
 pub record IsAhead (lines : List TranscriptLine) (c : ℕ) (walker : Walker) (i : ℕ) : Type 0 where
   pub unanswered : walker.next ≤ i
   pub follows : is_ahead lines c i ≡ true
@@ -101,7 +101,7 @@ pub record Holds (w : World) : Type 0 where
   pub serves : Serves w.store w.lines
   pub fresh : IsShownFresh w.lines
   pub bound : (src : Source) (x : Asking) → air w src ≡ Some x → IsBoundAsk w.store w.lines x
-  -- of one connection at most one thing may still be carried out
+  -- of one connection at most one update may still be carried out
   pub alone : (a b : Source) (x y : Asking) (c : ℕ) → air w a ≡ Some x → air w b ≡ Some y → asker_in x ≡ Some c → asker_in y ≡ Some c → a ≡ b
   pub spoken : (c k : ℕ) (a : Attachment) → attach_of c w.lines ≡ Some (k, a) → IsSpoken w c k a
 

@@ -56,7 +56,7 @@ pub record MayEnter (w : World) (c : ℕ) : Type 0 where
 abbrev pub FirstIsAccounted : Type 0
 FirstIsAccounted = (w : World) → IsFirst w → IsAccounted w
 
--- and so it is behind each line whose tests pass, settle too, while counts are within their ranges
+-- and so it is after each line whose tests pass, settle too, while counts are within their ranges
 abbrev pub KeepsAccounts : Type 0
 KeepsAccounts = (w w' : World) (h : Happening) → OffersSession h → IsWithinCounts w' → Happens w h w' → IsAccounted w → IsAccounted w'
 

@@ -40,7 +40,7 @@ pub record IsReapOut (store : Store) (reap : Reap) (x : Asking) : Type 0 where
   pub asked : IsReapAsk store reap.session reap.phase x.ask
   pub kind : x.kind ≡ kind_of_reap reap.session reap.phase
 
--- it was carried out at an earlier time
+-- what it asked was carried out at an earlier time, and this is the answer
 pub record IsReapAnswer (store : Store) (reap : Reap) (a : Answer) : Type 0 where
   pub asked : Ask
   pub before : Store
@@ -50,7 +50,7 @@ pub record IsReapAnswer (store : Store) (reap : Reap) (a : Answer) : Type 0 wher
   pub was : Precedes before store
   pub is : Precedes then_store store
   pub begun : 1 ≤ length then_store.revisions
-  -- its keys stood for a state
+  -- the store's keys then stood for a state
   pub state : State
   pub stands : StandsFor (present then_store) state
 

@@ -1,5 +1,5 @@
--- A store serves a transcript: its keys stand, at each of its revisions, for the state of the service then. And what a transaction
--- makes of that.
+-- A store serves a transcript: its keys stand, at each of its revisions from 2 on, for the state of the service then. And what a
+-- transaction makes of that.
 use Rattle.std.specs.Prelude.{◌≡◌, ℕ, ℤ, pos, ◌+◌, ◌+ℤ◌, ◌≤◌, Bool, true, false, List, [], ◌∷◌, length, Option, Some, None, int_le, if◌then◌else◌}
 use Rattle.std.specs.List.{list_all}
 use Rattle.std.specs.Ordering.{int_eq}
@@ -28,7 +28,7 @@ abbrev pub is_up_to : ℤ → Option ℤ → Bool
 is_up_to r None = false
 is_up_to r (Some z) = int_le z r
 
--- right after the last line of a revision up to r
+-- right after the last line that has a revision up to r; `last` where none has
 abbrev pub moment_from : ℤ → ℕ → ℕ → List TranscriptLine → ℕ
 moment_from r k last [] = last
 moment_from r k last (l ∷ ls) = moment_from r (k + 1) (if is_up_to r (line_revision l) then k + 1 else last) ls
@@ -41,10 +41,10 @@ moment_of lines r = moment_from r 0 0 lines
 pub record Serves (store : Store) (lines : List TranscriptLine) : Type 0 where
   pub legal : is_legal lines ≡ true
   pub ordered : is_ordered lines ≡ true
-  -- from the revision of the first update on
+  -- the store has reached revision 2, that of the first update
   pub begun : 2 ≤ length store.revisions
   pub stands : (r : ℕ) → 2 ≤ r → r ≤ length store.revisions → StandsFor (store_at store r) (state_at lines (moment_of lines (pos r)))
-  -- no line has a revision that the store hasn't reached
+  -- at the store's last revision, and at any above it, the state is the one after all lines
   pub settled : (r : ℕ) → length store.revisions ≤ r → state_at lines (moment_of lines (pos r)) ≡ after lines
 
 -- ---- a transaction that would be carried out now
@@ -63,7 +63,7 @@ pub record Commits (s : Store) (lines : List TranscriptLine) (kind : UpdateKind)
 abbrev pub GuardsHold : Store → TxnReq → Type 0
 GuardsHold s t = list_all (holds (present s)) t.guards ≡ true
 
--- operations that change nothing
+-- an operation that changes nothing
 abbrev pub is_read : Act → Bool
 is_read (act.Put k v lease) = false
 is_read (act.Delete k) = false

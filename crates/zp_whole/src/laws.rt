@@ -12,7 +12,7 @@ pub fn the_first_world_is_whole()
 {}
 
 /// The updates of a whole world are one history of the service, in which each request is carried out at most once and those of
-/// a connection in order. What a connection was sent behind its welcome is a walk of that history from the attachment on: no
+/// a connection in order. What a connection was sent after its welcome is a walk of that history from the attachment on: no
 /// reply is older than its frame, nor than one that was sent before it.
 pub fn a_whole_world_is_one_history()
     ensures { WholeGives }
@@ -25,8 +25,8 @@ pub fn the_store_changes_by_itself()
     ensures lapse { (id : ℤ) → Keeps (line.Lapse id) }
 {}
 
-/// Whatever was asked may be carried out at any time, also when its asker has ended: it is an update that the service could
-/// make then, or it changes nothing.
+/// A world stays whole while what was asked is carried out, at any time, even after its asker has ended: it is an update that the
+/// service could make then, or it changes no key.
 pub fn asks_are_carried_out()
     ensures exec { (c : ℕ) → Keeps (line.Exec c) }
     ensures stray { (k : ℕ) → Keeps (line.Stray k) }
@@ -39,15 +39,15 @@ pub fn updates_have_entries()
     ensures stray { (k : ℕ) → KeepsEntries (line.Stray k) }
 {}
 
-/// A connection to which a session is attached takes the answer to its ask, and the entry behind its cursor
-/// where the entries are the updates.
+/// A world stays whole while a connection with a session takes the answer to its ask, or, where the entries are the updates, the
+/// entry after its cursor.
 pub fn attached_connections_go_on()
     ensures answer { (c : ℕ) → KeepsIf (λ w. IsAttachedIn w c) (line.Answer c) }
     ensures entry { (c : ℕ) → KeepsIf (λ w. MayEnter w c) (line.Entry c) }
 {}
 
-/// Connections and reapers end, whatever they have out: by a failure of their ask, by a lag, with the client's stream, or
-/// with their proxy.
+/// A world stays whole while connections and reapers end, whatever they have out: by a failure of their ask, by a lag, with the
+/// client's stream, or with their proxy.
 pub fn connections_end()
     ensures cut { (c : ℕ) → Keeps (line.Cut c) }
     ensures refuse { (c : ℕ) → Keeps (line.Refuse c) }
@@ -56,15 +56,15 @@ pub fn connections_end()
     ensures restart { (p : ℕ) → Keeps (line.Restart p) }
 {}
 
-/// A connection opens, or a reaper begins and looks at its session, under a number that is not in use.
+/// A world stays whole while a connection opens, or a reaper begins and looks at its session, under a number that was never used.
 pub fn connections_open()
     ensures open { (c p : ℕ) (id : ℤ) (passwd : List ℕ) → Keeps (line.Open c p id passwd) }
     ensures reap { (c p : ℕ) (id : ℤ) → Keeps (line.Reap c p id) }
 {}
 
-/// All is accounted for in the first world, and behind each line of a script, settle too: the world is whole, each connection is
-/// known in whatever stage, and each reaper, and each update has its entry. A connection offers a number that sessions have, and
-/// no connection had 2^64 - 1 frames.
+/// All is accounted for in the first world, and after each line of a script, settle too: the world is whole, each connection is
+/// known in whatever stage, and each reaper, and each update has its entry. The premises: each connection offers a number that
+/// sessions have and a password of 16 bytes, and none has had 2^64 - 1 frames.
 pub fn every_line_is_accounted_for()
     ensures first { FirstIsAccounted }
     ensures happens { KeepsAccounts }
@@ -77,9 +77,9 @@ pub fn settled_connections_are_idle()
 {}
 
 /// Every run of a script, whichever connections, frames, lapses, cuts, restarts and orders of delivery it has, is one history of
-/// the service, in which the moment of an update is the script's clock between its frame and itself. Each connection was sent
-/// the answer to its connect first, then, behind a welcome, a walk of that history that is fresh and in turn, and nothing behind
-/// its close.
+/// the service, in which the time of a request's update is the script's clock between its frame and itself. Each connection was
+/// sent the answer to its connect first, then, after a welcome, a walk of that history that is fresh and in turn, and nothing
+/// after its close. The premises are those of `every_line_is_accounted_for`.
 pub fn every_run_is_one_history()
     ensures { EveryRunGives }
 {}

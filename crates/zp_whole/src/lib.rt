@@ -26,7 +26,7 @@
 //! `Asking`, `Handing`, `Delivering` (steps); `First`, `Opening`, `Giving`, `Entering`, `Happenings`; `Naming`, `Knowing`,
 //! `Within`, `Acting`, `Stepping` (one that acts by itself leaves all others); `Connecting`, `Refusing`, `Welcoming`, `Greeting`
 //! (connects); `Arriving`, `Frames`, `Arrivals` (bytes of a client); `Reaping`, `Reapers`; `Rising` (counts); `Accounts`,
-//! `Lives`, `Running` (each line, settle, and whole scripts); `Since`, `Timing` (moments); `Settled` (rest).
+//! `Lives`, `Running` (each line, settle, and whole scripts); `Since`, `Timing` (times); `Settled` (rest).
 #![tactic(auto)]
 
 mod laws;
