@@ -1,4 +1,4 @@
--- No wants are none.
+-- Wants whose number is at most 0 are the empty list.
 use Rattle.std.proofs.Common.{◌≤◌, List, [], ◌∷◌, length, arith}
 use Rattle.zk_model.specs.declared.request.Request.{Request}
 use Rattle.zn_view.specs.Needs.{AreNeeds}

@@ -147,7 +147,7 @@ module _ (store : Store) (lines : List TranscriptLine) (conn : ℕ) (c : Core) (
           let t = moved-by (state_at lines looked) c.who q found (live (session_at c.who.session (state_at lines looked))) by in
           moved-walks xid found t.session xid-is t.there t.differ i
 
--- the view is asked on, or decided
+-- more is asked for the view, or the request is decided on it
 pub view-walks : (store : Store) (lines : List TranscriptLine) (conn : ℕ) (c c' : Core) (w : Walker) (bytes : List ℕ) (v : View) (looked now : ℕ) (xid : ℤ) (q : Request) (out : List Action)
     → Works lines conn c w bytes → pos 1 ≤ℤ c.who.session → IsViewAt store lines conn c.who w v looked → own_update conn c.next lines ≡ None → read_request bytes ≡ Asks xid q → IsForTree q
     → Looks c xid q v now c' out → Walks store lines conn c c' w looked out

@@ -101,7 +101,7 @@ no-index c z (Asked d j now) h = ap (λ b. when b j) (unlike c d h)
 no-index c z (Closed sid d j) h = ap (λ b. when b j) (unlike c d h)
 no-index c z (Reaped id) h = refl
 
--- ---- what is said of a kind is said of each that it is
+-- ---- what holds of an update's kind holds of the ask that has it
 
 pub apart-in : (lines more : List TranscriptLine) (o : Option UpdateKind) → ((kind : UpdateKind) → o ≡ Some kind → Apart lines more kind) → ApartIn lines more o
 apart-in lines more None h = tt

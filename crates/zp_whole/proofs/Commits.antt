@@ -29,7 +29,7 @@ use Rattle.zp_whole.specs.Serving.{Commits, Serves, kind_lines, moment_of, next_
 
 -- ---- the present
 
--- the keys of now stand for the state of now
+-- the present keys stand for the state after all lines
 pub stands-now : (s : Store) (lines : List TranscriptLine) → Serves s lines → StandsFor (present s) (after lines)
 stands-now s lines w =
     let at_last = w.stands (length s.revisions) w.begun (omega arith) in
@@ -122,7 +122,7 @@ module _ (s u : Store) (lines : List TranscriptLine) (kind : UpdateKind) (t : Tx
         };
       }
 
--- ---- the store of before
+-- ---- the head did not change
 
 pub no-line : (s u : Store) (kind : Option UpdateKind) → zxid_at u ≡ zxid_at s → update_lines s u kind ≡ []
 no-line s u kind e = let same : int_eq (zxid_at s) (zxid_at u) ≡ true = grind (arith, nat_tests, ints, e) in ap (λ b. if b then [] else kind_lines u kind) same

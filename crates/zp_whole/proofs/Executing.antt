@@ -58,7 +58,7 @@ use Rattle.zp_whole.specs.Connections.{IsServing}
 use Rattle.zp_whole.specs.Holding.{Indexed, Talks, requested_by}
 use Rattle.zp_whole.specs.Serving.{Serves, next_revision, only_reads, update_lines}
 
--- ---- where the first answer is seen at is free
+-- ---- before a first answer, the moment of what a stage holds is free
 
 relooked : (s : Store) (lines : List TranscriptLine) (c : ℕ) (core : Core) (w : Walker) (m n : ℕ) (st : Stage) → is_first st ≡ true → Knows s lines c core w m st → Knows s lines c core w n st
 relooked s lines c core w m n (Checking f) h k = tt
@@ -301,7 +301,7 @@ read-serving s u lines c core x b w bound none k h own =
       | inr q ↦ absurd (none_some (sym none ∙ q.is))
     ]
 
--- where an update's transaction was carried out the store had a revision to come, since the head was put
+-- where an update's transaction was carried out, the store had room for a revision, since the head was put
 pub update-room : (s u : Store) (guards : List Guard) (cs : List Change) (ts : List Trigger) (again : List Act) (parts : List ActAns) → carry s (ask.Txn (update_txn guards cs ts again)) ≡ Some (u, answer.Txn (revision u) true parts) → revision s <ℤ last_revision
 update-room s u guards cs ts again parts h = let c = committed s u guards cs ts again (revision u) parts h in omega (arith, ints, c.zxid_is, c.most)
 

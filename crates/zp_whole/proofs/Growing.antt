@@ -38,7 +38,7 @@ use Rattle.zp_whole.specs.Bounds.{IsBound, IsBoundAs, IsBoundAsk, IsBoundAttach,
 use Rattle.zp_whole.specs.Holding.{attaches}
 use Rattle.zp_whole.specs.Serving.{Serves, is_up_to, line_revision, moment_of}
 
--- ---- a store that is an older one and maybe more
+-- ---- an older store, and perhaps further revisions
 
 longer-grown : (s : Store) (cs : List Change) → length s.revisions ≤ length (grown s cs).revisions
 longer-grown s [] = omega arith
@@ -159,7 +159,7 @@ attach-kept s u lines more c id t x none silent b = record {
   txn = b.txn;
 }
 
--- the lines more neither attach a connection that this attaches, nor send to it
+-- the further lines neither attach nor send to a connection that this update attaches
 abbrev pub Apart : List TranscriptLine → List TranscriptLine → UpdateKind → Type 0
 Apart lines more kind = (c : ℕ) → attaches kind ≡ Some c → (attach_of c (lines ++ more) ≡ attach_of c lines) × (packets c (lines ++ more) ≡ packets c lines)
 
@@ -271,7 +271,7 @@ slice_get-one [] x y (suc k) h = absurd (cc)
 slice_get-one (z ∷ xs) x y zero h = inl h
 slice_get-one (z ∷ xs) x y (suc k) h = elim (slice_get-one xs x y k h) [ inl e ↦ inl e | inr e ↦ inr (omega (arith, e.0), e.1) ]
 
--- a line more: a frame's, which shows the last zxid, or another
+-- one line more: a frame's, which shows the last zxid, or one of another kind
 pub shown-push : (lines : List TranscriptLine) (l : TranscriptLine) → ((c i : ℕ) (z : ℤ) (bytes : List ℕ) → l ≡ FrameLine c i z bytes → z ≡ (after lines).zxid) → IsShownFresh lines → IsShownFresh (lines ++ l ∷ [])
 shown-push lines l new f = λ k c i z bytes h. elim (slice_get-one lines l (FrameLine c i z bytes) k h) [
   | inl e ↦ f k c i z bytes e ∙ ap (λ (s : State). s.zxid) (sym (state_at-push lines (l ∷ []) k (omega (arith, slice_get_within lines k (FrameLine c i z bytes) e))))

@@ -288,7 +288,7 @@ module _ (w w' : World) (c : ℕ) (behind : List TranscriptLine) (i : Input) (hd
   sends-on : Split hd.out
   sends-on = split hd.out end.well
 
-  -- what stands where the step asked nothing
+  -- where the step asked nothing, nothing is out
   rests-none : is_shut hd.next.stage ≡ false → asked_by hd.out ≡ None → asked_of hd.next.who hd.next.stage ≡ None
   rests-none going none = go end.asks
     where

@@ -37,7 +37,7 @@ use Rattle.zp_whole.specs.Connections.{HasSmallFrames, IsClosedAt, IsServing, Wh
 use Rattle.zp_whole.specs.Holding.{Holds, Left, Of, air, asker_in, left_in, made_for, out_in, out_of}
 use Rattle.zp_whole.specs.Serving.{kind_lines, update_lines}
 
--- ---- each connection has its record anew, or was as it is and the lines are others'
+-- ---- each connection's record is shown anew, or the connection is as it was and the lines are others'
 
 abbrev pub StillServing : World → World → List TranscriptLine → Type 0
 StillServing w w' more = (d : ℕ) (y : Conn) (core : Core) → conn_at d w' ≡ Some y → y.actor ≡ Connection core → is_served core.stage ≡ true

@@ -319,7 +319,7 @@ pub record ActsNone (w w' : World) (more : List TranscriptLine) : Type 0 where
 pub known-none : (w w' : World) (more : List TranscriptLine) → Known w → ActsNone w w' more → Known w'
 known-none w w' more h a = record { used = used; unused = unused }
   where
-    -- whichever number is left out, each of the two others than it is known
+    -- Nobody acts, so any number may be taken for the one that does. A number is known if one next to it is taken.
     alone : (c : ℕ) → ActsAlone w w' c more
     alone c = record { longer = a.longer; legal = a.legal; still_legal = a.still_legal; lines = a.lines; others = λ d apart. a.all d; unnamed = λ d apart. a.unnamed d }
 

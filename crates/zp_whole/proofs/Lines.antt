@@ -1,4 +1,4 @@
--- What a line that is no update and no packet leaves of what holds of a world, and what no line at all does.
+-- What holds of a world still holds after a line that is no update and no packet, and where no line is added.
 use Rattle.std.proofs.Common.{◌≡◌, ℕ, List, [], ◌∷◌, ◌++◌, length, refl, sym, ap, ◌∙◌, subst, Bool, true, false, ℤ, append-nil}
 use Rattle.std.specs.Prelude.{Some, None}
 use Rattle.ev_types.specs.Store.{Store}
@@ -21,7 +21,7 @@ use Rattle.zp_whole.specs.Bounds.{IsBoundAsk}
 use Rattle.zp_whole.specs.Holding.{Holds, IsAhead, Source, Talks, air}
 use Rattle.zp_whole.specs.Serving.{Serves}
 
--- ---- what may still be carried out was so before, maybe under another number
+-- ---- what may still be carried out could be carried out before, perhaps under another number
 
 pub record Renamed (w w' : World) : Type 0 where
   pub before : Source → Source

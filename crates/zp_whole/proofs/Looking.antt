@@ -74,7 +74,7 @@ walk-moment lines c id w (x ∷ xs) r h le = go (move lines c id w x) refl (λ v
     go (Some y) e later t = let s = then_due-next y.1 (walk lines c id y.0 xs) r t in
         omega (arith, later y.0 s.0 s.1 (move-moment lines c id w x y e le), ap (λ (v : Walker). v.moment) s.2)
 
--- ---- now
+-- ---- the moment after all lines
 
 pub moment-now : (lines : List TranscriptLine) (c : ℕ) (core : Core) (w : Walker) (k : ℕ) → is_legal lines ≡ true → attach_of c lines ≡ Some (k, attachment core.who) → Talks lines c k (attachment core.who) w → Matches lines core w
     → IsMoment lines c core.who w (length lines)

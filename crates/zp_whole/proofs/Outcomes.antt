@@ -33,7 +33,7 @@ pub record Still (s u : Store) (kind : Option UpdateKind) : Type 0 where
 pub still : (s u : Store) (kind : Option UpdateKind) → u.revisions ≡ s.revisions → Still s u kind
 still s u kind e = record { revisions = e; lines = no-line s u kind (ap (λ m. mod_of (at m HeadKey)) (present-same s u e)) }
 
--- or an update has its line
+-- an update was made, and has its line
 pub record Updated (s u : Store) (lines : List TranscriptLine) (o : Option UpdateKind) : Type 0 where
   pub kind : UpdateKind
   pub is : o ≡ Some kind
@@ -42,7 +42,7 @@ pub record Updated (s u : Store) (lines : List TranscriptLine) (o : Option Updat
   pub txn : TxnReq
   pub bound : IsBound s lines kind txn
 
--- what may be said of the requests that it may carry out
+-- if the update carries out a request, neither that request nor a later one has a line yet
 abbrev pub IsNext : List TranscriptLine → UpdateKind → Type 0
 IsNext lines kind = (c i : ℕ) → requested_by kind ≡ Some (record { connection = c; index = i }) → is_ahead lines c i ≡ true
 

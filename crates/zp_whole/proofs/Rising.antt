@@ -39,7 +39,7 @@ use Rattle.zt_text.specs.declared.script.Happening.{Happening}
 use Rattle.zt_text.specs.declared.script.Why.TheVariants as why
 use Rattle.zx_base.proofs.Options.{none_some, some_is}
 
--- each connection that was there is there still; a count of frames that stood at its end stands there
+-- each connection that was there is there still, and a count of frames that was at its greatest value still is
 pub record Grown (w w' : World) : Type 0 where
   pub conns : (c : ℕ) (x : Conn) → conn_at c w ≡ Some x → (y : Conn) × (conn_at c w' ≡ Some y) × (max_count ≤ x.frames → max_count ≤ y.frames)
 

@@ -1,4 +1,4 @@
--- An open connection, or a reaper, becomes another one, with its flight, in a world that is whole but for it.
+-- The record of an open connection, or of a reaper, is replaced, with its flight, in a world that is whole but for it.
 use Rattle.std.proofs.Common.{ap, false, inl, inr, refl, subst, sym, true, ℕ, ◌∙◌, ◌≡◌, ◌≢◌}
 use Rattle.std.specs.Prelude.{None, Option, Some, ◌⊎◌}
 use Rattle.zk_transcript.specs.Legal.{Attachment, attach_of}
@@ -57,7 +57,7 @@ module _ (w : World) (c : ℕ) (x v : Conn) (s : Sets w c x v) where
   others : (d : ℕ) → d ≢ c → conn_at d (with_conn w c v) ≡ conn_at d w
   others d apart = conn-there w c d v apart
 
-  -- what is out of c is v's, and all else was so
+  -- what is out of c is what is out of v; all else is out as it was
   out-flight : (f : Option Flight) (a : Asking) → out_in f ≡ Some a → f ≡ Some (Out a)
   out-flight None a e = absurd (none_some e)
   out-flight (Some (Out b)) a e = ap (λ q. Some (Out q)) (some_is e)

@@ -1,5 +1,5 @@
--- What may be carried out after a line of a script could be carried out before it, or its plan was made at the clock's time now; and
--- so it is with each update that the line added.
+-- What may be carried out after a line of a script could be carried out before it, or its plan was made at the clock's time now.
+-- So it is with each update that the line added.
 use Rattle.zp_happen.specs.StepOutcomes.{quiet, acts_all}
 use Rattle.zp_happen.specs.Kinds.{kind_asked}
 use Rattle.zp_whole.proofs.Running.{answers, carries, enters}
@@ -77,7 +77,7 @@ use Rattle.zx_base.proofs.Options.{none_some, some_is}
 
 -- ---- an update's time
 
--- it is the plan of a request that was made now, if of any
+-- if it is the update of a request, the request's plan was made now
 abbrev pub IsOfNow : ℕ → Option UpdateKind → Type 0
 IsOfNow now kind = (c i m : ℕ) → kind ≡ Some (Asked c i m) → m ≡ now
 
@@ -180,7 +180,7 @@ left-by w (Some Denied) k x e = absurd (none_some e)
 left-by w (Some (Out a)) zero x e = inl (ap (λ q. Some (Out q)) (some_is (some_is e)))
 left-by w (Some (Out a)) (suc k) x e = absurd (none_some e)
 
--- the end of one
+-- a connection or a reaper ends
 pub ends-leaves : (w : World) (c : ℕ) (f : Option Flight) (behind : List TranscriptLine) (end : Ended) → list_all (is_own c) behind ≡ true → Leaves w f (ends c behind end (quiet f))
 ends-leaves w c f behind end h = record { flight = λ x e. absurd (none_some e); strays = λ k x e. left-by w f k x e; quiet = all-own-quiet c (behind ++ Close c end ∷ []) (own-append c behind (Close c end ∷ []) h (one-own c)) }
 
@@ -231,7 +231,7 @@ tail-leaves w c kind behind f ps (Closes why) h k = record {
     all-quiet-more : (xs ys : List TranscriptLine) → list_all is_quiet xs ≡ true → list_all is_quiet ys ≡ true → list_all is_quiet (xs ++ ys) ≡ true
     all-quiet-more xs ys a b = list_all-append is_quiet xs ys ∙ both-true (list_all is_quiet xs) (list_all is_quiet ys) a b
 
--- of one that is open
+-- an input is handed to a connection, open or shut
 pub handed-since : (w w' : World) (c : ℕ) (behind : List TranscriptLine) (i : Input) → Handed c behind w i w' → list_all (is_own c) behind ≡ true → Since w w'
 handed-since w w' c behind i hd own = go (is_shut hd.core.stage) refl
   where

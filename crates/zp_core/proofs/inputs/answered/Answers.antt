@@ -1,4 +1,4 @@
--- By the stage.
+-- Each stage awaits its own answer.
 use Rattle.std.proofs.Common.{ℤ, rules, subst, w32}
 use Rattle.std.specs.Prelude.{IfOk}
 use Rattle.std.proofs.lemmas.Int.{to_z-of_z}

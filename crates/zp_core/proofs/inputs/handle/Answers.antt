@@ -1,4 +1,4 @@
--- It is closed by its input.
+-- The input closes it.
 use Rattle.std.proofs.Common.{sym, ◌∙◌}
 use Rattle.std.proofs.lemmas.Result.{IfOk-weaker}
 use Rattle.zp_step.specs.Steps.{Handles}
