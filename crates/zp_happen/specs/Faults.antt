@@ -35,7 +35,7 @@ open_fault c w later = elim (conn_at c w) [ None ↦ Some why.NoSuchConnection |
 abbrev pub is_reaper_at : ℕ → World → Bool
 is_reaper_at c w = elim (conn_at c w) [ None ↦ false | Some x ↦ is_reaper x.actor ]
 
--- and it is no reaper
+-- there is an open one of this number, and it is no reaper
 abbrev pub connection_fault : ℕ → World → Option Why → Option Why
 connection_fault c w later = open_fault c w (if_fails (is_reaper_at c w) why.NotAConnection later)
 
@@ -48,11 +48,11 @@ abbrev pub is_to_carry_out : Option Flight → Bool
 is_to_carry_out (Some (Out asking)) = true
 is_to_carry_out _ = false
 
--- it is open, and has an ask that is not answered
+-- it is open, and has an ask whose answer is not delivered
 abbrev pub ask_fault : ℕ → World → Option Why → Option Why
 ask_fault c w later = open_fault c w (if_fails (is_none (flight_at c w)) why.NoRequestOut later)
 
--- and the ask is not carried out
+-- it is open, and has an ask that is not carried out
 abbrev pub carry_fault : ℕ → World → Option Why
 carry_fault c w = ask_fault c w (if_fails (not (is_to_carry_out (flight_at c w))) why.AlreadyCarriedOut None)
 

@@ -19,7 +19,7 @@ first_entry = record { number = pos 1; zxid = pos 2; triggers = [] }
 abbrev pub world_over : Store → World
 world_over s = record { store = s; clock = 0; conns = empty; strays = []; lines = begin_lines 0; entries = first_entry ∷ [] }
 
--- Begin was carried out in a new store
+-- the world over the store that Begin makes of a new one, carried out at time 0
 abbrev pub IsFirst : World → Type 0
 IsFirst w = (s : Store) × (a : Answer) × (carry new_store (begin_ask 0) ≡ Some (s, a)) × (w ≡ world_over s)
 
