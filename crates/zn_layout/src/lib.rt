@@ -7,8 +7,7 @@
 //! it; the layout is this project's own.
 //!
 //! Keys and records are written and read exactly: a value is read as a record where it is that record's value, and
-//! otherwise as damaged. A key, and the value of a record that is no list, is allocated once at its full size; the value of
-//! a list grows as it is written.
+//! otherwise as damaged. Each key and each value is allocated once, at its full size.
 //!
 //! `specs/Changes` and `specs/Fits` say when changes of keys are those of one step of the service, and `specs/Commits` what
 //! an update's transaction does to a store. The laws on them are the functions of `laws`: what keys stand for after such

@@ -14,17 +14,11 @@ use crate::record::{CountRec, LeaseRec, NodeRec};
 use crate::writer::RECORD;
 use byteorder::{BigEndian, ByteOrder};
 use std::alloc::Global;
-use zk_model::limit::{MAX_CREATES, MAX_FRAME};
+use zk_model::limit::{MAX_CREATES, MAX_FRAME, MAX_TIMEOUT, MIN_TIMEOUT};
 use zx_base::{Bytes, Memory};
 
 /// How many bytes a node's value has between its first byte and its data.
 pub(crate) const NODE_NUMBERS: usize = 36;
-
-/// The least session timeout, in milliseconds.
-const MIN_TIMEOUT: i32 = 4_000;
-
-/// The greatest session timeout, in milliseconds.
-const MAX_TIMEOUT: i32 = 40_000;
 
 /// How many bytes the value of a session's life has after its first byte.
 const LEASE_NUMBERS: usize = 28;

@@ -24,6 +24,12 @@ const LEASE_LENGTH: usize = 29;
 /// How many bytes the value of a list has before its items.
 const LIST_HEAD: usize = 5;
 
+/// How many bytes stand before the bytes of a path in a list: its length, as an int.
+const PATH_HEAD: usize = 4;
+
+/// How many bytes stand before the bytes of a trigger's path: its kind, and the path's length.
+const TRIGGER_HEAD: usize = 5;
+
 /// The value of a node's record, which is within its bounds.
 #[tactic(auto, unfolding(crate::specs::Records::node_value))]
 pub fn write_node(alloc: Global, node: &NodeRec) -> Result<Vec<u8>, Memory>
@@ -58,7 +64,7 @@ pub fn write_session(alloc: Global, session: &SessionRec) -> Result<Vec<u8>, Mem
     requires { IsSessionRec session.now.paths }
     ensures { IfOk result (λ v. v.items ≡ session_value session.now.paths) }
 {
-    let mut value = Writer::new(alloc, LIST_HEAD)?;
+    let mut value = Writer::new(alloc, length_of_paths(session.paths.as_slice()))?;
     value.count(session.paths.len())?;
     for path in session.paths.as_slice() {
         write_path(&mut value, path)?;
@@ -85,12 +91,40 @@ pub fn write_head(alloc: Global, head: &HeadRec) -> Result<Vec<u8>, Memory>
     requires { IsHeadRec head.now.triggers }
     ensures { IfOk result (λ v. v.items ≡ head_value head.now.triggers) }
 {
-    let mut value = Writer::new(alloc, LIST_HEAD)?;
+    let mut value = Writer::new(alloc, length_of_triggers(head.triggers.as_slice()))?;
     value.count(head.triggers.len())?;
     for trigger in head.triggers.as_slice() {
         write_trigger(&mut value, trigger)?;
     }
     Ok(value.into_vec())
+}
+
+/// How many bytes the value of a list of paths has.
+fn length_of_paths(paths: &[Path]) -> usize {
+    let mut length = LIST_HEAD;
+    for path in paths {
+        length = length.saturating_add(PATH_HEAD).saturating_add(path.bytes().len());
+    }
+    length
+}
+
+/// How many bytes the value of a list of triggers has.
+fn length_of_triggers(triggers: &[Trigger]) -> usize {
+    let mut length = LIST_HEAD;
+    for trigger in triggers {
+        length = length.saturating_add(TRIGGER_HEAD).saturating_add(path_of(trigger).len());
+    }
+    length
+}
+
+/// The path whose watches a trigger fires.
+fn path_of(trigger: &Trigger) -> &[u8] {
+    match trigger {
+        Trigger::Created(path) => path.bytes(),
+        Trigger::Deleted(path) => path.bytes(),
+        Trigger::Changed(path) => path.bytes(),
+        Trigger::Children(path) => path.bytes(),
+    }
 }
 
 fn write_trigger(value: &mut Writer, trigger: &Trigger) -> Result<(), Memory>
