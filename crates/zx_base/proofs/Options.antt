@@ -1,4 +1,4 @@
--- Something is not nothing, and two equal things that are there are one.
+-- `Some` is not `None`, and the items of equal `Some`s are equal.
 use Rattle.std.proofs.Common.{◌≡◌, Option, Some, None}
 
 pub none_some : {A : Type 0} {x : A} → None ≡ Some x → ⊥
