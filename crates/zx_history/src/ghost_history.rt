@@ -5,7 +5,7 @@ ghost use Rattle.std.specs.Borrow.{ftrue};
 
 use std::marker::{Model, PhantomData};
 
-/// Items in the order in which they came. A clause reads them as `items`.
+/// A list of items, the oldest first, that only contracts can read, as `items`.
 #[derive(Drop)]
 pub struct GhostHistory<T> {
     of: PhantomData<T>,
@@ -16,20 +16,20 @@ impl<T> Model for GhostHistory<T> {
     ghost also_owns = { λ _. ftrue };
 }
 
-// It has no bytes.
+// Sound: it has no bytes, so threads that share it share nothing.
 unsafe impl<T: Send> Send for GhostHistory<T> {}
 
 unsafe impl<T: Send> Sync for GhostHistory<T> {}
 
 impl<T> GhostHistory<T> {
-    /// Nothing happened yet.
+    /// The empty history.
     pub fn new() -> GhostHistory<T>
         ensures { result.items ≡ [] }
     {
         GhostHistory { of: PhantomData }
     }
 
-    /// The history with one more item, which stays the caller's.
+    /// The history with one more item at its end. The item stays the caller's.
     pub fn and(&self, item: &T) -> GhostHistory<T>
         ensures { result.items ≡ self.now.items ++ item.now ∷ [] }
     {

@@ -1,4 +1,4 @@
--- Counts never fall.
+-- Counts never fall, and rise by one at most.
 use Rattle.std.proofs.Common.{◌≡◌, ℕ, ◌+◌, ◌-◌, ◌^◌, ◌<◌, ◌≤◌, min, arith}
 use Rattle.zx_outside.specs.Counts.{InputCounts, OutputCounts, one_more}
 use Rattle.zx_outside.specs.Reading.{counts_after_read}
@@ -8,7 +8,7 @@ use Rattle.zx_outside.specs.declared.source.Got.TheVariants as got
 use Rattle.zx_outside.specs.declared.sink.Took.{Took}
 use Rattle.zx_outside.specs.declared.sink.Took.TheVariants as took
 
--- a sum that stops at the end of 64 bits, of a count that is within them
+-- one more, as a saturating sum, for a count that has 64 bits
 pub min-is-one_more : (count : ℕ) → count < 2 ^ 64 → min (count + 1) (2 ^ 64 - 1) ≡ one_more count
 min-is-one_more count within = omega arith
 

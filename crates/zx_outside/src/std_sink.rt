@@ -13,24 +13,24 @@ use std::io;
 use std::io::Write;
 use std::marker::Model;
 
-/// A writer of `std`, of which this crate sees single calls. Each writer is one.
+/// A writer of `std`, called once at a time. Every [`Write`] is one.
 pub trait SingleWrite {
     // The bytes that it holds, where they are known.
     ghost held: { Self → Option (List ℕ) };
 
-    // What one write of a piece came to, by the writer before and after it.
+    // What one write came to: the writer before and after it, the piece, and the outcome.
     ghost wrote: { Self → Self → List ℕ → Result ℕ Error → Type 0 };
 
-    // What one flush came to.
+    // What one flush came to: the writer before and after it, and the outcome.
     ghost flushed: { Self → Self → Result (Unit {0}) Error → Type 0 };
 
-    /// Writes once.
+    /// Calls the writer's `write` once: how many bytes of the piece it took, from the front, or its error.
     fn single_write(&mut self, piece: &[u8]) -> io::Result<usize>
         ensures bound { WritesAtMost result piece.now }
         ensures bytes { WriteAppends (held self.old) (held self.new) result piece.now }
         ensures call { wrote self.old self.new piece.now result };
 
-    /// Flushes once.
+    /// Calls the writer's `flush` once.
     fn single_flush(&mut self) -> io::Result<()>
         ensures bytes { Keeps (held self.old) (held self.new) }
         ensures call { flushed self.old self.new result };
@@ -52,9 +52,9 @@ impl<W: Write> SingleWrite for W {
     }
 }
 
-/// A sink over a writer. Each write calls the writer once, and flushes once what it took, so that nothing stays
-/// behind in the writer. A write that takes nothing is a fault, and so is every error, `WouldBlock` and `Interrupted`
-/// too: the rest of the piece would have to be written again later, and nobody waits here to do that. Where the flush
+/// A sink over a writer. Each write calls the writer once, and flushes once what it took, so that nothing stays in the
+/// writer's buffer. A write that takes nothing is a fault, and so is every error, `WouldBlock` and `Interrupted` too:
+/// the rest of the piece would have to be written again later, and nobody waits here to do that. Where the flush
 /// fails, the writer has taken what was written.
 #[derive(Drop)]
 pub struct StdSink<W> {
@@ -71,7 +71,7 @@ impl<W> Model for StdSink<W> {
 }
 
 impl<W: SingleWrite> StdSink<W> {
-    /// A sink over this writer.
+    /// A sink over this writer, which is not called yet.
     pub fn new(inner: W) -> StdSink<W>
         ensures writer { result.writer ≡ inner }
         ensures faults { result.counts.faults ≡ 0 }
@@ -80,7 +80,7 @@ impl<W: SingleWrite> StdSink<W> {
     }
 }
 
-/// What a write says.
+/// What the outcome of a write means: no byte taken, or an error, is a fault.
 fn judge_write(outcome: io::Result<usize>) -> Took
     ensures { result ≡ took_of_write outcome }
 {
@@ -90,7 +90,7 @@ fn judge_write(outcome: io::Result<usize>) -> Took
     }
 }
 
-/// What the flush behind a write of so many bytes says.
+/// What the outcome of the flush after a write of `count` bytes means.
 fn judge_flush(count: usize, outcome: io::Result<()>) -> Took
     ensures { result ≡ took_of_flush count outcome }
 {
@@ -100,7 +100,7 @@ fn judge_flush(count: usize, outcome: io::Result<()>) -> Took
     }
 }
 
-/// Writes once, and flushes once what was taken.
+/// Writes once, and flushes once where bytes were taken.
 fn write_through<W: SingleWrite>(inner: &mut W, piece: &[u8]) -> Took
     requires { 0 < length piece.now }
     ensures size { FitsPiece result (length piece.now) }

@@ -12,15 +12,15 @@ use std::io;
 use std::io::{ErrorKind, Read};
 use std::marker::Model;
 
-/// A reader of `std`, of which this crate sees single calls. Each reader is one.
+/// A reader of `std`, called once at a time. Every [`Read`] is one.
 pub trait SingleRead {
     // The bytes that are left, where they are known.
     ghost unread: { Self → Option (List ℕ) };
 
-    // What one call gave, by the reader before and after it and the buffer after it.
+    // What one call came to: the reader before and after it, the buffer after it, and the outcome.
     ghost gave: { Self → Self → List ℕ → Result ℕ Error → Type 0 };
 
-    /// Calls the reader once.
+    /// Calls the reader once: how many bytes it put at the front of the buffer, 0 at its end, or its error.
     fn single_read(&mut self, buf: &mut [u8]) -> io::Result<usize>
         ensures bound { ReadsAtMost result buf.new }
         ensures bytes { ReadConsumes (unread self.old) (unread self.new) result buf.new }
@@ -65,7 +65,7 @@ impl<R: SingleRead> Model for StdSource<R> {
 }
 
 impl<R: SingleRead> StdSource<R> {
-    /// A source over this reader.
+    /// A source over this reader, which is not called yet.
     pub fn new(inner: R) -> StdSource<R>
         ensures reader { result.reader ≡ inner }
         ensures ended { result.ended ≡ false }
@@ -88,7 +88,7 @@ fn is_idle(kind: ErrorKind) -> bool
     matches!(kind, ErrorKind::WouldBlock | ErrorKind::Interrupted)
 }
 
-/// What a call of a reader says.
+/// What the outcome of a reader's call means: no byte is the end, and an error is an idle turn or a fault.
 fn judge(outcome: io::Result<usize>) -> Got
     ensures { result ≡ got_of outcome }
 {
