@@ -3,7 +3,7 @@
 use std::alloc::Global;
 use zx_base::Memory;
 
-/// The bytes that hex spells, `-` for none; None where it is no hex.
+/// The bytes that `digits` spells in hex, `-` for none; `None` where it is no hex.
 pub fn bytes_of(alloc: Global, digits: &str) -> Result<Option<Vec<u8>>, Memory> {
     if digits == "-" {
         return Ok(Some(Vec::new(alloc)));

@@ -1,7 +1,7 @@
 //! Files of rows, which a program tries one after the other.
 //!
 //! A row is LEFT = RIGHT: what comes of the left side has to be the right side. A line that is empty or begins with `#` is
-//! passed over. What differs is told on standard error.
+//! passed over. Each row that differs is told on standard error, with its line.
 #![tactic(auto)]
 
 mod hexes;

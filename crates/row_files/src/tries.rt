@@ -7,13 +7,14 @@ use std::alloc::Global;
 use std::fs;
 use zx_base::Memory;
 
-/// What rows of one kind are.
+/// Rows of one kind, by what their left sides come to.
 pub trait Rows {
-    /// What comes of the left side of a row; None where it is of no form.
+    /// What comes of the left side of a row; `None` where it cannot be read.
     fn found(&mut self, alloc: Global, left: &str) -> Result<Option<String>, Memory>;
 }
 
-/// How many rows of a file differ. A file in which no row passes counts as one that differs.
+/// How many rows of a file differ, and one more where no row passes. Fails where the file cannot be read, standard error
+/// cannot be written, or memory is refused.
 pub fn try_file<T: Rows>(rt: &HostRuntime, path: &str, rows: &mut T) -> Result<u64> {
     let text = fs::read_to_string(rt, path).context(format_args!("reading {path}"))?;
     let (mut passed, mut failed) = (0u64, 0u64);
@@ -38,7 +39,7 @@ pub fn try_file<T: Rows>(rt: &HostRuntime, path: &str, rows: &mut T) -> Result<u
     Ok(failed)
 }
 
-/// What is wrong with a row, or what comes of its left side instead of its right side.
+/// What is wrong with a row, or what comes of its left side in place of the right one; `None` where the row passes.
 fn problem_in<T: Rows>(alloc: Global, rows: &mut T, line: &str) -> Result<Option<String>, Memory> {
     let Some((left, right)) = line.split_once(" = ") else {
         return Ok(Some(String::from_str(alloc, "no row")?));
@@ -49,7 +50,7 @@ fn problem_in<T: Rows>(alloc: Global, rows: &mut T, line: &str) -> Result<Option
     }
 }
 
-/// What was found, unless it is exactly what was wanted.
+/// What was found, unless it is exactly what is wanted.
 fn unless_same(found: String, wanted: &str) -> Option<String>
     ensures { result ≡ None → string_bytes found ≡ wanted.now }
 {
