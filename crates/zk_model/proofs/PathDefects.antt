@@ -103,7 +103,7 @@ no_dots (name ∷ more) h =
     let both = and_parts (is_name name) (list_all is_name more) h in
     or_from _ _ (not-true _ (and_parts (is_filled name) (not (is_dots name)) (sym (name-filled name) ∙ both.0)).1) (no_dots more both.1)
 
--- behind a last slash stands an empty name
+-- a name that is empty stands after a last slash
 behind_cons : (b c : ℕ) (cs : Bytes) (is_slash : Bool) → list_all is_filled (later_names (c ∷ cs)) ≡ false
     → list_all is_filled (drop 1 (cond {A = List Bytes} is_slash ([] ∷ pieces (c ∷ cs)) (onto_first b (pieces (c ∷ cs))))) ≡ false
 behind_cons b c cs true e = ap (list_all is_filled) (pieces-cons (c ∷ cs)) ∙ and_right (is_filled (first_name (c ∷ cs))) _ e

@@ -16,13 +16,13 @@ use Rattle.zk_model.specs.PathFaults.{first_name, name_fault, placed, bad_name, 
 
 -- ---- names
 
--- the names that begin behind the slashes of these bytes, which begin at this place
+-- the first bad name that begins after a slash of these bytes; the first of the bytes has this index
 unfoldable pub name_scan : ℕ → Bytes → Option Defect
 name_scan place [] = None
 name_scan place (b ∷ bs) =
     cond (b == slash) (option_or (placed (place + 1) (name_fault (first_name bs))) (name_scan (place + 1) bs)) (name_scan (place + 1) bs)
 
--- the names behind the first slash
+-- the names after the first slash
 abbrev pub later_names : Bytes → List Bytes
 later_names bs = drop 1 (pieces bs)
 

@@ -1,4 +1,4 @@
--- The path of a sequence node is valid where the prefix with `1` behind it is.
+-- The path of a sequence node is valid where the prefix with `1` added is.
 use Rattle.std.proofs.Common.{◌≡◌, ℕ, zero, suc, ◌+◌, ◌-◌, ◌/◌, ◌%◌, ◌<◌, ◌≤◌, Bool, true, false, cond, List, [], ◌∷◌, ◌++◌, length, refl, sym, ap, ◌∙◌, ◌⊎◌, inl, inr, ⊎_elim, ◌==◌, drop, arith, length-append, append_assoc}
 use Rattle.std.specs.Prelude.{nat_le, ⊤}
 use Rattle.std.specs.List.{list_all}

@@ -145,7 +145,7 @@ parent-root [] h e = absurd (omega arith)
 parent-root (x ∷ []) h e = ap parent_at e
 parent-root (x ∷ y ∷ ys) h e = absurd (omega arith)
 
--- a lone slash has an empty name behind it
+-- a lone slash has an empty name after it
 lone : (x : ℕ) (is_slash : Bool) → list_all is_name (drop 1 (cond {A = List Bytes} is_slash ([] ∷ [] ∷ []) ((x ∷ []) ∷ []))) ≡ true
     → cond {A = Option Bytes} (is_slash && true) None (Some (x ∷ [])) ≡ Some (x ∷ [])
 lone x true front = cc

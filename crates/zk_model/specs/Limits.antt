@@ -2,7 +2,7 @@
 -- its field on the wire (zookeeper.jute).
 use Rattle.std.specs.Prelude.{ℕ, ℤ, pos}
 
--- the most bytes of a frame, and so of a node's data (`jute.maxbuffer`)
+-- the most bytes of a frame without its length, and so of a node's data (`jute.maxbuffer`)
 abbrev pub max_frame : ℕ
 max_frame = 1048575
 
@@ -30,14 +30,15 @@ max_owned = 40
 abbrev pub max_parts : ℕ
 max_parts = 24
 
--- the greatest load of a multi, in bytes
+-- the greatest `load` of a multi, in bytes
 abbrev pub max_load : ℕ
 max_load = 1000000
 
--- the least and the greatest session timeout, in milliseconds
+-- the least session timeout, in milliseconds
 abbrev pub min_timeout : ℤ
 min_timeout = pos 4000
 
+-- the greatest session timeout, in milliseconds
 abbrev pub max_timeout : ℤ
 max_timeout = pos 40000
 

@@ -15,15 +15,18 @@ root = slash ∷ []
 
 -- ---- parents
 
+-- x and then xs, cut at the last slash, by how xs is cut
 abbrev pub with_head : ℕ → Option (Bytes × Bytes) → Bytes → Option (Bytes × Bytes)
 with_head x (Some parts) xs = Some (x ∷ parts.0, parts.1)
 with_head x None xs = cond (x == slash) (Some ([], xs)) None
 
--- what stands before the last slash, and after it
+-- what stands before the last slash, and what stands after it
 unfoldable pub at_last_slash : Bytes → Option (Bytes × Bytes)
 at_last_slash [] = None
 at_last_slash (x ∷ xs) = with_head x (at_last_slash xs) xs
 
+-- the parent, by what stands before and after the last slash: none where no name stands after it; the root where nothing
+-- stands before it. A text such as `//a` has none
 abbrev pub parent_of_parts : Bytes → Bytes → Option Bytes
 parent_of_parts before [] = None
 parent_of_parts [] (y ∷ ys) = Some root
@@ -33,7 +36,7 @@ abbrev pub parent_at : Option (Bytes × Bytes) → Option Bytes
 parent_at None = None
 parent_at (Some parts) = parent_of_parts parts.0 parts.1
 
--- the path without its last name. The root has no parent
+-- a path without its last name. The root has no parent
 unfoldable pub parent : Bytes → Option Bytes
 parent p = parent_at (at_last_slash p)
 
@@ -41,10 +44,11 @@ abbrev pub name_at : Option (Bytes × Bytes) → Bytes
 name_at None = []
 name_at (Some parts) = parts.1
 
--- the name behind the last slash
+-- the name after the last slash
 unfoldable pub last_name : Bytes → Bytes
 last_name p = name_at (at_last_slash p)
 
+-- whether the path is there and is p
 abbrev pub is_at_path : Option Bytes → Bytes → Bool
 is_at_path None p = false
 is_at_path (Some q) p = same q p
@@ -53,7 +57,7 @@ is_at_path (Some q) p = same q p
 unfoldable pub is_child : Bytes → Bytes → Bool
 is_child p q = is_at_path (parent q) p
 
--- what the paths of a node's children begin with
+-- what the paths of a node's children begin with: its own path, and a slash where it has none at its end
 unfoldable pub stem : Bytes → Bytes
 stem p = cond (same p root) p (p ++ slash ∷ [])
 
@@ -61,12 +65,13 @@ unfoldable pub slashes : Bytes → ℕ
 slashes [] = 0
 slashes (x ∷ xs) = cond (x == slash) (suc (slashes xs)) (slashes xs)
 
--- the number of names
+-- the number of names in a valid path
 unfoldable pub depth : Bytes → ℕ
 depth p = cond (same p root) 0 (slashes p)
 
 -- ---- valid paths
 
+-- the pieces with one more byte at the front of the first
 abbrev pub onto_first : ℕ → List Bytes → List Bytes
 onto_first b [] = (b ∷ []) ∷ []
 onto_first b (x ∷ xs) = (b ∷ x) ∷ xs
@@ -76,7 +81,7 @@ abbrev pub pieces : Bytes → List Bytes
 pieces [] = [] ∷ []
 pieces (b ∷ bs) = if b == slash then [] ∷ pieces bs else onto_first b (pieces bs)
 
--- the names from the root down: none of the root
+-- the names from the root down; the root has none
 abbrev pub names : Bytes → List Bytes
 names p = if same p root then [] else drop 1 (pieces p)
 
@@ -93,11 +98,11 @@ abbrev pub begins_with_slash : Bytes → Bool
 begins_with_slash [] = false
 begins_with_slash (b ∷ bs) = b == slash
 
--- the characters that a path may have
+-- the characters that a path may have, by their code points
 abbrev pub is_path_char : ℕ → Bool
 is_path_char c = (nat_le 32 c && nat_lt c 127) || (nat_le 160 c && nat_lt c 55296) || (nat_le 63744 c && nat_lt c 65520)
 
--- a valid path, of at most 1,024 bytes
+-- a valid path: at most 1,024 bytes of UTF-8, a slash first, then names between slashes
 unfoldable pub is_path : Bytes → Bool
 is_path p = nat_le (length p) max_path && begins_with_slash p && is_utf8 p && list_all is_path_char (chars p) && list_all is_name (names p)
 
@@ -112,9 +117,10 @@ fixed_digits (suc k) n = fixed_digits k (n / 10) ++ (48 + n % 10) ∷ []
 abbrev pub sequence_path : Bytes → ℕ → Bytes
 sequence_path p n = p ++ fixed_digits 10 n
 
--- the path with `1` behind it, of which the rule for a sequence node's path is tested
+-- the path with `1` (49) added: that of a sequential create is valid where this is a path
 abbrev pub with_one : Bytes → Bytes
 with_one p = p ++ 49 ∷ []
 
+-- the path of a sequential create, of at most 1,014 bytes
 abbrev pub is_sequence_prefix : Bytes → Bool
 is_sequence_prefix p = nat_le (length p) max_sequence_prefix && is_path (with_one p)

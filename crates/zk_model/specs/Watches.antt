@@ -14,6 +14,7 @@ use Rattle.zk_model.specs.Znodes.{Tree}
 abbrev pub PathSet : Type 0
 PathSet = Map (Unit {0})
 
+-- the paths whose data watch is armed, and those whose child watch is
 pub record Watches : Type 0 where
   pub on_data : PathSet
   pub on_children : PathSet
@@ -21,22 +22,27 @@ pub record Watches : Type 0 where
 abbrev pub no_watches : Watches
 no_watches = record { on_data = empty; on_children = empty }
 
+-- no watch is armed
 abbrev pub is_unarmed : Watches → Bool
 is_unarmed w = (len w.on_data == 0) && (len w.on_children == 0)
 
+-- the watches with the path's data watch
 abbrev pub arm_data : Watches → Bytes → Watches
 arm_data w p = record w { on_data = insert w.on_data p tt }
 
+-- the watches with the path's child watch
 abbrev pub arm_children : Watches → Bytes → Watches
 arm_children w p = record w { on_children = insert w.on_children p tt }
 
--- the watches with the path's data watch gone, its child watch, or both
+-- the watches without the path's data watch
 abbrev pub fired_data : Watches → Bytes → Watches
 fired_data w p = record w { on_data = remove w.on_data p }
 
+-- the watches without the path's child watch
 abbrev pub fired_children : Watches → Bytes → Watches
 fired_children w p = record w { on_children = remove w.on_children p }
 
+-- a notice of this type, where a watch was hit
 abbrev pub note : Bool → ℕ → Bytes → List Notice
 note hit kind p = if hit then record { kind = pos kind; path = p } ∷ [] else []
 
@@ -54,42 +60,49 @@ fire w (Deleted p) = (fired_children (fired_data w p) p, note (contains_key w.on
 fire w (Changed p) = (fired_data w p, note (contains_key w.on_data p) 3 p)
 fire w (Children p) = (fired_children w p, note (contains_key w.on_children p) 4 p)
 
--- the same of several changes in turn
+-- what several changes leave armed one after the other, and the notices that they give
 unfoldable pub fire_all : Watches → List Trigger → Watches × List Notice
 fire_all w [] = (w, [])
 fire_all w (t ∷ ts) = let first = fire w t in let rest = fire_all first.0 ts in (rest.0, first.1 ++ rest.1)
 
--- ---- setWatches: of a data or child path it is told at once that its node changed since the relative zxid, or that there is none;
--- ---- of an exist path, that its node is there, whenever that was made; the rest is armed
+-- ---- setWatches: of a data or child path it is told at once that its node changed after the relative zxid, or that there is
+-- ---- none; of an exist path, that its node is there, whenever that was made; the rest is armed
 
+-- the watches and the notices so far
 pub record Seen : Type 0 where
   pub watches : Watches
   pub notices : List Notice
 
+-- one more notice
 abbrev pub tell : Seen → ℕ → Bytes → Seen
 tell s kind p = record s { notices = s.notices ++ note true kind p }
 
+-- a data path, with the node that is seen there
 abbrev pub see_data : ℤ → Seen → Bytes → Option Node → Seen
 see_data since s p None = tell s 2 p
 see_data since s p (Some n) = if int_lt since n.mzxid then tell s 3 p else record s { watches = arm_data s.watches p }
 
+-- an exist path. Its data watch is armed where no node is there and the path is valid
 abbrev pub see_exist : Bool → Seen → Bytes → Option Node → Seen
 see_exist valid s p (Some n) = tell s 1 p
 see_exist true s p None = record s { watches = arm_data s.watches p }
 see_exist false s p None = s
 
+-- a child path
 abbrev pub see_children : ℤ → Seen → Bytes → Option Node → Seen
 see_children since s p None = tell s 2 p
 see_children since s p (Some n) = if int_lt since n.pzxid then tell s 4 p else record s { watches = arm_children s.watches p }
 
--- a path that isn't valid counts as absent, and arms nothing
+-- the node at a path; a path that isn't valid has none
 abbrev pub valid_at : Bytes → Tree → Option Node
 valid_at p t = if is_path p then get t p else None
 
+-- the paths of a list, one after the other
 abbrev pub see_all : (Seen → Bytes → Seen) → Seen → List (Bytes) → Seen
 see_all f s [] = s
 see_all f s (p ∷ ps) = see_all f (f s p) ps
 
+-- a setWatches of these lists on a tree: the data paths first, then the exist paths, then the child paths
 unfoldable pub set_watches : Tree → ℤ → List (Bytes) → List (Bytes) → List (Bytes) → Watches → Seen
 set_watches t since datas exists children w =
     let first = see_all (λ s p. see_data since s p (valid_at p t)) (record { watches = w; notices = [] }) datas in

@@ -15,13 +15,15 @@ Tree = Map Node
 abbrev pub below : Tree → Bytes → Tree
 below t p = finmap.retain_keys t (is_child p)
 
--- the paths of the children, and their names
+-- the paths of a node's children, in the order of their bytes
 abbrev pub children : Tree → Bytes → List Bytes
 children t p = finmap.keys (below t p)
 
+-- the last names of these paths, in the same order
 abbrev pub child_names : Tree → Bytes → List Bytes
 child_names t p = map last_name (children t p)
 
+-- how many children a node has
 abbrev pub num_children : Tree → Bytes → ℕ
 num_children t p = finmap.len (below t p)
 
@@ -49,19 +51,20 @@ stat node n = record {
 abbrev pub stat_of : Tree → Bytes → Node → Stat
 stat_of t p node = stat node (num_children t p)
 
+-- whether a node is there and has this owner
 abbrev pub is_owner : ℤ → Option Node → Bool
 is_owner id None = false
 is_owner id (Some node) = int_eq node.owner id
 
--- the part of the tree that a session owns, its ephemeral nodes
+-- the part of the tree that a session owns: its ephemeral nodes
 abbrev pub owned_by : Tree → ℤ → Tree
 owned_by t id = finmap.retain_keys t (λ p. is_owner id (finmap.get t p))
 
--- their paths, in the order of their bytes
+-- the paths of a session's ephemeral nodes, in the order of their bytes
 abbrev pub owned : Tree → ℤ → List Bytes
 owned t id = finmap.keys (owned_by t id)
 
--- a node that is made: at its zxid and moment, with version and count of creates 0
+-- a new node, made by the update with this zxid at this time in milliseconds: its version and its count of creates are 0
 abbrev pub new_node : Bytes → ℤ → ℤ → ℕ → Node
 new_node content owner zxid now = record {
   content = content;

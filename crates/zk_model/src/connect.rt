@@ -2,8 +2,10 @@
 
 use zx_base::Bytes;
 
+/// What a client says first on a connection: it begins a session, or resumes one.
 #[derive(Debug, Drop)]
 pub struct ConnectRequest {
+    /// The version of the protocol, 0 in clients of release 3.4. The service does not look at it.
     pub protocol: i32,
     /// The greatest zxid that the client has seen.
     pub last_zxid: i64,
@@ -11,18 +13,21 @@ pub struct ConnectRequest {
     pub timeout: i32,
     /// The session to resume, or 0 for a new one.
     pub session: i64,
+    /// The password of the session to resume. A new session gets one that the service chooses.
     pub passwd: Bytes,
-    /// Absent in the requests of older clients.
+    /// Whether the client would take a server that only reads. Absent in the requests of older clients.
     pub read_only: Option<bool>,
 }
 
+/// The answer to a connect: the session that the connection is attached to, or that it has none.
 #[derive(Clone, Copy, Debug)]
 pub struct ConnectResponse {
     /// The timeout granted, in milliseconds; 0 where the session was refused.
     pub timeout: i32,
     /// The session, or 0 where it was refused.
     pub session: i64,
+    /// The session's password, by which it can be resumed; 16 zeros where it was refused.
     pub passwd: [u8; 16],
-    /// Present exactly where the request had it, and then false.
+    /// Whether the server only reads. The service sends it exactly where the request had it, and then as false.
     pub read_only: Option<bool>,
 }

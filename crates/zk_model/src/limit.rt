@@ -1,6 +1,6 @@
 //! Limits of the service (`specs/Limits.antt`).
 
-/// The most bytes of a frame, and so of a node's data (`jute.maxbuffer`).
+/// The most bytes of a frame without its length, and so of a node's data (`jute.maxbuffer`).
 pub const MAX_FRAME: usize = 1_048_575;
 
 /// The most creates of children that a node counts: the Stat's `cversion` is an int and counts each of them twice.
@@ -12,7 +12,7 @@ pub const MAX_OWNED: usize = 40;
 /// The most parts of a multi.
 pub const MAX_PARTS: usize = 24;
 
-/// The greatest load of a multi, in bytes.
+/// The greatest load of a multi, in bytes: its parts' data, and the paths that the sessions it touches owned before.
 pub const MAX_LOAD: usize = 1_000_000;
 
 /// The least session timeout, in milliseconds.

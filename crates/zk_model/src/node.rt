@@ -4,16 +4,18 @@
 use crate::path::Path;
 use zx_base::Bytes;
 
-/// What a client is shown of a znode (zookeeper.jute, `Stat`). Times are milliseconds since 1970.
+/// What a client is shown of a znode (zookeeper.jute, `Stat`). Times are readings of the service's clock in milliseconds.
 #[derive(Clone, Copy, Debug)]
 pub struct Stat {
     /// The zxid of the update that made the node.
     pub czxid: i64,
-    /// The zxid of the update that set its data last.
+    /// The zxid of the update that set its data last, or made the node.
     pub mzxid: i64,
+    /// When the node was made.
     pub ctime: i64,
+    /// When its data was set last, or the node was made.
     pub mtime: i64,
-    /// How often its data was set.
+    /// How often its data was set since it was made.
     pub version: i32,
     /// How often its children changed: twice the creates, less the children that are there.
     pub cversion: i32,
@@ -21,15 +23,17 @@ pub struct Stat {
     pub aversion: i32,
     /// The session of an ephemeral node, otherwise 0.
     pub ephemeral_owner: i64,
+    /// The bytes of its data.
     pub data_length: i32,
     pub num_children: i32,
-    /// The zxid of the update that made or removed a child last.
+    /// The zxid of the update that made or removed a child last, or made the node.
     pub pzxid: i64,
 }
 
 /// A znode. Fields as in [`Stat`].
 #[derive(Debug, Drop)]
 pub struct Node {
+    /// Its data, at most 1,048,575 bytes.
     pub content: Bytes,
     pub czxid: i64,
     pub mzxid: i64,
@@ -48,6 +52,7 @@ pub struct Node {
 pub enum Trigger {
     Created(Path),
     Deleted(Path),
+    /// This node's data was set.
     Changed(Path),
     /// A child of this node was made or removed.
     Children(Path),

@@ -12,7 +12,7 @@ use std::marker::Model;
 use std::str;
 use zx_base::Memory;
 
-/// A valid path. Contracts see its bytes.
+/// A valid path, of at most 1,024 bytes. Contracts see its bytes.
 #[derive(Debug, Drop)]
 pub struct Path {
     text: Vec<u8>,
@@ -29,8 +29,8 @@ impl Model for Path {
     ghost invariant = { λ p. IsTrue (is_path p.text.items) };
 }
 
-/// Why a text is no path. Of several faults the earliest in the text is told, and of two at one place the first of
-/// this list.
+/// Why a text is no path. Of several faults the earliest in the text is told, and of two that begin at one byte the first
+/// of this list.
 #[derive(Clone, Copy, Debug, PartialEq, Eq)]
 pub enum PathFault {
     /// It does not begin with a slash.
@@ -45,14 +45,17 @@ pub enum PathFault {
     BadText,
     /// More than 1,024 bytes, or for a sequential path more than 1,014.
     TooLong,
+    /// Memory was refused. Nothing is said of the text.
     Memory,
 }
 
-/// The most bytes of a path, and of a sequential one before its suffix.
+/// The most bytes of a path.
 const MOST: usize = 1024;
 
+/// The most bytes of the path of a sequential create, before its ten digits.
 const MAX_SEQUENTIAL: usize = 1014;
 
+/// The decimal digits at the end of a sequence node's path.
 const SEQUENCE_DIGITS: u32 = 10;
 
 /// A fault, and the index of the byte where it begins.
@@ -97,7 +100,7 @@ fn end_slash(path: &[u8]) -> Option<Defect>
     }
 }
 
-/// What is wrong with the name that these bytes begin with.
+/// What is wrong with the name that these bytes begin with, which ends at their first slash or with them.
 #[tactic(auto, unfolding(crate::specs::PathFaults::first_name))]
 fn name_fault(rest: &[u8]) -> Option<PathFault>
     ensures { result ≡ name_fault (first_name rest.now) }
@@ -111,7 +114,7 @@ fn name_fault(rest: &[u8]) -> Option<PathFault>
     }
 }
 
-/// The first name that is empty or relative.
+/// The first name that is empty, `.` or `..`.
 #[tactic(auto, unfolding(crate::specs::PathFaults::bad_name))]
 fn bad_name(path: &[u8]) -> Option<Defect>
     requires { IsTrue (begins_with_slash path.now) }
@@ -156,7 +159,7 @@ fn bad_char(text: &str) -> Option<Defect>
     None
 }
 
-/// The same, or where the text is no longer UTF-8.
+/// The first character that no path may have, or else the first byte that is not UTF-8.
 fn bad_text(path: &[u8]) -> Option<Defect>
     ensures { result ≡ bad_text path.now }
 {
@@ -166,7 +169,7 @@ fn bad_text(path: &[u8]) -> Option<Defect>
     }
 }
 
-/// The same of a text that is UTF-8 up to so many bytes.
+/// The first bad character among the first `valid` bytes, or else the byte after them, which is not UTF-8.
 fn bad_text_before(path: &[u8], valid: usize) -> Option<Defect>
     requires { IsValidUpTo path.now valid }
     ensures { result ≡ bad_text_from valid path.now }
@@ -193,7 +196,7 @@ fn too_long(len: usize, most: usize) -> Option<Defect>
     }
 }
 
-/// The first defect but for the length.
+/// The first defect of a path's form, whatever its length.
 #[tactic(auto, unfolding(crate::specs::PathFaults::form_defect))]
 fn form_defect(path: &[u8]) -> Option<Defect>
     ensures { result ≡ form_defect path.now }
@@ -204,7 +207,7 @@ fn form_defect(path: &[u8]) -> Option<Defect>
     }
 }
 
-/// The text, with `1` behind it where it is a sequential path's.
+/// The text whose form is tested: that of a sequential create with `1` added.
 fn tested(alloc: Global, text: &[u8], sequential: bool) -> Result<Vec<u8>, AllocError>
     ensures { IfOk result (λ v. v.items ≡ tested sequential text.now) }
 {
@@ -234,7 +237,7 @@ fn defect_of(path: &[u8], text: &[u8], sequential: bool) -> Option<Defect>
     )
 }
 
-/// Adds the last digits of a number, so many.
+/// Adds the last `count` decimal digits of a number.
 fn push_digits(text: &mut Vec<u8>, count: u32, number: u32) -> Result<(), AllocError>
     ensures { OnOk result (text.new.items ≡ text.old.items ++ fixed_digits count number) }
 {
@@ -246,8 +249,8 @@ fn push_digits(text: &mut Vec<u8>, count: u32, number: u32) -> Result<(), AllocE
 }
 
 impl Path {
-    /// Reads a path; of a sequential one, the text with `1` behind it. A path's characters are U+0020 to U+007E, U+00A0
-    /// to U+D7FF and U+F900 to U+FFEF.
+    /// Reads a path. Where it is `sequential`, the text is that of a sequential create, and the path is the text with `1`
+    /// added. A path's characters are U+0020 to U+007E, U+00A0 to U+D7FF and U+F900 to U+FFEF.
     pub fn read(alloc: Global, text: &[u8], sequential: bool) -> Result<Path, PathFault>
         ensures ok { IfOk result (λ p. p ≡ tested sequential text.now) }
         ensures valid { IfOk result (λ p. IsTrue (is_valid sequential text.now)) }
@@ -264,6 +267,7 @@ impl Path {
         }
     }
 
+    /// The path `/`.
     pub fn root(alloc: Global) -> Result<Path, Memory>
         ensures { IfOk result (λ p. p ≡ root) }
     {
@@ -272,7 +276,7 @@ impl Path {
         })
     }
 
-    /// The path of a sequence node: the prefix, and the number as ten digits.
+    /// The path of a sequence node: the path of its create, and the number as ten digits ("Sequence Nodes").
     pub fn numbered(alloc: Global, prefix: &[u8], number: u32) -> Result<Path, Memory>
         requires { IsTrue (is_sequence_prefix prefix.now) }
         ensures { IfOk result (λ p. p ≡ sequence_path prefix.now number) }
@@ -290,6 +294,7 @@ impl Path {
         self.text.as_slice()
     }
 
+    /// The same path, in memory of its own.
     pub fn copy(&self, alloc: Global) -> Result<Path, Memory>
         ensures { IfOk result (λ p. p ≡ self.now) }
     {
@@ -298,7 +303,7 @@ impl Path {
         })
     }
 
-    /// The number of names: 0 of the root.
+    /// The number of names: 0 for the root.
     #[tactic(auto, unfolding(crate::specs::Paths::depth))]
     pub fn depth(&self) -> u32
         ensures { result ≡ depth self.now }
@@ -315,7 +320,7 @@ impl Path {
         slashes
     }
 
-    /// The name behind the last slash: of the root, none.
+    /// The name after the last slash, empty for the root.
     #[tactic(auto, unfolding(crate::specs::Paths::last_name))]
     pub fn last_name(&self) -> &[u8]
         ensures { result.now ≡ last_name self.now }
@@ -324,7 +329,7 @@ impl Path {
         &self.text.as_slice()[place + 1..]
     }
 
-    /// Whether the path is that of a child of this node.
+    /// Whether this is the path of a child of the node at `parent`.
     #[tactic(auto, unfolding(crate::specs::Paths::is_child))]
     pub fn is_child_of(&self, parent: &[u8]) -> bool
         ensures { result ≡ is_child parent.now self.now }
@@ -335,7 +340,7 @@ impl Path {
         }
     }
 
-    /// The path without its last name. The root has none.
+    /// The path without its last name; `None` for the root.
     pub fn parent(&self, alloc: Global) -> Result<Option<Path>, Memory>
         ensures parent { IfOk result (λ p. p ≡ parent self.now) }
         ensures shorter { IfOk result (λ p. IfSome p (λ q. length q < length self.now)) }
@@ -349,7 +354,7 @@ impl Path {
     }
 }
 
-/// What stands before the last slash, or the slash itself where nothing stands before it.
+/// The parent's text: what stands before the last slash, or that slash where nothing does. The root has none.
 fn parent_text(path: &[u8]) -> Option<&[u8]>
     requires { IsTrue (is_path path.now) }
     ensures parent { option_map (λ t. t.now) result ≡ parent path.now }

@@ -1,19 +1,21 @@
 //! Requests (zookeeper.jute, the records of package `org.apache.zookeeper.proto`).
 //!
 //! A version of -1 in a request matches any. Flags are those of `CreateMode`: 0 persistent, 1 ephemeral, 2 persistent
-//! sequential, 3 ephemeral sequential.
+//! sequential, 3 ephemeral sequential. A request is what a client sent: its paths need not be valid, nor its flags.
 
 use zx_base::{Bytes, Seq, Text};
 
 /// An entry of an access control list (zookeeper.jute, `ACL` with its `Id`).
 #[derive(Debug, Drop)]
 pub struct Acl {
+    /// The sum of what is allowed (`ZooDefs.Perms`): 1 read, 2 write, 4 create, 8 delete, 16 admin.
     pub perms: i32,
     pub scheme: Text,
+    /// Whom it is allowed to, in the words of the scheme.
     pub id: Text,
 }
 
-/// A request that may be part of a multi.
+/// A request that may be part of a multi, with the fields that it has as a [`Request`].
 #[derive(Debug, Drop)]
 pub enum Part {
     Create {
@@ -37,6 +39,7 @@ pub enum Part {
     },
 }
 
+/// A request of a client, by its type in `ZooDefs.OpCode`. A `watch` that is true arms a watch of the connection.
 #[derive(Debug, Drop)]
 pub enum Request {
     Create {
@@ -69,6 +72,7 @@ pub enum Request {
         path: Text,
         watch: bool,
     },
+    /// As `GetChildren`, and the reply has the node's Stat too.
     GetChildren2 {
         path: Text,
         watch: bool,
@@ -77,24 +81,29 @@ pub enum Request {
         path: Text,
     },
     Ping,
+    /// Whether the node is there and has this version.
     Check {
         path: Text,
         version: i32,
     },
+    /// All parts as one transaction, or none.
     Multi {
         parts: Seq<Part>,
     },
+    /// `AuthPacket`. The service looks at the scheme alone.
     Auth {
         kind: i32,
         scheme: Text,
         auth: Bytes,
     },
-    /// On the wire the lists stand in the order data, exist, child.
+    /// The watches of a client that has connected again. On the wire the lists stand in the order data, exist, child.
     SetWatches {
+        /// The greatest zxid that the client has seen: changes above it are told at once.
         relative: i64,
         exists: Seq<Text>,
         datas: Seq<Text>,
         children: Seq<Text>,
     },
+    /// `closeSession`: the session ends, with its ephemeral nodes.
     Close,
 }
