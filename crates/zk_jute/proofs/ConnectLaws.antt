@@ -19,7 +19,7 @@ use Rattle.zk_jute.proofs.Lists.{spelled_split}
 abbrev five : ConnectRequest → List Value
 five r = int r.protocol ∷ long r.last_zxid ∷ int r.timeout ∷ long r.session ∷ buffer r.passwd ∷ []
 
--- ---- what stands behind the fields
+-- ---- what comes after the fields
 
 flag_takes : (bytes : List ℕ) (flag : Option Bool) (rest : List ℕ) → (boolean_at bytes >>= λ x. ended (Some x.0, x.1)) ≡ Ok (flag, rest) → Spelled Spells (optional flag) bytes
 flag_takes bytes flag rest e =

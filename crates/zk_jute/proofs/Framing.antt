@@ -40,12 +40,12 @@ frame_again frame front rest is =
 pub frame_field : IsField IsFrame frame_at
 frame_field = record { takes = frame_takes; again = frame_again }
 
--- one more
+-- a list with one more item
 pub spelled_more : {A : Type 0} (Is : A → List ℕ → Type 0) (xs : List A) (front : List ℕ) (x : A) (one : List ℕ) → Spelled Is xs front → Is x one → Spelled Is (xs ++ x ∷ []) (front ++ one)
 spelled_more {A = A} Is [] front x one is h = (one, [], h, refl, rw is (sym (append-nil one)))
 spelled_more {A = A} Is (y ∷ ys) front x one is h = (is.0, is.1 ++ one, is.2, spelled_more Is ys is.1 x one is.3 h, rw is.4 (append_assoc is.0 is.1 one))
 
--- a frame and more is longer than what follows the frame
+-- what follows a frame is shorter than the whole
 pub shorter : (bytes frame rest : List ℕ) → frame_at bytes ≡ Ok (frame, rest) → length rest < length bytes
 shorter bytes frame rest e =
     let t = frame_takes bytes frame rest e in
@@ -64,7 +64,7 @@ goes_on bytes frames rest frame after so_far e =
     let t = frame_takes rest frame after e in
     (so_far.0 ++ t.front, spelled_more IsFrame frames so_far.0 frame t.front so_far.1 t.spelled, joined bytes so_far.0 rest t.front after so_far.2 t.parts)
 
--- lists of what is spelled, one behind the other
+-- what spells one list and then what spells another spells both lists together
 pub spelled_join : {A : Type 0} (Is : A → List ℕ → Type 0) (xs ys : List A) (a b : List ℕ) → Spelled Is xs a → Spelled Is ys b → Spelled Is (xs ++ ys) (a ++ b)
 spelled_join {A = A} Is [] ys a b p q = rw p q
 spelled_join {A = A} Is (x ∷ xs) ys a b p q = (p.0, p.1 ++ b, p.2, spelled_join Is xs ys p.1 b p.3 q, ap (λ (z : List ℕ). z ++ b) p.4 ∙ append_assoc p.0 p.1 b)

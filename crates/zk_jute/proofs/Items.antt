@@ -23,11 +23,11 @@ pub with_front-cons : {A : Type 0} (front : List A) (x : A) (read : Read (List A
 with_front-cons {A = A} front x (Ok y) = ap (λ (xs : List A). Ok (xs, y.1)) (simp append_assoc)
 with_front-cons {A = A} front x (Err left) = refl
 
--- an item takes bytes
+-- an item takes at least one byte
 abbrev pub Shortens : {A : Type 0} → (List ℕ → Read (Option A)) → Type 0
 Shortens {A = A} next = (bytes : List ℕ) (x : A) (rest : List ℕ) → next bytes ≡ Ok (Some x, rest) → length rest < length bytes
 
--- reading the bytes that are left, behind the items so far, gives the whole
+-- the items so far, and then what is read of the bytes that are left, are the whole
 pub record Goes {A : Type 0} (next : List ℕ → Read (Option A)) (items : List A) (bytes : List ℕ) (total : Read (List A)) : Type 0 where
   pub turns : ℕ
   pub enough : length bytes < turns

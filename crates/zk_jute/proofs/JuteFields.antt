@@ -100,7 +100,7 @@ boolean_again x (c ∷ d ∷ bytes) rest is = absurd is
 pub boolean_field : IsField IsBoolean boolean_at
 boolean_field = record { takes = boolean_takes; again = boolean_again }
 
--- bytes behind a length
+-- bytes after a length
 
 bytes_after_takes : (all : List ℕ) (n : ℕ) (bytes content rest : List ℕ) → bytes_after all (pos n) bytes ≡ Ok (content, rest) → (length content ≡ n) × (bytes ≡ content ++ rest)
 bytes_after_takes all n bytes content rest e =
@@ -210,7 +210,7 @@ vector_again {A = A} Is item field xs front rest is =
 pub vector_field : {A : Type 0} (Is : A → List ℕ → Type 0) (item : List ℕ → Read A) → IsField Is item → IsField (IsVector Is) (vector_at item)
 vector_field {A = A} Is item field = record { takes = vector_takes Is item field; again = vector_again Is item field }
 
--- an entry of a list of who may do what
+-- an entry of an access list
 
 acl_takes : (bytes : List ℕ) (x : Acl) (rest : List ℕ) → acl_at bytes ≡ Ok (x, rest) → Takes IsAcl bytes x rest
 acl_takes bytes x rest e =

@@ -6,7 +6,7 @@ use Rattle.zk_jute.specs.JuteReading.{Read, more_then, until_last, all_until_las
 use Rattle.zk_jute.specs.Grammar.{IsListed}
 use Rattle.zk_jute.proofs.JuteFields.{Takes, bind_ok, ok_is, joined}
 
--- what is behind the bytes that are the last item's
+-- the bytes of the last item, and then the rest
 pub record TakesLast (IsLast : List ℕ → Type 0) (bytes rest : List ℕ) : Type 0 where
   pub front : List ℕ
   pub spelled : IsLast front

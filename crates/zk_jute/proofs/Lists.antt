@@ -1,4 +1,4 @@
--- What holds of each item of lists put one behind the other, and how such lists are spelled.
+-- What holds of each item of lists put one after the other, and how such lists are spelled.
 use Rattle.std.proofs.Common.{◌≡◌, ℕ, List, [], ◌∷◌, ◌++◌, All, refl, sym, ap, ◌∙◌, append_assoc}
 use Rattle.std.specs.List.{AllByRecursion, flat_map}
 use Rattle.std.proofs.lemmas.List.Elements.{All-from_recursion}
@@ -27,7 +27,7 @@ item_can {A = A} {B = B} P f xs ys all = All-from_recursion (λ x. AllByRecursio
 
 -- ---- spellings
 
--- bytes that spell two lists, one behind the other
+-- bytes that spell two lists, one after the other
 pub record SpelledBoth {A : Type 0} (Is : A → List ℕ → Type 0) (xs ys : List A) (bytes : List ℕ) : Type 0 where
   pub front : List ℕ
   pub rest : List ℕ

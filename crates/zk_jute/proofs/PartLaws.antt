@@ -32,7 +32,7 @@ heads : (type err : ℤ) (last : Bool) (left : ℕ) (part : Option PartKind) (by
 heads type err true left part bytes e is = subst (λ (p : Option PartKind). Heads p bytes) (ok_is None part e) (type, (err, is))
 heads type err false left part bytes e is = listed_heads type err left (part_numbered type) part bytes refl e is
 
--- three values of a header, one behind the other
+-- three values of a header, one after the other
 pub three : (type err : ℤ) (last : Bool) (a b c : List ℕ) → Spells (int type) a → Spells (boolean last) b → Spells (int err) c → Spelled Spells (int type ∷ boolean last ∷ int err ∷ []) ((a ++ b) ++ c)
 three type err last a b c p q r = (a, b ++ c, p, (b, c, q, (c, [], r, refl, sym (append-nil c)), refl), append_assoc a b c)
 
@@ -52,7 +52,7 @@ header_takes bytes part rest e =
       parts = parts;
     })
 
--- the three values of a header, and what stands behind it
+-- the three values of a header, and what comes after it
 pub record Three (type err : ℤ) (last : Bool) (front rest : List ℕ) : Type 0 where
   pub a : List ℕ
   pub b : List ℕ

@@ -196,18 +196,19 @@ body_again : (code : Opcode) (b : Body) → shape_of b ≡ shape_for code → (b
 body_again code (bodies.Parts rs) shape bytes rest is = parts_again code rs shape bytes rest (results_listed rs bytes is)
 body_again code b shape bytes rest is = fields_again code b (λ e. not_fields _ e) shape bytes rest is
 
--- ---- what stands behind a header
+-- ---- what comes after a header
 
--- the error of a reply, and its values behind the header
+-- the error of a reply
 abbrev pub err_of : Reply → ℤ
 err_of (replies.Refused code) = code
 err_of (replies.Good body) = pos 0
 
+-- the values of a reply after its header
 abbrev pub later_values : Reply → List Value
 later_values (replies.Refused code) = []
 later_values (replies.Good body) = body_values body
 
--- a reply of this error, whose values behind the header these bytes spell
+-- a reply with this error, whose values after the header these bytes spell
 record Behind (code : Opcode) (err : ℤ) (bytes : List ℕ) (r : Reply) : Type 0 where
   suits : Suits code r
   err_is : err_of r ≡ err

@@ -75,7 +75,7 @@ IsResult r bytes = Spelled Spells (result_values r) bytes
 abbrev pub IsLastResult : List ℕ → Type 0
 IsLastResult bytes = Spelled Spells last_result bytes
 
--- a header, and the bytes behind it
+-- a header, and the bytes after it
 record Headed (bytes : List ℕ) (form : Form) (err : ℤ) (after : List ℕ) : Type 0 where
   type : ℤ
   is_last : Bool
@@ -140,7 +140,7 @@ last_after left refused bytes after err rest h e =
     absurd (some_none (ap (λ (y : Option PartResult × List ℕ). y.0) (ended_ok (int_eq a.0.0 err) left (Some (results.Code a.0.0), a.0.1) (None, rest) a.2).1))
 last_after left none bytes after err rest h e = absurd cc
 
--- the header that a reading begins with, and what is read behind it
+-- the header that a reading begins with, and what is read after it
 record Begins (bytes : List ℕ) (y : Option PartResult × List ℕ) : Type 0 where
   form : Form
   err : ℤ

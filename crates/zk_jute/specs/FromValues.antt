@@ -1,6 +1,6 @@
--- The record that given values are, the other way round of `values_of`. What a frame spells is said in `Grammar`, without
--- these, and the laws of `requests_are_spelled` and `replies_are_spelled` show that reading with them is the same. Where the
--- values are not of the record's kinds, which reading excludes, a field is 0, false or empty.
+-- The record that values make: the reverse of `values_of`. `Grammar` says what a frame spells without these, and the laws
+-- `requests_are_spelled` and `replies_are_spelled` show that reading with them is the same. Where the values are not of the
+-- record's kinds, which reading excludes, a field is 0, false or empty.
 use Rattle.std.specs.Prelude.{ℕ, zero, suc, ℤ, pos, Bool, false, List, [], ◌∷◌}
 use Rattle.zk_model.specs.declared.node.Stat.{Stat}
 use Rattle.zk_jute.specs.declared.opcode.Opcode.{Opcode}
@@ -18,7 +18,7 @@ use Rattle.zk_model.specs.declared.request.Request.{Request}
 use Rattle.zk_model.specs.declared.request.Request.TheVariants as requests
 use Rattle.zk_jute.specs.JuteValues.{Value, int, long, boolean, buffer, ustring, ustrings, acls}
 
--- the value with this number, counted from 0
+-- the value with this number, counted from 0; the int 0 where there are fewer
 abbrev pub value_in : List Value → ℕ → Value
 value_in [] n = int (pos 0)
 value_in (v ∷ vs) zero = v
@@ -75,11 +75,13 @@ part_with kinds.Delete v = parts.Delete (bytes_in (v 0)) (number_in (v 1))
 part_with kinds.SetData v = parts.SetData (bytes_in (v 0)) (bytes_in (v 1)) (number_in (v 2))
 part_with kinds.Check v = parts.Check (bytes_in (v 0)) (number_in (v 1))
 
+-- the part of this kind with these values
 abbrev pub part_from : PartKind → List Value → Part
 part_from kind vs = part_with kind (value_in vs)
 
 -- ---- replies
 
+-- the Stat with these values, from the first on
 unfoldable pub stat_with : (ℕ → Value) → Stat
 stat_with v = record {
   czxid = number_in (v 0);
@@ -121,5 +123,6 @@ result_with kinds.Delete v = results.Deleted
 result_with kinds.SetData v = results.Set (stat_with v)
 result_with kinds.Check v = results.Checked
 
+-- the result of a part of this kind with these values
 abbrev pub result_from : PartKind → List Value → PartResult
 result_from kind vs = result_with kind (value_in vs)

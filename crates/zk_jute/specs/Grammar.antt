@@ -1,4 +1,4 @@
--- What a frame spells: the wire protocol as relations between records and bytes, with each spelling that a record has. Fields
+-- What a frame spells: the wire protocol as relations between records and bytes, with every spelling that a record has. Fields
 -- stand in the order of zookeeper.jute.
 use Rattle.std.specs.Prelude.{◌≡◌, ◌≢◌, ℕ, ℤ, pos, Bool, true, false, Option, None, Some, List, [], ◌∷◌, ◌++◌, length}
 use Rattle.zk_model.specs.Codes.{minus}
@@ -22,22 +22,24 @@ use Rattle.zk_jute.specs.Packets.{reply_values}
 abbrev pub IsListed : {A : Type 0} → (A → List ℕ → Type 0) → (List ℕ → Type 0) → List A → List ℕ → Type 0
 IsListed Is IsLast xs bytes = (front : List ℕ) × (last : List ℕ) × Spelled Is xs front × IsLast last × (bytes ≡ front ++ last)
 
--- a MultiHeader of a request; its error is any number
+-- a MultiHeader of a request; its error is any int
 abbrev pub IsHeader : ℤ → Bool → List ℕ → Type 0
 IsHeader type last bytes = (err : ℤ) × Spelled Spells (int type ∷ boolean last ∷ int err ∷ []) bytes
 
+-- a part of a multi: its header, and its fields
 abbrev pub IsPart : Part → List ℕ → Type 0
 IsPart part bytes = (header : List ℕ) × (rest : List ℕ) × IsHeader (part_number (part_kind part)) false header × Spelled Spells (part_values part) rest × (bytes ≡ header ++ rest)
 
--- the last header of a request; its type is any number
+-- the last header of a request; its type is any int
 abbrev pub IsLastHeader : List ℕ → Type 0
 IsLastHeader bytes = (type : ℤ) × IsHeader type true bytes
 
+-- the body of a request
 abbrev pub IsAsked : Request → List ℕ → Type 0
 IsAsked (requests.Multi ps) bytes = IsListed IsPart IsLastHeader ps bytes
 IsAsked request bytes = Spelled Spells (values_of request) bytes
 
--- a frame of a request
+-- a frame of a request: a `RequestHeader`, which is the xid and the type, and the body
 abbrev pub IsRequest : ℤ → Request → List ℕ → Type 0
 IsRequest xid request frame = (header : List ℕ) × (body : List ℕ) × Spelled Spells (int xid ∷ int (number_of (opcode_of request)) ∷ []) header × IsAsked request body × (frame ≡ header ++ body)
 
@@ -45,7 +47,7 @@ IsRequest xid request frame = (header : List ℕ) × (body : List ℕ) × Spelle
 abbrev pub IsConnect : ConnectRequest → List ℕ → Type 0
 IsConnect r frame = Spelled Spells (connect_values r) frame
 
--- a refusal's code is not 0, and a body is of the shape that answers this kind
+-- a refusal's code is not 0; a body is of the shape that answers this kind
 abbrev pub Suits : Opcode → Reply → Type 0
 Suits code (replies.Refused err) = err ≢ pos 0
 Suits code (replies.Good body) = shape_of body ≡ shape_for code
@@ -55,7 +57,7 @@ pub record IsReply (code : Opcode) (xid zxid : ℤ) (reply : Reply) (frame : Lis
   pub suits : Suits code reply
   pub spelled : Spelled Spells (reply_values xid zxid reply) frame
 
--- nothing, or a boolean
+-- no bytes, or a boolean
 abbrev pub IsReadOnly : Option Bool → List ℕ → Type 0
 IsReadOnly None bytes = bytes ≡ []
 IsReadOnly (Some flag) bytes = IsBoolean flag bytes

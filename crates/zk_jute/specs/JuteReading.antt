@@ -1,4 +1,4 @@
--- Reading Jute's values from left to right. What can't be read is named by how many bytes are left from its first byte on.
+-- Reading Jute's values from left to right. A fault is how many bytes are left from the first byte of what can't be read.
 use Rattle.std.specs.Prelude.{ℕ, zero, suc, ◌==◌, ℤ, pos, negsuc, Bool, true, false, Option, Some, None, List, [], ◌∷◌, length, take, drop, Result, Ok, Err, nat_lt, if◌then◌else◌}
 use Rattle.std.specs.Int.{w32, w64, cast_signed}
 use Rattle.std.specs.Str.{is_utf8}
@@ -11,6 +11,7 @@ use Rattle.zk_model.specs.Access.{is_open_acl}
 abbrev pub Read : Type 0 → Type 0
 Read A = Result (A × List ℕ) ℕ
 
+-- a step, and then another on what it gave; a fault ends both
 infixl 10 ◌>>=◌
 abbrev pub ◌>>=◌ : {A B : Type 0} → Result A ℕ → (A → Result B ℕ) → Result B ℕ
 (Ok x) >>= f = f x
@@ -35,11 +36,12 @@ boolean_at [] = Err 0
 boolean_at (zero ∷ rest) = Ok (false, rest)
 boolean_at (suc c ∷ rest) = Ok (true, rest)
 
--- the bytes after a length, where there are so many; else the value has the fault, whose bytes are all
+-- the bytes after a length, where there are so many; else a fault of the whole value, at the first byte of `all`
 abbrev pub bytes_after : List ℕ → ℤ → List ℕ → Read (List ℕ)
 bytes_after all (pos n) rest = if nat_lt (length rest) n then Err (length all) else Ok (take n rest, drop n rest)
 bytes_after all (negsuc n) rest = Err (length all)
 
+-- bytes that are UTF-8, or a fault
 abbrev pub text_of : ℕ → List ℕ × List ℕ → Read (List ℕ)
 text_of left x = if is_utf8 x.0 then Ok x else Err left
 
@@ -58,6 +60,7 @@ count_at bytes = int_at bytes >>= λ n. count_of (length bytes) n.0 n.1
 abbrev pub buffer_at : List ℕ → Read (List ℕ)
 buffer_at bytes = count_at bytes >>= λ n. bytes_after bytes (pos n.0) n.1
 
+-- so many items, one after the other
 unfoldable pub items_at : {A : Type 0} → (List ℕ → Read A) → ℕ → List ℕ → Read (List A)
 items_at {A = A} item zero bytes = Ok ([], bytes)
 items_at {A = A} item (suc n) bytes = item bytes >>= λ first. items_at item n first.1 >>= λ others. Ok (first.0 ∷ others.0, others.1)
@@ -70,7 +73,7 @@ acl_at bytes =
     int_at bytes >>= λ perms. ustring_at perms.1 >>= λ scheme. ustring_at scheme.1 >>= λ id.
     Ok (record { perms = perms.0; scheme = scheme.0; id = id.0 }, id.1)
 
--- another list has a fault of the whole vector
+-- the open list; any other is a fault of the whole vector
 abbrev pub open_of : ℕ → List Acl → List ℕ → Read Value
 open_of left entries rest = if is_open_acl entries then Ok (open_acl, rest) else Err left
 
@@ -94,6 +97,7 @@ values_at (k ∷ ks) bytes = value_at k bytes >>= λ first. values_at ks first.1
 
 -- ---- items up to the last
 
+-- an item and then the others, or no more after the last
 abbrev pub more_then : {A : Type 0} → (List ℕ → Read (List A)) → Option A → List ℕ → Read (List A)
 more_then {A = A} others None rest = Ok ([], rest)
 more_then {A = A} others (Some x) rest = others rest >>= λ xs. Ok (x ∷ xs.0, xs.1)
@@ -109,6 +113,6 @@ all_until_last next bytes = until_last next (suc (length bytes)) bytes
 
 -- ---- a whole frame
 
--- bytes after what was read have a fault
+-- what was read, where no bytes come after it; such bytes are a fault
 abbrev pub ended : {A : Type 0} → A × List ℕ → Read A
 ended x = if length x.1 == 0 then Ok x else Err (length x.1)

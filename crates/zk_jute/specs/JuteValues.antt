@@ -8,7 +8,7 @@ use Rattle.zk_model.specs.Codes.{minus}
 use Rattle.zk_model.specs.declared.request.Acl.{Acl}
 use Rattle.zk_model.specs.Access.{open_entry}
 
--- a Jute value, or a vector of them
+-- a Jute value, or a vector. `open_acl` is the vector of the one open entry
 pub data Value : Type 0 where
   int : ℤ → Value
   long : ℤ → Value
@@ -30,6 +30,7 @@ pub data Kind : Type 0 where
   some_acls : Kind
   the_open_acl : Kind
 
+-- a value's kind
 abbrev pub kind_of : Value → Kind
 kind_of (int n) = an_int
 kind_of (long n) = a_long
@@ -40,7 +41,7 @@ kind_of (ustrings texts) = some_ustrings
 kind_of (acls entries) = some_acls
 kind_of open_acl = the_open_acl
 
--- one after the other: what spells a list whose items are spelled so
+-- the bytes spell the items of a list, one after the other
 abbrev pub Spelled : {A : Type 0} → (A → List ℕ → Type 0) → List A → List ℕ → Type 0
 Spelled {A = A} each [] bytes = bytes ≡ []
 Spelled {A = A} each (x ∷ xs) bytes = (front : List ℕ) × (rest : List ℕ) × each x front × Spelled each xs rest × (bytes ≡ front ++ rest)
@@ -49,6 +50,7 @@ Spelled {A = A} each (x ∷ xs) bytes = (front : List ℕ) × (rest : List ℕ) 
 abbrev pub IsInt : ℤ → List ℕ → Type 0
 IsInt n bytes = (length bytes ≡ 4) × (n ≡ cast_signed w32 (big_number 4 bytes))
 
+-- eight bytes, big-endian two's complement
 abbrev pub IsLong : ℤ → List ℕ → Type 0
 IsLong n bytes = (length bytes ≡ 8) × (n ≡ cast_signed w64 (big_number 8 bytes))
 
@@ -59,19 +61,23 @@ IsBoolean b (zero ∷ []) = b ≡ false
 IsBoolean b (suc c ∷ []) = b ≡ true
 IsBoolean b (c ∷ d ∷ bytes) = ⊥
 
--- the length or the count of a buffer or a vector; -1 stands for 0 too
+-- an int, the length of a buffer or the count of a vector; -1 stands for 0 too
 abbrev pub IsCount : ℕ → List ℕ → Type 0
 IsCount n bytes = IsInt (pos n) bytes ⊎ ((n ≡ 0) × IsInt (minus 1) bytes)
 
+-- its length, and its bytes
 abbrev pub IsBuffer : List ℕ → List ℕ → Type 0
 IsBuffer content bytes = (front : List ℕ) × IsCount (length content) front × (bytes ≡ front ++ content)
 
+-- its length, which is an int not below 0, and its bytes, which are UTF-8
 abbrev pub IsUstring : List ℕ → List ℕ → Type 0
 IsUstring text bytes = (front : List ℕ) × IsInt (pos (length text)) front × IsUtf8 text × (bytes ≡ front ++ text)
 
+-- its count, and its items
 abbrev pub IsVector : {A : Type 0} → (A → List ℕ → Type 0) → List A → List ℕ → Type 0
 IsVector each xs bytes = (front : List ℕ) × (rest : List ℕ) × IsCount (length xs) front × Spelled each xs rest × (bytes ≡ front ++ rest)
 
+-- an `ACL` with its `Id`: the permissions, the scheme, the id
 abbrev pub IsAcl : Acl → List ℕ → Type 0
 IsAcl entry bytes = (perms : List ℕ) × (scheme : List ℕ) × (id : List ℕ)
     × IsInt entry.perms perms × IsUstring entry.scheme scheme × IsUstring entry.id id × (bytes ≡ perms ++ scheme ++ id)

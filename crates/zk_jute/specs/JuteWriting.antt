@@ -22,15 +22,18 @@ boolean_bytes false = 0 ∷ []
 abbrev pub count_bytes : ℕ → List ℕ
 count_bytes n = int_bytes (pos n)
 
+-- a buffer or a ustring: its length, and its bytes
 abbrev pub string_bytes : List ℕ → List ℕ
 string_bytes bytes = count_bytes (length bytes) ++ bytes
 
+-- its count, and its items
 abbrev pub vector_bytes : {A : Type 0} → (A → List ℕ) → List A → List ℕ
 vector_bytes each xs = count_bytes (length xs) ++ flat_map each xs
 
 abbrev pub acl_bytes : Acl → List ℕ
 acl_bytes acl = int_bytes acl.perms ++ string_bytes acl.scheme ++ string_bytes acl.id
 
+-- the one spelling of a value that is written: true is 1, and an empty buffer or vector has the length 0
 abbrev pub canonical : Value → List ℕ
 canonical (int n) = int_bytes n
 canonical (long n) = long_bytes n
@@ -41,7 +44,7 @@ canonical (ustrings texts) = vector_bytes string_bytes texts
 canonical (acls entries) = vector_bytes acl_bytes entries
 canonical open_acl = vector_bytes acl_bytes (open_entry ∷ [])
 
--- lengths and counts fit an int
+-- the length fits an int
 abbrev pub IsShort : List ℕ → Type 0
 IsShort bytes = length bytes < 2 ^ 31
 
@@ -49,6 +52,7 @@ pub record IsShortAcl (acl : Acl) : Type 0 where
   pub scheme : IsShort acl.scheme
   pub id : IsShort acl.id
 
+-- the lengths and the count in a value fit an int
 abbrev pub CanBeWritten : Value → Type 0
 CanBeWritten (int n) = Unit {0}
 CanBeWritten (long n) = Unit {0}
@@ -59,6 +63,7 @@ CanBeWritten (ustrings texts) = (length texts < 2 ^ 31) × AllByRecursion IsShor
 CanBeWritten (acls entries) = (length entries < 2 ^ 31) × AllByRecursion IsShortAcl entries
 CanBeWritten open_acl = Unit {0}
 
+-- values, one after the other
 abbrev pub written : List Value → List ℕ
 written vs = flat_map canonical vs
 
@@ -69,7 +74,7 @@ AllCanBeWritten vs = AllByRecursion CanBeWritten vs
 abbrev pub with_length : List ℕ → List ℕ
 with_length frame = count_bytes (length frame) ++ frame
 
--- the length of a frame fits its int; so do then the lengths and counts in it
+-- the length of a frame fits its int. Then so do the lengths and counts in it
 abbrev pub FitsLength : List ℕ → Type 0
 FitsLength frame = length frame < 2 ^ 31
 

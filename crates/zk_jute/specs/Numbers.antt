@@ -10,6 +10,7 @@ use Rattle.zk_model.specs.declared.request.Part.TheVariants as parts
 use Rattle.zk_model.specs.declared.request.Request.{Request}
 use Rattle.zk_model.specs.declared.request.Request.TheVariants as requests
 
+-- a request's kind
 abbrev pub opcode_of : Request → Opcode
 opcode_of (requests.Create path content acl flags) = opcodes.Create
 opcode_of (requests.Delete path version) = opcodes.Delete
@@ -27,13 +28,14 @@ opcode_of (requests.Auth kind scheme auth) = opcodes.Auth
 opcode_of (requests.SetWatches relative exists datas children) = opcodes.SetWatches
 opcode_of requests.Close = opcodes.Close
 
+-- a part's kind
 abbrev pub part_kind : Part → PartKind
 part_kind (parts.Create path content acl flags) = kinds.Create
 part_kind (parts.Delete path version) = kinds.Delete
 part_kind (parts.SetData path content version) = kinds.SetData
 part_kind (parts.Check path version) = kinds.Check
 
--- a request's type
+-- the type in the header of a request of this kind
 abbrev pub number_of : Opcode → ℤ
 number_of opcodes.Create = pos 1
 number_of opcodes.Delete = pos 2
@@ -74,13 +76,14 @@ abbrev pub opcode_numbered : ℤ → Option Opcode
 opcode_numbered (pos n) = unsigned_opcode n
 opcode_numbered (negsuc n) = if n == 10 then Some opcodes.Close else None
 
--- the type of a part of a multi
+-- the type in the header of a part of this kind
 abbrev pub part_number : PartKind → ℤ
 part_number kinds.Create = pos 1
 part_number kinds.Delete = pos 2
 part_number kinds.SetData = pos 5
 part_number kinds.Check = pos 13
 
+-- the kind of part that has this type, if there is one
 abbrev pub part_numbered : ℤ → Option PartKind
 part_numbered (pos n) =
     if n == 1 then Some kinds.Create

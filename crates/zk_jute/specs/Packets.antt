@@ -11,10 +11,11 @@ use Rattle.zk_jute.specs.JuteWriting.{written, with_length, FitsLength}
 use Rattle.zk_jute.specs.Connects.{connect_response_values}
 use Rattle.zk_jute.specs.Replies.{body_values}
 
+-- the `ReplyHeader`
 abbrev pub reply_header : ℤ → ℤ → ℤ → List Value
 reply_header xid zxid err = int xid ∷ long zxid ∷ int err ∷ []
 
--- a refusal has no body
+-- a reply: its header, and its body after the error 0; a refusal has no body
 abbrev pub reply_values : ℤ → ℤ → Reply → List Value
 reply_values xid zxid (replies.Refused code) = reply_header xid zxid code
 reply_values xid zxid (replies.Good body) = reply_header xid zxid (pos 0) ++ body_values body
@@ -25,7 +26,7 @@ reply_bytes xid zxid reply = written (reply_values xid zxid reply)
 unfoldable pub reply_packet : ℤ → ℤ → Reply → List ℕ
 reply_packet xid zxid reply = with_length (reply_bytes xid zxid reply)
 
--- the length of a reply's frame is the same whatever its xid and zxid
+-- the length of a reply's frame fits its int. It is the same whatever the xid and the zxid
 abbrev pub CanBeSent : Reply → Type 0
 CanBeSent reply = FitsLength (reply_bytes (pos 0) (pos 0) reply)
 
@@ -39,6 +40,7 @@ notice_bytes n = written (notice_values n)
 unfoldable pub notice_packet : Notice → List ℕ
 notice_packet n = with_length (notice_bytes n)
 
+-- the length of a notification's frame fits its int
 abbrev pub NoticeCanBeSent : Notice → Type 0
 NoticeCanBeSent n = FitsLength (notice_bytes n)
 

@@ -53,7 +53,7 @@ stat_values s =
     long s.czxid ∷ long s.mzxid ∷ long s.ctime ∷ long s.mtime ∷ int s.version ∷ int s.cversion ∷ int s.aversion
     ∷ long s.ephemeral_owner ∷ int s.data_length ∷ int s.num_children ∷ long s.pzxid ∷ []
 
--- ---- the bodies of requests; a multi's has no fields of its own
+-- ---- the bodies of requests. A multi's has no fields of its own
 
 abbrev pub fields_of : Opcode → List Kind
 fields_of opcodes.Create = create_fields

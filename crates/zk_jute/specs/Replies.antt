@@ -1,4 +1,4 @@
--- The bodies of replies (zookeeper.jute): two rows each.
+-- The bodies of replies (zookeeper.jute). Each has two rows: the kinds of its fields, and what a body says, field by field.
 use Rattle.std.specs.Prelude.{List, [], ◌∷◌, ◌++◌, map}
 use Rattle.std.specs.List.{flat_map}
 use Rattle.zk_model.specs.declared.reply.Body.{Body}
@@ -9,7 +9,7 @@ use Rattle.zk_jute.specs.JuteValues.{Value, buffer, ustring, ustrings, open_acl,
 use Rattle.zk_jute.specs.Records.{stat_fields, stat_values}
 use Rattle.zk_jute.specs.Results.{result_values, last_result}
 
--- a multi's reply has no fields of its own
+-- the kinds of the fields of a reply's body, by the kind of the request; a multi's reply has no fields of its own
 abbrev pub reply_fields : Opcode → List Kind
 reply_fields opcodes.Create = a_ustring ∷ []
 reply_fields opcodes.Exists = stat_fields
@@ -21,6 +21,7 @@ reply_fields opcodes.Sync = a_ustring ∷ []
 reply_fields opcodes.GetChildren2 = some_ustrings ∷ stat_fields
 reply_fields _ = []
 
+-- what a body says, field by field; of a multi, its results and the last header
 abbrev pub body_values : Body → List Value
 body_values bodies.Empty = []
 body_values (bodies.Path path) = ustring path ∷ []
@@ -33,6 +34,7 @@ body_values (bodies.Parts results) = flat_map result_values results ++ last_resu
 
 -- ---- which body answers which kind
 
+-- fields of these kinds, or the results of a multi
 pub data Shape : Type 0 where
   fields : List Kind → Shape
   results : Shape

@@ -13,14 +13,16 @@ use Rattle.zk_jute.specs.FromValues.{body_from}
 use Rattle.zk_jute.specs.Replies.{reply_fields}
 use Rattle.zk_jute.specs.Results.{result_at}
 
+-- the body of a reply that is not to a multi
 abbrev pub plain_body_at : Opcode → List ℕ → Read Body
 plain_body_at code bytes = values_at (reply_fields code) bytes >>= λ x. Ok (body_from code x.0, x.1)
 
+-- the body of a reply to this kind, and the bytes after it
 abbrev pub reply_body_at : Opcode → List ℕ → Read Body
 reply_body_at opcodes.Multi bytes = all_until_last result_at bytes >>= λ x. Ok (bodies.Parts x.0, x.1)
 reply_body_at code bytes = plain_body_at code bytes
 
--- a body stands only behind the error 0
+-- what comes after the header, to the frame's end: a body only after the error 0
 abbrev pub reply_at : Opcode → ℤ → List ℕ → Read Reply
 reply_at code err bytes =
     if int_eq err (pos 0) then (reply_body_at code bytes >>= λ x. ended (replies.Good x.0, x.1))
@@ -34,6 +36,7 @@ pub data ReplyFrame : Type 0 where
   Unknown : (xid kind : ℤ) → ReplyFrame
   Answers : (xid zxid : ℤ) (reply : Reply) → ReplyFrame
 
+-- a fault's place in the frame, by how many bytes are left from it on
 abbrev pub answered_as : ℤ → ℤ → ℕ → Read Reply → ReplyFrame
 answered_as xid zxid size (Ok x) = Answers xid zxid x.0
 answered_as xid zxid size (Err left) = Unreadable xid (size - left)

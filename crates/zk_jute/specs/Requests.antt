@@ -13,20 +13,23 @@ use Rattle.zk_jute.specs.FromValues.{request_from, part_from}
 
 -- ---- the parts of a multi
 
+-- the kind, or a fault where there is none
 abbrev pub listed : ℕ → Option PartKind → Result (Option PartKind) ℕ
 listed left None = Err left
 listed left (Some kind) = Ok (Some kind)
 
--- which part a header begins, and none at the last one. An unlisted type is a fault of the whole header.
+-- which part a header begins, and none at the last header. An unlisted type is a fault of the whole header, from whose first
+-- byte on `left` bytes are left
 abbrev pub part_begun : ℕ → ℤ → Bool → Result (Option PartKind) ℕ
 part_begun left type true = Ok None
 part_begun left type false = listed left (part_numbered type)
 
--- a MultiHeader; its error is not looked at, nor is the last one's type
+-- a MultiHeader. Its error may be any int, and so may the type of the last one
 abbrev pub header_at : List ℕ → Read (Option PartKind)
 header_at bytes =
     int_at bytes >>= λ type. boolean_at type.1 >>= λ last. part_begun (length bytes) type.0 last.0 >>= λ part. int_at last.1 >>= λ err. Ok (part, err.1)
 
+-- the fields of the part that a header begins
 abbrev pub part_after : Option PartKind → List ℕ → Read (Option Part)
 part_after None bytes = Ok (None, bytes)
 part_after (Some kind) bytes = values_at (part_fields kind) bytes >>= λ x. Ok (Some (part_from kind x.0), x.1)
@@ -37,13 +40,16 @@ part_at bytes = header_at bytes >>= λ begun. part_after begun.0 begun.1
 
 -- ---- bodies
 
+-- the fields of a request that is no multi
 abbrev pub plain_at : Opcode → List ℕ → Read Request
 plain_at code bytes = values_at (fields_of code) bytes >>= λ x. Ok (request_from code x.0, x.1)
 
+-- a body of this kind, and the bytes after it
 abbrev pub body_at : Opcode → List ℕ → Read Request
 body_at opcodes.Multi bytes = all_until_last part_at bytes >>= λ x. Ok (requests.Multi x.0, x.1)
 body_at code bytes = plain_at code bytes
 
+-- a body of this kind, and nothing after it
 abbrev pub whole_at : Opcode → List ℕ → Read Request
 whole_at code bytes = body_at code bytes >>= ended
 
@@ -57,6 +63,7 @@ pub data Frame : Type 0 where
   Unknown : (xid kind : ℤ) → Frame
   Asks : (xid : ℤ) (asked : Request) → Frame
 
+-- a fault's place in the frame, by how many bytes are left from it on
 abbrev pub asked_as : ℤ → ℕ → Read Request → Frame
 asked_as xid size (Ok x) = Asks xid x.0
 asked_as xid size (Err left) = Unreadable xid (size - left)

@@ -14,6 +14,7 @@ use Rattle.zk_jute.specs.FromValues.{result_from}
 
 -- ---- what a result says: a header, and what the part gave or the code of its refusal
 
+-- the kinds of the fields of a result that is no code
 abbrev pub result_fields : PartKind → List Kind
 result_fields kinds.Create = a_ustring ∷ []
 result_fields kinds.Delete = []
@@ -24,6 +25,7 @@ result_fields kinds.Check = []
 abbrev pub result_header : ℤ → Bool → ℤ → List Value
 result_header type last err = int type ∷ boolean last ∷ int err ∷ []
 
+-- a result that is no code: a header with the error 0, and its fields
 abbrev pub good_result : PartKind → List Value → List Value
 good_result kind values = result_header (part_number kind) false (pos 0) ++ values
 
@@ -34,12 +36,13 @@ result_values (results.Set stat) = good_result kinds.SetData (stat_values stat)
 result_values results.Checked = good_result kinds.Check []
 result_values (results.Code code) = result_header (minus 1) false code ++ int code ∷ []
 
+-- the last header
 abbrev pub last_result : List Value
 last_result = result_header (minus 1) true (minus 1)
 
 -- ---- reading
 
--- which form a header begins
+-- what a header begins: nothing, since it is the last; the result of a part of this kind; a code; or none of these, a fault
 pub data Form : Type 0 where
   last : Form
   good : PartKind → Form
@@ -50,14 +53,16 @@ abbrev pub form_of_kind : Option PartKind → Form
 form_of_kind None = none
 form_of_kind (Some kind) = good kind
 
+-- by a header's type, whether it is the last, and its error
 abbrev pub form_of : ℤ → Bool → ℤ → Form
 form_of type true err = if int_eq type (minus 1) && int_eq err (minus 1) then last else none
 form_of type false err = if int_eq type (minus 1) then refused else (if int_eq err (pos 0) then form_of_kind (part_numbered type) else none)
 
--- the code behind a header is the header's own; a header and a code that differ have a fault of the header
+-- the code after a header is the header's error again; where the two differ, the whole header is at fault
 abbrev pub code_at : ℕ → ℤ → List ℕ → Read (Option PartResult)
 code_at left err bytes = int_at bytes >>= λ code. if int_eq code.0 err then Ok (Some (results.Code code.0), code.1) else Err left
 
+-- the fields of a result that is no code
 abbrev pub good_at : PartKind → List ℕ → Read (Option PartResult)
 good_at kind bytes = values_at (result_fields kind) bytes >>= λ x. Ok (Some (result_from kind x.0), x.1)
 
@@ -67,7 +72,7 @@ result_after left err (good kind) bytes = good_at kind bytes
 result_after left err refused bytes = code_at left err bytes
 result_after left err none bytes = Err left
 
--- the next result, or none at the last header. A header of no form has a fault as a whole.
+-- the next result, or none at the last header. A header of no form is at fault as a whole.
 abbrev pub result_at : List ℕ → Read (Option PartResult)
 result_at bytes =
     int_at bytes >>= λ type. boolean_at type.1 >>= λ is_last. int_at is_last.1 >>= λ err. result_after (length bytes) err.0 (form_of type.0 is_last.0 err.0) err.1

@@ -14,27 +14,30 @@ use Rattle.zk_jute.specs.Records.{values_of, part_values}
 abbrev pub header_values : ℤ → Bool → List Value
 header_values type last = int type ∷ boolean last ∷ int (minus 1) ∷ []
 
+-- a part: its header, and its fields
 abbrev pub whole_part : Part → List Value
 whole_part part = header_values (part_number (part_kind part)) false ++ part_values part
 
--- the parts, and the last header, of type -1
+-- the parts, and then the last header, of type -1
 abbrev pub multi_values : List Part → List Value
 multi_values ps = flat_map whole_part ps ++ header_values (minus 1) true
 
+-- the body of a request
 abbrev pub asked_values : Request → List Value
 asked_values (requests.Multi ps) = multi_values ps
 asked_values request = values_of request
 
--- RequestHeader, and the body
+-- the RequestHeader, which is the xid and the type, and the body
 abbrev pub request_values : ℤ → Request → List Value
 request_values xid request = int xid ∷ int (number_of (opcode_of request)) ∷ asked_values request
 
+-- the frame
 abbrev pub request_bytes : ℤ → Request → List ℕ
 request_bytes xid request = written (request_values xid request)
 
 unfoldable pub request_packet : ℤ → Request → List ℕ
 request_packet xid request = with_length (request_bytes xid request)
 
--- the length of a request's frame is the same whatever its xid
+-- the length of a request's frame fits its int. It is the same whatever the xid
 abbrev pub RequestCanBeSent : Request → Type 0
 RequestCanBeSent request = FitsLength (request_bytes (pos 0) request)

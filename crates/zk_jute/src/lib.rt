@@ -1,7 +1,7 @@
 //! The wire format of ZooKeeper as definitions and laws (zookeeper.jute, release 3.4): frames, records, packets.
 //!
-//! The codec, `zk_wire`, is proved to be these definitions, and the histories above cite them, so that neither is checked
-//! again when the other changes.
+//! The codec, `zk_wire`, is proved to be these definitions, and transcripts cite them, so that neither is checked again when
+//! the other changes.
 //!
 //! In reading order: `JuteValues` (values of jute and the bytes that spell them); `Numbers`, `Records`, `Connects`,
 //! `Results`, `Replies`, `Packets` (the values of each record); `Grammar`, `Frames` (what a frame and a stream spell). That

@@ -3,6 +3,7 @@
 ghost use Rattle.std.specs.Prelude.{◌≡◌};
 ghost use Rattle.zk_jute.specs.Numbers.{number_of, opcode_numbered, part_number, part_numbered};
 
+/// The kinds of requests that are read. Other types of release 3.4, such as `setACL` (7) and `sasl` (102), are not listed.
 #[derive(Clone, Copy, Debug, PartialEq, Eq)]
 pub enum Opcode {
     Create,
@@ -14,16 +15,18 @@ pub enum Opcode {
     GetChildren,
     Sync,
     Ping,
+    /// The children with the node's Stat.
     GetChildren2,
     Check,
     Multi,
     Auth,
     SetWatches,
+    /// `closeSession`.
     Close,
 }
 
 impl Opcode {
-    /// The kind that has this number, where one has it.
+    /// The kind with this number, the type in a request's header; `None` where no kind has it.
     pub fn from_number(number: i32) -> Option<Opcode>
         ensures { result ≡ opcode_numbered number }
     {
@@ -47,6 +50,7 @@ impl Opcode {
         }
     }
 
+    /// The type in the header of a request of this kind.
     pub fn number(self) -> i32
         ensures { result ≡ number_of self }
     {
@@ -70,7 +74,7 @@ impl Opcode {
     }
 }
 
-/// The kinds of parts of a multi.
+/// The kinds of parts of a multi. Each has the number of that kind of request.
 #[derive(Clone, Copy, Debug, PartialEq, Eq)]
 pub enum PartKind {
     Create,
@@ -80,7 +84,7 @@ pub enum PartKind {
 }
 
 impl PartKind {
-    /// The kind of part that has this number, where one has it.
+    /// The kind of part with this number, the type in a part's header; `None` where no kind has it.
     pub fn from_number(number: i32) -> Option<PartKind>
         ensures { result ≡ part_numbered number }
     {
@@ -93,6 +97,7 @@ impl PartKind {
         }
     }
 
+    /// The type in the header of a part of this kind, and of its result.
     pub fn number(self) -> i32
         ensures { result ≡ part_number self }
     {
