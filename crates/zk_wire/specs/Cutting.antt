@@ -6,16 +6,17 @@ use Rattle.zk_jute.specs.Frames.{Framed, bad_length}
 use Rattle.zk_wire.specs.declared.cutter.CutFault.{CutFault}
 use Rattle.zk_wire.specs.declared.cutter.CutFault.TheVariants.{BadLength, Memory}
 
--- what of a stream was not handed out, and how many bytes stand before it
+-- the bytes of a stream that were not handed out, and how many came before them
 pub record Stream : Type 0 where
   pub place : ℕ
   pub rest : List ℕ
 
+-- a stream of which nothing came
 abbrev pub unread : Stream
 unread = record { place = 0; rest = [] }
 
--- all whole frames are handed out, and there is one, or no length out of range stands at the front. A place at its type's
--- end stays there.
+-- all whole frames are handed out; where there is none, no length out of range stands at the front. The place counts the bytes
+-- of the frames and their lengths, up to 2^64 - 1.
 pub record Hands (old : Stream) (piece : List ℕ) (frames : List (List ℕ)) (new : Stream) : Type 0 where
   pub framed : Framed (old.rest ++ piece) frames new.rest
   pub place : new.place ≡ min (old.place + (length (old.rest ++ piece) - length new.rest)) (2 ^ 64 - 1)
@@ -28,7 +29,7 @@ pub record Refuses (old : Stream) (piece : List ℕ) (place : ℕ) (n : ℤ) (ne
   pub stays : bad_length new.rest ≡ Some n
   pub stands : new.place ≡ old.place
 
--- what a call does with a piece: without memory, nothing
+-- what a call does with a piece; without memory, nothing
 abbrev pub Takes : Stream → List ℕ → Result (Vec (List ℕ)) CutFault → Stream → Type 0
 Takes old piece (Ok frames) new = Hands old piece frames.items new
 Takes old piece (Err (BadLength place n)) new = Refuses old piece place n new
@@ -36,6 +37,7 @@ Takes old piece (Err Memory) new = new ≡ old
 
 -- ---- many calls
 
+-- a call, by the piece that it was given and what it answered
 pub record Call : Type 0 where
   pub piece : List ℕ
   pub result : Result (Vec (List ℕ)) CutFault
@@ -50,7 +52,7 @@ taken_by piece (Ok frames) = piece
 taken_by piece (Err (BadLength place n)) = piece
 taken_by piece (Err Memory) = []
 
--- the bytes that a call took: its piece, unless memory was refused
+-- the bytes of the stream that a call accounts for, kept or not: its piece, unless memory was refused
 abbrev pub taken : Call → List ℕ
 taken call = taken_by call.piece call.result
 
@@ -68,8 +70,8 @@ all_taken calls = flat_map taken calls
 abbrev pub all_handed : List Call → List (List ℕ)
 all_handed calls = flat_map handed calls
 
--- where a cutter stands after a stream of which these frames were handed out: it holds what is left, or that begins with a
--- length out of range and so does what it holds
+-- where a cutter stands after a stream of which these frames were handed out: it holds the rest; or the rest begins with a
+-- length out of range, and what it holds begins with the same length
 pub record Stands (stream : List ℕ) (frames : List (List ℕ)) (state : Stream) : Type 0 where
   pub rest : List ℕ
   pub framed : Framed stream frames rest

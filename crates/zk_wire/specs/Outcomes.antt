@@ -1,4 +1,4 @@
--- What a call that reads a frame answers, told by what the definitions read the frame as. `Memory` may come at any frame.
+-- What a call that reads a frame answers, by what the definitions read the frame as. `Memory` may come at any frame.
 use Rattle.std.specs.Prelude.{◌≡◌, ℤ, Option, Some, None, Result, Ok, Err}
 use Rattle.zk_model.specs.declared.connect.ConnectRequest.{ConnectRequest}
 use Rattle.zk_model.specs.declared.reply.Reply.{Reply}
@@ -16,7 +16,7 @@ IsReadAs (Err (faults.Unreadable xid place)) frame = frame ≡ Unreadable xid pl
 IsReadAs (Err (faults.Unknown xid kind)) frame = frame ≡ Unknown xid kind
 IsReadAs (Err faults.Memory) frame = Unit {0}
 
--- a connect has no fault but that it is none
+-- a first frame has one fault alone: that it is no connect
 abbrev pub IsConnectReadAs : Result ConnectRequest WireFault → Option ConnectRequest → Type 0
 IsConnectReadAs (Ok request) read = read ≡ Some request
 IsConnectReadAs (Err faults.NoHeader) read = read ≡ None

@@ -10,7 +10,7 @@ use crate::reader::Reader;
 use std::alloc::Global;
 use zk_model::ConnectRequest;
 
-/// The connect request of a frame, or `NoHeader` where it is none. Copies the password once.
+/// The connect of a connection's first frame (`ConnectRequest`), or `NoHeader` where it is none. Copies the password once.
 #[tactic(auto, unfolding(zk_jute::specs::Connects::read_connect))]
 pub fn read_connect(alloc: Global, frame: &[u8]) -> Result<ConnectRequest, WireFault>
     ensures { IsConnectReadAs result (read_as frame.now) }
@@ -43,7 +43,7 @@ fn connect(reader: &mut Reader) -> Result<ConnectRequest, Fault>
     })
 }
 
-/// Nothing, or a boolean and nothing after it.
+/// The read-only byte, which older clients do not send, and nothing after it.
 fn read_only(reader: &mut Reader) -> Result<Option<bool>, Fault>
     ensures { Gives (λ x. x) result reader.new (read_only_at reader.old) }
 {

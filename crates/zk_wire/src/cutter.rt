@@ -11,19 +11,21 @@ use std::marker::Model;
 use zk_model::limit::MAX_FRAME;
 use zx_base::Bytes;
 
-/// Why a stream cannot be cut on.
+/// Why a stream is not cut any further. A bad length is for good; memory may be there at a later call.
 #[derive(Clone, Copy, Debug, PartialEq, Eq)]
 pub enum CutFault {
     /// The length that stands after `place` bytes of the stream is below 0 or above [`MAX_FRAME`].
     BadLength { place: u64, length: i32 },
+    /// Memory was refused. The cutter is as it was before the call.
     Memory,
 }
 
-/// A stream that comes in pieces. Contracts see what of it was not handed out yet, and how many bytes stand before that.
+/// A stream that comes in pieces. Contracts see the bytes of it that were not handed out yet, and how many bytes came before
+/// them.
 #[derive(Debug, Drop)]
 pub struct Cutter {
     alloc: Global,
-    /// How many bytes stand before `rest` in the stream; at 2^64 - 1 it stays.
+    /// How many bytes stand before `rest` in the stream, at most 2^64 - 1.
     place: u64,
     rest: Vec<u8>,
 }
@@ -46,10 +48,10 @@ impl Cutter {
         }
     }
 
-    /// The frames that are whole with this piece of the stream, and were not handed out before. A length out of range
-    /// stands behind the frames before it: it is answered by a call that has no frame to hand out, and from then on by
-    /// each call, which takes nothing of its piece. Without memory the piece is not taken, and the cutter is as it was.
-    /// Copies each frame once, and the bytes of a frame that comes in several pieces once more.
+    /// The frames that this piece of the stream makes whole, in order. A length out of range is answered only by a call
+    /// that has no frame to hand out; from then on each call answers it, and keeps nothing of its piece. Without memory
+    /// the piece is not taken, and the cutter is as it was. Copies each frame once; where bytes are held, the whole piece
+    /// once more.
     pub fn take(&mut self, piece: &[u8]) -> Result<Vec<Bytes>, CutFault>
         ensures takes { Takes self.old piece.now result self.new }
         ensures for_good { (n : ℤ) → bad_length_of self.old.rest ≡ Some n → result ≡ Err (faults.BadLength self.old.place n) }
@@ -62,7 +64,7 @@ impl Cutter {
         }
     }
 
-    /// The same where nothing is held: the frames are copied straight from the piece.
+    /// [`Cutter::take`] where no bytes are held: the frames are copied straight from the piece.
     fn take_front(&mut self, piece: &[u8]) -> Result<Vec<Bytes>, CutFault>
         requires { self.old.rest ≡ [] }
         ensures { Takes self.old piece.now result self.new }
@@ -81,7 +83,7 @@ impl Cutter {
         self.take_behind(piece)
     }
 
-    /// The same behind what is held.
+    /// [`Cutter::take`] for any bytes held: the piece is added to them, and the frames are copied from there.
     fn take_behind(&mut self, piece: &[u8]) -> Result<Vec<Bytes>, CutFault>
         ensures takes { Takes self.old piece.now result self.new }
         ensures for_good { (n : ℤ) → bad_length_of self.old.rest ≡ Some n → result ≡ Err (faults.BadLength self.old.place n) }
@@ -129,7 +131,7 @@ fn bad_length(bytes: &[u8]) -> Option<i32>
     }
 }
 
-/// The frame at the front, and the bytes after it.
+/// The frame at the front, and the bytes after it; `None` where no whole frame of a length in range stands there.
 fn split_frame(bytes: &[u8]) -> Option<(&[u8], &[u8])>
     ensures { MatchOption result (IsErr (frame_at bytes.now)) (λ x. frame_at bytes.now ≡ Ok (x.0.now, x.1.now)) }
 {

@@ -5,7 +5,7 @@ ghost use Rattle.zk_wire.specs.declared.fault.Fault.TheVariants.{Memory as NoMem
 
 use std::alloc::{AllocError, AllocFailed};
 
-/// Why a frame is read as no record. Places are offsets in the frame, without its length.
+/// Why a frame cannot be read. A place is an offset in the frame, without its length.
 #[derive(Clone, Copy, Debug, PartialEq, Eq)]
 pub enum WireFault {
     /// The frame is too short for its header, of 8 bytes in a request and 16 in a reply; or it is no connect.
@@ -14,14 +14,16 @@ pub enum WireFault {
     Unreadable { xid: i32, place: u64 },
     /// No kind of request has the type `kind`.
     Unknown { xid: i32, kind: i32 },
+    /// Memory was refused. Nothing is said of the frame.
     Memory,
 }
 
 /// Why a value cannot be read.
 #[derive(Debug, Drop)]
 pub enum Fault {
+    /// Memory was refused. Nothing is said of the value.
     Memory,
-    /// So many bytes are left from the first byte on that is to blame.
+    /// How many bytes of the frame are left, from the first byte that is to blame on.
     Unreadable(usize),
 }
 

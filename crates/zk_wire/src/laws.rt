@@ -7,7 +7,7 @@ ghost use Rattle.zk_wire.specs.Cutting.{Stream, unread, Takes, Call, Calls, take
 ghost use Rattle.zk_wire.specs.declared.cutter.CutFault.{CutFault};
 
 /// After any calls, in whatever pieces the stream came, a cutter has handed out the frames of the bytes that it took, in
-/// order, each once, and a stream has one list of frames.
+/// order, each once. A stream has one list of frames.
 pub fn frames_in_any_pieces()
     ensures any_pieces { (calls : List Call) (cutter : Stream) → Calls unread calls cutter → Stands (all_taken calls) (all_handed calls) cutter }
     ensures starts { Stands [] [] unread }

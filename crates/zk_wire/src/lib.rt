@@ -15,15 +15,17 @@
 //! - where a vector has fewer items than its count, the first value that is missing;
 //! - the first byte after the body, where bytes stand there;
 //! - a header of a multi, where its type is not listed;
-//! - in a reply, the count of an access list that is not the open one, and a result's header that is of no form.
+//! - in a reply, the count of an access list that is not the open one, and a result's header that is of no form or whose
+//!   error the code after it does not repeat.
 //!
 //! # Cost
 //!
-//! Every call takes time in proportion to its bytes. Cutting copies each frame once, straight from the piece where nothing
-//! is held; what is not whole yet is held, which copies it once more. Reading copies each text and each buffer once and
-//! allocates once for each of them and for each vector; only the parts and results of a multi are grown one by one.
-//! Writing reserves the packet's length once and copies each text and each buffer once, and the numbers of a Stat
-//! together. `bench/wire.sh` runs it beside the same work in plain Rust.
+//! Every call takes time in proportion to the bytes that it is given or gives. Where nothing is held, cutting copies each
+//! frame once, straight from the piece, and holds a copy of what is not whole. Where bytes are held, it first copies the
+//! whole piece after them, and all of this once more from there. Reading copies each text and each buffer once and allocates
+//! once for each of them and for each vector; only the parts and results of a multi are grown one by one. Writing reserves
+//! the packet's length once and copies each text and each buffer once, and the numbers of a Stat together. `bench/wire.sh`
+//! runs it beside the same work in plain Rust.
 #![tactic(auto)]
 
 mod connects;

@@ -1,4 +1,4 @@
-//! Writing packets. Each reserves its length once and copies each field once.
+//! Writing packets, each a frame after its length. Each call reserves the packet once and copies each field once.
 
 ghost use Rattle.std.specs.Prelude.{◌≡◌, ◌↔◌, length, pos, IfOk, IsTrue};
 ghost use Rattle.zk_jute.specs.Connects.{connect_response_values};
@@ -18,18 +18,18 @@ use zx_base::Memory;
 /// The most bytes of a frame whose length fits its int.
 const LONGEST: u64 = 0x7fff_ffff;
 
-/// The packet of an answer to a connect.
+/// The packet of an answer to a connect (zookeeper.jute, `ConnectResponse`).
 pub fn write_connect(alloc: Global, response: &ConnectResponse) -> Result<Vec<u8>, Memory>
     ensures { IfOk result (λ packet. packet.items ≡ connect_packet response.now) }
 {
-    // What is read of an array tells its length.
+    // Proof only: an array that is read has the length of its type, 16.
     let _passwd = response.passwd;
     let mut packet = Writer::new(alloc, connect_size(response))?;
     put_connect(&mut packet, response)?;
     Ok(packet.finish())
 }
 
-/// The packet of a reply to the request with this xid.
+/// The packet of a reply to the request with this xid (`ReplyHeader`). Ask [`reply_can_be_sent`] first.
 pub fn write_reply(alloc: Global, xid: i32, zxid: i64, reply: &Reply) -> Result<Vec<u8>, Memory>
     requires { CanBeSent reply.now }
     ensures { IfOk result (λ packet. packet.items ≡ reply_packet xid zxid reply.now) }
@@ -39,7 +39,7 @@ pub fn write_reply(alloc: Global, xid: i32, zxid: i64, reply: &Reply) -> Result<
     Ok(packet.finish())
 }
 
-/// The packet of a notification.
+/// The packet of a notification (`WatcherEvent`). Ask [`notice_can_be_sent`] first.
 pub fn write_notice(alloc: Global, notice: &Notice) -> Result<Vec<u8>, Memory>
     requires { NoticeCanBeSent notice.now }
     ensures { IfOk result (λ packet. packet.items ≡ notice_packet notice.now) }
@@ -49,7 +49,7 @@ pub fn write_notice(alloc: Global, notice: &Notice) -> Result<Vec<u8>, Memory>
     Ok(packet.finish())
 }
 
-/// The packet of a request, as clients write it.
+/// The packet of a request, as clients write it. Ask [`request_can_be_sent`] first.
 pub fn write_request(alloc: Global, xid: i32, request: &Request) -> Result<Vec<u8>, Memory>
     requires { RequestCanBeSent request.now }
     ensures { IfOk result (λ packet. packet.items ≡ request_packet xid request.now) }
@@ -59,21 +59,22 @@ pub fn write_request(alloc: Global, xid: i32, request: &Request) -> Result<Vec<u
     Ok(packet.finish())
 }
 
-/// Whether the length of a reply's frame fits its int. Goes through the reply's fields and copies none.
+/// Whether the length of a reply's frame fits its int, 2,147,483,647 bytes at most. Goes through the fields and copies none.
 pub fn reply_can_be_sent(reply: &Reply) -> bool
     ensures { IsTrue result ↔ CanBeSent reply.now }
 {
     reply_size(reply) <= LONGEST
 }
 
-/// Whether the length of a notification's frame fits its int.
+/// Whether the length of a notification's frame fits its int, 2,147,483,647 bytes at most.
 pub fn notice_can_be_sent(notice: &Notice) -> bool
     ensures { IsTrue result ↔ NoticeCanBeSent notice.now }
 {
     notice_size(notice) <= LONGEST
 }
 
-/// Whether the length of a request's frame fits its int. Goes through the request's fields and copies none.
+/// Whether the length of a request's frame fits its int, 2,147,483,647 bytes at most; a server takes 1,048,575. Goes through the
+/// fields and copies none.
 pub fn request_can_be_sent(request: &Request) -> bool
     ensures { IsTrue result ↔ RequestCanBeSent request.now }
 {

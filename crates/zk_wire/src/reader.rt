@@ -31,19 +31,21 @@ impl<'a> Model for Reader<'a> {
 }
 
 impl<'a> Reader<'a> {
+    /// A reader from the first of these bytes on.
     pub fn new(alloc: Global, bytes: &'a [u8]) -> Self
         ensures { result ≡ bytes.now }
     {
         Reader { alloc, rest: bytes }
     }
 
+    /// How many bytes are still to be read.
     pub fn left(&self) -> usize
         ensures { result ≡ length self.now }
     {
         self.rest.len()
     }
 
-    /// What was read, where nothing is left.
+    /// What was read, where no byte is left; else a fault at the first byte that is.
     pub fn ended<T: Drop>(&self, value: T) -> Result<T, Fault>
         ensures { Gives (λ x. x) result self.now (whole_of (value, self.now)) }
     {
@@ -53,6 +55,7 @@ impl<'a> Reader<'a> {
         }
     }
 
+    /// A signed number of four bytes, the high one first.
     pub fn int(&mut self) -> Result<i32, Fault>
         ensures { Gives (λ x. x) result self.new (int_at self.old) }
     {
@@ -64,6 +67,7 @@ impl<'a> Reader<'a> {
         Ok(number)
     }
 
+    /// A signed number of eight bytes, the high one first.
     pub fn long(&mut self) -> Result<i64, Fault>
         ensures { Gives (λ x. x) result self.new (long_at self.old) }
     {
@@ -75,6 +79,7 @@ impl<'a> Reader<'a> {
         Ok(number)
     }
 
+    /// One byte: any but 0 is true.
     pub fn boolean(&mut self) -> Result<bool, Fault>
         ensures { Gives (λ x. x) result self.new (boolean_at self.old) }
     {
@@ -101,6 +106,7 @@ impl<'a> Reader<'a> {
         }
     }
 
+    /// A length and so many bytes; the length -1 is read as 0. Copies the bytes once.
     pub fn buffer(&mut self) -> Result<Bytes, Fault>
         ensures { Gives (λ x. x) result self.new (buffer_at self.old) }
     {
@@ -114,6 +120,7 @@ impl<'a> Reader<'a> {
         Ok(Bytes::from_vec(Vec::from_slice(self.alloc, content)?))
     }
 
+    /// A length and so many bytes of UTF-8; no length below 0 is read. Copies the bytes once.
     pub fn ustring(&mut self) -> Result<Text, Fault>
         ensures { Gives (λ x. x) result self.new (ustring_at self.old) }
     {
@@ -133,7 +140,7 @@ impl<'a> Reader<'a> {
         Ok(Text::from_vec(Vec::from_slice(self.alloc, text)?))
     }
 
-    /// A vector of items of one kind.
+    /// A count and so many items of one kind; the count -1 is read as 0.
     pub fn vector<T: Item>(&mut self) -> Result<Seq<T>, Fault>
         ensures { Gives (λ x. x) result self.new (vector_at T.item_at self.old) }
     {
@@ -163,7 +170,7 @@ impl<'a> Reader<'a> {
         Vec::with_capacity(self.alloc, count.min(self.rest.len() / MIN_ITEM))
     }
 
-    /// The access list that allows everything to everyone, and no other.
+    /// The access list that allows everything to everyone; any other is a fault at its count.
     pub fn open_acl(&mut self) -> Result<(), Fault>
         ensures { Gives (λ x. open_acl) result self.new (value_at the_open_acl self.old) }
     {
@@ -188,7 +195,7 @@ impl<'a> Reader<'a> {
     }
 }
 
-/// The number that the first four bytes are.
+/// The signed number that the first four bytes are, the high one first.
 pub fn first_int(bytes: &[u8]) -> i32
     requires { 4 ≤ length bytes.now }
     ensures { result ≡ front_int bytes.now }
@@ -196,7 +203,7 @@ pub fn first_int(bytes: &[u8]) -> i32
     BigEndian::read_i32(bytes)
 }
 
-/// The number that the first eight bytes are.
+/// The signed number that the first eight bytes are, the high one first.
 pub fn first_long(bytes: &[u8]) -> i64
     requires { 8 ≤ length bytes.now }
     ensures { result ≡ front_long bytes.now }
@@ -230,6 +237,7 @@ fn is_text(bytes: &[u8]) -> bool
 pub trait Item: Sized + Drop {
     ghost item_at: { List ℕ → Read Self };
 
+    /// The next item.
     fn read(reader: &mut Reader) -> Result<Self, Fault>
         ensures { Gives (λ x. x) result reader.new (item_at reader.old) };
 }
@@ -257,9 +265,10 @@ impl Item for Acl {
 pub trait Listed: Sized + Drop {
     ghost next_at: { List ℕ → Read (Option Self) };
 
+    /// The next item, with its header; `None` at the last header.
     fn next(reader: &mut Reader) -> Result<Option<Self>, Fault>
         ensures { Gives (λ x. x) result reader.new (next_at reader.old) };
 
-    // An item takes bytes.
+    // An item takes at least one byte.
     ghost shortens: { (bytes : List ℕ) (item : Self) (rest : List ℕ) → next_at bytes ≡ Ok (Some item, rest) → length rest < length bytes };
 }

@@ -16,10 +16,11 @@ use std::alloc::Global;
 use zk_jute::{Opcode, PartKind};
 use zk_model::{Body, PartResult, Reply, Stat};
 
-/// The bytes of a reply's header, its xid, zxid and error.
+/// The bytes of a reply's header: its xid, its zxid and its error, an int, a long and an int.
 const HEADER: usize = 16;
 
-/// The reply of a frame to a request of the type `kind`, with its xid and zxid. Copies each text and buffer once.
+/// The reply of a frame to a request of the type `kind`, with its xid and zxid: the frame itself does not tell which kind of
+/// request it answers. Copies each text and buffer once.
 pub fn read_reply(alloc: Global, frame: &[u8], kind: i32) -> Result<(i32, i64, Reply), WireFault>
     ensures { IsReplyReadAs result (read_as frame.now kind) }
 {
@@ -43,7 +44,7 @@ pub fn read_reply(alloc: Global, frame: &[u8], kind: i32) -> Result<(i32, i64, R
     }
 }
 
-/// What stands behind the header, to the frame's end.
+/// What comes after the header, to the frame's end.
 fn reply(reader: &mut Reader, code: Opcode, err: i32) -> Result<Reply, Fault>
     ensures { Gives (λ x. x) result reader.new (reply_at code err reader.old) }
 {

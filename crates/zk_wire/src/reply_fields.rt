@@ -34,7 +34,7 @@ pub fn put_reply<S: FieldSink>(
     }
 }
 
-/// Puts a notification: xid -1, zxid -1, no error, the kind, the state "connected", which is 3, and the path.
+/// Puts a notification: xid -1, zxid -1, no error, its type, the state `SyncConnected`, which is 3, and its path.
 pub fn put_notice<S: FieldSink>(sink: &mut S, notice: &Notice) -> Result<(), S::Fault>
     requires { AllByRecursion S.can_put (notice_values notice.now) }
     ensures { OnOk result (sink.new ≡ put_all S.put sink.old (notice_values notice.now)) }
@@ -47,7 +47,7 @@ pub fn put_notice<S: FieldSink>(sink: &mut S, notice: &Notice) -> Result<(), S::
     sink.ustring(notice.path.as_slice())
 }
 
-/// Puts the answer to a connect, of protocol version 0.
+/// Puts the answer to a connect. Its protocol version is 0.
 pub fn put_connect<S: FieldSink>(sink: &mut S, response: &ConnectResponse) -> Result<(), S::Fault>
     requires { AllByRecursion S.can_put (connect_response_values response.now) }
     ensures { OnOk result (sink.new ≡ put_all S.put sink.old (connect_response_values response.now)) }

@@ -21,7 +21,7 @@ pub fn put_request<S: FieldSink>(sink: &mut S, xid: i32, request: &Request) -> R
     put_body(sink, request)
 }
 
-/// Puts a request's body, field by field.
+/// Puts a request's body, field by field; of a multi, each part with its header, and the last header.
 pub fn put_body<S: FieldSink>(sink: &mut S, request: &Request) -> Result<(), S::Fault>
     requires { AllByRecursion S.can_put (asked_values request.now) }
     ensures { OnOk result (sink.new ≡ put_all S.put sink.old (asked_values request.now)) }
@@ -98,7 +98,7 @@ fn put_part<S: FieldSink>(sink: &mut S, part: &Part) -> Result<(), S::Fault>
     put_part_fields(sink, part)
 }
 
-/// Puts a header of a multi. Its error is -1.
+/// Puts a header of a multi (`MultiHeader`). Its error is -1.
 fn put_header<S: FieldSink>(sink: &mut S, kind: i32, last: bool) -> Result<(), S::Fault>
     ensures { OnOk result (sink.new ≡ put_all S.put sink.old (header_values kind last)) }
 {

@@ -15,7 +15,7 @@ use std::alloc::Global;
 use zk_jute::{Opcode, PartKind};
 use zk_model::{Part, Request};
 
-/// The bytes of a request's header, its xid and its type.
+/// The bytes of a request's header: its xid and its type, two ints.
 const HEADER: usize = 8;
 
 fn create(reader: &mut Reader) -> Result<Request, Fault>
@@ -165,7 +165,7 @@ fn whole(reader: &mut Reader, code: Opcode) -> Result<Request, Fault>
     reader.ended(request)
 }
 
-/// The request of a frame, with its xid. Copies each text and buffer once.
+/// The request of a frame after the first, with its xid (zookeeper.jute, `RequestHeader`). Copies each text and buffer once.
 pub fn read_request(alloc: Global, frame: &[u8]) -> Result<(i32, Request), WireFault>
     ensures exact { IsReadAs result (read_as frame.now) }
     // The data of a request is no longer than its frame.

@@ -12,9 +12,9 @@ use std::marker::Model;
 use zk_model::{Acl, Stat};
 use zx_base::Text;
 
-/// What takes values, one after the other.
+/// What takes the values of a record, one after the other: bytes on the wire, their count, or words of a line.
 pub trait FieldSink {
-    /// Why it cannot take a value.
+    /// Why it cannot take a value. What it holds after a fault is not known.
     type Fault: Drop;
 
     // Which values it takes.
@@ -23,35 +23,43 @@ pub trait FieldSink {
     // What it is with one more.
     ghost put: { Self → Value → Self };
 
+    /// A signed number of 32 bits.
     fn int(&mut self, number: i32) -> Result<(), Self::Fault>
         ensures { OnOk result (self.new ≡ put self.old (int_value number)) };
 
+    /// A signed number of 64 bits.
     fn long(&mut self, number: i64) -> Result<(), Self::Fault>
         ensures { OnOk result (self.new ≡ put self.old (long_value number)) };
 
+    /// One byte on the wire, 0 or 1.
     fn boolean(&mut self, flag: bool) -> Result<(), Self::Fault>
         ensures { OnOk result (self.new ≡ put self.old (boolean_value flag)) };
 
+    /// Bytes of any kind, with their length.
     fn buffer(&mut self, bytes: &[u8]) -> Result<(), Self::Fault>
         requires { can_put (buffer_value bytes.now) }
         ensures { OnOk result (self.new ≡ put self.old (buffer_value bytes.now)) };
 
+    /// A text, with its length in bytes. That it is UTF-8 is not tested here.
     fn ustring(&mut self, text: &[u8]) -> Result<(), Self::Fault>
         requires { can_put (ustring_value text.now) }
         ensures { OnOk result (self.new ≡ put self.old (ustring_value text.now)) };
 
+    /// A vector of texts, with its count.
     fn ustrings(&mut self, texts: &[Text]) -> Result<(), Self::Fault>
         requires { can_put (ustrings_value texts.now) }
         ensures { OnOk result (self.new ≡ put self.old (ustrings_value texts.now)) };
 
+    /// A vector of entries of an access list, with its count.
     fn acls(&mut self, entries: &[Acl]) -> Result<(), Self::Fault>
         requires { can_put (acls_value entries.now) }
         ensures { OnOk result (self.new ≡ put self.old (acls_value entries.now)) };
 
+    /// The vector of the one entry (31, `world`, `anyone`).
     fn open_acl(&mut self) -> Result<(), Self::Fault>
         ensures { OnOk result (self.new ≡ put self.old open_acl_value) };
 
-    /// The numbers of a Stat, one after the other.
+    /// The numbers of a Stat, in the order of zookeeper.jute.
     #[tactic(auto, unfolding(zk_jute::specs::Records::stat_values))]
     fn stat(&mut self, stat: &Stat) -> Result<(), Self::Fault>
         ensures { OnOk result (self.new ≡ put_all put self.old (stat_values stat.now)) }
@@ -70,7 +78,7 @@ pub trait FieldSink {
     }
 }
 
-/// How many bytes the values take; at 2^64 - 1 it stays.
+/// How many bytes the values take on the wire. The count stops at 2^64 - 1.
 #[derive(Drop)]
 pub struct Size {
     bytes: u64,
@@ -97,12 +105,14 @@ const BOOLEAN: u64 = 1;
 const OPEN_ACL: u64 = 4 * INT + 11;
 
 impl Size {
+    /// The size of no values.
     pub fn new() -> Size
         ensures { result ≡ 0 }
     {
         Size { bytes: 0 }
     }
 
+    /// The bytes of the values that were put.
     pub fn bytes(&self) -> u64
         ensures { result ≡ self.now }
     {

@@ -1,4 +1,4 @@
-//! The bytes of a Stat. They are always as many, so that a packet takes them all at once.
+//! The bytes of a Stat. They are always 68, so that a packet takes them all at once.
 
 ghost use Rattle.std.specs.Prelude.{◌≡◌, ◌≤◌, ◌+◌, [], ◌++◌, length};
 ghost use Rattle.zk_jute.specs.JuteWriting.{int_bytes, long_bytes, written};
@@ -7,10 +7,10 @@ ghost use Rattle.zk_jute.specs.Records.{stat_values};
 use std::marker::Model;
 use zk_model::Stat;
 
-/// The bytes of a Stat: six longs and five ints.
+/// How many bytes a Stat has: six longs and five ints.
 pub const STAT: usize = 68;
 
-/// The bytes of a Stat as far as they are written. Contracts see those.
+/// The bytes of a Stat as far as they are written, which contracts see.
 #[derive(Drop)]
 struct Block {
     bytes: [u8; STAT],
@@ -76,7 +76,7 @@ impl Block {
     }
 }
 
-/// The bytes of a Stat.
+/// The bytes of a Stat, in the order of zookeeper.jute.
 #[tactic(auto, unfolding(zk_jute::specs::Records::stat_values))]
 pub fn stat_bytes(stat: &Stat) -> [u8; STAT]
     ensures { result ≡ written (stat_values stat.now) }

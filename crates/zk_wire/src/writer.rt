@@ -1,4 +1,4 @@
-//! Writing a packet: a frame behind its length.
+//! Writing a packet: a frame after its length.
 
 ghost use Rattle.std.specs.Prelude.{◌≡◌, ◌<◌, ◌^◌, [], ◌++◌, length, OnOk, IfOk};
 ghost use Rattle.std.specs.List.{AllByRecursion};
@@ -16,7 +16,7 @@ use zx_base::{Memory, Text};
 /// The bytes of a packet's length.
 const LENGTH: usize = 4;
 
-/// A packet as far as it is written. Contracts see its frame, the bytes behind the room for its length.
+/// A packet as far as it is written. Contracts see its frame, without the four bytes for its length.
 #[derive(Drop)]
 pub struct Writer {
     packet: Vec<u8>,
@@ -33,7 +33,7 @@ impl Model for Writer {
 }
 
 impl Writer {
-    /// An empty frame, with room for so many bytes.
+    /// An empty frame, with room for so many bytes and its length.
     pub fn new(alloc: Global, bytes: u64) -> Result<Writer, Memory>
         ensures { IfOk result (λ w. w ≡ []) }
     {
@@ -42,7 +42,7 @@ impl Writer {
         Ok(Writer { packet })
     }
 
-    /// The packet, with its length.
+    /// The packet, its length filled in.
     #[tactic(auto, unfolding(zk_jute::specs::JuteWriting::int_bytes))]
     pub fn finish(self) -> Vec<u8>
         requires { FitsLength self }
