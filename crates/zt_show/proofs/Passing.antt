@@ -106,7 +106,7 @@ AddsLines-blocked frames i frame text text' text'' is_shown old mid within at li
           (Blocks-more (take i frames) lines.0 frame (drop (i + 1) frames) old mid fits_whole (lines.3 few (omega arith)) none.0),
     )
 
--- it has a line
+-- the frame at i has a line
 pub AddsLines-more : (frames : List (List ℕ)) (i : ℕ) (frame text text' text'' : List ℕ) (is_shown : Bool) (old mid new : Progress) → i < length frames → frame ≡ get_or frames i frame →
     AddsLines true (take i frames) old text text' mid → is_shown ≡ true → IsAdded is_shown (line_of_frame mid.is_begun mid.place frame) text' text'' → new ≡ passed mid (length frame) →
     AddsLines true (take (i + 1) frames) old text text'' new

@@ -131,7 +131,7 @@ front_of seen more fits =
     let parts : max_stream ≡ length seen + (max_stream - length seen) = omega arith in
     ap (λ (n : ℕ). take n (seen ++ more)) parts ∙ take-append-add seen more (max_stream - length seen)
 
--- it ended, whatever comes
+-- a stream that ended, whatever comes after
 pub IsShown-stops : (seen more : List ℕ) (lines : List (List ℕ)) (end : Ending) (p : Progress) → Stops seen lines end p → IsShownAs (seen ++ more) lines end
 IsShown-stops seen more lines end p stops =
     let front = front_of seen more (omega (arith, stops.room)) in (
@@ -155,7 +155,7 @@ long_part false place size = refl
 long_of : (place size : ℕ) (bad : Option ℤ) → bad ≡ None → ending_before_more (ending_of place size bad) ≡ ending.Long
 long_of place size bad none = ap (λ (b : Option ℤ). ending_before_more (ending_of place size b)) none ∙ long_part (size == 0) place size
 
--- it came up to the limit, and there is more
+-- a stream that came up to the limit, and has more bytes
 pub IsShown-long : (seen more : List ℕ) (lines : List (List ℕ)) (s : Showing) → Follows seen lines s → length seen ≡ max_stream → 0 < length more → IsShownAs (seen ++ more) lines ending.Long
 IsShown-long seen more lines s f full some =
     let end = ending_at s.progress.place s.rest in
@@ -166,7 +166,7 @@ IsShown-long seen more lines s f full some =
       sym (ap (λ (b : Bool). before_more b (ended lines end)) over ∙ ap (ended lines) (long_of s.progress.place (length s.rest) (bad_length s.rest) f.good)),
     )
 
--- it came whole
+-- a stream that came whole
 pub IsShown-whole : (seen : List ℕ) (lines : List (List ℕ)) (s : Showing) (end : Ending) → Follows seen lines s → end ≡ ending_of s.progress.place (length s.rest) None → IsShownAs seen lines end
 IsShown-whole seen lines s end f is =
     let last : ending_at s.progress.place s.rest ≡ end = ap (ending_of s.progress.place (length s.rest)) f.good ∙ sym is in

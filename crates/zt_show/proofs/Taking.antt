@@ -17,7 +17,7 @@ use Rattle.zt_show.proofs.Stopping.{Came, Came-from, Came-more, Follows-from, St
 
 -- ---- frames
 
--- with room for so many bytes less
+-- the progress with room for so many bytes less
 abbrev pub less : Progress → ℕ → Progress
 less p size = record { is_begun = p.is_begun; place = p.place; room = p.room - size; lines = p.lines }
 
@@ -47,7 +47,7 @@ AddsFrames-all old mid new bytes text text' frames more are_all p r fits is hand
       Follows-from (seen ++ bytes) (shown ++ lines.0) new.rest r (subst (λ (rest : List ℕ). Came (seen ++ bytes) (shown ++ lines.0) rest r) (sym nothing.1) came) (later.bad nothing.0),
 )
 
--- a length out of range stands behind them
+-- a length out of range stands after the frames
 pub AddsFrames-length_after : (old mid new : Stream) (bytes text text' : List ℕ) (frames : List (List ℕ)) (are_all : Bool) (p r : Progress) (place : ℕ) (n : ℤ) (rest : List ℕ) → length bytes ≤ p.room → are_all ≡ true →
     Hands old bytes frames mid → AddsLines are_all frames (less p (length bytes)) text text' r → Refuses mid [] place n new → AddsFrames (Some (ending.Length r.place n)) (showing old.rest p) bytes text text' (showing rest r)
 AddsFrames-length_after old mid new bytes text text' frames are_all p r place n rest fits is hands lines refuses = (
@@ -162,7 +162,7 @@ Finishes-from old text text' end last is written count = (
   λ seen lines f. record { shown = IsShown-whole seen lines old end f (is seen lines f); count = last_count old.progress last.lines lines count f.count (omega (arith, f.few, f.place, f.room)) },
 )
 
--- the last line is added to a text behind other lines
+-- the last line, made apart, is added to the end of a text
 
 pub Finishes-appended : (end : Ending) (rest : List ℕ) (p : Progress) (failed : Bool) (new : Showing) (before added text text' : List ℕ) → failed ≡ false → before ≡ [] → Finishes end (showing rest p) before added new →
     text' ≡ text ++ added → Finishes end (record { rest = rest; progress = p; has_failed = failed }) text text' new

@@ -7,10 +7,11 @@ use Rattle.zk_jute.specs.JuteValues.{Value, int, long, boolean, buffer, ustring,
 use Rattle.zt_text.specs.Transcripts.{hex_text}
 use Rattle.zk_model.specs.Access.{open_entry}
 
--- a word behind a blank (32)
+-- a blank (32) and a word
 abbrev pub spaced : List ℕ → List ℕ
 spaced word = 32 ∷ word
 
+-- a number, with its sign where it is below 0
 abbrev pub signed_word : ℤ → List ℕ
 signed_word n = spaced (signed_decimal n)
 
@@ -18,6 +19,7 @@ signed_word n = spaced (signed_decimal n)
 abbrev pub hex_word : List ℕ → List ℕ
 hex_word bytes = spaced (hex_text bytes)
 
+-- 0 or 1
 abbrev pub boolean_word : Bool → List ℕ
 boolean_word true = codes " 1"
 boolean_word false = codes " 0"
@@ -26,9 +28,11 @@ boolean_word false = codes " 0"
 abbrev pub vector_words : {A : Type 0} → (A → List ℕ) → List A → List ℕ
 vector_words each xs = spaced (decimal (length xs)) ++ flat_map each xs
 
+-- the permissions, the scheme and the id
 abbrev pub acl_words : Acl → List ℕ
 acl_words entry = signed_word entry.perms ++ hex_word entry.scheme ++ hex_word entry.id
 
+-- a value, by its kind
 abbrev pub value_words : Value → List ℕ
 value_words (int n) = signed_word n
 value_words (long n) = signed_word n

@@ -18,7 +18,7 @@ use Rattle.zt_show.specs.FieldWords.{spaced, signed_word, boolean_word, hex_word
 
 -- ---- requests
 
--- the names of ZooKeeper's API
+-- the name of each kind of request, as in ZooKeeper's API and `ZooDefs.OpCode`
 abbrev pub request_name : Opcode → List ℕ
 request_name opcodes.Create = codes "create"
 request_name opcodes.Delete = codes "delete"
@@ -36,6 +36,7 @@ request_name opcodes.Auth = codes "auth"
 request_name opcodes.SetWatches = codes "setWatches"
 request_name opcodes.Close = codes "closeSession"
 
+-- the name of each kind of part of a multi
 abbrev pub part_name : PartKind → List ℕ
 part_name kinds.Create = codes "create"
 part_name kinds.Delete = codes "delete"
@@ -55,10 +56,11 @@ body_words request = record_words (values_of request)
 abbrev pub named : ℤ → List ℕ → List ℕ
 named xid name = signed_word xid ++ spaced name
 
+-- the words of a request: xid, name and body
 abbrev pub request_words : ℤ → Request → List ℕ
 request_words xid request = named xid (request_name (opcode_of request)) ++ body_words request
 
--- a body that cannot be read, with the offset in its frame that is to blame
+-- a body that cannot be read, with the offset in its frame of the first byte to blame
 abbrev pub unreadable_words : ℤ → ℕ → List ℕ
 unreadable_words xid place = named xid (codes "unreadable") ++ spaced (decimal place)
 
@@ -66,7 +68,7 @@ unreadable_words xid place = named xid (codes "unreadable") ++ spaced (decimal p
 abbrev pub unknown_words : ℤ → ℤ → List ℕ
 unknown_words xid type = named xid (codes "unknown") ++ signed_word type
 
--- what stands behind the place; a frame that is too short for a header has no line
+-- the words after the place; a frame that is too short for a header has none
 abbrev pub frame_words : Frame → Option (List ℕ)
 frame_words NoHeader = None
 frame_words (Unreadable xid place) = Some (unreadable_words xid place)
@@ -84,22 +86,23 @@ read_only_words None = spaced (codes "-")
 abbrev pub session_words : ConnectRequest → List ℕ
 session_words r = hex_word (long_bytes r.session) ++ hex_word r.passwd ++ read_only_words r.read_only
 
--- its fields in order
+-- the fields of a connect in order
 abbrev pub connect_words : ConnectRequest → List ℕ
 connect_words r = spaced (codes "connect") ++ record_words (int r.protocol ∷ long r.last_zxid ∷ int r.timeout ∷ []) ++ session_words r
 
+-- a first frame that is no connect has no words
 abbrev pub words_of_connect : Option ConnectRequest → Option (List ℕ)
 words_of_connect (Some request) = Some (connect_words request)
 words_of_connect None = None
 
 -- ---- lines
 
--- the first frame is a connect, each later one a request
+-- the first frame is read as a connect, each later one as a request; the boolean says whether the first came before
 abbrev pub words_of_frame : Bool → List ℕ → Option (List ℕ)
 words_of_frame false frame = words_of_connect (read_connect frame)
 words_of_frame true frame = frame_words (read_request frame)
 
--- a place, words behind it, and a line feed (10)
+-- a place, the words after it, and a line feed (10)
 abbrev pub line : ℕ → List ℕ → List ℕ
 line place words = decimal place ++ words ++ 10 ∷ []
 
@@ -107,7 +110,7 @@ abbrev pub line_of_words : ℕ → Option (List ℕ) → Option (List ℕ)
 line_of_words place (Some words) = Some (line place words)
 line_of_words place None = None
 
--- the line of the frame whose length stands at this place; none, where the frame has no header
+-- the line of the frame whose length stands at this place; none where a first frame is no connect, or a later one is too short
 abbrev pub line_of_frame : Bool → ℕ → List ℕ → Option (List ℕ)
 line_of_frame is_begun place frame = line_of_words place (words_of_frame is_begun frame)
 

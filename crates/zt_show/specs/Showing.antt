@@ -7,7 +7,7 @@ use Rattle.zt_show.specs.declared.ending.Ending.TheVariants as ending
 use Rattle.zt_show.specs.declared.progress.Progress.{Progress}
 use Rattle.zt_show.specs.Shown.{Shown, joined, max_stream, ending_line, shown_from, IsShown, IsShownWhole, ending_before_more}
 
--- what is known of a stream that came in part: the bytes of a frame that is not whole, how far it is shown, and whether memory
+-- what is kept of a stream that came in part: the bytes of a frame that is not whole, how far it is shown, and whether memory
 -- was refused
 pub record Showing : Type 0 where
   pub rest : List ℕ
@@ -18,7 +18,7 @@ pub record Showing : Type 0 where
 abbrev pub unshown : Showing
 unshown = record { rest = []; progress = record { is_begun = false; place = 0; room = max_stream; lines = 0 }; has_failed = false }
 
--- what was shown before, and then
+-- lines that were shown before, and then what is shown later
 abbrev pub behind : List (List ℕ) → Shown → Shown
 behind lines later = record { lines = lines ++ later.lines; ending = later.ending }
 
@@ -26,7 +26,7 @@ behind lines later = record { lines = lines ++ later.lines; ending = later.endin
 abbrev pub shown_on : Progress → List (List ℕ) → List ℕ → Shown
 shown_on p later rest = shown_from p.is_begun p.place later rest
 
--- these bytes came, their whole frames have these lines, whatever comes behind them, and nothing of them ends the stream
+-- these bytes came; their whole frames have these lines, whatever comes after them, and nothing in them ends the stream
 pub record Follows (seen : List ℕ) (lines : List (List ℕ)) (s : Showing) : Type 0 where
   pub frames : List (List ℕ)
   pub framed : Framed seen frames s.rest
@@ -41,15 +41,15 @@ pub record Follows (seen : List ℕ) (lines : List (List ℕ)) (s : Showing) : T
 abbrev pub IsShownAs : List ℕ → List (List ℕ) → Ending → Type 0
 IsShownAs stream lines end = IsShown stream (record { lines = lines; ending = end })
 
--- so many lines were added, the last included
+-- this is shown of the stream, and so many lines were added, the last included
 pub record Ends (stream : List ℕ) (lines : List (List ℕ)) (end : Ending) (added : ℕ) : Type 0 where
   pub shown : IsShownAs stream lines end
   pub count : added ≡ length lines + 1
 
 -- ---- what a piece adds
 
--- the lines of the frames that became whole, and the last line where the stream ends in the piece, whatever comes behind it:
--- neither at a frame's end nor inside one
+-- the lines of the frames that became whole, and the last line where the stream ends in the piece, whatever comes after it: at a
+-- length out of range, at a frame without a header, or by being too long
 abbrev pub Adds : Option Ending → Showing → List ℕ → List ℕ → List ℕ → Showing → Type 0
 Adds None old piece text text' new =
     (added : List (List ℕ)) × (text' ≡ text ++ joined added) × ((seen : List ℕ) (lines : List (List ℕ)) → Follows seen lines old → Follows (seen ++ piece) (lines ++ added) new)
@@ -57,7 +57,7 @@ Adds (Some end) old piece text text' new =
     (added : List (List ℕ)) × (text' ≡ text ++ (joined added ++ ending_line end))
     × ((seen more : List ℕ) (lines : List (List ℕ)) → Follows seen lines old → Ends ((seen ++ piece) ++ more) (lines ++ added) end new.progress.lines × (ending_before_more end ≡ end))
 
--- the last line, where the stream ends behind what came
+-- the last line, where the stream ends after what came
 abbrev pub Finishes : Ending → Showing → List ℕ → List ℕ → Showing → Type 0
 Finishes end old text text' new =
     (text' ≡ text ++ ending_line end) × ((seen : List ℕ) (lines : List (List ℕ)) → Follows seen lines old → Ends seen lines end new.progress.lines)
@@ -68,23 +68,24 @@ Finishes end old text text' new =
 abbrev pub size_of : List (List ℕ) → ℕ
 size_of frames = sum_by (λ (frame : List ℕ). 4 + length frame) frames
 
--- behind a frame with so many bytes
+-- how far a stream is shown after a frame of so many bytes, which has a line
 abbrev pub passed : Progress → ℕ → Progress
 passed p size = record { is_begun = true; place = counted (counted (p.place + 4) + size); room = p.room; lines = counted (p.lines + 1) }
 
--- each of the frames has a line
+-- each of the frames has a line; these are the lines, and they lead from the one progress to the other
 pub record Passes (frames added : List (List ℕ)) (old new : Progress) : Type 0 where
   pub says : (later : List (List ℕ)) (rest : List ℕ) → shown_on old (frames ++ later) rest ≡ behind added (shown_on new later rest)
   pub place : new.place ≡ old.place + size_of frames
   pub count : new.lines ≡ old.lines + length added
   pub few : new.lines ≤ new.place
 
--- one of them has no header
+-- the first frame that has no line ends what is shown; these are the lines before it
 pub record Blocks (frames added : List (List ℕ)) (old new : Progress) : Type 0 where
   pub says : (later : List (List ℕ)) (rest : List ℕ) → shown_on old (frames ++ later) rest ≡ record { lines = added; ending = ending.NoHeader new.place }
   pub count : new.lines ≡ old.lines + length added
   pub few : new.lines ≤ max_stream
 
+-- by whether all frames have a line
 abbrev pub PassesIf : Bool → List (List ℕ) → List (List ℕ) → Progress → Progress → Type 0
 PassesIf true frames added old new = Passes frames added old new
 PassesIf false frames added old new = Blocks frames added old new
@@ -97,7 +98,7 @@ AddsLines are_all frames old text text' new =
 
 -- ---- within the limit
 
--- nothing behind these bytes changes what is shown of them
+-- the stream ended in these bytes: nothing that comes after them changes what is shown
 pub record Stops (seen : List ℕ) (lines : List (List ℕ)) (end : Ending) (p : Progress) : Type 0 where
   pub shown : (more : List ℕ) → IsShownWhole (seen ++ more) (record { lines = lines; ending = end })
   pub stays : ending_before_more end ≡ end
@@ -110,14 +111,16 @@ abbrev pub Stands : Option Ending → List ℕ → List (List ℕ) → Showing �
 Stands None seen lines s = Follows seen lines s
 Stands (Some end) seen lines s = Stops seen lines end s.progress
 
+-- a stream without a refusal of memory
 abbrev pub showing : List ℕ → Progress → Showing
 showing rest progress = record { rest = rest; progress = progress; has_failed = false }
 
--- the lines of the frames that became whole
+-- the lines of the frames that became whole were added, without a last line; what came goes on, or ended
 abbrev pub AddsFrames : Option Ending → Showing → List ℕ → List ℕ → List ℕ → Showing → Type 0
 AddsFrames found old bytes text text' new =
     (added : List (List ℕ)) × (text' ≡ text ++ joined added) × ((seen : List ℕ) (lines : List (List ℕ)) → Follows seen lines old → Stands found (seen ++ bytes) (lines ++ added) new)
 
+-- the ending that was found, or that the stream is too long
 abbrev pub long_unless : Option Ending → Ending
 long_unless (Some end) = end
 long_unless None = ending.Long

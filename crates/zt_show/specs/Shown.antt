@@ -7,11 +7,12 @@ use Rattle.zt_show.specs.declared.ending.Ending.TheVariants as ending
 use Rattle.zt_show.specs.FieldWords.{spaced, signed_word}
 use Rattle.zt_show.specs.FrameLines.{line_of_frame}
 
--- the lines of frames, each with its line feed, and the end behind them
+-- the lines of frames, each with its line feed, and how the stream ended
 pub record Shown : Type 0 where
   pub lines : List (List ℕ)
   pub ending : Ending
 
+-- the lines as one text
 abbrev pub joined : List (List ℕ) → List ℕ
 joined lines = flat_map (λ line. line) lines
 
@@ -19,10 +20,11 @@ joined lines = flat_map (λ line. line) lines
 abbrev pub max_stream : ℕ
 max_stream = 100000000
 
+-- a word and a place
 abbrev pub at_place : List ℕ → ℕ → List ℕ
 at_place word place = word ++ spaced (decimal place)
 
--- the last line
+-- the words of the last line
 abbrev pub ending_words : Ending → List ℕ
 ending_words (ending.End place) = at_place (codes "end") place
 ending_words (ending.Cut place) = at_place (codes "cut") place
@@ -30,6 +32,7 @@ ending_words (ending.Length place n) = at_place (codes "length") place ++ signed
 ending_words (ending.NoHeader place) = at_place (codes "noheader") place
 ending_words ending.Long = codes "long 100000000"
 
+-- the last line, with its line feed (10)
 abbrev pub ending_line : Ending → List ℕ
 ending_line end = ending_words end ++ 10 ∷ []
 
@@ -43,7 +46,7 @@ count_of_lines shown = length shown.lines + 1
 
 -- ---- frames
 
--- what stands at this place is no whole frame: a length out of range, nothing, or the front of a frame
+-- what stands at this place is no whole frame: a length out of range, nothing, or `size` bytes of a frame with its length
 abbrev pub ending_of : ℕ → ℕ → Option ℤ → Ending
 ending_of place size (Some n) = ending.Length place n
 ending_of place size None = if size == 0 then ending.End place else ending.Cut (place + size)
@@ -56,24 +59,26 @@ abbrev pub before : ℕ → Option (List ℕ) → Shown → Shown
 before place None later = record { lines = []; ending = ending.NoHeader place }
 before place (Some line) later = record { lines = line ∷ later.lines; ending = later.ending }
 
--- the frames from this place on, and the rest behind them. A frame's place is that of its length, which has four bytes.
+-- what is shown of the frames from this place on and of the rest after them. A frame's place is that of its length, which has
+-- four bytes.
 unfoldable pub shown_from : Bool → ℕ → List (List ℕ) → List ℕ → Shown
 shown_from is_begun place [] rest = record { lines = []; ending = ending_at place rest }
 shown_from is_begun place (frame ∷ frames) rest = before place (line_of_frame is_begun place frame) (shown_from true (place + 4 + length frame) frames rest)
 
 -- ---- streams
 
--- what is said of a stream that is not too long
+-- this is shown of a stream, whatever its length
 abbrev pub IsShownWhole : List ℕ → Shown → Type 0
 IsShownWhole stream shown = (frames : List (List ℕ)) × (rest : List ℕ) × Framed stream frames rest × (shown ≡ shown_from false 0 frames rest)
 
--- where more bytes come, a length out of range and a frame without a header still end the stream; any other end is that it is
--- too long
+-- how a stream ends that has more bytes than are shown: still at a length out of range or a frame without a header, else by
+-- being too long
 abbrev pub ending_before_more : Ending → Ending
 ending_before_more (ending.Length place n) = ending.Length place n
 ending_before_more (ending.NoHeader place) = ending.NoHeader place
 ending_before_more _ = ending.Long
 
+-- what is shown where there may be more bytes
 abbrev pub before_more : Bool → Shown → Shown
 before_more false shown = shown
 before_more true shown = record { lines = shown.lines; ending = ending_before_more shown.ending }

@@ -1,4 +1,4 @@
-//! Lines that are being made, which take the fields of a record as words.
+//! Lines in the making, which take the fields of a record as words.
 
 ghost use Rattle.std.specs.Prelude.{◌≡◌, ◌++◌, ◌∷◌, [], decimal, OnOk};
 ghost use Rattle.std.specs.Fmt.{signed_decimal};
@@ -11,8 +11,8 @@ use zk_wire::FieldSink;
 use zt_text::{push_hex, push_number, push_signed};
 use zx_base::{Memory, Text};
 
-/// Lines that are being made, which contracts see as their bytes. After a refusal of memory a part of a line may stand at the
-/// end; they are not used then, since the stream that they are of fails from then on.
+/// Lines in the making, which contracts see as their bytes. Where memory was refused, part of a line may stand at their end;
+/// nobody reads them then, since every later call on their stream fails.
 #[derive(Debug, Drop)]
 pub(crate) struct Draft {
     text: Vec<u8>,
@@ -36,13 +36,14 @@ impl Draft {
         }
     }
 
+    /// The bytes of the lines.
     pub(crate) fn as_slice(&self) -> &[u8]
         ensures { result.now ≡ self.now }
     {
         self.text.as_slice()
     }
 
-    /// Removes the lines, and keeps their room.
+    /// Removes the lines, and keeps the memory.
     pub(crate) fn clear(&mut self)
         ensures { self.new ≡ [] }
     {
@@ -77,7 +78,7 @@ impl Draft {
         push_number(&mut self.text, n)
     }
 
-    /// Adds a name behind a blank.
+    /// Adds a blank and a name.
     pub(crate) fn word(&mut self, name: &[u8]) -> Result<(), Memory>
         ensures { OnOk result (self.new ≡ self.old ++ spaced name.now) }
     {
@@ -85,7 +86,7 @@ impl Draft {
         self.bytes(name)
     }
 
-    /// Adds a place or a count behind a blank.
+    /// Adds a blank and a place or a count.
     pub(crate) fn count(&mut self, n: u64) -> Result<(), Memory>
         ensures { OnOk result (self.new ≡ self.old ++ spaced (decimal n)) }
     {
@@ -93,7 +94,7 @@ impl Draft {
         push_number(&mut self.text, n)
     }
 
-    /// Adds a number with a sign behind a blank.
+    /// Adds a blank and a number, with its sign where it is below 0.
     pub(crate) fn signed(&mut self, n: i64) -> Result<(), Memory>
         ensures { OnOk result (self.new ≡ self.old ++ signed_word n) }
     {
@@ -101,7 +102,7 @@ impl Draft {
         push_signed(&mut self.text, n)
     }
 
-    /// Adds bytes as hex behind a blank.
+    /// Adds a blank and bytes as hex, `-` for none.
     fn hex(&mut self, bytes: &[u8]) -> Result<(), Memory>
         ensures { OnOk result (self.new ≡ self.old ++ hex_word bytes.now) }
     {

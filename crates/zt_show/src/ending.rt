@@ -6,12 +6,12 @@ ghost use Rattle.zt_show.specs.Shown.{at_place, ending_words, ending_line};
 use crate::draft::Draft;
 use zx_base::Memory;
 
-/// How a stream ended. A place is an offset in the stream, that of a frame its length's.
+/// How a stream ended. A place is an offset in the stream; a frame's is that of the first byte of its length.
 #[derive(Clone, Copy, Debug, PartialEq, Eq)]
 pub enum Ending {
-    /// Behind a whole frame, or before the first.
+    /// After a whole frame, or before the first, at this many bytes.
     End { place: u64 },
-    /// Inside a frame, after so many bytes.
+    /// Inside a frame or its length, at this many bytes.
     Cut { place: u64 },
     /// The length at this place is below 0 or above 1,048,575.
     Length { place: u64, length: i32 },

@@ -159,7 +159,7 @@ fn push_unreadable(text: &mut Draft, place: u64, xid: i32, at: u64) -> Result<()
     text.end_line()
 }
 
-/// Adds the line of a request of no listed type.
+/// Adds the line of a request whose type is not listed.
 fn push_unknown(text: &mut Draft, place: u64, xid: i32, kind: i32) -> Result<(), Memory>
     ensures { OnOk result (text.new ≡ text.old ++ line place (unknown_words xid kind)) }
 {

@@ -3,7 +3,7 @@
 ghost use Rattle.std.specs.Prelude.{◌≡◌, ℕ, List};
 ghost use Rattle.zt_show.specs.Shown.{Shown, IsShown};
 
-/// Exactly one text is shown of a stream.
+/// Of each stream exactly one text is shown.
 pub fn one_text()
     ensures some { (stream : List ℕ) → (shown : Shown) × IsShown stream shown }
     ensures only { (stream : List ℕ) (shown other : Shown) → IsShown stream shown → IsShown stream other → shown ≡ other }

@@ -30,13 +30,14 @@ impl Lines {
         }
     }
 
+    /// The bytes of the text.
     pub fn as_slice(&self) -> &[u8]
         ensures { result.now ≡ self.now }
     {
         self.text.as_slice()
     }
 
-    /// Removes the text, and keeps its room.
+    /// Removes the text, and keeps the memory.
     pub fn clear(&mut self)
         ensures { self.new ≡ [] }
     {

@@ -6,6 +6,7 @@ ghost use Rattle.zt_show.specs.FrameLines.{request_name as request_name_of, part
 
 use zk_model::{Part, Request};
 
+/// A request's name in a line.
 pub(crate) fn request_name(request: &Request) -> &'static [u8]
     ensures { result.now ≡ request_name_of (opcode_of request.now) }
 {
@@ -28,6 +29,7 @@ pub(crate) fn request_name(request: &Request) -> &'static [u8]
     }
 }
 
+/// The name of a part of a multi in a line.
 pub(crate) fn part_name(part: &Part) -> &'static [u8]
     ensures { result.now ≡ part_name_of (part_kind part.now) }
 {

@@ -25,14 +25,14 @@ pub(crate) struct Progress {
     pub(crate) is_begun: bool,
     /// The offset of the next frame's length.
     pub(crate) place: u64,
-    /// How many bytes may still come.
+    /// How many more bytes may come before the stream is too long.
     pub(crate) room: u64,
     /// How many lines were added, the last included.
     pub(crate) lines: u64,
 }
 
 impl Progress {
-    /// Of a stream of which nothing came yet.
+    /// The progress of a stream of which nothing came yet.
     pub(crate) fn new() -> Progress
         ensures { result ≡ unshown.progress }
     {
@@ -54,7 +54,7 @@ impl Progress {
         Ok(())
     }
 
-    /// Goes on behind a frame of this length, whose line was added.
+    /// Goes on after a frame of this length, whose line was added.
     fn pass(&mut self, length: usize)
         ensures { self.new ≡ passed self.old length }
     {
@@ -66,7 +66,7 @@ impl Progress {
         self.lines = self.lines.saturating_add(1);
     }
 
-    /// Adds the lines of frames up to one without a header, and says whether there is none.
+    /// Adds the lines of frames, up to the first without a header, and says whether all have one.
     fn push_frames(
         &mut self,
         alloc: Global,
@@ -84,7 +84,7 @@ impl Progress {
         Ok(true)
     }
 
-    /// Adds the lines of the frames that are whole with these bytes, and says how the stream ends in them.
+    /// Adds the lines of the frames that these bytes make whole, and says how the stream ends in them, if it does.
     fn take_frames(
         &mut self,
         alloc: Global,
@@ -111,7 +111,7 @@ impl Progress {
             }
             Err(CutFault::Memory) => return Err(Memory),
         }
-        // A length out of range is answered by a call that has no frame to hand out.
+        // A length out of range after these frames is answered by the next call, which has no frame to hand out.
         match cutter.take(&[]) {
             Ok(_) => {}
             Err(CutFault::BadLength { length, .. }) => {
@@ -125,7 +125,7 @@ impl Progress {
         Ok(None)
     }
 
-    /// Adds the lines of the frames that are whole with this piece, and the last line where the stream ends in it.
+    /// Adds the lines of the frames that this piece makes whole, and the last line where the stream ends in it.
     pub(crate) fn take_piece(
         &mut self,
         alloc: Global,
@@ -152,7 +152,7 @@ impl Progress {
         Ok(Some(ending))
     }
 
-    /// Adds the last line of a stream that came whole.
+    /// Adds the last line of a stream that has no more bytes.
     pub(crate) fn finish(&mut self, text: &mut Draft) -> Result<Ending, Memory>
         ensures { IfOk result (λ ending. (rest : List ℕ) → Finishes ending (showing rest self.old) text.old text.new (showing rest self.new)) }
     {
@@ -167,7 +167,7 @@ impl Progress {
     }
 }
 
-/// How a stream ends of which more bytes come than may be shown.
+/// How a stream ends that has more bytes than are shown: as was found within them, or by its length.
 fn or_long(found: Option<Ending>) -> Ending
     ensures { result ≡ long_unless found }
 {

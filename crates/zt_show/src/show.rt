@@ -12,8 +12,9 @@ use std::marker::Model;
 use zk_wire::Cutter;
 use zx_base::Memory;
 
-/// A stream of which some bytes came. The line of a frame is added once the frame is whole, so that no more than one
-/// frame is kept. After an ending nothing is said of what it adds. From a refusal of memory on each call is refused.
+/// A stream of which some bytes came. The line of a frame is added once the frame is whole, so that between calls no more
+/// than one frame is kept. Once a call has answered an ending, nothing is said of what later calls add. Once memory was
+/// refused, every later call answers so too.
 #[derive(Debug, Drop)]
 pub struct Show {
     alloc: Global,
@@ -53,8 +54,8 @@ impl Show {
         self.progress.lines
     }
 
-    /// Adds the lines of the frames that are whole with this piece, and where the stream ends in it, whatever comes behind,
-    /// the last line: at a length out of range, a frame without a header, or the 100,000,001st byte.
+    /// Adds the lines of the frames that this piece makes whole. Where the stream ends in the piece, whatever comes after it,
+    /// adds the last line and answers how: at a length out of range, a frame without a header, or the 100,000,001st byte.
     pub fn take(&mut self, piece: &[u8], text: &mut Lines) -> Result<Option<Ending>, Memory>
         ensures adds { IfOk result (λ ending. Adds ending self.old piece.now text.old text.new self.new) }
         ensures room { IfOk result (λ ending. ending ≡ None → self.new.progress.room + length piece.now ≡ self.old.progress.room) }
@@ -77,7 +78,7 @@ impl Show {
         Ok(ending)
     }
 
-    /// Adds the last line of a stream that came whole.
+    /// Adds the last line of a stream that has no more bytes and has not ended before: at a frame's end or inside one.
     pub fn finish(&mut self, text: &mut Lines) -> Result<Ending, Memory>
         ensures adds { IfOk result (λ ending. Finishes ending self.old text.old text.new self.new) }
 
