@@ -3,8 +3,9 @@
 //! A row is LEFT = RIGHT; its first word says what is done, and texts are hex, `-` where they are empty:
 //!
 //! - `path TEXT = read`, or the name of the fault: what [`Path::read`] makes of a text.
-//! - `prefix TEXT = TEXT`, or the name of the fault: the same of a sequential create, with the path that is tested.
-//! - `long N`, `long-prefix N`: the same of a slash and N letters; a path that is read is answered by its length.
+//! - `prefix TEXT = TEXT`, or the name of the fault: what [`Path::read`] makes of the path of a sequential create.
+//! - `long N = LENGTH`, `long-prefix N = LENGTH`, or the name of the fault: the length of what it makes of a slash and N
+//!   letters, as a path or as that of a sequential create.
 //! - `names TEXT = DEPTH NAME PARENT`: a path's depth, its last name and its parent, `none` where it has none.
 //! - `numbered TEXT N = TEXT`: the name of a sequence node, which has to be a child of its parent.
 #![tactic(auto)]
@@ -17,7 +18,7 @@ use std::process::ExitCode;
 use zk_model::{Path, PathFault};
 use zx_base::Memory;
 
-/// Looks in the file that its first argument names, and without one in `paths`.
+/// Tries the file that the first argument names, or `paths` without one.
 fn main(rt: HostRuntime) -> Result<ExitCode> {
     let given = env::args(&rt)?.nth(1);
     let file = match &given {
@@ -42,7 +43,7 @@ impl Rows for Paths {
     }
 }
 
-/// What comes of the left side of a row; None where it is of no form.
+/// What comes of the left side of a row; `None` where it cannot be read.
 fn found_in(alloc: Global, left: &str) -> Result<Option<String>, Memory> {
     let Some((word, rest)) = left.split_once(' ') else {
         return Ok(None);
@@ -73,7 +74,7 @@ fn read(alloc: Global, text: &[u8]) -> Result<Option<String>, Memory> {
     }
 }
 
-/// The path that is tested of a sequential create, or the fault.
+/// What is read as the path of a sequential create, or the fault.
 fn read_prefix(alloc: Global, text: &[u8]) -> Result<Option<String>, Memory> {
     match Path::read(alloc, text, true) {
         Ok(path) => Ok(Some(hex_of(alloc, path.bytes())?)),
@@ -114,7 +115,7 @@ fn names(alloc: Global, text: &[u8]) -> Result<Option<String>, Memory> {
     Ok(Some(format!(in alloc; "{depth} {name} {parent}")?))
 }
 
-/// The name of a sequence node.
+/// The path of a sequence node, which has to be a child of its parent.
 fn numbered(alloc: Global, rest: &str) -> Result<Option<String>, Memory> {
     let mut words = Words::new(rest);
     let (Some(prefix), Some(number)) = (words.word(), words.number()) else {

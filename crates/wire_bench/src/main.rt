@@ -1,5 +1,5 @@
 //! How fast frames are cut and read, and replies written: `wire_bench COUNT` does as many of each and prints what it
-//! counted, `wire_bench COUNT time` the microseconds too. `bench/wire.sh` runs it beside the same work in Rust.
+//! counted, `wire_bench COUNT time` the microseconds too. `bench/wire.sh` runs it beside the same work in plain Rust.
 #![tactic(auto)]
 
 use std::alloc::Global;
@@ -9,7 +9,7 @@ use zk_model::{Body, Reply, Request, Stat};
 use zk_wire::{Cutter, read_request, reply_can_be_sent, write_reply};
 use zx_base::{Bytes, Memory};
 
-/// A create of 100 bytes with the open access list, behind its length: 176 bytes.
+/// The packet of a create of 100 bytes of data with the open access list: 176 bytes, the length included.
 const PACKET: [u8; 176] =
     *b"\0\0\0\xac\0\0\0\x07\0\0\0\x01\0\0\0\x19/services/web/instance-01\0\0\0\x64xxxxxxxxxxxxxxxxxxxxxxxxxxxxxxxxxxxxxxxxxxxxxxxxxxxxxxxxxxxxxxxxxxxxxxxxxxxxxxxxxxxxxxxxxxxxxxxxxxxx\0\0\0\x01\0\0\0\x1f\0\0\0\x05world\0\0\0\x06anyone\0\0\0\0";
 
@@ -38,7 +38,7 @@ fn stream_of(alloc: Global, count: u32) -> Result<Vec<u8>, Memory> {
     Ok(stream)
 }
 
-/// How many bytes the paths of these frames have.
+/// How many bytes the paths of these frames have together.
 fn paths_of(alloc: Global, frames: &[Bytes]) -> u64 {
     let mut paths: u64 = 0;
     for frame in frames {

@@ -5,7 +5,7 @@ use std::alloc::Global;
 use zk_wire::{CutFault, Cutter};
 use zx_base::{Bytes, Memory};
 
-/// What each piece of a stream gives: its frames with `,` behind each, `.` where it gives none, or the length that is out of
+/// What each piece of a stream gives: its frames with `,` after each, `.` where it gives none, or the length that is out of
 /// range with its place. Pieces stand on the left with a blank between them.
 pub fn cut(alloc: Global, row: &str) -> Result<Option<String>, Memory> {
     let mut cutter = Cutter::new(alloc);

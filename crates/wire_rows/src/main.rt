@@ -19,7 +19,7 @@ use std::env;
 use std::process::ExitCode;
 use zx_base::Memory;
 
-/// A file's rows are of the kind that it is named for.
+/// What the rows of a file are, by its name.
 #[derive(Clone, Copy)]
 enum Kind {
     Requests,
@@ -55,7 +55,7 @@ const FILES: [(&'static str, Kind); 7] = [
     ("frames", Kind::Frames),
 ];
 
-/// Looks in the folder that its first argument names, and without one in `vectors`.
+/// Tries the files in the folder that the first argument names, or in `vectors` without one.
 fn main(rt: HostRuntime) -> Result<ExitCode> {
     let alloc = rt.alloc();
     let given = env::args(&rt)?.nth(1);

@@ -13,7 +13,7 @@ pub fn text_of(alloc: Global, text: &Text) -> Result<String, Memory> {
     }
 }
 
-/// Texts, each behind a blank.
+/// A blank and a text, for each text.
 pub fn texts_of(alloc: Global, texts: &[Text]) -> Result<String, Memory> {
     let mut all = String::new(alloc);
     for text in texts {

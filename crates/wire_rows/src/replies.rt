@@ -78,7 +78,7 @@ fn said_of(alloc: Global, reply: &Reply) -> Result<String, Memory> {
     }
 }
 
-/// The results of a multi, with `;` behind each.
+/// The results of a multi, with `;` after each.
 fn results_of(alloc: Global, results: &[PartResult]) -> Result<String, Memory> {
     let mut all = String::from_str(alloc, "err 0 multi")?;
     for outcome in results {

@@ -53,6 +53,7 @@ fn again(alloc: Global, xid: i32, request: &Request) -> Result<Vec<u8>, Memory> 
     }
 }
 
+/// A fault in words, as the rows spell it.
 pub fn fault_of(alloc: Global, fault: WireFault) -> Result<String, Memory> {
     match fault {
         WireFault::NoHeader => Ok(String::from_str(alloc, "no header")?),
@@ -167,7 +168,7 @@ fn numbered(
     Ok(format!(in alloc; "{name} {} {field} {number}", path.as_str())?)
 }
 
-/// Each entry behind a blank.
+/// A blank and an entry, for each entry.
 fn acls_of(alloc: Global, entries: &[Acl]) -> Result<String, Memory> {
     let mut all = String::new(alloc);
     for entry in entries {
@@ -180,7 +181,7 @@ fn acls_of(alloc: Global, entries: &[Acl]) -> Result<String, Memory> {
     Ok(all)
 }
 
-/// The parts of a multi, with `;` behind each.
+/// The parts of a multi, with `;` after each.
 fn parts_of(alloc: Global, parts: &[Part]) -> Result<String, Memory> {
     let mut all = String::from_str(alloc, "multi")?;
     for part in parts {
