@@ -41,7 +41,7 @@ kind_of (ustrings texts) = some_ustrings
 kind_of (acls entries) = some_acls
 kind_of open_acl = the_open_acl
 
--- the bytes spell the items of a list, one after the other
+-- the bytes spell the items of a list one after the other, each as `each` says
 abbrev pub Spelled : {A : Type 0} → (A → List ℕ → Type 0) → List A → List ℕ → Type 0
 Spelled {A = A} each [] bytes = bytes ≡ []
 Spelled {A = A} each (x ∷ xs) bytes = (front : List ℕ) × (rest : List ℕ) × each x front × Spelled each xs rest × (bytes ≡ front ++ rest)
@@ -65,15 +65,15 @@ IsBoolean b (c ∷ d ∷ bytes) = ⊥
 abbrev pub IsCount : ℕ → List ℕ → Type 0
 IsCount n bytes = IsInt (pos n) bytes ⊎ ((n ≡ 0) × IsInt (minus 1) bytes)
 
--- its length, and its bytes
+-- a buffer's length, and its bytes
 abbrev pub IsBuffer : List ℕ → List ℕ → Type 0
 IsBuffer content bytes = (front : List ℕ) × IsCount (length content) front × (bytes ≡ front ++ content)
 
--- its length, which is an int not below 0, and its bytes, which are UTF-8
+-- a text's length, which is an int not below 0, and its bytes, which are UTF-8
 abbrev pub IsUstring : List ℕ → List ℕ → Type 0
 IsUstring text bytes = (front : List ℕ) × IsInt (pos (length text)) front × IsUtf8 text × (bytes ≡ front ++ text)
 
--- its count, and its items
+-- a vector's count, and its items, each spelled as `each` says
 abbrev pub IsVector : {A : Type 0} → (A → List ℕ → Type 0) → List A → List ℕ → Type 0
 IsVector each xs bytes = (front : List ℕ) × (rest : List ℕ) × IsCount (length xs) front × Spelled each xs rest × (bytes ≡ front ++ rest)
 

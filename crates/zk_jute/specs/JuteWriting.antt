@@ -26,7 +26,7 @@ count_bytes n = int_bytes (pos n)
 abbrev pub string_bytes : List ℕ → List ℕ
 string_bytes bytes = count_bytes (length bytes) ++ bytes
 
--- its count, and its items
+-- a vector: its count, and its items
 abbrev pub vector_bytes : {A : Type 0} → (A → List ℕ) → List A → List ℕ
 vector_bytes each xs = count_bytes (length xs) ++ flat_map each xs
 

@@ -57,7 +57,7 @@ is_at_path (Some q) p = same q p
 unfoldable pub is_child : Bytes → Bytes → Bool
 is_child p q = is_at_path (parent q) p
 
--- what the paths of a node's children begin with: its own path, and a slash where it has none at its end
+-- what the paths of a node's children begin with: its own path, and a slash unless it is the root
 unfoldable pub stem : Bytes → Bytes
 stem p = cond (same p root) p (p ++ slash ∷ [])
 

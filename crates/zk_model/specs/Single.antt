@@ -76,7 +76,7 @@ named flags path = if is_sequential flags then with_one path else path
 abbrev pub made_path : ℤ → Bytes → Node → Bytes
 made_path flags path up = if is_sequential flags then sequence_path path (nat_abs up.creates) else path
 
--- whether the parent can count no more creates, or the create is ephemeral and the session owns `limit` nodes already
+-- whether the parent can count no more creates, or the create is ephemeral and the session owns `limit` nodes or more
 abbrev pub is_full : Tree → ℕ → ℤ → ℤ → Node → Bool
 is_full t limit session flags up = int_eq up.creates max_creates || (is_ephemeral flags && nat_le limit (length (owned t session)))
 

@@ -249,7 +249,7 @@ fn push_digits(text: &mut Vec<u8>, count: u32, number: u32) -> Result<(), AllocE
 }
 
 impl Path {
-    /// Reads a path. Where it is `sequential`, the text is that of a sequential create, and the path is the text with `1`
+    /// Reads a path. Where `sequential` is set, the text is that of a sequential create, and the path is the text with `1`
     /// added. A path's characters are U+0020 to U+007E, U+00A0 to U+D7FF and U+F900 to U+FFEF.
     pub fn read(alloc: Global, text: &[u8], sequential: bool) -> Result<Path, PathFault>
         ensures ok { IfOk result (λ p. p ≡ tested sequential text.now) }

@@ -160,8 +160,8 @@ impl<'a> Reader<'a> {
         Ok(items)
     }
 
-    /// An empty list with room for this count of items, or for as many as can stand in the bytes left: a count that is
-    /// claimed reserves no more than what came with it.
+    /// An empty list with room for this count of items, but for no more than one for each four bytes left, so that the room
+    /// does not grow with a count that is only claimed.
     fn list_for<T: Item>(&self, count: usize) -> Result<Vec<T>, AllocError>
         ensures empty { IfOk result (λ list. list.items ≡ []) }
         ensures by_count { IfOk result (λ list. vec_capacity list ≤ count) }
