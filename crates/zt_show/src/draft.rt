@@ -1,7 +1,6 @@
 //! Lines in the making, which take the fields of a record as words.
 
 ghost use Rattle.std.specs.Prelude.{◌≡◌, ◌++◌, ◌∷◌, [], decimal, OnOk};
-ghost use Rattle.std.specs.Fmt.{signed_decimal};
 ghost use Rattle.zt_show.specs.FieldWords.{spaced, signed_word, hex_word, acl_words, value_words};
 
 use std::alloc::Global;
