@@ -36,13 +36,13 @@ use Rattle.zn_view.specs.declared.want.Want.TheVariants as want
 use Rattle.zs_close.specs.Reaping.{IfReaped, IsReapPlan, whose}
 use Rattle.zs_close.specs.declared.reap.Reaping.{Reaping}
 use Rattle.zs_close.specs.declared.reap.Reaping.TheVariants.{Gone, Kept, Planned, TooMany}
-use Rattle.zs_reap.specs.Steps.{Answered, Decides, Follows, IsLookedAt, LacksSome, Looked, LookedAgain, OfTxn, Steps as ReapSteps, first_wants}
+use Rattle.zs_reap.specs.Steps.{Answered, Decides, Follows, IsLookedAt, LacksSome, Looked, LookedAgain, Steps as ReapSteps, first_wants}
 use Rattle.zs_reap.specs.declared.reap.Phase.{Phase}
 use Rattle.zs_reap.specs.declared.reap.Phase.TheVariants.{Counting, Looking, Over, Removing, Unasked}
 use Rattle.zs_reap.specs.declared.reap.Reap.{Reap}
 use Rattle.zs_reap.specs.declared.reap.ReapStep.{ReapStep}
 use Rattle.zs_reap.specs.declared.reap.ReapStep.TheVariants as reaped
-use Rattle.zs_session.specs.Answering.{viewed}
+use Rattle.zs_session.specs.Answering.{OfTxn, viewed}
 use Rattle.zx_base.proofs.MapLaws.{same-true}
 use Rattle.zx_base.proofs.Options.{none_some}
 use Rattle.zx_base.specs.Maps.{Bytes, same}

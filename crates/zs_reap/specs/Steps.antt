@@ -26,7 +26,7 @@ use Rattle.zs_close.specs.Reaping.{IfReaped, IsReap, IsReapDecision, IsReapPlan,
 use Rattle.zs_close.specs.Wanting.{own_keys}
 use Rattle.zs_session.specs.declared.fault.StepFault.{StepFault}
 use Rattle.zs_session.specs.declared.fault.StepFault.TheVariants.{Damaged, Memory}
-use Rattle.zs_session.specs.Answering.{IsTxnAnswer, viewed}
+use Rattle.zs_session.specs.Answering.{IsTxnAnswer, OfTxn, viewed}
 use Rattle.zs_reap.specs.declared.reap.Phase.{Phase}
 use Rattle.zs_reap.specs.declared.reap.Phase.TheVariants.{Unasked, Looking, Counting, Removing, Over}
 use Rattle.zs_reap.specs.declared.reap.Reap.{Reap}
@@ -144,10 +144,6 @@ Answered id (Counting first wants) revision succeeded parts phase step = LookedA
 Answered id (Removing again) revision true parts phase step = Ends (steps.Reaped revision) phase step
 Answered id (Removing again) revision false parts phase step = LookedAgain id again revision parts phase step
 Answered id Over revision succeeded parts phase step = ⊥
-
-abbrev pub OfTxn : Answer → (ℤ → Bool → List ActAns → Type 0) → Type 0
-OfTxn (answer.Txn revision succeeded parts) P = P revision succeeded parts
-OfTxn _ P = ⊥
 
 abbrev pub Moves : Reap → Option Answer → Phase → ReapStep → Type 0
 Moves r None phase step = LooksFirst r.session phase step
