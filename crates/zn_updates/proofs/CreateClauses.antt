@@ -113,7 +113,7 @@ pub create_refused : (path content : Bytes) (acl : List Acl) (flags code : ℤ) 
 unfolding plain_request
 create_refused path content acl flags code e = ap (told_refusal no_watches) e
 
--- the form, as it was tested of these flags
+-- the form that was tested, said of equal flags
 pub form_at : (path : Bytes) (acl : List Acl) (flags was : ℤ) (form value : Form) → was ≡ flags → form ≡ value → ((content : Bytes) → IsFormOf (is_sequential was) path (form_refusal (Create path content acl was)) form)
     → (content : Bytes) → IsFormOf (is_sequential flags) path (form_refusal (Create path content acl flags)) value
 form_at path acl flags was form value same is h content = subst (λ (t : ℤ × Form). IsFormOf (is_sequential t.0) path (form_refusal (Create path content acl t.0)) t.1) (λ i. (same i, is i)) (h content)
@@ -209,7 +209,7 @@ module _ (path content : Bytes) (acl : List Acl) (flags : ℤ) (formed : form_re
       right_at = create_right s p q content flags who.session z now sound (made_below q up (creates_in c)) (valid_path (creates_in c)) moment short y opened long x c paths (get s.tree q) (get s.tree p) refl refl
           (data-shown z v s shown q x data_seen) (counts-shown z v s shown q c counts_seen) own_shown
 
-      -- the model's path is that one
+      -- the path that the model makes is the one that was looked up
       same_path : (u : Node) → get s.tree q ≡ Some u → made_path flags path u ≡ p
       same_path u there =
           let counted = subst (λ (o : Option Node). ShowsCounts z c o (num_children s.tree q)) there (counts-shown z v s shown q c counts_seen) in
@@ -391,7 +391,7 @@ module _ (path content : Bytes) (acl : List Acl) (flags : ℤ) (formed : form_re
       chosen : IsChosen (Create path content acl flags) who v decided
       chosen = below_chosen who v q up short long is.0 is.1 is.2 is.3 is.4 is.5 path_seen
 
-      -- the node's key is among those
+      -- the key of the node's record is among those that were looked up
       path_near : (w : SeenCounts) → is.1 ≡ Some w → sees (on_keys v keys) (DataKey node) ≡ sees v (DataKey node)
       path_near w e = near_sees v keys (DataKey node) (subst (λ (o : Option SeenCounts). In (DataKey (path_for (is_sequential flags) path o)) (create_keys (is_sequential flags) (is_ephemeral flags) path (Some q) who.session (creates_seen o))) (sym e) (path-in (is_sequential flags) (is_ephemeral flags) path q who.session w))
 

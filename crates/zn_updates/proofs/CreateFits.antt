@@ -152,11 +152,11 @@ module _ (s : State) (p q content : Bytes) (z : ℤ) (now : ℕ) (up : Node) (ab
   plain_each free (SessionKey id) = nodes_stay id (not_owned free id)
   plain_each free (LeaseKey id) = λ o h. h
 
-  -- of a node without an owner
+  -- the create of a node without an owner
   pub create_fits : owner ≡ pos 0 → Fits z (create_changes p q content now owner above.counts) s new
   create_fits free = record { each = plain_each free }
 
-  -- of a session's node
+  -- the create of a session's node
   module _ (session : Session) (opened : session_at owner s ≡ Some session) (paths : List Bytes) (listed : IsSeenPaths paths (owned s.tree owner)) (valid : IsTrue (is_path p)) (few : length paths < 2 ^ 31 - 1) where
     real : pos 1 ≤ℤ owner
     real = sound.numbered owner session opened

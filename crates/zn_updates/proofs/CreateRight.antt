@@ -1,4 +1,4 @@
--- A create's choice by the records that show its parent and its session, and by whether its node is there, is what it
+-- The choice of a create, by records that show the parent and the session and by whether the node is there, is what the create
 -- comes to.
 use Rattle.std.proofs.Common.{◌≡◌, ℕ, ℤ, pos, ◌-◌, ◌<◌, ◌≤◌, ◌^◌, Bool, true, false, cond, not, ◌||◌, ◌&&◌, List, [], ◌∷◌, ◌++◌, length, Option, Some, None, refl, sym, ap, ◌∙◌, subst, arith, is_some}
 use Rattle.std.specs.Prelude.{nat_le, IsTrue}

@@ -62,7 +62,7 @@ by_choice : (r : Request) (v : View) (s : State) (zero_choice c : Choice) (o : O
 by_choice r v s first (Refuse code) o e right = refused_told r code o (subst (λ (x : Choice). IsRight (pos 0) s x o) (refuse_of first code (sym e)) right)
 by_choice r v s first (Make cs ts draft) o e right = done_told r v cs ts draft (pos 0) s first o (sym e) right
 
--- whatever keys its plan guards
+-- a right choice decides as the tree does, whatever keys its plan guards
 pub by_tree : (r : Request) (p : Part) (who : Who) (v near : View) (choice : ℕ → Choice) (now : ℕ) → IsPart r p → IsChosen p who v choice → (s : State) → IsSound s → IsOf v s → (x : Session) → session_at who.session s ≡ Some x
     → IsByTree r (decision_of near (choice now)) (tree_reply s.tree max_owned who.session no_watches r)
 by_tree r p who v near choice now part chosen s sound of x opened =

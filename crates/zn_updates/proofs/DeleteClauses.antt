@@ -81,7 +81,7 @@ module _ (v : View) (s : State) (sound : IsSound s) (z : ℤ) (shown : Shows z v
       let session = sound.owners p n there (λ e. owns (same_owner ∙ e)) in
       by_session y.owner shows.within.owner.least (session.0, ap (λ (o : ℤ). session_at o s) same_owner ∙ session.1) seen_paths
 
--- and they are few
+-- and no more than a session may own
 few_owned : (v : View) (s : State) → IsSound s → Shows (pos 0) v s → (p : Bytes) (y : SeenData) (ps : List Bytes) (n : Option Node) → get s.tree p ≡ n → ShowsData (pos 0) (Some y) n → (y.owner ≡ pos 0 → ⊥)
     → IsPathsSeen (sees v (SessionKey (nat_abs y.owner))) (Some ps) → length ps ≤ max_owned
 few_owned v s sound shown p y ps None there shows owns seen_paths = absurd shows
@@ -136,7 +136,7 @@ module _ (p : Bytes) (version : ℤ) where
     same_code = λ now. refl;
   }
 
-  -- a path without parent has no node but the root's
+  -- at a path without a parent there is no node but the root
   no_parent : (s : State) (z : ℤ) → IsSound s → p ≢ root → parent p ≡ None → (n : Option Node) → get s.tree p ≡ n → delete s.tree p version z n ≡ Refused no_node
   no_parent s z sound inner none None there = refl
   no_parent s z sound inner none (Some n) there = let up = sound.parents p n there inner in let bad : None ≡ Some up.path = sym none ∙ up.is in absurd (cc)

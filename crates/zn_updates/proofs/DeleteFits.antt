@@ -115,11 +115,11 @@ module _ (s : State) (p q : Bytes) (z : ℤ) (up node : Node) (above : SeenCount
   plain_each free (SessionKey id) = nodes_stay id (not_owned free id)
   plain_each free (LeaseKey id) = λ o h. h
 
-  -- of a node without an owner
+  -- the delete of a node without an owner
   pub delete_fits : node.owner ≡ pos 0 → Fits z (delete_changes p q above.counts) s new
   delete_fits free = record { each = plain_each free }
 
-  -- of a session's node
+  -- the delete of a session's node
   module _ (session : Session) (opened : session_at node.owner s ≡ Some session) (paths : List Bytes) (listed : IsSeenPaths paths (owned s.tree node.owner)) where
     real : pos 1 ≤ℤ node.owner
     real = sound.numbered node.owner session opened

@@ -1,4 +1,4 @@
--- A delete's choice by the records that show its node, its parent and its owner is what it comes to.
+-- The choice of a delete, by records that show the node, its parent and its owner, is what the delete comes to.
 use Rattle.std.proofs.Common.{◌≡◌, ℕ, ℤ, pos, Bool, true, false, cond, not, List, Option, Some, None, refl, sym, ap, ◌∙◌, subst, arith, eqb}
 use Rattle.std.specs.Ordering.{int_eq}
 use Rattle.std.specs.FinMap.{get}

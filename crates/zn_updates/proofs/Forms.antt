@@ -30,6 +30,6 @@ valid_at : (b : Bool) (o : Option ℤ) → or_else (path_refusal b) o ≡ None �
 valid_at true o h = refl
 valid_at false o h = absurd (cc)
 
--- a create that isn't refused so has a valid path
+-- a create that its form doesn't refuse has a valid path
 pub create_path_valid : (p content : Bytes) (acl : List Acl) (flags : ℤ) → form_refusal (Create p content acl flags) ≡ None → is_valid (is_sequential flags) p ≡ true
 create_path_valid p content acl flags h = valid_at (is_valid (is_sequential flags) p) _ (sym (create_refusal p content acl flags _ _ _ refl refl refl) ∙ h)

@@ -6,7 +6,7 @@ use Rattle.zn_view.specs.declared.snapshot.SeenKey.{SeenKey}
 use Rattle.zn_view.specs.Seen.{View, seen, seen_in}
 use Rattle.zn_updates.specs.Layers.{layered}
 
--- the first that is seen
+-- what the upper view saw, or else what the lower one did
 abbrev pub first_seen : Option (Option Kv) → Option (Option Kv) → Option (Option Kv)
 first_seen None o = o
 first_seen (Some x) o = Some x
@@ -32,7 +32,7 @@ over-seen over v k some = over_is (seen over k) (seen v k) some ∙ sym (seen_la
 pub under-seen : (over v : View) (k : Bytes) → seen over k ≡ None → seen v k ≡ seen (layered over v) k
 under-seen over v k none = sym (seen_layered over v k ∙ ap (λ (o : Option (Option Kv)). first_seen o (seen v k)) none)
 
--- of what a view answers
+-- what a view answered was seen
 pub there-seen : {A : Type 0} (f : A → Option Kv) (x : A) (o : Option (Option Kv)) → Some (f x) ≡ o → o ≡ None → ⊥
 there-seen f x None e none = cc
 there-seen f x (Some y) e none = cc

@@ -72,7 +72,7 @@ placed-rising p (q ∷ qs) rising =
       | Greater ↦ λ e. rising-cons q (placed p qs) (above-placed q p qs (greater_back p q e) above) (placed-rising p qs rest)
     ] refl
 
--- ---- both
+-- ---- all bounds
 
 pub placed-within : (p : Bytes) (ps : List Bytes) → IsTrue (is_path p) → length ps < 2 ^ 31 - 1 → IsSessionRec ps → IsSessionRec (placed p ps)
 placed-within p ps valid few within = record {

@@ -1,4 +1,4 @@
--- What keys mean is carried along equal look-ups; sessions' numbers.
+-- Keys mean the same where look-ups give the same; and the numbers of sessions.
 use Rattle.std.proofs.Common.{◌^◌, ◌<◌, ◌≡◌, ℕ, ℤ, pos, true, false, List, Option, Some, None, refl, sym, ap, ◌∙◌, subst, arith, eqb-true, ◌+ℤ◌}
 use Rattle.std.proofs.lemmas.Bool.{eqb-false, true≢false}
 use Rattle.std.specs.Prelude.{◌≤ℤ◌, nat_abs, nat_eq}
@@ -65,7 +65,7 @@ below_most n most h apart = let far : n ≡ most → ⊥ = λ e. true≢false (s
 pub of_abs : (id : ℤ) → pos 0 ≤ℤ id → pos (nat_abs id) ≡ id
 of_abs id h = omega (arith, ints)
 
--- the key of a number is that of this session
+-- the number in a session's key is the session's
 pub session_is : (r : ℕ) (id : ℤ) → pos 0 ≤ℤ id → nat_eq r (nat_abs id) ≡ true → pos r ≡ id
 session_is r id h e = ap pos (eqb-true r (nat_abs id) e) ∙ of_abs id h
 

@@ -112,7 +112,7 @@ module _ (t : Tree) (p q : Bytes) (old above node : Node) (below_q : parent p �
       (either r p)))
       ∙ keys-remove (owned_by t id) p
 
-  -- of a session that doesn't own it
+  -- the list of a session that doesn't own the node
   pub owned-delete_other : int_eq node.owner id ≡ false → owned left id ≡ owned t id
   owned-delete_other foreign = ap keys (ext (owned_by left id) (owned_by t id) (λ r.
       ⊎_elim
@@ -121,7 +121,7 @@ module _ (t : Tree) (p q : Bytes) (old above node : Node) (below_q : parent p �
       (left_other r)
       (either r p)))
 
--- a node that changes, and stays whose it was
+-- a node that changes and keeps its owner
 module _ (t : Tree) (p : Bytes) (v old : Node) (id : ℤ) (there : get t p ≡ Some old) (same_owner : v.owner ≡ old.owner) where
   abbrev changed : Tree
   changed = insert t p v
@@ -135,7 +135,7 @@ module _ (t : Tree) (p : Bytes) (v old : Node) (id : ℤ) (there : get t p ≡ S
   elsewhere : (r : Bytes) → r ≢ p → get (owned_by changed id) r ≡ get (owned_by t id) r
   elsewhere r np = owned_alike t changed id r (get t r) (get t r) (get-insert_other t p r v np) refl refl
 
-  -- a map with what it has put again
+  -- to put what a map has under a key changes nothing
   put_again : (m : Tree) (w : Node) → get m p ≡ Some w → m ≡ insert m p w
   put_again m w e = ext m (insert m p w) (λ r.
       ⊎_elim

@@ -1,4 +1,4 @@
--- A path is put in its place where the first path stands that isn't before it.
+-- A path's place is that of the first path that isn't before it.
 use Rattle.std.proofs.Common.{◌≡◌, ◌≢◌, ℕ, zero, suc, ◌<◌, true, false, List, [], ◌∷◌, length, get_or, refl, sym, ap, ◌∙◌, subst, arith}
 use Rattle.std.specs.Ordering.{nat_cmp, is_lt, ordering_reverse}
 use Rattle.std.specs.Cmp.Lexicographic.{slice_cmp, nat_list_cmp_total}
@@ -25,7 +25,7 @@ after_less Greater h = absurd (cc)
 pub later : (p q : Bytes) → comes_before q p ≡ true → order p q ≡ Greater
 later p q h = back p q ∙ after_less (order q p) h
 
--- the paths behind the first
+-- the paths after the first
 rest_place : (p q : Bytes) (qs : List Bytes) (k : ℕ) → IsPlaceOf p (q ∷ qs) (suc k) → IsPlaceOf p qs k
 rest_place p q qs k at = record {
   within = let h = at.within in omega (arith, h);

@@ -1,4 +1,4 @@
--- A setData's choice by the records that show its node is what it comes to.
+-- The choice of a setData, by records that show its node, is what the setData comes to.
 use Rattle.std.proofs.Common.{◌^◌, ◌<◌, ◌≡◌, ℕ, ℤ, ◌≤◌, Bool, true, false, cond, not, [], ◌∷◌, length, Option, Some, None, refl, sym, ap, ◌∙◌, subst}
 use Rattle.std.specs.Ordering.{int_eq}
 use Rattle.std.specs.FinMap.{get, insert}

@@ -1,4 +1,4 @@
--- What a view saw of records, states that it shows have too; and which states a view shows.
+-- The states that a view shows have what it saw of records; and which states a view shows.
 use Rattle.std.proofs.Common.{◌≡◌, ℕ, ℤ, pos, true, false, cond, List, Option, Some, None, refl, sym, ap, ◌∙◌, subst, arith}
 use Rattle.std.specs.Prelude.{◌≤ℤ◌}
 use Rattle.std.specs.Ordering.{int_eq}
@@ -30,7 +30,7 @@ use Rattle.zn_updates.proofs.Meanings.{int_eq-is}
 abbrev pub Tells : View → Keys → Type 0
 Tells v m = (k : Key) → (k ≡ HeadKey → ⊥) → (o : Option Kv) → seen v (key_bytes k) ≡ Some o → at m k ≡ o
 
--- and so it is where keys have what the view saw
+-- this follows where the same is known of the keys' bytes
 pub told : (v : View) (m : Keys) → AreAsSeen v m → Tells v m
 told v m as_seen k apart o e = as_seen (key_bytes k) o (λ is. apart (key_bytes-injective k HeadKey is)) e
 

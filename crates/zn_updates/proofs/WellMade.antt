@@ -82,7 +82,7 @@ module _ (p q : Bytes) (valid : is_path p ≡ true) (below : parent p ≡ Some q
   other : same p q ≡ false
   other = same-false p q (λ e. let shorter = (parent-valid p q valid below).1 in omega (arith, shorter, ap length e))
 
-  -- the keys of the node, then the parent's counts, and further keys
+  -- the node's counts and the parent's are two keys
   counts_once : (not (same p q || false) && true) ≡ true
   counts_once = ap (λ b. not (b || false) && true) other
 

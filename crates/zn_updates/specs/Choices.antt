@@ -21,7 +21,7 @@ use Rattle.zn_updates.specs.OwnedLists.{placed, without}
 use Rattle.zn_updates.specs.declared.seen.SeenData.{SeenData}
 use Rattle.zn_updates.specs.declared.seen.SeenCounts.{SeenCounts}
 
--- of an update: the changes but the head's, what watches see, and the result with 0 for its zxid
+-- a refusal with its code; or an update: its changes but the head's, what watches see, and the result with 0 in place of its zxid
 pub data Choice : Type 0 where
   Refuse : (code : ℤ) → Choice
   Make : (changes : List Change) (triggers : List Trigger) (draft : PartResult) → Choice
@@ -30,15 +30,17 @@ pub data Choice : Type 0 where
 abbrev pub with_content : NodeRec → Bytes → NodeRec
 with_content r content = record r { content = content }
 
--- the list of a session's nodes is put
+-- puts the list of a session's nodes
 abbrev pub put_owned : ℤ → List Bytes → Change
 put_owned id paths = put_key (SessionKey (nat_abs id)) (session_value paths)
 
 -- ---- setData
 
+-- the node's record after it, at this time
 abbrev pub set_record : SeenData → Bytes → ℕ → NodeRec
 set_record x content now = record { czxid = x.czxid; version = x.version +ℤ pos 1; ctime = x.ctime; mtime = pos now; owner = x.owner; content = content }
 
+-- and its Stat, with 0 in place of the update's zxid
 abbrev pub set_stat : SeenData → SeenCounts → Bytes → ℕ → Stat
 set_stat x c content now = record {
   czxid = x.czxid;
@@ -57,7 +59,7 @@ set_stat x c content now = record {
 abbrev pub set_changes : Bytes → SeenData → Bytes → ℕ → List Change
 set_changes p x content now = put_key (DataKey p) (node_value (set_record x content now)) ∷ []
 
--- by the node's record, and by its counts, which the reply tells
+-- a setData of p, by the node's record and by its counts, which its Stat shows
 unfoldable pub set_data_choice : Bytes → Bytes → ℤ → ℕ → Option SeenData → Option SeenCounts → Choice
 set_data_choice p content version now None counts = Refuse no_node
 set_data_choice p content version now (Some x) None = Refuse no_node
@@ -68,7 +70,7 @@ set_data_choice p content version now (Some x) (Some c) =
 
 -- ---- delete of p below q
 
--- the parent's counts after it
+-- the parent's counts after a delete
 abbrev pub one_less : CountRec → CountRec
 one_less c = record { creates = c.creates; children = pos (nat_abs c.children - 1) }
 
@@ -78,18 +80,19 @@ delete_changes p q above = delete_key (DataKey p) ∷ delete_key (CountsKey p) �
 abbrev pub delete_triggers : Bytes → Bytes → List Trigger
 delete_triggers p q = Deleted p ∷ Children q ∷ []
 
--- the node goes from its owner's list
+-- of a node with an owner: it goes from the owner's list; a list that is missing, as in no sound state, is a system error
 abbrev pub delete_owned : Bytes → Bytes → CountRec → ℤ → Option (List Bytes) → Choice
 delete_owned p q above owner None = Refuse system_error
 delete_owned p q above owner (Some paths) = Make (delete_changes p q above ++ put_owned owner (without p paths) ∷ []) (delete_triggers p q) result.Deleted
 
+-- of a node that passed the tests; counts of the parent that are missing, as in no sound state, are a system error
 abbrev pub delete_here : Bytes → Bytes → SeenData → Option SeenCounts → Option (List Bytes) → Choice
 delete_here p q x None paths = Refuse system_error
 delete_here p q x (Some above) paths =
     if int_eq x.owner (pos 0) then Make (delete_changes p q above.counts) (delete_triggers p q) result.Deleted
     else delete_owned p q above.counts x.owner paths
 
--- by the node's record and counts, its parent's counts, and where it has an owner by the list of that owner's nodes
+-- by the node's record and counts, its parent's counts, and the list of its owner's nodes, where it has an owner
 unfoldable pub delete_choice : Bytes → Bytes → ℤ → Option SeenData → Option SeenCounts → Option SeenCounts → Option (List Bytes) → Choice
 delete_choice p q version None counts above paths = Refuse no_node
 delete_choice p q version (Some x) None above paths = Refuse no_node
@@ -99,6 +102,7 @@ delete_choice p q version (Some x) (Some c) above paths =
 
 -- ---- create of p below q
 
+-- the parent's counts after a create
 abbrev pub one_more : CountRec → CountRec
 one_more c = record { creates = c.creates +ℤ pos 1; children = c.children +ℤ pos 1 }
 
@@ -114,19 +118,20 @@ create_changes p q content now owner above = changes_with p q (new_record conten
 abbrev pub create_triggers : Bytes → Bytes → List Trigger
 create_triggers p q = Created p ∷ Children q ∷ []
 
--- the node joins the session's list, which has room
+-- of an ephemeral node: it joins the session's list; a list that is missing or full is a system error
 abbrev pub create_owned : Bytes → Bytes → Bytes → ℕ → CountRec → ℤ → Option (List Bytes) → Choice
 create_owned p q content now above session None = Refuse system_error
 create_owned p q content now above session (Some paths) =
     if nat_le max_owned (length paths) then Refuse system_error
     else Make (create_changes p q content now session above ++ put_owned session (placed p paths) ∷ []) (create_triggers p q) (result.Created p)
 
+-- of a node that passed the tests of its path and its parent
 abbrev pub create_here : Bytes → Bytes → Bytes → ℕ → CountRec → Bool → ℤ → Option (List Bytes) → Choice
 create_here p q content now above ephemeral session paths =
     if ephemeral then create_owned p q content now above session paths
     else Make (create_changes p q content now (pos 0) above) (create_triggers p q) (result.Created p)
 
--- by the parent's record and counts, whether the node is there, and for an ephemeral node by the list of the session's nodes
+-- by the parent's record and counts, whether the path is taken, and for an ephemeral node the list of the session's nodes
 unfoldable pub create_choice : Bytes → Bytes → Bytes → ℕ → Bool → ℤ → Option SeenData → Option SeenCounts → Bool → Option (List Bytes) → Choice
 create_choice p q content now ephemeral session None counts taken paths = Refuse no_node
 create_choice p q content now ephemeral session (Some up) None taken paths = Refuse no_node

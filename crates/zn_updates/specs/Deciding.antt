@@ -33,22 +33,24 @@ use Rattle.zn_updates.specs.Choices.{Choice, Refuse, Make, set_data_choice, dele
 use Rattle.zn_updates.specs.KeysRead.{set_data_keys, delete_keys, create_keys}
 use Rattle.zn_updates.specs.Making.{IsDataSeen, IsCountsSeen, IsPathsSeen, has_found}
 
--- create, delete and setData
+-- whether a request is a create, a delete or a setData
 abbrev pub is_update : Request → Bool
 is_update (req.Create p d a f) = true
 is_update (req.Delete p v) = true
 is_update (req.SetData p d v) = true
 is_update _ = false
 
--- the view saw the record of the session's life, put where this connection was attached
+-- the view saw the record of the session's life, last put at the revision at which this connection was attached
 abbrev pub IsAttached : Who → View → Type 0
 IsAttached who v = (kv : Kv) × (seen v (key_bytes (LeaseKey (nat_abs who.session))) ≡ Some (Some kv)) × (kv.mod_revision ≡ who.mine)
 
 -- ---- the decision of a choice, on the view of the keys that the request looks up
 
+-- the view with these keys alone
 abbrev pub on_keys : View → List Key → View
 on_keys v ks = narrowed v (map key_bytes ks)
 
+-- the plan of an update: it guards what this view saw, but for the head, and reads it again where a guard fails
 abbrev pub plan_of : View → List Change → List Trigger → PartResult → Plan
 plan_of v cs ts draft = record {
   guards = guards_of v.keys;
@@ -64,13 +66,14 @@ decision_of v (Make cs ts draft) = Planned (plan_of v cs ts draft)
 
 -- ---- what it is worth
 
--- in each sound state that the view is of and in which the session is open
+-- A request that its form does not decide is decided as by the tree, in each sound state that the view is of and in which the
+-- session is open.
 abbrev pub IsBySound : Request → Who → View → Decision → Type 0
 IsBySound r who v d = plain_request no_watches r ≡ None → (s : State) → IsSound s → IsOf v s → (x : Session) → session_at who.session s ≡ Some x
     → IsByTree r d (tree_reply s.tree (limit_of x) who.session no_watches r)
 
--- The plan of a connection that is attached carries the update out, and may be asked. Of every connection it guards what the request
--- reads, and writes each key once; and on a view of a sound state an etcd takes it.
+-- Where the connection is attached, the plan carries the update out and may be asked. Attached or not, it guards what the request
+-- reads and writes each key once; and on a view of a sound state an etcd takes it.
 pub record IsGuarded (r : Request) (who : Who) (now : ℕ) (v : View) (p : Plan) : Type 0 where
   pub commits : IsAttached who v → IsPlan r who now v p (λ z. finished z p.draft) × IsAskedPlan who v p
   pub reads : GuardsReads r who v p
@@ -79,6 +82,7 @@ pub record IsGuarded (r : Request) (who : Who) (now : ℕ) (v : View) (p : Plan)
 
 -- ---- what the code chose on
 
+-- what watches see, if it is an update
 abbrev pub IfMakes : (List Trigger → Type 0) → Choice → Type 0
 IfMakes P (Refuse code) = Unit {0}
 IfMakes P (Make cs ts draft) = P ts
@@ -93,21 +97,22 @@ IsSetData v p content version now session d =
     (x : Option SeenData) × (c : Option SeenCounts) × IsDataSeen (sees v (DataKey p)) x × IsCountsSeen (sees v (CountsKey p)) c
     × (d ≡ decision_of (on_keys v (set_data_keys p session)) (set_data_choice p content version now x c))
 
--- the nodes of the owner, where the node has one
+-- where the node has an owner, the list of the owner's nodes was looked up
 abbrev pub IsOwnerLookedUp : View → Option SeenData → Type 0
 IsOwnerLookedUp v None = Unit {0}
 IsOwnerLookedUp v (Some x) = (x.owner ≡ pos 0 → ⊥) → HasSeen v (SessionKey (nat_abs x.owner))
 
+-- where the node has an owner, these are the owner's nodes as the view saw them
 abbrev pub IsOwnerPaths : View → Option SeenData → Option (List Bytes) → Type 0
 IsOwnerPaths v None paths = Unit {0}
 IsOwnerPaths v (Some x) paths = (x.owner ≡ pos 0 → ⊥) → IsPathsSeen (sees v (SessionKey (nat_abs x.owner))) paths
 
--- the owner of a node, 0 where it has none
+-- the owner of a node, 0 where it has none or is not there
 abbrev pub owner_seen : Option SeenData → ℤ
 owner_seen None = pos 0
 owner_seen (Some x) = x.owner
 
--- of a delete of p below q, or of a path without parent, where no node but the root is
+-- the decision of a delete: of p below q, or of a path without a parent, at which there is no node but the root
 abbrev pub IsDelete : View → Bytes → ℤ → ℤ → Option Bytes → Decision → Type 0
 IsDelete v p version session None d = d ≡ decision_of v (Refuse no_node)
 IsDelete v p version session (Some q) d =
@@ -115,40 +120,43 @@ IsDelete v p version session (Some q) d =
     × IsDataSeen (sees v (DataKey p)) x × IsCountsSeen (sees v (CountsKey p)) c × IsCountsSeen (sees v (CountsKey q)) a × IsOwnerPaths v x paths
     × (d ≡ decision_of (on_keys v (delete_keys p (Some q) session (owner_seen x))) (delete_choice p q version x c a paths))
 
+-- the creates that a node counts, 0 where it is not there
 abbrev pub creates_in : Option SeenCounts → ℕ
 creates_in None = 0
 creates_in (Some c) = nat_abs c.counts.creates
 
+-- the creates that a node counts, none where it is not there
 abbrev pub creates_seen : Option SeenCounts → Option ℕ
 creates_seen None = None
 creates_seen (Some c) = Some (nat_abs c.counts.creates)
 
--- the path that the node gets
+-- the path that the new node gets: a sequence node's ends in the creates of its parent
 abbrev pub path_for : Bool → Bytes → Option SeenCounts → Bytes
 path_for sequential path c = if sequential then sequence_path path (creates_in c) else path
 
+-- for an ephemeral node, these are the session's nodes as the view saw them
 abbrev pub IsOwnPaths : View → Bool → ℤ → Option (List Bytes) → Type 0
 IsOwnPaths v ephemeral session paths = ephemeral ≡ true → IsPathsSeen (sees v (SessionKey (nat_abs session))) paths
 
--- of a create below q
+-- the decision of a create below q
 abbrev pub IsCreateBelow : View → Bytes → Bytes → ℕ → Bool → Bool → ℤ → Bytes → Decision → Type 0
 IsCreateBelow v path content now sequential ephemeral session q d =
     (x : Option SeenData) × (c : Option SeenCounts) × (paths : Option (List Bytes))
     × IsDataSeen (sees v (DataKey q)) x × IsCountsSeen (sees v (CountsKey q)) c × IsOwnPaths v ephemeral session paths
     × (d ≡ decision_of (on_keys v (create_keys sequential ephemeral path (Some q) session (creates_seen c))) (create_choice (path_for sequential path c) q content now ephemeral session x c (has_found (sees v (DataKey (path_for sequential path c)))) paths))
 
--- or of the root
+-- the decision of a create: below a parent, or of the root, which is there
 abbrev pub IsCreate : View → Bytes → Bytes → ℕ → Bool → Bool → ℤ → Option Bytes → Decision → Type 0
 IsCreate v path content now sequential ephemeral session None d = d ≡ decision_of v (Refuse node_exists)
 IsCreate v path content now sequential ephemeral session (Some q) d = IsCreateBelow v path content now sequential ephemeral session q d
 
--- the data of a create or a setData
+-- the data of a create or a setData; other requests have none
 abbrev pub content_in : Request → Bytes
 content_in (req.Create p d a f) = d
 content_in (req.SetData p d v) = d
 content_in _ = []
 
--- a new node's parent was looked up
+-- the record and the counts of a new node's parent were looked up, if it has one
 abbrev pub IsUpLookedUp : View → Option Bytes → Type 0
 IsUpLookedUp v None = Unit {0}
 IsUpLookedUp v (Some q) = HasSeen v (DataKey q) × HasSeen v (CountsKey q)

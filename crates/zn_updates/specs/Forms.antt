@@ -6,17 +6,17 @@ use Rattle.zx_base.specs.Maps.{Bytes, same}
 use Rattle.zn_updates.specs.declared.form.Form.{Form}
 use Rattle.zn_updates.specs.declared.form.Form.TheVariants.{Valid, Refused}
 
--- the path of a text, none where it isn't valid
+-- the path as which a text is tested, none where the text isn't valid
 abbrev pub IsPathOf : Bool → Bytes → Option Bytes → Type 0
 IsPathOf sequential text (Some p) = (p ≡ tested sequential text) × (is_valid sequential text ≡ true)
 IsPathOf sequential text None = is_valid sequential text ≡ false
 
--- the same of a path that may not be the root
+-- the path of a text, none where the text isn't valid or is the root
 abbrev pub IsInnerPath : Bytes → Option Bytes → Type 0
 IsInnerPath text (Some p) = (p ≡ text) × ((is_path text && not (same text root)) ≡ true)
 IsInnerPath text None = (is_path text && not (same text root)) ≡ false
 
--- the path where nothing is refused, or the code
+-- the path that was tested, where nothing is refused; otherwise the code of the refusal
 abbrev pub IsFormOf : Bool → Bytes → Option ℤ → Form → Type 0
 IsFormOf sequential text refusal (Valid p) = (p ≡ tested sequential text) × (refusal ≡ None)
 IsFormOf sequential text refusal (Refused code) = refusal ≡ Some code

@@ -14,7 +14,7 @@ use Rattle.zn_view.specs.Seen.{View, seen}
 use Rattle.zn_updates.specs.Choices.{Choice, Refuse, Make}
 use Rattle.zn_updates.specs.Right.{IsRight}
 
--- what stands over a view shows in its place
+-- the view with the keys of another laid over it, which show in place of its own
 abbrev pub layered : View → View → View
 layered over v = record v { keys = over.keys ++ v.keys }
 
@@ -23,20 +23,21 @@ abbrev pub stored_own : ℤ → Option Kv → Option Stored
 stored_own z None = None
 stored_own z (Some kv) = Some (record { value = kv.value; revision = own z kv.mod_revision; lease = kv.lease })
 
--- the revision is one of an etcd, or 0
+-- what was found was put at a revision of an etcd, or at 0
 abbrev pub IsPutBelow : Option Kv → Type 0
 IsPutBelow o = IfSome o (λ (kv : Kv). (pos 0 ≤ℤ kv.mod_revision) × (kv.mod_revision ≤ℤ last_revision))
 
--- within an update of this zxid, each key but the head means in a state what the view saw
+-- within an update of this zxid, each key but the head that the view saw means in the state what was seen, at such a revision
 abbrev pub Shows : ℤ → View → State → Type 0
 Shows z v s = (k : Key) → (k ≡ HeadKey → ⊥) → (o : Option Kv) → seen v (key_bytes k) ≡ Some o → Means s k (stored_own z o) × IsPutBelow o
 
--- the code of a choice
+-- the code of a refusal, none of an update
 abbrev pub code_of : Choice → Option ℤ
 code_of (Refuse code) = Some code
 code_of (Make cs ts draft) = None
 
--- in every sound state that the view shows, and in which the session is open, at every moment
+-- The choice is right in every sound state that the view shows and in which the session is open, at every zxid and every time below
+-- 2^62 milliseconds. At every time it has the same code, or none.
 pub record IsChosen (p : Part) (who : Who) (v : View) (choice : ℕ → Choice) : Type 0 where
   pub right : (s : State) (z : ℤ) (now : ℕ) → now < 2 ^ 62 → IsSound s → Shows z v s → (x : Session) → session_at who.session s ≡ Some x
       → IsRight z s (choice now) (single s.tree max_owned who.session p z now)

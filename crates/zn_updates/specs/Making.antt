@@ -14,15 +14,17 @@ use Rattle.zn_updates.specs.declared.seen.SeenData.{SeenData}
 use Rattle.zn_updates.specs.declared.seen.SeenCounts.{SeenCounts}
 use Rattle.zn_updates.specs.Choices.{Choice, Refuse, Make}
 
+-- the choice, with operations in place of changes
 abbrev pub chosen_of : Choice → Chosen
 chosen_of (Refuse code) = Refused code
 chosen_of (Make cs ts draft) = Made (record { acts = acts_of cs; triggers = ts; draft = draft })
 
--- ---- the records that a view saw: `Some None` where the key was absent
+-- ---- the records that a view saw: of a key, `None` where it wasn't looked up, `Some None` where it was absent
 
 abbrev pub data_of : NodeRec → ℤ → SeenData
 data_of r czxid = record { czxid = czxid; version = r.version; ctime = r.ctime; owner = r.owner }
 
+-- a node's record; its czxid is the one that is stored, or, where 0 is, the revision of the record, if that is not negative
 abbrev pub IsDataSeen : Option (Option Kv) → Option SeenData → Type 0
 IsDataSeen None x = ⊥
 IsDataSeen (Some None) None = Unit {0}
@@ -33,6 +35,7 @@ IsDataSeen (Some (Some kv)) (Some x) = (r : NodeRec) × IsValueOf node_value IsN
 abbrev pub counts_of : CountRec → ℤ → SeenCounts
 counts_of r revision = record { counts = r; pzxid = revision }
 
+-- a node's counts, with their revision
 abbrev pub IsCountsSeen : Option (Option Kv) → Option SeenCounts → Type 0
 IsCountsSeen None x = ⊥
 IsCountsSeen (Some None) None = Unit {0}
@@ -40,6 +43,7 @@ IsCountsSeen (Some None) (Some x) = ⊥
 IsCountsSeen (Some (Some kv)) None = ⊥
 IsCountsSeen (Some (Some kv)) (Some x) = (r : CountRec) × IsValueOf counts_value IsCountRec kv.value r × (x ≡ counts_of r kv.mod_revision)
 
+-- the list of a session's nodes
 abbrev pub IsPathsSeen : Option (Option Kv) → Option (List Bytes) → Type 0
 IsPathsSeen None x = ⊥
 IsPathsSeen (Some None) None = Unit {0}
@@ -47,6 +51,7 @@ IsPathsSeen (Some None) (Some ps) = ⊥
 IsPathsSeen (Some (Some kv)) None = ⊥
 IsPathsSeen (Some (Some kv)) (Some ps) = IsValueOf session_value IsSessionRec kv.value ps
 
+-- whether the key was looked up and was there
 abbrev pub has_found : Option (Option Kv) → Bool
 has_found (Some (Some kv)) = true
 has_found (Some None) = false

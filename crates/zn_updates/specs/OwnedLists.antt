@@ -6,6 +6,7 @@ use Rattle.std.specs.FinMap.Entries.{by_order}
 use Rattle.ev_types.specs.Ranges.{comes_before}
 use Rattle.zx_base.specs.Maps.{Bytes, same}
 
+-- the list with p in its place; p stands there once, also where it was there
 abbrev pub placed : Bytes → List Bytes → List Bytes
 placed p [] = p ∷ []
 placed p (q ∷ qs) = by_order (slice_cmp nat_cmp p q) (p ∷ q ∷ qs) (q ∷ qs) (q ∷ placed p qs)

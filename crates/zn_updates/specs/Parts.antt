@@ -25,26 +25,28 @@ use Rattle.zn_updates.specs.Deciding.{IsOwnerLookedUp, path_for}
 use Rattle.zn_updates.specs.Layers.{IsChosen}
 use Rattle.zn_updates.specs.Making.{IsDataSeen, IsCountsSeen, IsPathsSeen, chosen_of, has_found}
 
--- the data of a create or a setData
+-- the data of a create or a setData; other parts have none
 abbrev pub part_content : Part → Bytes
 part_content (part.Create path d a f) = d
 part_content (part.SetData p d x) = d
 part_content _ = []
 
--- a check, by its node's record
+-- a check, by its node's record: it changes nothing
 unfoldable pub check_choice : ℤ → Option SeenData → Choice
 check_choice version None = Refuse no_node
 check_choice version (Some x) = if not (matches version x.version) then Refuse bad_version else Make [] [] result.Checked
 
--- ---- what its choice looks at was looked up
+-- ---- what the choice of a part looks at was looked up
 
--- a new node's parent, its session's nodes where it is ephemeral, and its own key
+-- of a create below q: the parent's record and counts, the session's nodes where the node is ephemeral, and its own record, at the
+-- path that follows from the parent's counts
 pub record IsCreateSeen (id : ℤ) (v : View) (path : Bytes) (flags : ℤ) (q : Bytes) : Type 0 where
   pub up : HasSeen v (DataKey q)
   pub counts : HasSeen v (CountsKey q)
   pub nodes : is_ephemeral flags ≡ true → HasSeen v (SessionKey (nat_abs id))
   pub own : (w : SeenCounts) → IsCountsSeen (sees v (CountsKey q)) (Some w) → HasSeen v (DataKey (path_for (is_sequential flags) path (Some w)))
 
+-- of a delete: the node's record and counts, the parent's counts, and the list of the owner's nodes
 pub record IsDeleteSeen (v : View) (p : Bytes) : Type 0 where
   pub node : HasSeen v (DataKey p)
   pub counts : HasSeen v (CountsKey p)
@@ -57,22 +59,24 @@ IsSeenFor id v (part.Delete p x) = IsDeleteSeen v p
 IsSeenFor id v (part.SetData p d x) = HasSeen v (DataKey p) × HasSeen v (CountsKey p)
 IsSeenFor id v (part.Check p x) = HasSeen v (DataKey p)
 
--- the choice of a part whose form is refused looks at nothing
+-- the choice of a part that its form refuses looks at nothing
 abbrev pub IsPartSeen : ℤ → View → Part → Type 0
 IsPartSeen id v p = form_refusal p ≡ None → IsSeenFor id v p
 
 -- ---- what is promised of it
 
+-- its changes and what watches see, if it is an update
 abbrev pub IfChanges : (List Change → List Trigger → Type 0) → Choice → Type 0
 IfChanges P (Refuse code) = Unit {0}
 IfChanges P (Make cs ts draft) = P cs ts
 
--- a change of another key than the head's: a record of the key's kind with no lease is put, or the key is deleted
+-- a change of any key but the head: a record of the key's kind is put, with no lease, or the key is deleted
 pub record IsKeptChange (c : Change) : Type 0 where
   pub apart : c.key ≡ HeadKey → ⊥
   pub leaseless : IsLeaseless c
   pub written : IfSome c.put (λ (w : Put). IsOfKind (kind_of (key_bytes c.key)) w.value)
 
+-- all changes are such, four at most, and watches see two triggers at most
 pub record AreKept (cs : List Change) (ts : List Trigger) : Type 0 where
   pub changes : All IsKeptChange cs
   pub few : length cs ≤ 4
@@ -81,11 +85,11 @@ pub record AreKept (cs : List Change) (ts : List Trigger) : Type 0 where
 
 -- ---- which keys a part writes, and how many bytes
 
--- the node's record, where it was looked up
+-- this is the node's record as the view saw it, if it was looked up
 abbrev pub IfData : View → Bytes → Option SeenData → Type 0
 IfData v p x = HasSeen v (DataKey p) → IsDataSeen (sees v (DataKey p)) x
 
--- the bytes of a value, of a session's nodes none
+-- the bytes of a value; those of a list of a session's nodes don't count
 abbrev pub size_beside : Key → Option Put → ℕ
 size_beside (SessionKey n) w = 0
 size_beside HeadKey w = put_size w
@@ -103,12 +107,14 @@ IsTouching id v (part.Delete p x) n = (w : SeenData) × IfData v p (Some w) × (
 IsTouching id v (part.SetData p d x) n = ⊥
 IsTouching id v (part.Check p x) n = ⊥
 
--- a key that is deleted is one that the part reads, and the nodes of a session are those of one whose node is made or removed
+-- The key has at most 1,033 bytes. If it is deleted, the part reads it. If it is that of the list of a session's nodes, the part
+-- makes or removes a node of this session.
 pub record IsOwnChange (id : ℤ) (v : View) (p : Part) (c : Change) : Type 0 where
   pub short : length (key_bytes c.key) ≤ 1033
   pub gone : c.put ≡ None → Contains (part_keys id p) c.key
   pub nodes : (n : ℕ) → c.key ≡ SessionKey n → IsTouching id v p n
 
+-- all changes are such, and the values that count have at most 55 bytes more than the part's data
 pub record AreOwn (id : ℤ) (v : View) (p : Part) (cs : List Change) : Type 0 where
   pub each : All (IsOwnChange id v p) cs
   pub light : sum_by plain_size cs ≤ 55 + length (part_content p)
@@ -116,11 +122,12 @@ pub record AreOwn (id : ℤ) (v : View) (p : Part) (cs : List Change) : Type 0 w
 abbrev pub IfOwn : ℤ → View → Part → Choice → Type 0
 IfOwn id v p c = IfChanges (λ cs ts. AreOwn id v p cs) c
 
--- what a view saw, another saw too
+-- all that the first view saw, the second saw alike
 abbrev pub IsNarrower : View → View → Type 0
 IsNarrower near v = (k : Bytes) (o : Option Kv) → seen near k ≡ Some o → seen v k ≡ Some o
 
--- The choice is right on this view, and on each narrower one, where what it looks at was looked up.
+-- The choice is right on this view and on each narrower one, if what it looks at was looked up there. Its changes keep the promises
+-- above (`AreKept`, `AreOwn`).
 pub record IsPartChoice (p : Part) (who : Who) (now : ℕ) (v : View) (c : Chosen) : Type 0 where
   pub choice : ℕ → Choice
   pub is : c ≡ chosen_of (choice now)
@@ -130,15 +137,18 @@ pub record IsPartChoice (p : Part) (who : Who) (now : ℕ) (v : View) (c : Chose
 
 -- ---- what the code chose on
 
+-- these are the node's counts as the view saw them, if they were looked up
 abbrev pub IfCounts : View → Bytes → Option SeenCounts → Type 0
 IfCounts v p x = HasSeen v (CountsKey p) → IsCountsSeen (sees v (CountsKey p)) x
 
+-- these are the session's nodes as the view saw them, if they were looked up
 abbrev pub IfPaths : View → ℤ → Option (List Bytes) → Type 0
 IfPaths v id ps = HasSeen v (SessionKey (nat_abs id)) → IsPathsSeen (sees v (SessionKey (nat_abs id))) ps
 
 abbrev pub AreCountsWithin : Option SeenCounts → Type 0
 AreCountsWithin x = IfSome x (λ (w : SeenCounts). IsCountRec w.counts)
 
+-- what was chosen for a create below q, by records that are what the view saw where it saw them
 pub record IsCreatedBelow (v : View) (path content : Bytes) (now : ℕ) (sequential ephemeral : Bool) (session : ℤ) (q : Bytes) (c : Chosen) : Type 0 where
   pub up : Option SeenData
   pub above : Option SeenCounts
@@ -150,6 +160,7 @@ pub record IsCreatedBelow (v : View) (path content : Bytes) (now : ℕ) (sequent
   pub paths_within : IfSome paths IsSessionRec
   pub is : c ≡ chosen_of (create_choice (path_for sequential path above) q content now ephemeral session up above (has_found (sees v (DataKey (path_for sequential path above)))) paths)
 
+-- what was chosen for a delete of p below q, by records that are what the view saw where it saw them
 pub record IsDeletedBelow (v : View) (p : Bytes) (version : ℤ) (q : Bytes) (c : Chosen) : Type 0 where
   pub node : Option SeenData
   pub counts : Option SeenCounts

@@ -15,13 +15,15 @@ use Rattle.zn_view.specs.Needs.{own_result}
 abbrev pub with_tree : State → Tree → State
 with_tree s t = record s { tree = t }
 
--- the outcome's tree is what the changes make of the state's
+-- The outcome has the draft as its result, with the update's zxid, and these triggers. The changes lead from the state's keys to
+-- those with the outcome's tree; none is of the head.
 pub record IsOutcome (z : ℤ) (s : State) (cs : List Change) (ts : List Trigger) (draft : PartResult) (outcome : Outcome) : Type 0 where
   pub tree : Tree
   pub done : outcome ≡ Done (own_result z draft) tree ts
   pub fits : Fits z cs s (with_tree s tree)
   pub headless : last cs HeadKey ≡ None
 
+-- a choice is right where it refuses with the outcome's code, or makes what the outcome makes
 abbrev pub IsRight : ℤ → State → Choice → Outcome → Type 0
 IsRight z s (Refuse code) outcome = outcome ≡ Refused code
 IsRight z s (Make cs ts draft) outcome = IsOutcome z s cs ts draft outcome

@@ -9,7 +9,7 @@ use Rattle.zn_view.specs.Needs.{own}
 use Rattle.zn_updates.specs.declared.seen.SeenData.{SeenData}
 use Rattle.zn_updates.specs.declared.seen.SeenCounts.{SeenCounts}
 
--- what every stored record keeps
+-- the bounds that every stored record keeps
 pub record IsDataWithin (x : SeenData) : Type 0 where
   pub czxid : IsLongCount x.czxid
   pub version_least : pos 0 ≤ℤ x.version
@@ -47,7 +47,7 @@ ShowsCounts z None (Some n) children = ⊥
 ShowsCounts z (Some x) None children = ⊥
 ShowsCounts z (Some x) (Some n) children = IsSeenCounts z x n children
 
--- the nodes of an open session were seen
+-- a list was seen, and it is that of the session's nodes
 abbrev pub ShowsOwned : Option (List Bytes) → List Bytes → Type 0
 ShowsOwned None owned = ⊥
 ShowsOwned (Some paths) owned = IsSeenPaths paths owned

@@ -1,4 +1,4 @@
-//! The operations that records are written and removed by.
+//! The operations that put a node's record and a session's list of nodes.
 
 ghost use Rattle.std.specs.Prelude.{◌≡◌, ◌≤◌, ◌≤ℤ◌, pos, length, IfOk, IsTrue};
 ghost use Rattle.zk_model.specs.Limits.{max_frame};
@@ -24,7 +24,7 @@ fn put(key: Bytes, value: Vec<u8>) -> Act
     }
 }
 
-/// Puts a node's record with this content, which is copied once. The record that is given has none.
+/// Puts a node's record with this content, which is copied once. The record that is given has no content.
 pub(crate) fn put_data(
     alloc: Global,
     path: &Path,

@@ -4,16 +4,21 @@ use ev_types::Act;
 use zk_model::{PartResult, Trigger};
 use zx_base::Seq;
 
-/// The operations of an update but for the head's, what watches see of it, and its result with 0 in place of its zxid.
+/// An update, as it was chosen.
 #[derive(Drop)]
 pub struct Update {
+    /// Its operations, but for those on the head.
     pub acts: Seq<Act>,
+    /// What watches see of it.
     pub triggers: Seq<Trigger>,
+    /// Its result, with 0 in place of its zxid.
     pub draft: PartResult,
 }
 
+/// What is chosen for a request.
 #[derive(Drop)]
 pub enum Chosen {
+    /// The error code of the refusal. Nothing changes.
     Refused(i32),
     Made(Update),
 }

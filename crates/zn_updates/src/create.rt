@@ -43,7 +43,7 @@ const NO_COUNTS: CountRec = CountRec {
     children: 0,
 };
 
-/// The parent's counts after it.
+/// The parent's counts after the create.
 fn one_more(above: &CountRec) -> CountRec
     requires within { IsCountRec above.now }
     requires room { int_eq above.now.creates max_creates ≡ false }
@@ -56,7 +56,7 @@ fn one_more(above: &CountRec) -> CountRec
     }
 }
 
-/// A new node's record but for its content. Its czxid is left to the revision of the put.
+/// A new node's record but for its content. Its czxid is 0: that is the revision of the put.
 fn new_record(alloc: Global, now: u64, owner: i64) -> NodeRec
     requires moment { now < 2 ^ 62 }
     requires owned { IsLongCount owner }
@@ -97,7 +97,7 @@ fn create_acts(
     Ok(acts)
 }
 
-/// What watches see of it.
+/// What watches see of the create.
 fn create_triggers(alloc: Global, path: &Path, parent: &Path) -> Result<Seq<Trigger>, Memory>
     ensures { IfOk result (λ ts. ts ≡ triggers_of_create path.now parent.now) }
 {
@@ -197,8 +197,9 @@ fn create_here(
     Ok(Chosen::Made(create_node(alloc, path, parent, content, now, 0, above)?))
 }
 
-/// Decides a create below `parent` by the parent's record and counts, by whether the node is `taken`, and of an ephemeral
-/// node by the paths of the session's nodes. `now` is in milliseconds since 1970; the session's number is at least 1.
+/// Decides a create by the parent's record and counts, by whether the path is `taken`, and for an ephemeral node by the paths of
+/// the session's nodes. Refused with NoNode, NodeExists or NoChildrenForEphemerals, and with SystemError where the parent or the
+/// session can have no more, or the paths are missing. `now` is in milliseconds since 1970; the session's number is at least 1.
 #[tactic(auto, unfolding(crate::specs::Choices::create_choice))]
 pub fn choose_create(
     alloc: Global,
@@ -251,7 +252,7 @@ pub fn choose_create(
     )
 }
 
-/// The path of the node: a sequence node's ends in the parent's count of creates.
+/// The path of the new node: a sequence node's ends in the parent's count of creates, 0 where the parent is not there.
 pub(crate) fn path_of(
     alloc: Global,
     path: &[u8],
@@ -352,7 +353,7 @@ fn create_at(
     decision(alloc, view, keys.as_slice(), chosen)
 }
 
-/// Decides a create by its path with `1` behind it where it is sequential. The root has no parent, and is there.
+/// Decides a create of `path`; `named` is that, with `1` after it for a sequence node. The root has no parent, and is there.
 fn create_named(
     alloc: Global,
     path: &[u8],

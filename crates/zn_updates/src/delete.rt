@@ -1,4 +1,4 @@
-//! delete (ZooKeeper API, `delete`), decided on the records of its node, of the parent and of the owner.
+//! delete (ZooKeeper API, `delete`), decided on the records of the node, of its parent and of its owner.
 
 ghost use Rattle.std.specs.Prelude.{◌^◌, ◌<◌, ◌≡◌, ◌≤◌, ◌≤ℤ◌, ◌∷◌, [], ◌++◌, pos, true, nat_abs, length, option_copied, IfOk, IfSome, IsTrue};
 ghost use Rattle.std.specs.Ordering.{int_eq};
@@ -36,7 +36,7 @@ use zn_layout::{CountRec, delete_counts, delete_node, put_counts};
 use zn_view::{Decision, View, Want, Who};
 use zx_base::{Memory, Seq};
 
-/// The parent's counts after it.
+/// The parent's counts after the delete.
 fn one_less(above: &CountRec) -> CountRec
     requires { IsCountRec above.now }
     ensures is { result ≡ one_less_of above.now }
@@ -67,7 +67,7 @@ fn delete_acts(
     Ok(acts)
 }
 
-/// What watches see of it.
+/// What watches see of the delete.
 fn delete_triggers(alloc: Global, path: &Path, parent: &Path) -> Result<Seq<Trigger>, Memory>
     ensures { IfOk result (λ ts. ts ≡ triggers_of_delete path.now parent.now) }
 {
@@ -96,7 +96,7 @@ fn delete_plain(
     })
 }
 
-/// Deletes a session's node, which goes from the list of its nodes too.
+/// Deletes a session's node, which goes from the session's list too.
 fn delete_owned(
     alloc: Global,
     path: &Path,
@@ -146,8 +146,9 @@ fn delete_here(
     delete_owned(alloc, path, parent, &above.counts, node.owner, paths)
 }
 
-/// Decides a delete by its node's record and counts, by its parent's counts, and where the node has an owner by the paths of
-/// the owner's nodes.
+/// Decides a delete by the node's record and counts, by its parent's counts, and where it has an owner by the paths of the owner's
+/// nodes. Refused with NoNode where the node's record or counts are missing, with BadVersion, with NotEmpty, and with SystemError
+/// where the parent's counts or the owner's paths are missing, as in no sound state.
 #[tactic(auto, unfolding(crate::specs::Choices::delete_choice))]
 pub fn choose_delete(
     alloc: Global,
@@ -242,7 +243,7 @@ fn delete_at(
     decision(alloc, view, keys.as_slice(), chosen)
 }
 
-/// Decides a delete of a valid path that is not the root. A path without parent has no node.
+/// Decides a delete of a valid path that is not the root. A path without a parent has no node.
 fn delete_below(
     alloc: Global,
     path: &Path,

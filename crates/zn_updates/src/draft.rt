@@ -70,7 +70,7 @@ fn own_body(alloc: Global, zxid: i64, body: Body) -> Result<Body, Memory>
     }
 }
 
-/// The reply of a plan whose update got this zxid.
+/// The reply of a plan whose update got this zxid: its draft, with the zxid in place of each czxid, mzxid and pzxid of 0 in a Stat.
 pub fn finish(alloc: Global, plan: Plan, zxid: i64) -> Result<Reply, Memory>
     ensures { IfOk result (λ r. r ≡ finished_reply zxid plan.draft) }
 {

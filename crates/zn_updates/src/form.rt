@@ -16,21 +16,23 @@ use zx_base::Memory;
 /// All permissions: read, write, create, delete and admin.
 const ALL_PERMISSIONS: i32 = 31;
 
-/// The path that was tested, or the code that the request is refused with.
+/// What the test of a create's form gives.
 #[derive(Drop)]
 pub enum Form {
+    /// The path as it was tested: a sequential create's has `1` in place of its number.
     Valid(Path),
+    /// The error code of the refusal.
     Refused(i32),
 }
 
-/// Whether a node of these flags goes with its session.
+/// Whether a node created with these flags is ephemeral (`CreateMode`: 1, and 3 where it is sequential too).
 pub fn is_ephemeral(flags: i32) -> bool
     ensures { result ≡ has_ephemeral flags }
 {
     flags == 1 || flags == 3
 }
 
-/// Whether the node's name ends in a number.
+/// Whether a node created with these flags gets a number at the end of its name (`CreateMode`: 2, and 3 where it is ephemeral too).
 pub fn is_sequential(flags: i32) -> bool
     ensures { result ≡ has_sequential flags }
 {
@@ -43,7 +45,7 @@ fn is_mode(flags: i32) -> bool
     matches!(flags, 0..=3)
 }
 
-/// Whether this is the one access list that there is, `OPEN_ACL_UNSAFE`.
+/// Whether this is `OPEN_ACL_UNSAFE`, the one access list that is taken.
 fn is_open(acl: &[Acl]) -> bool
     ensures { result ≡ is_open_acl acl.now }
 {
@@ -55,7 +57,8 @@ fn is_open(acl: &[Acl]) -> bool
     }
 }
 
-/// A request's path, none where it is not valid.
+/// The path of a request, none where the text is not valid. With `sequential` the text is tested, and given, with `1` after it: the
+/// path of a sequence node without its number.
 pub fn read_path(alloc: Global, text: &[u8], sequential: bool) -> Result<Option<Path>, Memory>
     ensures { IfOk result (λ p. IsPathOf sequential text.now p) }
 {
@@ -66,7 +69,8 @@ pub fn read_path(alloc: Global, text: &[u8], sequential: bool) -> Result<Option<
     }
 }
 
-/// The form of a create. Of a sequential one the path is tested with `1` behind it.
+/// Tests the form of a create: refused with BadArguments (-8) where the path is not valid or the flags are not 0 to 3, otherwise
+/// with InvalidACL (-114) where the access list is not `OPEN_ACL_UNSAFE`. A sequential create's path is tested with `1` after it.
 pub fn create_form(alloc: Global, path: &[u8], acl: &[Acl], flags: i32) -> Result<Form, Memory>
     ensures { IfOk result (λ form. (content : ByteList) → IsFormOf (has_sequential flags) path.now (form_refusal (part.Create path.now content acl.now flags)) form) }
 {
@@ -82,7 +86,7 @@ pub fn create_form(alloc: Global, path: &[u8], acl: &[Acl], flags: i32) -> Resul
     Ok(Form::Valid(named))
 }
 
-/// A path that is not the root's, none where it is not valid or the root.
+/// The path of a delete: none where the text is not valid, or is the root's.
 pub fn inner_path(alloc: Global, text: &[u8]) -> Result<Option<Path>, Memory>
     ensures { IfOk result (λ p. IsInnerPath text.now p) }
 {

@@ -17,7 +17,7 @@ use zn_layout::{counts_key, data_key, head_key, lease_key, session_key};
 use zn_view::{View, Want};
 use zx_base::{Bytes, Memory, Seq};
 
-/// The head and the record of the session's life.
+/// The keys that each request reads: the head, and the record of the session's life. The session's number is at least 1.
 pub fn start_keys(alloc: Global, session: i64) -> Result<Seq<Bytes>, Memory>
     requires { pos 1 ≤ℤ session }
     ensures { IfOk result (λ keys. keys ≡ map key_bytes (keys_of_each session)) }
@@ -28,7 +28,7 @@ pub fn start_keys(alloc: Global, session: i64) -> Result<Seq<Bytes>, Memory>
     Ok(keys)
 }
 
-/// A node's record and counts.
+/// Adds the keys of a node's record and counts.
 pub fn push_node(alloc: Global, keys: &mut Seq<Bytes>, path: &Path) -> Result<(), Memory>
     requires { length path.now ≤ max_path }
     ensures { OnOk result (keys.new ≡ keys.old ++ map key_bytes (about_path path.now)) }
@@ -62,7 +62,7 @@ pub(crate) fn set_data_wants(
     view.lacking(set_data_keys(alloc, session, path)?)
 }
 
-/// The nodes of an owner, unless it is 0.
+/// Adds the key of the list of an owner's nodes, unless the owner is 0.
 pub fn push_owner(alloc: Global, keys: &mut Seq<Bytes>, owner: i64) -> Result<(), Memory>
     requires { pos 0 ≤ℤ owner }
     ensures { OnOk result (keys.new ≡ keys.old ++ map key_bytes (owner_nodes owner)) }
@@ -93,7 +93,7 @@ pub(crate) fn delete_keys(
     Ok(keys)
 }
 
-/// The keys of a delete of a path without parent.
+/// The keys of a delete of a path without a parent.
 fn orphan_keys(alloc: Global, session: i64, path: &Path, owner: i64) -> Result<Seq<Bytes>, Memory>
     requires real { pos 1 ≤ℤ session }
     requires short { length path.now ≤ max_path }
@@ -124,7 +124,7 @@ fn delete_keys_of(
     }
 }
 
-/// The owner that the view saw of a node, 0 where it saw none.
+/// The owner that the view saw of a node: 0 where the node has none, is not there, or was not looked up.
 pub fn owner_seen(alloc: Global, view: &View, path: &Path) -> Result<i64, Memory>
     requires { IsTrue (is_path path.now) }
     ensures is { IfOk result (IsOwnerSeen (sees view.now (DataKey path.now))) }
@@ -158,7 +158,7 @@ pub(crate) fn delete_wants(
     view.lacking(delete_keys_of(alloc, session, path, parent, owner)?)
 }
 
-/// The record of a node that is not a sequence node.
+/// Adds the key of a new node's record. A sequence node adds none here: its number has to be seen first.
 pub fn push_data(
     alloc: Global,
     keys: &mut Seq<Bytes>,
@@ -174,7 +174,7 @@ pub fn push_data(
     keys.push(data_key(alloc, path)?)
 }
 
-/// The session's nodes, for an ephemeral node.
+/// Adds the key of the list of the session's nodes, for an ephemeral node. The session's number is at least 1.
 pub fn push_session(
     alloc: Global,
     keys: &mut Seq<Bytes>,
@@ -190,7 +190,7 @@ pub fn push_session(
     keys.push(session_key(alloc, session)?)
 }
 
-/// The creates that the view saw of a node, none where it saw none.
+/// How many creates of children the view saw of a node: none where the node is not there, or its counts were not looked up.
 pub fn creates_seen(alloc: Global, view: &View, path: &Path) -> Result<Option<u32>, Memory>
     requires { IsTrue (is_path path.now) }
     ensures { IfOk result (IsCreatesSeen (sees view.now (CountsKey path.now))) }
@@ -205,7 +205,7 @@ pub fn creates_seen(alloc: Global, view: &View, path: &Path) -> Result<Option<u3
     }
 }
 
-/// The creates of a sequence node's parent.
+/// The creates that the view saw of a new node's parent, if it has one.
 fn parent_creates(alloc: Global, view: &View, parent: &Option<Path>) -> Result<Option<u32>, Memory>
     requires { IfSome parent.now (λ q. IsTrue (is_path q)) }
     ensures { IfOk result (IsParentCreates view.now parent.now) }
@@ -216,7 +216,7 @@ fn parent_creates(alloc: Global, view: &View, parent: &Option<Path>) -> Result<O
     }
 }
 
-/// The record of a sequence node, once its number was seen.
+/// Adds the key of a sequence node's record, once its number was seen.
 fn push_numbered(
     alloc: Global,
     keys: &mut Seq<Bytes>,
@@ -237,7 +237,7 @@ fn push_numbered(
     keys.push(data_key(alloc, path.bytes())?)
 }
 
-/// The keys of a create beside those of the parent.
+/// Adds the keys of a new node and of its session.
 fn push_own(
     alloc: Global,
     keys: &mut Seq<Bytes>,

@@ -1,4 +1,4 @@
-//! What a view shows of a node and of a session, with keys laid over it: those that the parts of a multi wrote before.
+//! What a view shows of a node and of a session, with another view laid over it: the keys that the earlier parts of a multi wrote.
 
 ghost use Rattle.std.specs.Prelude.{◌≡◌, ◌≤ℤ◌, None, pos, nat_abs, IfOk, IfSome, IsTrue, MatchOption};
 ghost use Rattle.zk_model.specs.Paths.{is_path};
@@ -17,7 +17,7 @@ use zn_layout::{counts_key, data_key, session_key};
 use zn_view::View;
 use zx_base::{Memory, Seq};
 
-/// The one of two views that shows a key: none where neither saw it.
+/// The view that shows a key: the upper one where that saw it, otherwise the lower one; none where neither did.
 fn showing<'a>(over: &'a View, view: &'a View, key: &[u8]) -> Option<&'a View>
     ensures { MatchOption result (seen (layered over.now view.now) key.now ≡ None) (λ v. (seen v.now key.now ≡ seen (layered over.now view.now) key.now) × (seen v.now key.now ≡ None → ⊥)) }
 {
@@ -30,7 +30,7 @@ fn showing<'a>(over: &'a View, view: &'a View, key: &[u8]) -> Option<&'a View>
     }
 }
 
-/// A node's record, none where the node is not there.
+/// A node's record, as `view` shows it with `over` laid over it: none where the node is not there, or neither view saw its key.
 pub fn data_over(
     alloc: Global,
     over: &View,
@@ -48,7 +48,7 @@ pub fn data_over(
     }
 }
 
-/// The counts of a node's children, none where the node is not there.
+/// A node's counts: none where the node is not there, or neither view saw their key.
 pub fn counts_over(
     alloc: Global,
     over: &View,
@@ -66,7 +66,8 @@ pub fn counts_over(
     }
 }
 
-/// The paths of a session's nodes, none where the session is not open. Its number is at least 1.
+/// The paths of a session's nodes, as `view` shows them with `over` laid over it: none where the session has no list of them, or
+/// neither view saw its key. The session's number is at least 1.
 pub fn paths_over(
     alloc: Global,
     over: &View,
@@ -84,7 +85,7 @@ pub fn paths_over(
     }
 }
 
-/// Whether a node is there.
+/// Whether a node is there: `false` too where neither view saw its record.
 pub fn is_there_over(alloc: Global, over: &View, view: &View, path: &Path) -> Result<bool, Memory>
     requires valid { IsTrue (is_path path.now) }
     ensures { IfOk result (λ there. there ≡ has_found (sees (layered over.now view.now) (DataKey path.now))) }

@@ -1,18 +1,19 @@
 //! Create, delete and setData, planned on a view.
 //!
-//! A request names what it still has to read ([`update_needs`]), and is decided once the view lacks nothing of that
-//! ([`decide_update`]): a refusal, or a plan whose transaction is guarded by what the request read, but for the head, whatever
-//! else the view saw. So a plan stays small, also after many updates of others came first. The reply of a plan waits for the
-//! zxid of its update ([`finish`]).
+//! [`update_needs`] names what a request still has to read. Once the view lacks nothing of that, [`decide_update`] decides: a
+//! refusal, or a plan. The plan's transaction guards what the request read, but for the head, and nothing else that the view
+//! saw. So a plan stays small, however many updates of others came first. The reply of a plan waits for the zxid of its update
+//! ([`finish`]).
 //!
 //! Each request is decided in two steps. What the view saw is read as records (`seen`), without a node's data. Then a pure
-//! function of these records chooses a refusal or the changes of an update (`specs/Choices`): [`choose_create`],
-//! [`choose_delete`] and [`choose_set_data`] compute it, and `proofs/` shows that wherever keys have what was seen, the
-//! choice is what the request comes to (`IsRight`), and that its changes of keys are those of the tree (`Fits`). A zxid of 0
-//! in a record is that of the update itself, so that a transaction of several requests can choose by what the requests
-//! before it left: [`choose_part`] chooses a part on a view with the keys laid over it that the parts before wrote.
+//! function of these records (`specs/Choices`) chooses a refusal or the changes of an update; [`choose_create`],
+//! [`choose_delete`] and [`choose_set_data`] compute it. `proofs/` shows that wherever keys have what was seen, the choice is
+//! what the request comes to (`IsRight`), and its changes of keys are those of the tree (`Fits`).
 //!
-//! A new node's data is copied once, from the request into its value.
+//! A zxid of 0 in a record is that of the update itself. So the parts of a multi can be chosen one after the other:
+//! [`choose_part`] chooses a part on a view over which the keys are laid that the earlier parts wrote.
+//!
+//! The data of a create or a setData is copied once, from the request into the node's value.
 #![tactic(auto)]
 
 mod changes;

@@ -1,4 +1,4 @@
-//! The list of a session's nodes where one comes or goes.
+//! The list of a session's nodes after one came or went.
 
 ghost use Rattle.std.specs.Prelude.{◌≡◌, ◌≤◌, ◌<◌, ℕ, ◌&&◌, nat_lt, length, get_or, IfOk, IsTrue, ◌^◌, ◌-◌};
 ghost use Rattle.std.specs.Ordering.{is_lt};
@@ -18,7 +18,7 @@ fn is_before(path: &Path, other: &Path) -> bool
     path.bytes().cmp(other.bytes()).is_lt()
 }
 
-/// The place of the first path that is not before this one.
+/// The place of the first path that is not before this one: the end where all are.
 fn place_of(paths: &[Path], path: &Path) -> usize
     ensures { IsPlaceOf path.now paths.now result }
 {
@@ -39,7 +39,7 @@ fn stands_at(paths: &[Path], place: usize, path: &Path) -> bool
     }
 }
 
-/// The list with a path put in its place by bytes.
+/// The list with a path put in its place by bytes: as it was where the path is there.
 pub(crate) fn placed(alloc: Global, paths: Seq<Path>, path: &Path) -> Result<Seq<Path>, Memory>
     ensures is { IfOk result (λ list. list ≡ placed_in path.now paths) }
     ensures within { IfOk result (λ list. IsTrue (is_path path.now) → length paths < 2 ^ 31 - 1 → IsSessionRec paths → IsSessionRec list) }

@@ -1,4 +1,4 @@
-//! A part of a multi, chosen on a view with the keys laid over it that the parts before wrote.
+//! A part of a multi, chosen on a view over which the keys are laid that the earlier parts wrote.
 
 ghost use Rattle.std.specs.Prelude.{◌<◌, ◌^◌, ◌≡◌, ◌≤◌, ◌≤ℤ◌, Some, pos, length, IfOk, IfSome, IsTrue, IsFalse, option_copied};
 ghost use Rattle.zk_model.specs.Limits.{max_frame, max_path};
@@ -260,8 +260,8 @@ fn checked(
     }
 }
 
-/// Chooses what comes of a part of a multi, by its form and by what a view shows with these keys laid over it. A key that
-/// neither saw counts as absent. `now` is in milliseconds since 1970; the session's number is at least 1.
+/// Chooses what comes of a part of a multi, by its form and by what `view` shows with `over` laid over it. A key that neither view
+/// saw counts as absent. `now` is in milliseconds since 1970, below 2^62; the session's number is at least 1.
 pub fn choose_part(
     alloc: Global,
     part: &Part,

@@ -29,7 +29,7 @@ fn body_of(draft: PartResult) -> Body
     }
 }
 
-/// The operations of an update, the put of the head and the read of it.
+/// The operations of an update's transaction: these, then the put of the head, then the read of it.
 pub fn success(alloc: Global, acts: Seq<Act>, head: &HeadRec) -> Result<Seq<Act>, Memory>
     requires { IsHeadRec head.now.triggers }
     ensures { IfOk result (λ l. l ≡ (acts ++ act_of (head_put head.now.triggers) ∷ []) ++ read_key (key_bytes HeadKey) ∷ []) }
@@ -40,7 +40,7 @@ pub fn success(alloc: Global, acts: Seq<Act>, head: &HeadRec) -> Result<Seq<Act>
     Ok(list)
 }
 
-/// The plan of an update. Its guards are on these keys but for the head.
+/// The plan of an update. It guards these keys as the view saw them, but for the head.
 fn plan(alloc: Global, view: &View, keys: &[Bytes], update: Update) -> Result<Plan, Memory>
     requires { IsHeadRec update.triggers }
     ensures guards { IfOk result (λ p. p.guards ≡ guards_of (picked view.now keys.now)) }

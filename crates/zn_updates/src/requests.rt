@@ -14,8 +14,8 @@ use zk_model::Request;
 use zn_view::{Decision, View, Want, Who};
 use zx_base::{Memory, Seq};
 
-/// What a create, a delete or a setData reads and the view lacks: nothing where the view has all, or where the request is
-/// refused by its form. The session's number is at least 1.
+/// What a create, a delete or a setData still has to read, as far as the view determines it: nothing where the view has it all,
+/// and where the request is refused by its form. The session's number is at least 1.
 pub fn update_needs(
     alloc: Global,
     request: &Request,
@@ -39,9 +39,8 @@ pub fn update_needs(
     }
 }
 
-/// Decides a create, a delete or a setData of a session that is open, on a view that lacks nothing which the request reads.
-/// The session is not tested: that is the caller's. `now` is in milliseconds since 1970, below 2^62; the session's number is at
-/// least 1.
+/// Decides a create, a delete or a setData of a session that is open, on a view that lacks nothing that the request reads. The
+/// caller tests the session. `now` is in milliseconds since 1970, below 2^62; the session's number is at least 1.
 pub fn decide_update(
     alloc: Global,
     request: &Request,

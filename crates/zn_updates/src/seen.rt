@@ -1,4 +1,4 @@
-//! What an update needs of the records of a node, and of a session's.
+//! What an update has to know of a node's records and of a session's.
 //!
 //! A zxid of 0 is that of the update itself: a multi decides a part on what the parts before it left.
 
@@ -21,9 +21,11 @@ use zx_base::{Memory, Seq};
 /// A node's record without its content and the time of its last change.
 #[derive(Clone, Copy, Debug)]
 pub struct SeenData {
+    /// The zxid of the node's create; 0 is that of the update itself.
     pub czxid: i64,
+    /// How often the node's data changed; at least 0.
     pub version: i32,
-    /// Milliseconds since 1970.
+    /// The time of the node's create, in milliseconds since 1970.
     pub ctime: i64,
     /// The session that owns the node, or 0.
     pub owner: i64,
@@ -33,10 +35,11 @@ pub struct SeenData {
 #[derive(Clone, Copy, Debug)]
 pub struct SeenCounts {
     pub counts: CountRec,
+    /// 0 is the zxid of the update itself.
     pub pzxid: i64,
 }
 
-/// A stored czxid of 0 is the revision of the record. No revision is below 0.
+/// The czxid of a record: its revision where 0 is stored. A revision below 0, which no etcd has, counts as 0.
 fn resolved(stored: i64, revision: i64) -> i64
     ensures is { pos 0 ≤ℤ revision → result ≡ czxid_of stored revision }
     ensures within { IsLongCount stored → IsLongCount result }
@@ -47,7 +50,7 @@ fn resolved(stored: i64, revision: i64) -> i64
     if revision < 0 { 0 } else { revision }
 }
 
-/// A node's record, none where the node is not there.
+/// The node's record that the view saw: none where the node is not there. Its key was looked up.
 pub fn data_seen(view: &View, path: &Path) -> Result<Option<SeenData>, Memory>
     requires valid { IsTrue (is_path path.now) }
     requires seen { HasSeen view.now (DataKey path.now) }
@@ -65,7 +68,7 @@ pub fn data_seen(view: &View, path: &Path) -> Result<Option<SeenData>, Memory>
     }))
 }
 
-/// The counts of a node's children, none where the node is not there.
+/// The node's counts that the view saw: none where the node is not there. Their key was looked up.
 pub fn counts_seen(view: &View, path: &Path) -> Result<Option<SeenCounts>, Memory>
     requires valid { IsTrue (is_path path.now) }
     requires seen { HasSeen view.now (CountsKey path.now) }
@@ -81,7 +84,8 @@ pub fn counts_seen(view: &View, path: &Path) -> Result<Option<SeenCounts>, Memor
     }))
 }
 
-/// The paths of a session's nodes, none where the session is not open. Its number is at least 1.
+/// The paths of a session's nodes that the view saw: none where the session has no list of them. The key of the list was looked
+/// up; the session's number is at least 1.
 pub fn paths_seen(view: &View, session: i64) -> Result<Option<Seq<Path>>, Memory>
     requires real { pos 1 ≤ℤ session }
     requires seen { HasSeen view.now (SessionKey (nat_abs session)) }
@@ -94,7 +98,7 @@ pub fn paths_seen(view: &View, session: i64) -> Result<Option<Seq<Path>>, Memory
     }
 }
 
-/// Whether a node is there.
+/// Whether the view saw that a node is there: `false` too where its record was not looked up.
 pub fn is_there(alloc: Global, view: &View, path: &Path) -> Result<bool, Memory>
     requires valid { IsTrue (is_path path.now) }
     ensures { IfOk result (λ there. there ≡ has_found (sees view.now (DataKey path.now))) }

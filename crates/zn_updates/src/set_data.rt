@@ -1,4 +1,4 @@
-//! setData (ZooKeeper API, `setData`), decided on the records of its node.
+//! setData (ZooKeeper API, `setData`), decided on the record and the counts of its node.
 
 ghost use Rattle.std.specs.Prelude.{◌^◌, ◌≡◌, ◌≤◌, ◌<◌, ◌+ℤ◌, ◌≤ℤ◌, pos, true, false, length, IfOk, IfSome, IsTrue};
 ghost use Rattle.std.specs.Ordering.{int_eq};
@@ -35,7 +35,7 @@ use zn_layout::{CountRec, NodeRec};
 use zn_view::{Decision, View, Want, Who};
 use zx_base::{Memory, Seq};
 
-/// The greatest version of a node's data, an int.
+/// The greatest version of a node's data: a Stat has it as an int.
 const MAX_VERSION: i32 = i32::MAX;
 
 /// Whether a version that was asked for is this one; -1 is any.
@@ -45,7 +45,7 @@ pub(crate) fn matches(asked: i32, version: i32) -> bool
     asked == -1 || asked == version
 }
 
-/// The version after it.
+/// The version after the setData.
 fn next_version(node: &SeenData) -> i32
     requires within { IsDataWithin node.now }
     requires room { int_eq node.now.version max_version ≡ false }
@@ -54,7 +54,7 @@ fn next_version(node: &SeenData) -> i32
     node.version + 1
 }
 
-/// The node's record but for its content.
+/// The node's record after the setData, but for its content. `now` is in milliseconds since 1970.
 fn set_record(alloc: Global, node: &SeenData, now: u64) -> NodeRec
     requires within { IsDataWithin node.now }
     requires room { int_eq node.now.version max_version ≡ false }
@@ -71,7 +71,7 @@ fn set_record(alloc: Global, node: &SeenData, now: u64) -> NodeRec
     }
 }
 
-/// How often the children changed.
+/// How often the children changed: by each create, and by each child that is gone.
 fn cversion(counts: &CountRec) -> i32
     requires { IsCountRec counts.now }
     ensures { result ≡ cversion_of counts.now.creates (nat_abs counts.now.children) }
@@ -79,7 +79,7 @@ fn cversion(counts: &CountRec) -> i32
     counts.creates * 2 - counts.children
 }
 
-/// The node's stat after it, with 0 in place of the update's zxid.
+/// The node's Stat after the setData, with 0 in place of the update's zxid.
 fn set_stat(node: &SeenData, counts: &SeenCounts, content: &[u8], now: u64) -> Stat
     requires within { IsDataWithin node.now }
     requires room { int_eq node.now.version max_version ≡ false }
@@ -103,7 +103,7 @@ fn set_stat(node: &SeenData, counts: &SeenCounts, content: &[u8], now: u64) -> S
     }
 }
 
-/// What watches see of it.
+/// What watches see of the setData.
 fn set_triggers(alloc: Global, path: &Path) -> Result<Seq<Trigger>, Memory>
     ensures { IfOk result (λ ts. ts ≡ Changed path.now ∷ []) }
 {
@@ -138,7 +138,8 @@ fn set_update(
     })
 }
 
-/// Decides a setData by its node's record and counts. `now` is in milliseconds since 1970.
+/// Decides a setData by the node's record and counts. Refused with NoNode where one of them is missing, with BadVersion, and with
+/// SystemError where the version can rise no more. `now` is in milliseconds since 1970.
 #[tactic(auto, unfolding(crate::specs::Choices::set_data_choice))]
 pub fn choose_set_data(
     alloc: Global,

@@ -1,4 +1,4 @@
--- The content stands behind the other fields.
+-- The content comes after the other fields.
 use Rattle.std.proofs.Common.{◌≡◌, ◌≤◌, pos, ◌++◌, length, sym, ap, ◌∙◌, subst}
 use Rattle.ev_types.specs.declared.ask.Act.TheVariants.{Put}
 use Rattle.zk_model.specs.Limits.{max_path}

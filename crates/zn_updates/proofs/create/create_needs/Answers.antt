@@ -1,4 +1,4 @@
--- What the form leaves is read, or nothing.
+-- A create of a valid form reads its keys, any other nothing.
 use Rattle.std.proofs.Common.{◌≡◌, ◌≤◌, ◌<◌, true, ◌∙◌, sym, ap, subst, length, w32, w64, rules, arith}
 use Rattle.std.specs.Prelude.{Option, Some, None, [], map, IfSome, IsTrue}
 use Rattle.std.proofs.lemmas.Int.{to_z-of_z}
