@@ -161,7 +161,7 @@ acts-laid ws [] = refl
 acts-laid ws (c ∷ cs) =
     ap (λ (v : View). with_acts v (acts_of cs)) (act_laid (laid_view ws) c.key c.put ∙ ap (λ (l : List SeenKey). record (laid_view ws) { keys = l }) (placed-seen ws c)) ∙ acts-laid (laid ws c) cs
 
--- ---- what was laid is told by the view
+-- ---- the view tells what was laid
 
 abbrev value_of : Option Kv → Option Put
 value_of None = None

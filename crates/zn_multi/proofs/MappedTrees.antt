@@ -58,7 +58,7 @@ module _ (f : Node → Node) where
   pub len-mapped : (t : Tree) → len (mapped t) ≡ len t
   len-mapped t = len-entries (mapped t) ∙ ap (λ (l : List Entry). length l) (entries-mapped t) ∙ length-map (entries t) changed ∙ sym (len-entries t)
 
--- two trees with nodes at the same paths have the same paths
+-- two trees with nodes at the same paths have the same list of paths
 any_node : Node → Node
 any_node n = new_node [] (pos 0) (pos 0) 0
 

@@ -1,5 +1,5 @@
--- Whether a part is refused, and with which code, depends neither on the zxid nor on the moment: of a node's zxids, times and
--- data nothing is tested.
+-- Whether a part is refused, and with which code, depends neither on the zxid nor on the time: no test looks at a node's zxids,
+-- times and data.
 use Rattle.std.proofs.Common.{◌≡◌, ℕ, suc, ℤ, pos, Bool, true, false, cond, not, ◌&&◌, ◌||◌, length, List, [], ◌∷◌, ◌++◌, Option, Some, None, refl, sym, ap, ◌∙◌, subst, ⊎_elim}
 use Rattle.std.specs.Prelude.{option_map, nat_le, if◌then◌else◌, ◌==◌}
 use Rattle.std.specs.FinMap.{get, insert, remove, retain_keys, keys, len}
@@ -206,7 +206,7 @@ touched-shape t id (Delete path version) = owner-list (get t path) ∙ ap owner_
 touched-shape t id (SetData path content version) = refl
 touched-shape t id (Check path version) = refl
 
--- they pass, and make or remove nodes of these sessions
+-- the parts pass, and make or remove nodes of these sessions
 pub record IsPassed (ss : List ℤ) (x : Parts) : Type 0 where
   pub results : List PartResult
   pub tree : Tree
@@ -243,7 +243,7 @@ module _ (limit : ℕ) (id : ℤ) where
       (shape-alike ps w y (pos 0) moment 0))
       (single t limit id p z now) (single (shape t) limit id p y moment) (single-alike t limit id z y now moment p))
 
-  -- at any two zxids and moments
+  -- at any two zxids and times
   always-alike : (ps : List Part) (t : Tree) (z y : ℤ) (now moment : ℕ) → AreAlike (parts_of t limit id ps z now) (parts_of t limit id ps y moment)
   always-alike ps t z y now moment = both_alike _ _ (parts_of (shape t) limit id ps (pos 0) 0) (shape-alike ps t z (pos 0) now 0) (shape-alike ps t y (pos 0) moment 0)
 

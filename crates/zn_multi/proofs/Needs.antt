@@ -61,11 +61,11 @@ module _ (parts : List Part) (who : Who) (v : View) (ks : List Key) (read : AreR
   pub multi_needs : (ws : List Want) → length parts ≤ max_parts → ws ≡ lacking v (map key_bytes (start_keys who.session ++ ks)) → AreNeeds (req.Multi parts) who v ws
   multi_needs ws few is = are-needs (req.Multi parts) who v (start_keys who.session ++ ks) ws is (plain_few parts few) multi_from multi_to
 
-  -- a view that lacks nothing saw them all
+  -- a view that lacks nothing saw all these keys
   pub whole_seen : length parts ≤ max_parts → IsWhole (req.Multi parts) who v → (k : Key) → In k (start_keys who.session ++ ks) → HasSeen v k
   whole_seen few whole k i none = whole (plain_few parts few) (key_want k) (multi_from k i) none
 
--- so the record of the session's life too
+-- a view that lacks nothing saw the record of the session's life
 pub whole_life : (parts : List Part) (who : Who) (v : View) → length parts ≤ max_parts → IsWhole (req.Multi parts) who v → HasSeen v (LeaseKey (nat_abs who.session))
 whole_life parts who v few whole none = whole (plain_few parts few) (key_want (LeaseKey (nat_abs who.session))) (inr (inl refl)) none
 

@@ -187,7 +187,7 @@ module _ (id : ℤ) (v : View) where
 
 -- ---- the changes that are written
 
--- the bytes of values, apart from those of sessions' nodes and of these
+-- a value's bytes: either they count apart from the lists of sessions' nodes, or the value is such a list
 both_sizes : (f : ℕ → ℕ) (c : Change) → ((n : ℕ) → c.key ≡ SessionKey n → put_size c.put ≤ f n) → put_size c.put ≤ plain_size c + of_session f c
 both_sizes f c within = at c.key refl
   where

@@ -72,7 +72,7 @@ module _ (parts : List Part) (who : Who) (now : ℕ) (v : View) (moment : now < 
   abbrev life : Option (Option Kv)
   life = sees v (LeaseKey (nat_abs who.session))
 
-  -- on each sound state that the view is of
+  -- the decision is right in each sound state that the view is of
   decided_in_turn : (kv : Kv) → life ≡ Some (Some kv) → int_eq kv.mod_revision who.mine ≡ true → (d : Decision) → IsInTurn who now v parts d → IsDecision (req.Multi parts) who v d
   decided_in_turn kv there mine d turn = tree-decides (req.Multi parts) who v d kv real (plain_few parts few) there mine (λ m s x sound valid stands agrees lives.
       let shown : Shows (pos 0) v s = shows (pos 0) v m s stands (told v m (agrees-as_seen v m agrees)) in

@@ -297,7 +297,7 @@ module _ (id : ℤ) (v : View) where
     next_seen (part.Check path x) form own next h e =
         subst (MadeIs (part.Check path x ∷ before)) (sym h.1) (same_next (part.Check path x) form own (more_of before (part.Check path x) (Some m) is own next h) e refl tt)
 
-  -- where the paths were not determined before, they are not now
+  -- paths that were not determined before a part are not determined after it
   next_none : (p : Part) (own : List Key) (next : Made) → IsFormedRead id v None p own next → next ≡ None
   next_none (part.Create path d a f) own next h = h.next_is
   next_none (part.Delete path x) own next h = h.next_is
@@ -407,7 +407,7 @@ module _ (id : ℤ) (v : View) (n : ℕ) where
         | Some code ↦ λ k. subst (IsFew (n + 1)) (sym k.1) tt
       ]) h
 
--- what a part reads that is not refused by its form
+-- what a part reads if its form is not refused
 pub formed_read : (id : ℤ) (v : View) (made : Made) (p : Part) (own : List Key) (next : Made) → form_refusal p ≡ None → IsFormedRead id v made p own next → IsReadBy id v made p own next
 formed_read id v made p own next form h = subst (λ (o : Option ℤ). MatchOption o (IsFormedRead id v made p own next) (λ code. (own ≡ []) × (next ≡ None))) (sym form) h
 
@@ -417,11 +417,11 @@ NothingRead own next = (own ≡ []) × (next ≡ None)
 pub refused_read : (id : ℤ) (v : View) (made : Made) (p : Part) (code : ℤ) → form_refusal p ≡ Some code → IsReadBy id v made p [] None
 refused_read id v made p code form = subst (λ (o : Option ℤ). MatchOption o (IsFormedRead id v made p [] None) (λ c. NothingRead [] None)) (sym form) (refl, refl)
 
--- one list of keys behind another
+-- one list of keys after another
 pub keys_behind : (ks : List Bytes) (a b : List Key) (new : List Bytes) → ks ≡ map key_bytes a → new ≡ ks ++ map key_bytes b → new ≡ map key_bytes (a ++ b)
 keys_behind ks a b new is more = more ∙ ap (λ (l : List Bytes). l ++ map key_bytes b) is ∙ sym (map-append key_bytes a b)
 
--- ---- all parts read so far, and what the rest reads behind
+-- ---- what was read so far, and what the rest reads
 
 append_behind : (a b rest : List Key) → a ++ (b ++ rest) ≡ (a ++ b) ++ rest
 append_behind [] b rest = refl

@@ -159,7 +159,7 @@ sessions-within f (w ∷ ws) os once inside = at (sessions-within f ws) w.key re
         let here : at_session (λ k. f (pos k)) w.key ≡ f (pos n) = ap (at_session (λ k. f (pos k))) e in
         omega (arith, later, sum, here, sum_by-cons (of_session (λ k. f (pos k))) w ws)
 
--- what is counted of one session alone is counted once
+-- what counts for one session alone counts once
 none_more : (id : ℤ) (most : ℕ) (n : ℕ) (ws : List Change) → id ≡ pos n → list_any (writes_key (SessionKey n)) ws ≡ false → sum_by (of_session (λ k. if int_eq id (pos k) then most else 0)) ws ≡ 0
 none_more id most n [] is h = refl
 none_more id most n (w ∷ ws) is h = let rest = none_more id most n ws is (or_parts (writes_key (SessionKey n) w) _ h).1 in let here = zero w.key refl in omega (arith, rest, here, sum_by-cons (of_session (λ k. if int_eq id (pos k) then most else 0)) w ws)

@@ -181,7 +181,7 @@ module _ (parts : List Part) (who : Who) (v : View) (now : ℕ) (moment : now < 
       pub load_is : (n : ℕ) → AreOwnedLoads v (distinct p.touched) n → sum_by data_len parts + n ≡ load s.tree parts p.touched
       load_is n loads = ap (λ (k : ℕ). sum_by data_len parts + k) (loads_sum (distinct p.touched) n (all_distinct IsCounted p.touched [] (All-nil IsCounted) (all_in IsCounted p.touched counted)) loads)
 
-      -- at every zxid and moment
+      -- at every zxid and time
       settled_is : (y : ℤ) (moment : ℕ) (n : ℕ) (b : Bool) → AreOwnedLoads v (distinct p.touched) n → nat_lt max_load (sum_by data_len parts + n) ≡ b → (w : IsPassed p.touched (parts_of s.tree max_owned id parts y moment))
           → several s.tree max_owned id parts y moment ≡ (if b then Denied bad_arguments else AllDone w.results w.tree w.triggers)
       settled_is y moment n b loads e w =
@@ -258,7 +258,7 @@ module _ (parts : List Part) (who : Who) (v : View) (now : ℕ) (moment : now < 
         gone us k all are_kept (c, i, key_is, put_is) =
             (subst (HasSeen near) key_is ((all_of (IsWritten near p.touched) us c all i).gone put_is), λ e. (all_of IsKeptChange us c are_kept i).apart (key_is ∙ e))
 
-    -- of a connection that is attached
+    -- the plan of a connection that is attached
     module _ (attached : IsAttached who v) where
       near_lease : seen near (key_bytes (LeaseKey (nat_abs id))) ≡ Some (Some attached.0)
       near_lease = narrowed-seen v keys (key_bytes (LeaseKey (nat_abs id))) (key_inside (LeaseKey (nat_abs id)) (inr (inl refl))) ∙ attached.1

@@ -87,7 +87,8 @@ near_v near v narrow k saw none = at (sees near k) refl
     at None e = saw e
     at (Some o) e = let bad : None ≡ Some o = sym none ∙ narrow (key_bytes k) o e in cc
 
--- a key is short, it was looked up where it is deleted, and the nodes of a session are those of one whose node was made or removed
+-- The key has at most 1,033 bytes. If it is deleted, it was looked up. If it is that of a list of a session's nodes, the session
+-- was touched.
 pub record IsWritten (near : View) (touched : List ℤ) (c : Change) : Type 0 where
   pub short : length (key_bytes c.key) ≤ 1033
   pub gone : c.put ≡ None → HasSeen near c.key
@@ -243,7 +244,7 @@ module _ (who : Who) (now : ℕ) (moment : now < 2 ^ 62) (v near : View) (narrow
   rest_seen : (own rest ks : List Key) → ks ≡ own ++ rest → AllSeen ks → AllSeen rest
   rest_seen own rest ks e all k i = all k (subst (In k) (sym e) (in_right k own rest i))
 
-  -- what follows is determined
+  -- the paths are determined for the rest
   next_is : (own : List Key) (next : Made) (m : List Bytes) → AllSeen own → next ≡ Some m → if_seen (are_seen v own) next ≡ Some m
   next_is own next m all e = ap (λ b. if_seen b next) (seen_all v own (λ k i. near_v near v narrow k (all k i))) ∙ e
 

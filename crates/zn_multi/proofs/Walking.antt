@@ -44,7 +44,7 @@ after_one : (q : Bytes) (m : List Bytes) (p : Bytes) (c : Option ℕ) → create
 after_one q [] p c = refl
 after_one q (r ∷ m) p c = after_one q m p (with_made q c r)
 
--- a node counts the creates that it had in the first tree, and those since; and whoever owns it owned it there, or is one of these
+-- a node counts the creates that it had in the first tree, and those since; its owner owned it in the first tree, or is known
 module _ (first : Tree) (Known : ℤ → Type 0) where
   abbrev pub Counts : List Bytes → Bytes → Node → Type 0
   Counts m q n = creates_after (creates_at (get first q)) q m ≡ Some (nat_abs n.creates)
@@ -60,7 +60,7 @@ module _ (first : Tree) (Known : ℤ → Type 0) where
   pub walks_start : ((p : Bytes) (n : Node) → get first p ≡ Some n → pos 0 ≤ℤ n.creates) → Walks [] first
   walks_start least = record { counts = λ q n is. ap creates_at is; owned = λ p n is owns. inl (n, is, refl); least = least }
 
-  -- a node changes, but for its creates and its owner
+  -- a node changes, but keeps its creates and its owner
   change : (m : List Bytes) (t : Tree) (k : Bytes) (old v : Node) → Walks m t → get t k ≡ Some old → v.creates ≡ old.creates → v.owner ≡ old.owner → Walks m (insert t k v)
   change m t k old v w there creates owner = record {
     counts = each-put (Counts m) t k v w.counts (w.counts k old there ∙ ap (λ (c : ℤ). Some (nat_abs c)) (sym creates));
@@ -144,7 +144,7 @@ module _ (first : Tree) (Known : ℤ → Type 0) where
   goes_same m t w = record { made = m; is = refl; walks = w }
 
   module _ (m : List Bytes) (t : Tree) (w : Walks m t) (limit : ℕ) (id z : ℤ) (now : ℕ) where
-    -- where the new node's path is the one that was found
+    -- a create whose new node gets the path that was found
     module _ (flags : ℤ) (content path : Bytes) (node : Option Bytes) (mine : is_ephemeral flags ≡ true → Known id)
         (found : (q : Bytes) (up : Node) → parent (named flags path) ≡ Some q → get t q ≡ Some up → node ≡ Some (made_path flags path up)) where
       abbrev owner : ℤ

@@ -205,7 +205,7 @@ life_absent id None (Some x) h k = absurd k
 life_absent id (Some y) None h k = refl
 life_absent id (Some y) (Some x) h k = absurd (true≢false (sym h ∙ k.alive))
 
--- what is absent means nothing else
+-- a key that means nothing in a state is absent
 only_absent : (s : State) (k : Key) (o : Option Stored) → (k ≡ HeadKey → ⊥) → Means s k None → Means s k o → o ≡ None
 only_absent s HeadKey o apart h means = absurd (apart refl)
 only_absent s (DataKey p) o apart h means = data_absent (get s.tree p) o h means
@@ -218,7 +218,7 @@ absent_is None e = absurd (true≢false (sym e))
 absent_is (Some None) e = refl
 absent_is (Some (Some kv)) e = absurd (true≢false (sym e))
 
--- where what was deleted was looked up in a view that shows the state
+-- if each key that was deleted was looked up in a view that shows the state
 pub fits-written : (v near : View) → IsNarrower near v → (z : ℤ) (ws : List Change) (s new : State) → are_distinct ws ≡ true → Shows z near s → ((k : Key) → last ws k ≡ Some None → HasSeen near k × (k ≡ HeadKey → ⊥)) → Fits z ws s new → Fits z (written v ws) s new
 fits-written v near narrow z ws s new once shown gone fits = record { each = λ k. subst (λ (l : Option (Option Put)). KeyFits z l k s new) (sym (last-written v ws k once)) (at k (last ws k) refl (fits.each k)) }
   where

@@ -1,4 +1,4 @@
--- What the parts of a multi come to, each on what the parts before left.
+-- What the parts of a multi come to, each on what the parts before it left.
 use Rattle.std.specs.Prelude.{◌≡◌, ℕ, ℤ, pos, ◌+◌, ◌≤◌, List, [], ◌∷◌, ◌++◌, length, All, Option, Some, None, if◌then◌else◌}
 use Rattle.std.specs.Ordering.{int_eq}
 use Rattle.std.specs.Option.{option_to_list}
@@ -33,10 +33,11 @@ no_progress = record { over = empty_view; results = []; triggers = []; touched =
 
 -- ---- the session whose node a part makes or removes
 
+-- an owner of 0 is none
 abbrev pub some_owner : ℤ → Option ℤ
 some_owner owner = if int_eq owner (pos 0) then None else Some owner
 
--- the owner of the node at a path, by its record
+-- the owner of the node at a path, by its record, if that was looked up
 abbrev pub IsOwnerOver : View → Option Bytes → Option ℤ → Type 0
 IsOwnerOver v None o = o ≡ None
 IsOwnerOver v (Some p) o = (x : Option SeenData) × IfData v p x × (o ≡ some_owner (owner_seen x))
@@ -49,7 +50,7 @@ IsTouched v id (part.Check path x) o = o ≡ None
 
 -- ---- a part
 
--- the part is not refused, and its changes are laid over those before
+-- the part is not refused, and its changes are laid over those of the parts before it
 pub record IsStep (p : Part) (who : Who) (now : ℕ) (v : View) (old new : Progress) : Type 0 where
   pub changes : List Change
   pub told : List Trigger
@@ -66,18 +67,19 @@ pub record IsStep (p : Part) (who : Who) (now : ℕ) (v : View) (old new : Progr
   pub triggers : new.triggers ≡ old.triggers ++ told
   pub touched : new.touched ≡ old.touched ++ option_to_list owner
 
--- it is refused, or a step
+-- the part at this place is refused, or is a step
 abbrev pub IsCarriedOne : Part → Who → ℕ → View → Progress → ℕ → Carried → Type 0
 IsCarriedOne p who now v old place (Stopped k code) = (k ≡ place) × IsPartChoice p who now (layered old.over v) (chosen.Refused code)
 IsCarriedOne p who now v old place (Passed new) = IsStep p who now v old new
 
 -- ---- all parts, one after the other
 
+-- what these parts come to, of which the first has this place: they stop at the first that is refused
 abbrev pub Runs : Who → ℕ → View → Progress → ℕ → List Part → Carried → Type 0
 Runs who now v old place [] c = c ≡ Passed old
 Runs who now v old place (p ∷ ps) c = (one : Carried) × IsCarriedOne p who now v old place one × (elim one [ Stopped k code ↦ c ≡ Stopped k code | Passed new ↦ Runs who now v new (place + 1) ps c ])
 
--- what each choice among them looks at was looked up, in a view that saw the same or less, or by the parts before
+-- what the choice of each part looks at is seen on the view `near` with the keys laid over it that the parts before wrote
 abbrev pub RunsSeen : (who : Who) (now : ℕ) (v near : View) (old : Progress) (place : ℕ) (ps : List Part) (c : Carried) → Runs who now v old place ps c → Type 0
 RunsSeen who now v near old place [] c run = Unit {0}
 RunsSeen who now v near old place (p ∷ ps) c (Stopped k code, one, rest) = IsPartSeen who.session (layered old.over near) p

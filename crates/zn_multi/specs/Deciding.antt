@@ -1,4 +1,4 @@
--- What a multi is decided to be, by what its parts come to.
+-- How a multi is decided, by what its parts come to.
 use Rattle.std.specs.Prelude.{◌≡◌, ℕ, ℤ, pos, ◌+◌, ◌≤ℤ◌, List, [], ◌∷◌, ◌++◌, length, map, nat_lt, sum_by, Option, Some, None, MatchBool}
 use Rattle.std.specs.Ordering.{int_eq}
 use Rattle.ev_types.specs.declared.answer.Kv.{Kv}
@@ -33,11 +33,12 @@ abbrev pub path_bytes : Option (List Bytes) → ℕ
 path_bytes None = 0
 path_bytes (Some ps) = sum_by length ps
 
--- the bytes of the paths of the nodes that a session owned before, by the list that the view saw. No session has a number below 1
+-- The bytes of the paths of the nodes that a session owned before, by the list that the view saw. They are open where the list was
+-- not looked up, and for a number below 1, which no session has.
 abbrev pub IsOwnedLoad : View → ℤ → ℕ → Type 0
 IsOwnedLoad v id n = (ps : Option (List Bytes)) × (pos 1 ≤ℤ id → IfPaths v id ps) × (n ≡ path_bytes ps)
 
--- and those of several sessions
+-- the bytes of the paths of several sessions' nodes, added
 abbrev pub AreOwnedLoads : View → List ℤ → ℕ → Type 0
 AreOwnedLoads v [] n = n ≡ 0
 AreOwnedLoads v (id ∷ ids) n = (a b : ℕ) × IsOwnedLoad v id a × AreOwnedLoads v ids b × (n ≡ a + b)
@@ -47,11 +48,12 @@ AreOwnedLoads v (id ∷ ids) n = (a b : ℕ) × IsOwnedLoad v id a × AreOwnedLo
 abbrev pub refused : ℤ → Decision
 refused code = Answered (reply.Refused code) None
 
--- the keys that the parts read, each once
+-- the keys that every request reads, and those that the parts read, each once
 abbrev pub read_keys : ℤ → List Key → List Bytes
 read_keys id ks = each_new (map key_bytes (start_keys id ++ ks))
 
--- Each key that was laid is written once, and the head is put last and then read. These keys are guarded as the view saw them.
+-- What was laid is written, and the head is put last and then read. These keys, but for the head, are guarded as the view saw them,
+-- and are read again where a guard fails.
 pub record IsPlanOn (v : View) (keys : List Bytes) (p : Progress) (plan : Plan) : Type 0 where
   pub guards : plan.guards ≡ guards_of (picked v keys)
   pub again : plan.again ≡ again_of (picked v keys)
@@ -63,16 +65,16 @@ pub record IsPlanOn (v : View) (keys : List Bytes) (p : Progress) (plan : Plan) 
 abbrev pub IsPlannedAs : ℤ → View → List Part → Progress → Decision → Type 0
 IsPlannedAs id v parts p d = (plan : Plan) × (d ≡ Planned plan) × (ks : List Key) × AreRead id v parts ks × IsPlanOn v (read_keys id ks) p plan
 
--- the row of codes where a part is refused; else a refusal where the load is above the most; else a plan
+-- the row of codes where a part is refused; otherwise a refusal where the load is too great; otherwise a plan
 abbrev pub IsByParts : ℤ → View → List Part → Carried → Decision → Type 0
 IsByParts id v parts (Stopped place code) d = d ≡ Answered (reply.Good (body.Parts (row_of (length parts) place code))) None
 IsByParts id v parts (Passed p) d = (n : ℕ) × AreOwnedLoads v (distinct p.touched) n × MatchBool (nat_lt max_load (sum_by data_len parts + n)) (d ≡ refused bad_arguments) (IsPlannedAs id v parts p d)
 
--- by what all parts come to, in turn
+-- the decision by what the parts come to, carried out in turn
 abbrev pub IsInTurn : Who → ℕ → View → List Part → Decision → Type 0
 IsInTurn who now v parts d = (c : Carried) × Runs who now v no_progress 0 parts c × IsByParts who.session v parts c d
 
--- by the record of the session's life first
+-- the decision by the record of the session's life, and where it was put by this connection's attachment, by the parts
 abbrev pub IsByLife : Who → ℕ → View → List Part → Decision → Option (Option Kv) → Type 0
 IsByLife who now v parts d None = ⊥
 IsByLife who now v parts d (Some None) = d ≡ Expired

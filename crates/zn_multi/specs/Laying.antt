@@ -18,6 +18,7 @@ put_now key value lease = record { key = key; value = value; create_revision = p
 
 -- ---- one operation after the other
 
+-- the key of a put or a delete in place of what the view saw of it
 abbrev pub with_act : View → Act → View
 with_act v (act.Put key value lease) = with_laid v (record { key = key; found = Some (put_now key value lease) })
 with_act v (act.Delete key) = with_laid v (record { key = key; found = None })
@@ -26,7 +27,7 @@ with_act v (act.Range q) = v
 abbrev pub with_acts : View → List Act → View
 with_acts v acts = fold with_act v acts
 
--- a record of the key's kind is put
+-- if it is a put, it puts a record of the key's kind
 abbrev pub PutsRecord : Act → Type 0
 PutsRecord (act.Put key value lease) = IsOfKind (kind_of key) value
 PutsRecord (act.Delete key) = Unit {0}
@@ -34,6 +35,7 @@ PutsRecord (act.Range q) = Unit {0}
 
 -- ---- what is written in the end
 
+-- whether a view saw that a key is absent
 abbrev pub is_absent : Option (Option Kv) → Bool
 is_absent (Some None) = true
 is_absent (Some (Some kv)) = false
@@ -46,14 +48,14 @@ abbrev pub write_at : View → Bytes → Option Kv → Option Act
 write_at v key (Some kv) = Some (act.Put key kv.value kv.lease)
 write_at v key None = deletes v key
 
--- a key as it was laid, unless the view saw it absent and it is absent again
+-- the operation that writes a key as it was laid: none where the view saw it absent and it is absent again
 abbrev pub write_of : View → SeenKey → Option Act
 write_of v x = write_at v x.key x.found
 
 abbrev pub written_acts : View → List SeenKey → List Act
 written_acts v xs = flat_map (λ x. option_to_list (write_of v x)) xs
 
--- ---- the same, of changes
+-- ---- what is laid and written, as changes of keys
 
 abbrev pub found_of : Key → Option Put → Option Kv
 found_of k None = None
@@ -66,7 +68,7 @@ seen_of c = record { key = key_bytes c.key; found = found_of c.key c.put }
 abbrev pub laid_view : List Change → View
 laid_view ws = record empty_view { keys = map seen_of ws }
 
--- a change in place of the one of the same key, or behind the others
+-- a change in place of the one of the same key, or at the end
 abbrev pub laid : List Change → Change → List Change
 laid [] c = c ∷ []
 laid (w ∷ ws) c = if same (key_bytes w.key) (key_bytes c.key) then c ∷ ws else w ∷ laid ws c
@@ -81,6 +83,6 @@ is_gone (Some w) = false
 abbrev pub is_written : View → Change → Bool
 is_written v c = not (is_gone c.put && is_absent (seen v (key_bytes c.key)))
 
--- what is written of them: a key that was absent and is absent again is not
+-- the changes that are written: all but those of keys that were absent and are absent again
 abbrev pub written : View → List Change → List Change
 written v ws = filter (is_written v) ws

@@ -16,13 +16,13 @@ use Rattle.zn_updates.specs.Right.{with_tree}
 use Rattle.zn_multi.specs.Laying.{laid_view}
 use Rattle.zn_multi.specs.declared.carrying.Progress.{Progress}
 
--- what later parts come to, with what these came to before them
+-- what all parts come to, by the results, the triggers and the sessions of the earlier ones and by what the later ones come to
 abbrev pub behind : List PartResult → List Trigger → List ℤ → Parts → Parts
 behind rs gs ss (Stopped place code) = Stopped (length rs + place) code
 behind rs gs ss (Passed results t triggers touched) = Passed (rs ++ results) t (gs ++ triggers) (ss ++ touched)
 
 -- The parts before the rest lead to a sound tree, with their results at this zxid, and the rest goes on from there. What was laid
--- over the view are the changes of keys from the state to the one with that tree, each key once.
+-- are changes of keys, but for the head, that lead from the state to the one with that tree, each key once.
 pub record LeadsTo (id : ℤ) (now : ℕ) (v : View) (parts rest : List Part) (p : Progress) (s : State) (z : ℤ) : Type 0 where
   pub tree : Tree
   pub runs : parts_of s.tree max_owned id parts z now ≡ behind (map (own_result z) p.results) p.triggers p.touched (parts_of tree max_owned id rest z now)

@@ -16,10 +16,11 @@ use Rattle.zn_multi.specs.declared.reading.PartRead.{PartRead}
 
 -- ---- the paths of the nodes that were made
 
--- in turn: none where the view does not determine them
+-- the paths of the nodes that the parts so far make, in turn: none where the view does not determine them
 abbrev pub Made : Type 0
 Made = Option (List Bytes)
 
+-- with one path more: none where either is not determined
 abbrev pub with_path : Made → Option Bytes → Made
 with_path None p = None
 with_path (Some made) None = None
@@ -29,23 +30,25 @@ abbrev pub numbered_path : Bytes → Option ℕ → Option Bytes
 numbered_path path None = None
 numbered_path path (Some n) = Some (sequence_path path n)
 
--- the path of a sequence node, by the creates of its parent
+-- the path of a sequence node, by the creates that the view saw of its parent and the nodes made since: none where these do not
+-- determine it
 abbrev pub IsNumberedPath : View → Made → Bytes → Option Bytes → Option Bytes → Type 0
 IsNumberedPath v None path above node = node ≡ None
 IsNumberedPath v (Some made) path None node = node ≡ None
 IsNumberedPath v (Some made) path (Some q) node = (first : Option ℕ) × IsCreatesSeen (sees v (CountsKey q)) first × (node ≡ numbered_path path (creates_after first q made))
 
+-- the path of the node that a create makes
 abbrev pub IsNodePath : View → Made → Bool → Bytes → Option Bytes → Option Bytes → Type 0
 IsNodePath v made true path above node = IsNumberedPath v made path above node
 IsNodePath v made false path above node = node ≡ Some path
 
--- ---- the keys of a part, and the paths with that of its node
+-- ---- the keys that a part reads, and the paths of the nodes made up to it
 
 abbrev pub data_at : Option Bytes → List Key
 data_at None = []
 data_at (Some p) = DataKey p ∷ []
 
--- the key of a sequence node
+-- the key of a sequence node's record, once its path is determined
 abbrev pub sequence_data : Bool → Option Bytes → List Key
 sequence_data sequential node = if sequential then data_at node else []
 
@@ -73,11 +76,11 @@ IsFormedRead id v made (part.Delete path x) own next = IsDeleteRead v made path 
 IsFormedRead id v made (part.SetData p d x) own next = (own ≡ about_path p) × (next ≡ made)
 IsFormedRead id v made (part.Check p x) own next = (own ≡ DataKey p ∷ []) × (next ≡ made)
 
--- a part whose form is refused reads nothing, and no part behind it is chosen
+-- a part whose form is refused reads nothing, and leaves the paths undetermined, since no later part is chosen
 abbrev pub IsReadBy : ℤ → View → Made → Part → List Key → Made → Type 0
 IsReadBy id v made p own next = MatchOption (form_refusal p) (IsFormedRead id v made p own next) (λ code. (own ≡ []) × (next ≡ None))
 
--- as the code keeps them
+-- what a part reads, as the code keeps it
 pub record IsPartRead (id : ℤ) (v : View) (made : Made) (p : Part) (r : PartRead) : Type 0 where
   pub own : List Key
   pub keys : r.keys ≡ map key_bytes own
@@ -88,7 +91,7 @@ pub record IsPartRead (id : ℤ) (v : View) (made : Made) (p : Part) (r : PartRe
 abbrev pub are_seen : View → List Key → Bool
 are_seen v ks = list_all (λ k. is_some (sees v k)) ks
 
--- what follows from later parts is determined once the view shows all that a part reads
+-- the paths are determined for later parts if the view shows all that the part reads
 abbrev pub if_seen : Bool → Made → Made
 if_seen true made = made
 if_seen false made = None

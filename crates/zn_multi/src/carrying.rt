@@ -26,16 +26,18 @@ pub struct Progress {
     pub over: View,
     /// Their results, with 0 in place of the zxid that the update gets.
     pub results: Seq<PartResult>,
+    /// What watches see of them, in turn.
     pub triggers: Seq<Trigger>,
-    /// The sessions whose nodes were made or removed, as they come.
+    /// The owner of each ephemeral node that was made or removed, in turn; a session may stand there more than once.
     pub touched: Seq<i64>,
 }
 
 /// What all parts come to.
 #[derive(Drop)]
 pub enum Carried {
-    /// The first part that is refused, and its code.
+    /// The place of the first part that is refused, counted from 0, and its error code.
     Stopped { place: usize, code: i32 },
+    /// No part is refused.
     Passed(Progress),
 }
 
@@ -88,7 +90,7 @@ fn nothing_yet(alloc: Global) -> Progress
     }
 }
 
-/// Adds triggers behind others.
+/// Adds triggers after others.
 fn append(triggers: &mut Seq<Trigger>, more: Seq<Trigger>) -> Result<(), Memory>
     ensures { OnOk result (triggers.new ≡ triggers.old ++ more) }
 {
@@ -98,7 +100,7 @@ fn append(triggers: &mut Seq<Trigger>, more: Seq<Trigger>) -> Result<(), Memory>
     Ok(())
 }
 
-/// What the parts come to with one more.
+/// What the parts come to with the update of one more.
 fn with_update(
     alloc: Global,
     passed: Progress,
@@ -121,7 +123,7 @@ fn with_update(
     Ok(passed)
 }
 
-/// What one more part comes to, at this place.
+/// What the parts come to with the one at this place.
 fn carry_one(
     alloc: Global,
     passed: Progress,
@@ -145,7 +147,7 @@ fn carry_one(
     }
 }
 
-/// What the parts come to, each on what the parts before left.
+/// What the parts come to, each on what the parts before it left.
 pub(crate) fn carry_out(
     alloc: Global,
     parts: &[Part],

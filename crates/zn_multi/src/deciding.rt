@@ -38,7 +38,7 @@ fn refused(code: i32) -> Decision
     }
 }
 
-/// The plan of an update of all parts.
+/// The plan of the update that all parts make together.
 fn plan(alloc: Global, view: &View, keys: &[Bytes], passed: Progress) -> Result<Plan, Memory>
     requires { IsHeadRec passed.triggers }
     ensures { IfOk result (IsPlanOn view.now keys.now passed) }
@@ -55,7 +55,7 @@ fn plan(alloc: Global, view: &View, keys: &[Bytes], passed: Progress) -> Result<
     })
 }
 
-/// Of a session that is attached to this connection.
+/// Decides a multi whose session is attached to this connection.
 fn decide_by_tree(
     alloc: Global,
     parts: &[Part],
@@ -89,7 +89,7 @@ fn decide_by_tree(
     }
 }
 
-/// Of a multi that does not have too many parts.
+/// Decides a multi that does not have too many parts.
 fn decide_by_session(
     alloc: Global,
     parts: &[Part],
@@ -113,12 +113,12 @@ fn decide_by_session(
     decide_by_tree(alloc, parts, who, now, view)
 }
 
-/// Decides a multi of these parts on a view that lacks nothing which it reads: what [`needs_multi`](crate::needs_multi) names
-/// of that view is nothing. `now` is in milliseconds since 1970, below 2^62; the session's number is at least 1.
+/// Decides a multi of these parts on a view that lacks nothing that it reads: [`needs_multi`](crate::needs_multi) names nothing
+/// of that view. `now` is in milliseconds since 1970, below 2^62; the session's number is at least 1.
 ///
-/// Too many parts are refused. Otherwise the session has expired where the record of its life is not there, and has moved where
-/// that was put at another revision than `who.mine`; and otherwise the tree decides: the parts are carried out in turn. What is
-/// planned carries the update out, guards what the parts read, writes each key once, and is small enough for an etcd.
+/// More than 24 parts are refused with BadArguments. The session has expired where the record of its life is not there, and has
+/// moved where that was put at another revision than `who.mine`. Otherwise the parts are carried out in turn. A plan carries the
+/// update out, guards what the multi reads and writes each key once; on a view of a sound state it is small enough for an etcd.
 pub fn decide_multi(
     alloc: Global,
     parts: &[Part],

@@ -23,34 +23,35 @@ ghost use Rattle.zn_layout.specs.Changes.{Change, acts_of, are_distinct, last};
 ghost use Rattle.zn_layout.specs.Keys.{Key};
 ghost use Rattle.zn_multi.specs.Laying.{all_laid, laid_view, with_acts};
 
-/// Operations that are laid over keys leave each key once, and of each the last that was written.
+/// Changes that are laid over others, one for each key, leave each key once, with the last change of it; and their operations, laid
+/// over a view of the others alone, give the view of what is left.
 pub fn each_key_is_laid_once()
     ensures once { (ws cs : List Change) → are_distinct ws ≡ true → are_distinct (all_laid ws cs) ≡ true }
     ensures last { (ws cs : List Change) (k : Key) → are_distinct ws ≡ true → last (all_laid ws cs) k ≡ last (ws ++ cs) k }
     ensures laid { (ws cs : List Change) → with_acts (laid_view ws) (acts_of cs) ≡ laid_view (all_laid ws cs) }
 {}
 
-/// Changes that lead from a state to another, laid over a view that shows the first, show the second: so a later part is chosen
-/// on what the parts before it left.
+/// Changes that lead from one state to another and write each key once, laid over a view that shows the first state, show the
+/// second. So a later part is chosen on what the parts before it left.
 pub fn later_parts_see_earlier_ones()
     ensures { (z : ℤ) (v : AnyView) (ws : List Change) (s new : State) → Shows z v s → Fits z ws s new → are_distinct ws ≡ true → Shows z (layered (laid_view ws) v) new }
 {}
 
-/// What the parts come to on a view they come to in each sound state of which the view shows what the parts look at, at any
-/// zxid: they stop at the same part with the same code, or pass, and the keys that were laid over the view are the changes to the
-/// state behind them. Of other keys the view may show what that state does not have.
+/// What the parts come to on a view, they come to in each sound state in which the session is open and of which the view shows what
+/// the parts look at, at any zxid; other keys of the view may differ from that state. The parts stop at the same one with the same
+/// code, or they pass, and the keys that were laid over the view are the changes that lead to the state after them.
 pub fn parts_are_carried_out_in_turn()
     ensures stops { (who : AnyWho) (now : ℕ) (v near : AnyView) (parts : List AnyPart) (s : State) (z : ℤ) (x : Session) (place : ℕ) (code : ℤ) (run : Runs who now v no_progress 0 parts (Stopped place code)) → RunsSeen who now v near no_progress 0 parts (Stopped place code) run → IsNarrower near v → now < 2 ^ 62 → AreShort parts → IsSound s → Shows z near s → session_at who.session s ≡ Some x → parts_of s.tree max_owned who.session parts z now ≡ StoppedAt place code }
     ensures passes { (who : AnyWho) (now : ℕ) (v near : AnyView) (parts : List AnyPart) (s : State) (z : ℤ) (x : Session) (p : AnyProgress) (run : Runs who now v no_progress 0 parts (Passed p)) → RunsSeen who now v near no_progress 0 parts (Passed p) run → IsNarrower near v → now < 2 ^ 62 → AreShort parts → IsSound s → Shows z near s → session_at who.session s ≡ Some x → LeadsTo who.session now v parts [] p s z }
 {}
 
-/// Whether parts are refused, and which of them with which code, depends neither on the zxid nor on the moment.
+/// Whether parts are refused, and which of them with which code, depends neither on the zxid nor on the time.
 pub fn refusals_do_not_depend_on_the_moment()
     ensures { (t : Tree) (limit : ℕ) (id : ℤ) (parts : List AnyPart) (z y : ℤ) (now other : ℕ) (place : ℕ) (code : ℤ) → parts_of t limit id parts z now ≡ StoppedAt place code → parts_of t limit id parts y other ≡ StoppedAt place code }
 {}
 
-/// A view of a sound state that lacks nothing which at most 24 parts read saw what each part looks at, also of nodes that the
-/// parts before it made: the premise of [`parts_are_carried_out_in_turn`].
+/// On a view that shows a sound state with the session open, and lacks nothing that at most 24 parts read, what each part looks at
+/// was looked up or was written by the parts before it: the premise of [`parts_are_carried_out_in_turn`].
 pub fn what_parts_look_at_was_seen()
     ensures { (who : AnyWho) (now : ℕ) (v : AnyView) (parts : List AnyPart) (s : State) (z : ℤ) (x : Session) (c : AnyCarried) (run : Runs who now v no_progress 0 parts c) → length parts ≤ max_parts → IsWhole (requests.Multi parts) who v → now < 2 ^ 62 → AreShort parts → IsSound s → Shows z v s → session_at who.session s ≡ Some x → RunsSeen who now v v no_progress 0 parts c run }
 {}

@@ -30,7 +30,7 @@ fn put_key(alloc: Global, key: Bytes, value: Bytes, lease: i64) -> Result<SeenKe
     })
 }
 
-/// Lays one operation over a view. Reads are passed over.
+/// Lays one operation over a view. A read lays nothing.
 fn lay(alloc: Global, over: &mut View, act: Act) -> Result<(), Memory>
     requires { PutsRecord act }
     ensures { OnOk result (over.new ≡ with_act over.old act) }

@@ -1,13 +1,14 @@
 //! Several requests as one transaction (`multi` of the ZooKeeper API), decided on a view.
 //!
 //! [`needs_multi`] names what a multi still has to look up, and [`decide_multi`] decides it on a view that lacks nothing. Its
-//! parts are chosen one after the other as single requests are (`zn_updates`), each on the view with the keys laid over it that
-//! the parts before wrote. So each part sees the earlier ones, and each key is written once, with its last record; a key that
-//! was absent and is absent again is not written. A multi of which a part is refused changes nothing, and its reply says which.
-//! At most 24 parts are taken, and at most 1,000,000 bytes of data and of paths that the touched sessions owned before.
+//! parts are chosen one after the other, as single requests are (`zn_updates`), each on the view over which the keys are laid
+//! that the earlier parts wrote. So each part sees the earlier ones, and each key is written once, with its last record; a key
+//! that was absent and is absent again is not written. A multi with a refused part changes nothing, and its reply says which
+//! part. A multi has at most 24 parts. Their data, and the paths of the nodes that each touched session owned before, have at
+//! most 1,000,000 bytes together.
 //!
-//! The keys that were laid over a view are looked up one after the other: the time grows with the square of the parts. A new
-//! node's data is copied once, from the part into its value.
+//! The keys that were laid over a view are looked up one after the other: the time grows with the square of the parts. The data
+//! of a part is copied once, into the node's value.
 #![tactic(auto)]
 
 mod carrying;

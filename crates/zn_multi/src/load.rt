@@ -1,5 +1,5 @@
-//! The load of a multi: the bytes of its parts' data, and of the paths that each session owned before of which a node is made
-//! or removed.
+//! The load of a multi: the bytes of its parts' data, and of the paths of the nodes that each touched session owned before. A
+//! session is touched if a part makes or removes a node of it.
 
 ghost use Rattle.std.specs.Prelude.{◌≡◌, ◌+◌, ℕ, nat_lt, sum_by, IfOk};
 ghost use Rattle.zk_model.specs.Limits.{max_load};
@@ -14,7 +14,7 @@ use zn_updates::paths_over;
 use zn_view::View;
 use zx_base::Memory;
 
-/// The bytes of the paths that a session owned before, added. No session has a number below 1.
+/// Adds the bytes of the paths that a session owned before; none where the sum is too great. No session has a number below 1.
 fn session_load(
     alloc: Global,
     view: &View,
@@ -32,7 +32,7 @@ fn session_load(
     }
 }
 
-/// Whether the load is above the most.
+/// Whether the load is more than `MAX_LOAD` bytes.
 pub(crate) fn exceeds(
     alloc: Global,
     parts: &[Part],

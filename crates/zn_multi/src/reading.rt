@@ -23,10 +23,10 @@ use zn_updates::{
 use zn_view::View;
 use zx_base::{Bytes, Memory, Seq};
 
-/// The paths of the nodes that were made, in turn: none where the view does not determine them.
+/// The paths of the nodes that the parts so far make, in turn: none where the view does not determine them.
 type Made = Option<Seq<Path>>;
 
-/// The creates of a node once one node more is made.
+/// The creates that a node counts once one more node is made: one more where that is a child of it, 0 where it is the node itself.
 fn with_made(creates: Option<u32>, path: &Path, other: &Path) -> Option<u32>
     requires { IfSome creates (λ n. n < 2 ^ 32 - 1) }
     ensures { result ≡ creates_with path.now creates other.now }
@@ -43,7 +43,7 @@ fn with_made(creates: Option<u32>, path: &Path, other: &Path) -> Option<u32>
     }
 }
 
-/// The creates of a node, after these nodes were made.
+/// The creates that a node counts after these nodes were made.
 fn creates_after(creates: Option<u32>, path: &Path, made: &[Path]) -> Option<u32>
     requires few { length made.now ≤ max_parts }
     requires within { IfSome creates (λ n. n ≤ 1073741823) }
@@ -79,7 +79,7 @@ fn numbered(
     }
 }
 
-/// The paths that were made with one more behind them.
+/// The paths that were made, and one more after them: none where either is not determined.
 fn with_path(made: Made, path: Option<Path>) -> Result<Made, Memory>
     ensures { IfOk result (λ next. next ≡ made_with made path) }
 {
@@ -94,14 +94,14 @@ fn with_path(made: Made, path: Option<Path>) -> Result<Made, Memory>
     Ok(Some(made))
 }
 
-/// What a part reads, and the paths of the nodes that were made with that of its node.
+/// What a part reads, and the paths of the nodes that the parts make up to this one.
 #[derive(Drop)]
 struct PartRead {
     keys: Seq<Bytes>,
     made: Made,
 }
 
-/// Of a part whose form is refused. No part behind it is chosen.
+/// What a part reads whose form is refused: nothing. No later part is chosen.
 fn nothing_read(alloc: Global) -> PartRead
     ensures keys { result.keys ≡ [] }
     ensures made { result.made ≡ None }
@@ -137,7 +137,7 @@ fn node_path(
     }
 }
 
-/// A node's parent. The root has none, and is there.
+/// Adds the keys of a new node's parent. The root has none, and is there.
 fn push_parent(alloc: Global, keys: &mut Seq<Bytes>, parent: &Option<Path>) -> Result<(), Memory>
     requires { IfSome parent.now (λ q. length q ≤ max_path) }
     ensures { OnOk result (keys.new ≡ keys.old ++ map key_bytes (about_parent parent.now)) }
@@ -148,7 +148,7 @@ fn push_parent(alloc: Global, keys: &mut Seq<Bytes>, parent: &Option<Path>) -> R
     }
 }
 
-/// The record of a sequence node, once its path is determined.
+/// Adds the key of a sequence node's record, once its path is determined.
 fn push_sequence(
     alloc: Global,
     keys: &mut Seq<Bytes>,
@@ -225,7 +225,7 @@ fn read_create(
     }
 }
 
-/// The counts of a node's parent.
+/// Adds the key of the counts of a node's parent, if it has one.
 fn push_counts_above(alloc: Global, keys: &mut Seq<Bytes>, path: &Path) -> Result<(), Memory>
     requires { length path.now ≤ max_path }
     ensures { OnOk result (keys.new ≡ keys.old ++ map key_bytes (counts_of_parent (parent_of path.now))) }
@@ -258,7 +258,7 @@ fn read_delete(alloc: Global, made: Made, path: &[u8], view: &View) -> Result<Pa
     }
 }
 
-/// A node's record and counts.
+/// What a setData of a valid path reads: the node's record and counts.
 fn read_node(alloc: Global, made: Made, path: &Path) -> Result<PartRead, Memory>
     requires { length path.now ≤ max_path }
     ensures { IfOk result (λ r. (r.keys ≡ map key_bytes (about_path path.now)) × (r.made ≡ made)) }
@@ -277,7 +277,7 @@ fn read_set(alloc: Global, made: Made, path: &[u8]) -> Result<PartRead, Memory>
     }
 }
 
-/// A node's record.
+/// What a check of a valid path reads: the node's record.
 fn read_data(alloc: Global, made: Made, path: &Path) -> Result<PartRead, Memory>
     requires { length path.now ≤ max_path }
     ensures { IfOk result (λ r. (r.keys ≡ map key_bytes (DataKey path.now ∷ [])) × (r.made ≡ made)) }
@@ -341,7 +341,7 @@ fn were_seen(view: &View, keys: &[Bytes]) -> bool
     true
 }
 
-/// Adds keys behind others.
+/// Adds keys after others.
 fn push_all(keys: &mut Seq<Bytes>, more: Seq<Bytes>) -> Result<(), Memory>
     ensures { OnOk result (keys.new ≡ keys.old ++ more) }
 {
@@ -351,7 +351,7 @@ fn push_all(keys: &mut Seq<Bytes>, more: Seq<Bytes>) -> Result<(), Memory>
     Ok(())
 }
 
-/// Adds what a part reads. What follows from later parts is determined once the view shows all of it.
+/// Adds the keys that a part reads. Until the view shows all of them, the paths of the nodes made so far are not determined.
 fn push_part(keys: &mut Seq<Bytes>, part: PartRead, view: &View) -> Result<Made, Memory>
     ensures keys { OnOk result (keys.new ≡ keys.old ++ part.keys) }
     ensures made { IfOk result (λ next. next ≡ made_if_seen (list_all (λ k. is_some (seen view.now k)) part.keys) part.made) }
@@ -362,7 +362,7 @@ fn push_part(keys: &mut Seq<Bytes>, part: PartRead, view: &View) -> Result<Made,
     if seen { Ok(made) } else { Ok(None) }
 }
 
-/// The keys of a multi's parts, behind the head and the record of the session's life.
+/// The keys that a multi reads: the head, the record of the session's life, and those that its parts read in turn.
 pub(crate) fn keys_read(
     alloc: Global,
     parts: &[Part],

@@ -11,9 +11,8 @@ use zk_model::limit::MAX_PARTS;
 use zn_view::{View, Want, Who};
 use zx_base::{Memory, Seq};
 
-/// What a multi of these parts reads, as far as the view determines it, and the view lacks: nothing where the view has all,
-/// and where there are too many parts. All that is determined is named at once, each key once. The session's number is at
-/// least 1.
+/// What a multi of these parts still has to read, as far as the view determines it: nothing where the view has it all, and where
+/// the multi's form is refused. All that is determined is named at once, each key once. The session's number is at least 1.
 pub fn needs_multi(
     alloc: Global,
     parts: &[Part],

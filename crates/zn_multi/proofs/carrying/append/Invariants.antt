@@ -1,4 +1,4 @@
--- The triggers so far stand behind the others.
+-- The triggers so far come after the others.
 use Rattle.std.proofs.Common.{◌≡◌, ◌++◌}
 use Rattle.zn_multi.proofs.carrying.append.Given as goal
 

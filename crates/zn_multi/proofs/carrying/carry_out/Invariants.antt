@@ -1,4 +1,4 @@
--- What the rest comes to from here, all parts come to.
+-- All parts come to what the rest comes to from here.
 use Rattle.std.proofs.Common.{◌≡◌, drop}
 use Rattle.zn_multi.specs.Carrying.{no_progress, Runs}
 use Rattle.zn_multi.specs.declared.carrying.Carried.{Carried}

@@ -1,4 +1,4 @@
--- What the rest reads from here, all parts read behind what was read so far.
+-- What was read so far, and then what the rest reads, is what all parts read.
 use Rattle.std.proofs.Common.{◌≡◌, ◌≤◌, List, ◌++◌, drop, length}
 use Rattle.std.specs.Prelude.{IfSome, map}
 use Rattle.zx_base.specs.Maps.{Bytes}

@@ -1,4 +1,4 @@
--- The keys so far stand behind the others.
+-- The keys so far come after the others.
 use Rattle.std.proofs.Common.{◌≡◌, ◌++◌}
 use Rattle.zn_multi.proofs.reading.push_all.Given as goal
 
