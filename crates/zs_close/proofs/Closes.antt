@@ -1,4 +1,4 @@
--- What a close is decided by makes its decision and its plan what they are to be.
+-- The decision on a close is the machine's, and its plan is good.
 use Rattle.std.proofs.Common.{◌≡◌, ℕ, ℤ, pos, ◌≤◌, true, false, length, List, [], Option, Some, None, refl, sym, ap, subst, inl, inr, arith}
 use Rattle.std.specs.Prelude.{◌≤ℤ◌, nat_abs, nat_le, Contains, MatchBool}
 use Rattle.std.specs.Ordering.{int_eq}
@@ -82,7 +82,7 @@ module _ (who : Who) (v : View) (real : pos 1 ≤ℤ who.session) where
   listless None own kv lives nodes = lives
   listless (Some x) own kv lives nodes = nodes
 
-  -- and no more nodes than it may own
+  -- it has no more nodes than it may own
   too_many : (n : ℕ) → nat_le n max_owned ≡ false → n ≤ max_owned → ⊥
   too_many n e few = both_ways _ e (le-leb n max_owned few)
 

@@ -83,7 +83,7 @@ not_head k apart e = apart (key_bytes-injective k HeadKey e)
 pub life-not_head : (n : ℕ) → key_bytes (LeaseKey n) ≡ key_bytes HeadKey → ⊥
 life-not_head n = not_head (LeaseKey n) (λ e. cc)
 
--- what the end of a session reads has, but for the head, what was seen
+-- the keys that the end of a session reads, but for the head, have what was seen
 abbrev pub AreSeenFor : View → ℤ → List Bytes → Keys → Type 0
 AreSeenFor v id ps m = (k : Key) (o : Option Kv) → In k (end_keys id ps) → (k ≡ HeadKey → ⊥) → sees v k ≡ Some o → get m (key_bytes k) ≡ o
 
@@ -140,7 +140,7 @@ module _ (v : View) (id : ℤ) (real : pos 1 ≤ℤ id) (m : Keys) (s : State) (
     pub session-open : IsOpenWith (session_at id s) (owned s.tree id) ps
     session-open = open_with (session_at id s) (owned s.tree id) ps kv nodes (nodes-mean (Some kv) saw)
 
-    -- in a sound state no session owns more
+    -- in a sound state no session owns more nodes than it may
     pub nodes-few : IsSound s → length ps ≤ max_owned
     nodes-few sound = subst (λ (l : List Bytes). length l ≤ max_owned) (session-open).owns (sound.limited id (session-open).session (session-open).is_open)
 

@@ -50,7 +50,7 @@ counts_in k [] h = absurd h
 counts_in k (q ∷ qs) (inl e) = record { path = q; inside = inl refl; is = sym e }
 counts_in k (q ∷ qs) (inr h) = let c = counts_in k qs h in record { path = c.path; inside = inr c.inside; is = c.is }
 
--- each is one of a node
+-- each is the parent of one of the nodes
 record IsParent (ps : List Bytes) (q : Bytes) : Type 0 where
   path : Bytes
   inside : Contains ps path

@@ -41,7 +41,7 @@ any-same : (r : Bytes) (ps : List Bytes) → list_any (eq_by_cmp (slice_cmp nat_
 any-same r [] = refl
 any-same r (p ∷ ps) = λ i. names-tie r p i || any-same r ps i
 
--- a node that is there, under this owner
+-- a node that is there and has this owner
 pub record IsOwned (t : Tree) (id : ℤ) (r : Bytes) : Type 0 where
   pub node : Node
   pub there : get t r ≡ Some node

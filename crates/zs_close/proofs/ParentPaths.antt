@@ -19,7 +19,7 @@ same-turned p q = ⊎_elim
     (λ n. same-false p q n ∙ sym (same-false q p (λ e. n (sym e))))
     (either p q)
 
--- whose parent it is
+-- a path is a child of its parent, and of no other
 is_child-some : (p q r : Bytes) → parent p ≡ Some q → is_child r p ≡ same r q
 unfolding is_child
 is_child-some p q r e = ap (λ (o : Option Bytes). is_at_path o r) e ∙ same-turned q r

@@ -1,4 +1,4 @@
--- What a reaping is decided by makes its decision and its plan what they are to be.
+-- The decision on a reap is right, and its plan ends the session.
 use Rattle.std.proofs.Common.{◌≡◌, ℕ, zero, ℤ, pos, ◌≤◌, Bool, true, false, length, List, [], ◌∷◌, Option, Some, None, refl, sym, ap, ◌∙◌, subst, inl, inr, arith}
 use Rattle.std.specs.Prelude.{◌≤ℤ◌, nat_abs, nat_le, if◌then◌else◌, Contains, MatchBool}
 use Rattle.std.proofs.lemmas.Bool.{both_ways, le-leb}

@@ -18,7 +18,7 @@ use Rattle.zk_transcript.proofs.Children.{get-below_child, num_children-change}
 
 -- ---- who is left
 
--- of a node: nothing where it goes, and another zxid of its children's last change where a child goes
+-- what is left of a node: nothing where it goes, and the node with another pzxid where a child of it goes
 abbrev pub left_over : Bool → Bool → ℤ → Option Node → Option Node
 left_over true child z o = None
 left_over false true z o = option_map (λ n. without_child n z) o
@@ -124,7 +124,7 @@ num_children-removed t p z r n there = ap (λ k. k + cond (is_child r p) 1 0) (n
 abbrev pub AreThere : Tree → List Bytes → Type 0
 AreThere t ps = (q : Bytes) → list_any (same q) ps ≡ true → (n : Node) × (get t q ≡ Some n)
 
--- and none stands twice in the list
+-- no path stands twice in the list
 abbrev pub AreApart : List Bytes → Type 0
 AreApart [] = Unit {0}
 AreApart (p ∷ ps) = (list_any (same p) ps ≡ false) × AreApart ps

@@ -32,7 +32,7 @@ module _ (v : View) (counts : Bytes → Option CountRec) (q : Bytes) (tells : Te
       let none : counts q ≡ None = told_none None (counts q) refl (tells None saw) in
       sym (ap (λ (o : Option CountRec). acts ++ acts_of (put_parent ps q o ++ put_parents counts ps rest)) none)
 
-  -- the others count fewer
+  -- a parent that is there counts fewer children
   pub parent-there : (kv : Kv) (r : CountRec) (new : List Act) → sees v (CountsKey q) ≡ Some (Some kv) → IsCountsIn kv r
       → new ≡ acts ++ act_of (put_key (CountsKey q) (counts_value (fewer r (count_by (is_child q) ps)))) ∷ []
       → new ++ acts_of (put_parents counts ps rest) ≡ acts ++ acts_of (put_parents counts ps (q ∷ rest))

@@ -13,7 +13,7 @@ use Rattle.zn_layout.proofs.Fits.{last-append}
 use Rattle.zs_close.specs.Ending.{fewer, put_parent, put_parents, parents, delete_nodes, delete_session, end_changes}
 use Rattle.zs_close.proofs.ParentPaths.{parents-any}
 
--- a key that goes, where a test says so
+-- what is written of a key: it is deleted if a test says so
 abbrev pub gone_if : Bool → Option (Option Put)
 gone_if true = Some None
 gone_if false = None
@@ -64,12 +64,12 @@ counts-gone (p ∷ ps) r =
 
 -- ---- the parents' counts
 
--- what is put, of a node that is there
+-- what is put of a node's counts, if it is there
 abbrev pub put_of : List Bytes → Bytes → Option CountRec → Option (Option Put)
 put_of ps r None = None
 put_of ps r (Some c) = Some (Some (record { value = counts_value (fewer c (count_by (is_child r) ps)); lease = pos 0 }))
 
--- where it is a parent
+-- and if it is a parent
 abbrev pub put_if : Bool → Option (Option Put) → Option (Option Put)
 put_if true w = w
 put_if false w = None

@@ -23,6 +23,7 @@ use Rattle.zs_close.specs.Wanting.{read_keys}
 
 -- ---- the counts that a view saw
 
+-- these are the counts in the record that was found; there are none where none was found
 abbrev pub IsTold : Option Kv → Option CountRec → Type 0
 IsTold None None = Unit {0}
 IsTold None (Some c) = ⊥
@@ -33,17 +34,19 @@ IsTold (Some kv) (Some c) = IsCountsIn kv c
 abbrev pub TellsCountsOf : View → (Bytes → Option CountRec) → Bytes → Type 0
 TellsCountsOf v counts q = (o : Option Kv) → sees v (CountsKey q) ≡ Some o → IsTold o (counts q)
 
--- and of each of these nodes
+-- a function tells the counts of each of these nodes as the view saw them
 abbrev pub TellsCounts : View → (Bytes → Option CountRec) → List Bytes → Type 0
 TellsCounts v counts qs = All (TellsCountsOf v counts) qs
 
 -- ---- the plan of an end
 
--- operations that write keys without a lease stand behind others
+-- the new operations are the old ones, and after them some that write keys without a lease
 abbrev pub AreWritesBehind : List Act → List Act → Type 0
 AreWritesBehind old new = (cs : List Change) × All IsLeaseless cs × (new ≡ old ++ acts_of cs)
 
--- the operations of the end of a session with these nodes, guarded by what is read for it, but for the head, as the view saw it
+-- A plan with the operations of the end of a session with these nodes, the last of which reads the head. It guards what the end
+-- reads, but for the head, as the view saw it, and reads that and the head again where a guard fails. It writes keys of the service
+-- alone, its reply is empty, and watches see the end.
 pub record IsEndPlan (alive : Bool) (id : ℤ) (v : View) (ps : List Bytes) (p : Plan) : Type 0 where
   pub guards : p.guards ≡ guards_of (picked v (read_keys id ps))
   pub again : p.again ≡ again_of (picked v (read_keys id ps))
@@ -55,18 +58,21 @@ pub record IsEndPlan (alive : Bool) (id : ℤ) (v : View) (ps : List Bytes) (p :
 
 -- ---- what a close is decided by
 
--- no sound state has a session without a list of its nodes, or with more nodes than it may own
+-- the answer where a session that lives has no list of its nodes, or more nodes than it may own, as in no sound state
 abbrev pub unsound : Decision
 unsound = Answered (reply.Refused system_error) None
 
+-- by the session's nodes
 abbrev pub IsClosedWith : ℤ → View → List Bytes → Decision → Type 0
 IsClosedWith id v ps d = MatchBool (nat_le (length ps) max_owned) ((p : Plan) × (d ≡ Planned p) × IsEndPlan true id v ps p) (d ≡ unsound)
 
+-- by what was seen of the list of the session's nodes
 abbrev pub IsClosedBy : ℤ → View → Option (Option Kv) → Decision → Type 0
 IsClosedBy id v None d = ⊥
 IsClosedBy id v (Some None) d = d ≡ unsound
 IsClosedBy id v (Some (Some kv)) d = (ps : List Bytes) × IsNodesIn kv ps × IsClosedWith id v ps d
 
+-- by what was seen of the record of the session's life
 abbrev pub IsCloseBy : Who → View → Option (Option Kv) → Decision → Type 0
 IsCloseBy who v None d = ⊥
 IsCloseBy who v (Some None) d = d ≡ Expired

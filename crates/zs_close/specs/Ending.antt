@@ -26,16 +26,16 @@ parents ps = parents_from [] ps
 
 -- ---- the changes of keys
 
--- a node's counts, with so many children less
+-- a node's counts with so many children fewer
 abbrev pub fewer : CountRec → ℕ → CountRec
 fewer c n = record { creates = c.creates; children = pos (nat_abs c.children - n) }
 
--- a parent's counts without the nodes that go
+-- puts a parent's counts without the nodes that go; a parent without counts is not there
 abbrev pub put_parent : List Bytes → Bytes → Option CountRec → List Change
 put_parent ps q None = []
 put_parent ps q (Some c) = put_key (CountsKey q) (counts_value (fewer c (count_by (is_child q) ps))) ∷ []
 
--- by the counts that each node has
+-- puts the counts of each of these parents, by the counts that it has
 abbrev pub put_parents : (Bytes → Option CountRec) → List Bytes → List Bytes → List Change
 put_parents counts ps [] = []
 put_parents counts ps (q ∷ qs) = put_parent ps q (counts q) ++ put_parents counts ps qs
@@ -44,7 +44,7 @@ abbrev pub delete_nodes : List Bytes → List Change
 delete_nodes [] = []
 delete_nodes (p ∷ ps) = delete_key (DataKey p) ∷ delete_key (CountsKey p) ∷ delete_nodes ps
 
--- a session that is closed lives until then; one that is reaped has lapsed before
+-- a session that is closed lives until then; one that is reaped has lapsed, and its life is gone
 abbrev pub delete_life : Bool → ℤ → List Change
 delete_life alive id = if alive then delete_key (LeaseKey (nat_abs id)) ∷ [] else []
 
@@ -55,6 +55,6 @@ delete_session alive id = delete_life alive id ++ delete_key (SessionKey (nat_ab
 unfoldable pub end_changes : Bool → ℤ → (Bytes → Option CountRec) → List Bytes → List Change
 end_changes alive id counts ps = (delete_session alive id ++ delete_nodes ps) ++ put_parents counts ps (parents ps)
 
--- what watches see of it: of each delete, in the order of the paths' bytes
+-- what watches see of it: each delete, in the order of the list, which is that of the paths' bytes
 abbrev pub end_triggers : List Bytes → List Trigger
 end_triggers ps = flat_map removal ps

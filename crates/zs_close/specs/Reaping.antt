@@ -24,16 +24,19 @@ use Rattle.zs_close.specs.Closing.{IsEndPlan}
 abbrev pub whose : ℤ → Who
 whose id = record { session = id; mine = pos 0 }
 
--- ---- by what was seen
+-- ---- the decision
 
+-- by the session's nodes
 abbrev pub IsReapedWith : ℤ → View → List Bytes → Reaping → Type 0
 IsReapedWith id v ps r = MatchBool (nat_le (length ps) max_owned) ((p : Plan) × (r ≡ Planned p) × IsEndPlan false id v ps p) (r ≡ TooMany)
 
+-- by what was seen of the list of the session's nodes
 abbrev pub IsReapedBy : ℤ → View → Option (Option Kv) → Reaping → Type 0
 IsReapedBy id v None r = ⊥
 IsReapedBy id v (Some None) r = r ≡ Gone
 IsReapedBy id v (Some (Some kv)) r = (ps : List Bytes) × IsNodesIn kv ps × IsReapedWith id v ps r
 
+-- by what was seen of the record of the session's life
 abbrev pub IsReapBy : ℤ → View → Option (Option Kv) → Reaping → Type 0
 IsReapBy id v None r = ⊥
 IsReapBy id v (Some (Some kv)) r = r ≡ Kept
@@ -49,10 +52,11 @@ abbrev pub IsReapingOf : Option Session → Reaping → Type 0
 IsReapingOf None r = r ≡ Gone
 IsReapingOf (Some x) r = MatchBool x.lapsed ((p : Plan) × (r ≡ Planned p)) (r ≡ Kept)
 
--- in each sound state that the view is of
+-- the decision is right in each sound state that the view is of
 abbrev pub IsReapDecision : ℤ → View → Reaping → Type 0
 IsReapDecision id v r = (s : State) → IsSound s → IsOf v s → IsReapingOf (session_at id s) r
 
+-- the plan, if the session is to end
 abbrev pub IfReaped : (Plan → Type 0) → Reaping → Type 0
 IfReaped P (Planned p) = P p
 IfReaped P Kept = Unit {0}
@@ -67,8 +71,9 @@ pub record IsEnd (id : ℤ) (p : Plan) (m : Keys) (s : State) (z : ℤ) : Type 0
   pub keys : StandsFor (acts_applied z m p.success) (session_ended s z id)
   pub triggers : p.triggers ≡ (session_ended s z id).triggers
 
--- In each later sound state whose keys meet the guards it ends the session, all of whose nodes go. It is guarded by what the end
--- of the session reads, as the view saw it, and so by the absence of the record of its life; and writes keys of the service alone.
+-- In each sound state whose keys meet the guards, the plan ends the session, all of whose nodes go. It guards what the end of the
+-- session reads, but for the head, as the view saw it, and so the absence of the record of its life. It writes keys of the service
+-- alone, and reads the head last.
 pub record IsReapPlan (id : ℤ) (v : View) (p : Plan) : Type 0 where
   pub ends : (m : Keys) (s : State) (z : ℤ) → IsSound s → StandsFor m s → MayCommit p v m → s.zxid <ℤ z → z ≤ℤ last_revision → IsEnd id p m s z
   pub reads : GuardsReads req.Close (whose id) v p

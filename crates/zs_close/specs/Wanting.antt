@@ -13,15 +13,15 @@ use Rattle.zs_close.specs.Ending.{parents}
 abbrev pub own_keys : ℤ → List Key
 own_keys id = HeadKey ∷ LeaseKey (nat_abs id) ∷ SessionKey (nat_abs id) ∷ []
 
--- and the counts of their parents
+-- and, where these are the nodes, the counts of their parents
 abbrev pub end_keys : ℤ → List Bytes → List Key
 end_keys id ps = own_keys id ++ map CountsKey (parents ps)
 
--- what is read for the end of a session with these nodes, and guarded by its plan
+-- the bytes of the keys that are read for the end of a session with these nodes
 abbrev pub read_keys : ℤ → List Bytes → List Bytes
 read_keys id ps = map key_bytes (end_keys id ps)
 
--- the nodes that a view saw, none where it didn't look them up
+-- the nodes that a view saw of a session: none where the list of them is not there or wasn't looked up
 abbrev pub IsNodesSeen : Option (Option Kv) → List Bytes → Type 0
 IsNodesSeen None ps = ps ≡ []
 IsNodesSeen (Some None) ps = ps ≡ []

@@ -20,7 +20,7 @@ use zn_layout::{CountRec, delete_counts, delete_node, lease_key, put_counts, ses
 use zn_view::View;
 use zx_base::{Memory, Seq};
 
-/// A node's counts, with so many children less.
+/// A node's counts with so many children fewer.
 fn fewer(counts: CountRec, gone: usize) -> CountRec
     requires { IsCountRec counts }
     ensures is { result ≡ fewer_of counts gone }
@@ -32,7 +32,7 @@ fn fewer(counts: CountRec, gone: usize) -> CountRec
     }
 }
 
-/// The keys of the session itself go: its life too, where it is alive.
+/// Deletes the session's own keys: the list of its nodes, and the record of its life if it is alive.
 fn delete_own(alloc: Global, alive: bool, session: i64) -> Result<Seq<Act>, Memory>
     requires { pos 1 ≤ℤ session }
     ensures { IfOk result (λ acts. acts ≡ acts_of (delete_session alive session)) }
@@ -49,7 +49,7 @@ fn delete_own(alloc: Global, alive: bool, session: i64) -> Result<Seq<Act>, Memo
     Ok(acts)
 }
 
-/// The keys of a node go.
+/// Deletes the keys of a node.
 fn push_node(acts: &mut Seq<Act>, alloc: Global, path: &Path) -> Result<(), Memory>
     requires { IsTrue (is_path path.now) }
     ensures { OnOk result ((rest : List ByteList) → acts.new ++ acts_of (delete_nodes rest) ≡ acts.old ++ acts_of (delete_nodes (path.now ∷ rest))) }
@@ -68,7 +68,7 @@ fn push_nodes(acts: &mut Seq<Act>, alloc: Global, paths: &[Path]) -> Result<(), 
     Ok(())
 }
 
-/// A parent counts its children without these nodes.
+/// Puts a parent's counts without these nodes.
 fn push_fewer(
     acts: &mut Seq<Act>,
     alloc: Global,
@@ -84,7 +84,7 @@ fn push_fewer(
     acts.push(put_counts(alloc, parent.bytes(), &left)?)
 }
 
-/// The counts that the view saw of a parent are put without these nodes. A node without counts is not there.
+/// Puts the counts that the view saw of a parent, without these nodes. A parent without counts is not there: nothing is put.
 fn push_counts(
     acts: &mut Seq<Act>,
     alloc: Global,
@@ -122,7 +122,7 @@ fn push_parents(
     Ok(())
 }
 
-/// The operations at the end of a session with these nodes, but for the head's. The view saw the counts of their parents.
+/// The operations at the end of a session with these nodes, but for the head's. The counts of the nodes' parents were looked up.
 #[tactic(auto, unfolding(crate::specs::Ending::end_changes))]
 pub(crate) fn end_acts(
     alloc: Global,

@@ -21,8 +21,8 @@ use zk_model::{Path, Reply};
 use zn_view::{Decision, View, Want, Who};
 use zx_base::{Memory, Seq};
 
-/// What a close of a session has to look up: its life, the list of its nodes, and as soon as the view saw that, the counts
-/// of their parents. A session's number is at least 1.
+/// What a close of a session still has to look up: the head, the record of the session's life and the list of its nodes, and once
+/// the view saw that list, the counts of the nodes' parents. The session's number is at least 1.
 pub fn needs_close(alloc: Global, who: Who, view: &View) -> Result<Seq<Want>, Memory>
     requires { pos 1 ≤ℤ who.session }
     ensures { IfOk result (AreNeeds req.Close who view.now) }
@@ -31,7 +31,7 @@ pub fn needs_close(alloc: Global, who: Who, view: &View) -> Result<Seq<Want>, Me
     Ok(wants)
 }
 
-/// The answer on a view that no sound state has.
+/// The answer on a view that no sound state has: SystemError (-1).
 fn unsound() -> Decision
     ensures { result ≡ refusal }
 {
@@ -41,7 +41,7 @@ fn unsound() -> Decision
     }
 }
 
-/// Closes a session with these nodes, which are no more than it may own.
+/// Closes a session with these nodes, unless they are more than it may own.
 fn close_with(alloc: Global, session: i64, view: &View, paths: &[Path]) -> Result<Decision, Memory>
     requires real { pos 1 ≤ℤ session }
     requires listed { IsSessionRec paths.now }
@@ -86,8 +86,9 @@ fn close(alloc: Global, who: Who, view: &View) -> Result<Decision, Memory>
     close_attached(alloc, who.session, view)
 }
 
-/// Decides a close on a view that lacks nothing of what [`needs_close`] names. `Expired` and `Moved` as for each request;
-/// otherwise a plan by which the session and all its nodes go at one zxid.
+/// Decides a close on a view of which [`needs_close`] names nothing. `Expired` and `Moved` are by the record of the session's life,
+/// as for each request. Otherwise there is a plan by which the session and all its nodes go at one zxid; only on a view that no
+/// sound state has, with no list of the session's nodes or with more than 40 of them, the close is refused with SystemError.
 pub fn plan_close(alloc: Global, who: Who, view: &View) -> Result<Decision, Memory>
     requires real { pos 1 ≤ℤ who.session }
     requires whole { IsWhole req.Close who view.now }

@@ -2,11 +2,12 @@
 //!
 //! Either way the session, the list of its nodes and every node of it go in one transaction, at one zxid. Each parent's
 //! counts are put once, and watches see the triggers of each delete, in the order of the paths' bytes (Programmer's Guide,
-//! "Ephemeral Nodes"). The transaction guards what the end of the session reads, and no other key, whatever else the view
-//! saw: where the session made a node meanwhile, or was resumed, it changes nothing.
+//! "Ephemeral Nodes"). The transaction guards what the end of the session reads, but for the head, and no other key, whatever
+//! else the view saw: where the session made a node meanwhile, or was resumed, it changes nothing.
 //!
-//! What is looked up is the session's life, the list of its nodes, and the counts of their parents: two rounds where there
-//! are nodes, otherwise one. A session owns at most 40 nodes, and so a plan has at most 124 operations.
+//! What is looked up is the head, the record of the session's life, the list of its nodes, and the counts of the nodes'
+//! parents: two rounds where there are nodes, otherwise one. A session owns at most 40 nodes, and so a plan has at most 124
+//! operations.
 //!
 //! In `specs/`, in reading order: `Ending` (what changes), `Wanting` (what is read, and so looked up and guarded), `Closing`
 //! (what decides a close, and the plan of an end), `Reaping` (what decides the end of a session that has lapsed). In
@@ -14,7 +15,7 @@
 //! changes are those of the end), `EndPlans`, `Closes` and `Reaps` (decisions and plans), `KeysRead` (needs and guards),
 //! `Distinct`, `WritesBehind`, `Sizes` and `Taken` (an etcd takes the plan).
 //!
-//! Of n nodes below m parents a plan compares n · m pairs of paths. Each key, value and path takes memory once.
+//! For n nodes below m parents, the comparisons of paths that a plan takes grow with n · m.
 #![tactic(auto)]
 
 mod changes;

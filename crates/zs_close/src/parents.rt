@@ -16,7 +16,7 @@ fn holds(paths: &[Path], path: &[u8]) -> bool
     paths.iter().any(|other| path == other.bytes())
 }
 
-/// Adds a node's parent, unless it is there.
+/// Adds a node's parent, unless it is among those that were found.
 fn push_parent(found: &mut Seq<Path>, alloc: Global, path: &Path) -> Result<(), Memory>
     ensures { OnOk result ((rest : List ByteList) → parents_from found.new rest ≡ parents_from found.old (path.now ∷ rest)) }
 {
@@ -29,7 +29,7 @@ fn push_parent(found: &mut Seq<Path>, alloc: Global, path: &Path) -> Result<(), 
     found.push(parent)
 }
 
-/// The parents of these nodes, each once. Of n nodes it compares each parent with those before it.
+/// The parents of these nodes, each once, in the order of their first children. Each is compared with those found before it.
 pub(crate) fn parents(alloc: Global, paths: &[Path]) -> Result<Seq<Path>, Memory>
     ensures { IfOk result (λ found. found ≡ parents_once paths.now) }
 {
@@ -40,7 +40,7 @@ pub(crate) fn parents(alloc: Global, paths: &[Path]) -> Result<Seq<Path>, Memory
     Ok(found)
 }
 
-/// How many of these nodes are children of a node.
+/// How many of these paths are those of children of a node.
 pub(crate) fn children_among(paths: &[Path], parent: &[u8]) -> usize
     ensures { result ≡ count_by (is_child parent.now) paths.now }
 {

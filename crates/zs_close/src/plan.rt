@@ -20,7 +20,7 @@ use zn_layout::{HeadRec, get_head, put_head};
 use zn_view::{Plan, View};
 use zx_base::{Memory, Seq};
 
-/// The operations of an update, the put of the head and the read of it.
+/// The operations of an update's transaction: these, then the put of the head, then the read of it.
 fn success(alloc: Global, acts: Seq<Act>, head: &HeadRec) -> Result<Seq<Act>, Memory>
     requires { IsHeadRec head.now.triggers }
     ensures { IfOk result (λ l. l ≡ (acts ++ act_of (head_put head.now.triggers) ∷ []) ++ read_key (key_bytes HeadKey) ∷ []) }
@@ -31,7 +31,7 @@ fn success(alloc: Global, acts: Seq<Act>, head: &HeadRec) -> Result<Seq<Act>, Me
     Ok(list)
 }
 
-/// The plan that ends a session with these nodes. The view saw the counts of their parents.
+/// The plan that ends a session with these nodes, at most 40. The counts of the nodes' parents were looked up.
 pub(crate) fn end_plan(
     alloc: Global,
     view: &View,

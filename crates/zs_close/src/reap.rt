@@ -21,12 +21,12 @@ use zk_model::limit::MAX_OWNED;
 use zn_view::{Plan, View, Want};
 use zx_base::{Memory, Seq};
 
-/// What becomes of a session of which a reaper asks.
+/// What becomes of a session that a reaper looks at.
 #[derive(Debug, Drop)]
 pub enum Reaping {
     /// It has lapsed, and this ends it.
     Planned(Plan),
-    /// The record of its life is there.
+    /// The record of its life is there: it lives.
     Kept,
     /// It is not open: the list of its nodes is not there.
     Gone,
@@ -34,7 +34,8 @@ pub enum Reaping {
     TooMany,
 }
 
-/// What a reaper of a session has to look up: the same as a close. The session's number is at least 1.
+/// What a reaper of a session still has to look up: the same keys as a close of it, see [`needs_close`](crate::needs_close). The
+/// session's number is at least 1.
 pub fn needs_reap(alloc: Global, session: i64, view: &View) -> Result<Seq<Want>, Memory>
     requires { pos 1 ≤ℤ session }
     ensures needs { IfOk result (λ ws. (mine : ℤ) → AreNeeds req.Close (record { session = session; mine = mine }) view.now ws) }
@@ -44,7 +45,7 @@ pub fn needs_reap(alloc: Global, session: i64, view: &View) -> Result<Seq<Want>,
     Ok(wants)
 }
 
-/// Ends a session with these nodes, which are no more than it may own.
+/// Ends a session with these nodes, unless they are more than it may own.
 fn reap_with(alloc: Global, session: i64, view: &View, paths: &[Path]) -> Result<Reaping, Memory>
     requires real { pos 1 ≤ℤ session }
     requires listed { IsSessionRec paths.now }
@@ -70,7 +71,7 @@ fn reap_lapsed(alloc: Global, session: i64, view: &View) -> Result<Reaping, Memo
     }
 }
 
-/// Ends a session that has lapsed.
+/// Ends a session, unless the record of its life is there.
 fn reap(alloc: Global, session: i64, view: &View) -> Result<Reaping, Memory>
     requires real { pos 1 ≤ℤ session }
     requires life { HasSeen view.now (LeaseKey (nat_abs session)) }
@@ -84,9 +85,9 @@ fn reap(alloc: Global, session: i64, view: &View) -> Result<Reaping, Memory>
     reap_lapsed(alloc, session, view)
 }
 
-/// Decides what becomes of a session on a view that lacks nothing of what [`needs_reap`] names. Its plan leaves the session
-/// and all its nodes gone at one zxid, or changes nothing. `TooMany` comes exactly where the session has lapsed and the list
-/// of its nodes has more than 40.
+/// Decides what becomes of a session on a view of which [`needs_reap`] names nothing. By its plan the session and all its nodes go
+/// at one zxid, or nothing changes. `TooMany` comes exactly where the record of the session's life is not there and the list of its
+/// nodes has more than 40.
 pub fn plan_reap(alloc: Global, session: i64, view: &View) -> Result<Reaping, Memory>
     requires real { pos 1 ≤ℤ session }
     requires whole { IsWhole req.Close (whose session) view.now }

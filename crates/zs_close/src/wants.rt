@@ -13,7 +13,7 @@ use zn_layout::{counts_key, head_key, lease_key, session_key};
 use zn_view::{View, Want};
 use zx_base::{Bytes, Memory, Seq};
 
-/// The head, the record of the session's life, and the list of its nodes.
+/// The keys that the end of each session reads: the head, the record of its life, and the list of its nodes.
 fn own_keys(alloc: Global, session: i64) -> Result<Seq<Bytes>, Memory>
     requires { pos 1 ≤ℤ session }
     ensures { IfOk result (λ keys. keys ≡ map key_bytes (keys_of_session session)) }
@@ -25,7 +25,7 @@ fn own_keys(alloc: Global, session: i64) -> Result<Seq<Bytes>, Memory>
     Ok(keys)
 }
 
-/// The counts of a node.
+/// Adds the key of a node's counts.
 fn push_counts_of(keys: &mut Seq<Bytes>, alloc: Global, path: &Path) -> Result<(), Memory>
     requires { IsTrue (is_path path.now) }
     ensures { OnOk result (keys.new ≡ keys.old ++ key_bytes (CountsKey path.now) ∷ []) }
@@ -33,7 +33,7 @@ fn push_counts_of(keys: &mut Seq<Bytes>, alloc: Global, path: &Path) -> Result<(
     keys.push(counts_key(alloc, path.bytes())?)
 }
 
-/// The counts of these nodes.
+/// Adds the keys of these nodes' counts.
 fn push_counts(keys: &mut Seq<Bytes>, alloc: Global, paths: &[Path]) -> Result<(), Memory>
     requires { All (λ q. IsTrue (is_path q)) paths.now }
     ensures { OnOk result (keys.new ≡ keys.old ++ map key_bytes (map CountsKey paths.now)) }
@@ -44,7 +44,7 @@ fn push_counts(keys: &mut Seq<Bytes>, alloc: Global, paths: &[Path]) -> Result<(
     Ok(())
 }
 
-/// The keys that the end of a session with these nodes reads: its own, and the counts of the nodes' parents.
+/// The keys that the end of a session with these nodes reads, those of the counts of the nodes' parents among them.
 pub(crate) fn end_keys(alloc: Global, session: i64, paths: &[Path]) -> Result<Seq<Bytes>, Memory>
     requires real { pos 1 ≤ℤ session }
     requires valid { All (λ p. IsTrue (is_path p)) paths.now }
@@ -56,7 +56,7 @@ pub(crate) fn end_keys(alloc: Global, session: i64, paths: &[Path]) -> Result<Se
     Ok(keys)
 }
 
-/// The nodes that the view saw of a session, none where it did not look them up.
+/// The nodes that the view saw of a session: none where the list of them is not there or was not looked up.
 fn nodes_seen(alloc: Global, view: &View, session: i64) -> Result<Seq<Path>, Memory>
     requires { pos 1 ≤ℤ session }
     ensures is { IfOk result (IsNodesSeen (sees view.now (SessionKey (nat_abs session)))) }
@@ -72,7 +72,8 @@ fn nodes_seen(alloc: Global, view: &View, session: i64) -> Result<Seq<Path>, Mem
     }
 }
 
-/// What the end of a session needs: the counts of its nodes' parents as soon as the view saw the list of its nodes.
+/// What the end of a session still has to look up. The counts of its nodes' parents are among it once the view saw the list of
+/// its nodes.
 pub(crate) fn end_needs(alloc: Global, view: &View, session: i64) -> Result<Seq<Want>, Memory>
     requires { pos 1 ≤ℤ session }
     ensures { IfOk result (AreEndWants session view.now) }

@@ -1,4 +1,4 @@
--- The operations so far stand behind those at the start, and with those of the parents to come are all.
+-- The operations so far come after those at the start, and with those of the parents to come they are all.
 use Rattle.std.proofs.Common.{◌≡◌, ◌++◌, drop}
 use Rattle.std.specs.Prelude.{Option}
 use Rattle.zn_layout.specs.declared.record.CountRec.{CountRec}
