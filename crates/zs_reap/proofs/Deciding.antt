@@ -54,7 +54,7 @@ pub looked-at : (id r : ℤ) (ws : List Want) (parts : List ActAns) (v : View) (
 looked-at id r ws parts v phase step lacking is needs some asks =
     subst (λ (w : View). IsLookedAt id w phase step) is (record { wants = lacking; lacking = record { needs = needs; some = λ e. some (ap (λ (l : List Want). length l) e) }; asks = asks })
 
--- ---- the list of nodes that a view saw is one
+-- ---- a view saw one list of nodes
 
 pub few-seen : (id : ℤ) (v : View) (kv : Kv) (ps : List Bytes) → sees v (SessionKey (nat_abs id)) ≡ Some (Some kv) → IsNodesIn kv ps → length ps ≤ max_owned → AreFew id v
 few-seen id v kv ps saw nodes few other qs also are =

@@ -1,4 +1,4 @@
--- What a reap waits for behind a step.
+-- What a reap waits for after a step.
 use Rattle.std.proofs.Common.{◌++◌, ℤ, pos, Bool, true, false, List, Option, Some, None, refl, sym, subst, inl, inr}
 use Rattle.ev_types.specs.declared.answer.ActAns.{ActAns}
 use Rattle.ev_types.specs.declared.answer.Answer.{Answer}

@@ -41,6 +41,7 @@ first_wants id = map key_want (own_keys id)
 
 -- ---- what a reaper knows
 
+-- the revision of the first look is one that an etcd can have
 abbrev pub IsInPhase : Phase → Type 0
 IsInPhase Unasked = Unit {0}
 IsInPhase Looking = Unit {0}
@@ -62,11 +63,12 @@ IsAsked (Counting revision wants) = Unit {0}
 IsAsked (Removing again) = Unit {0}
 IsAsked Over = ⊥
 
+-- the answer of a transaction, with numbers in an etcd's range
 abbrev pub IsOfTxn : Answer → Type 0
 IsOfTxn (answer.Txn revision succeeded parts) = IsTxnAnswer revision parts
 IsOfTxn _ = ⊥
 
--- the first step has no answer; each other one has an answer to what was asked last, and none is made behind the end
+-- the first step has no answer; each later one has one to the transaction that was asked last, and after the end there is no step
 abbrev pub MayStep : Reap → Option Answer → Type 0
 MayStep r None = r.phase ≡ Unasked
 MayStep r (Some a) = IsAsked r.phase × IsOfTxn a
@@ -79,14 +81,15 @@ Asks next q phase step = (phase ≡ next) × (step ≡ steps.Ask q)
 abbrev pub Ends : ReapStep → Phase → ReapStep → Type 0
 Ends end phase step = (phase ≡ Over) × (step ≡ end)
 
+-- the first look, at the present
 abbrev pub LooksFirst : ℤ → Phase → ReapStep → Type 0
 LooksFirst id phase step = Asks Looking (reading (pos 0) (first_wants id)) phase step
 
--- the list of the session's nodes that a view saw has no more than a session may own
+-- the list of the session's nodes that a view saw, if it saw one, has no more than a session may own
 abbrev pub AreFew : ℤ → View → Type 0
 AreFew id v = (kv : Kv) (ps : List Bytes) → sees v (SessionKey (nat_abs id)) ≡ Some (Some kv) → IsNodesIn kv ps → length ps ≤ max_owned
 
--- by the decision: the transaction of its plan is asked, or the end is told at the view's revision
+-- by the decision: the transaction of its plan is asked, or the end is told at the view's revision; it is never `TooMany`
 abbrev pub Follows : View → Reaping → Phase → ReapStep → Type 0
 Follows v (Planned p) phase step = Asks (Removing p.again) (transaction p) phase step
 Follows v Kept phase step = Ends (steps.Kept v.revision) phase step
@@ -94,7 +97,8 @@ Follows v Gone phase step = Ends (steps.Gone v.revision) phase step
 Follows v TooMany phase step = ⊥
 
 -- The view lacks nothing and decides. The session is kept exactly where the record of its life is there, and gone exactly
--- where neither that nor the list of its nodes is (`IsReap`); the plan ends it with all its nodes, and an etcd takes it.
+-- where neither that nor the list of its nodes is (`IsReap`). A plan ends it with all its nodes, and where the view is of a sound
+-- state an etcd takes it.
 pub record Decides (id : ℤ) (v : View) (phase : Phase) (step : ReapStep) : Type 0 where
   pub whole : IsWhole req.Close (whose id) v
   pub reaping : Reaping
@@ -104,18 +108,18 @@ pub record Decides (id : ℤ) (v : View) (phase : Phase) (step : ReapStep) : Typ
   pub taken : IfReaped (λ p. (s : State) → IsSound s → IsOf v s → IsTaken p) reaping
   pub follows : Follows v reaping phase step
 
--- the view lacks these
+-- these are what the view still lacks for the end of the session, and there are some
 pub record LacksSome (id : ℤ) (v : View) (ws : List Want) : Type 0 where
   pub needs : AreNeeds req.Close (whose id) v ws
   pub some : ws ≡ [] → ⊥
 
--- the view lacks some of the parents' counts, which are read with the other keys at its revision
+-- what the view lacks, the counts of the nodes' parents, is read at the view's revision, after the keys of the first look
 pub record IsCounted (id : ℤ) (v : View) (phase : Phase) (step : ReapStep) : Type 0 where
   pub wants : List Want
   pub lacking : LacksSome id v wants
   pub asks : Asks (Counting v.revision (first_wants id ++ wants)) (reading v.revision (first_wants id ++ wants)) phase step
 
--- the session had other nodes since: it is looked at anew
+-- the session had other nodes since, and so the view lacks something: the session is looked at anew
 pub record IsLookedAt (id : ℤ) (v : View) (phase : Phase) (step : ReapStep) : Type 0 where
   pub wants : List Want
   pub lacking : LacksSome id v wants
@@ -123,20 +127,23 @@ pub record IsLookedAt (id : ℤ) (v : View) (phase : Phase) (step : ReapStep) : 
 
 -- ---- at each answer
 
--- what was read of these keys are records, and the session's nodes are few
+-- all that was read under these keys is records, and the session's nodes are few
 pub record IsTested (id : ℤ) (ws : List Want) (revision : ℤ) (parts : List ActAns) : Type 0 where
   pub records : AreRecords ws parts
   pub few : AreFew id (viewed revision ws parts)
 
+-- after the first look: the view decides, or the counts are read
 abbrev pub Looked : ℤ → List Want → ℤ → List ActAns → Phase → ReapStep → Type 0
 Looked id ws revision parts phase step =
     IsTested id ws revision parts × (Decides id (viewed revision ws parts) phase step ⊎ IsCounted id (viewed revision ws parts) phase step)
 
+-- after a later look: the view decides, or the session is looked at anew
 abbrev pub LookedAgain : ℤ → List Want → ℤ → List ActAns → Phase → ReapStep → Type 0
 LookedAgain id ws revision parts phase step =
     IsTested id ws revision parts × (Decides id (viewed revision ws parts) phase step ⊎ IsLookedAt id (viewed revision ws parts) phase step)
 
--- the counts were read at the revision of the first look; where a guard didn't hold, what it reads again is of the present
+-- The answer of a transaction, by the phase. The counts were read at the revision of the first look; what is read again where a
+-- guard fails is as it was at the answer's revision.
 abbrev pub Answered : ℤ → Phase → ℤ → Bool → List ActAns → Phase → ReapStep → Type 0
 Answered id Unasked revision succeeded parts phase step = ⊥
 Answered id Looking revision succeeded parts phase step = Looked id (first_wants id) revision parts phase step
@@ -149,16 +156,17 @@ abbrev pub Moves : Reap → Option Answer → Phase → ReapStep → Type 0
 Moves r None phase step = LooksFirst r.session phase step
 Moves r (Some a) phase step = OfTxn a (λ revision succeeded parts. Answered r.session r.phase revision succeeded parts phase step)
 
--- from a reap by an answer, with what it answers, to the next
+-- one step: from a reap, by an answer, to what the step says and to the next reap
 pub record Steps (r : Reap) (a : Option Answer) (step : ReapStep) (new : Reap) : Type 0 where
   pub same : new.session ≡ r.session
   pub moves : Moves r a new.phase step
 
--- what a reap waits for behind a step: the answer of a transaction; behind a step that asked nothing it is over
+-- the ask is a transaction
 abbrev pub IsTxn : Ask → Type 0
 IsTxn (ask.Txn t) = Unit {0}
 IsTxn _ = ⊥
 
+-- what a reap waits for after a step: the answer of a transaction; after a step that asked nothing it is over
 abbrev pub IsWaiting : ReapStep → Phase → Type 0
 IsWaiting (steps.Ask q) phase = IsAsked phase × IsTxn q
 IsWaiting _ phase = phase ≡ Over
@@ -187,6 +195,7 @@ IsReadFault id ws revision parts Memory = Unit {0}
 abbrev pub IsMemory : StepFault → Type 0
 IsMemory fault = fault ≡ Memory
 
+-- the fault of a step at an answer, by the phase: of what the answer shows, if it shows something
 abbrev pub IsFaultIn : ℤ → Phase → ℤ → Bool → List ActAns → StepFault → Type 0
 IsFaultIn id Looking revision succeeded parts fault = IsReadFault id (first_wants id) revision parts fault
 IsFaultIn id (Counting first wants) revision succeeded parts fault = IsReadFault id wants first parts fault

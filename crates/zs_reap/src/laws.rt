@@ -6,7 +6,7 @@ ghost use Rattle.zn_view.specs.Seen.{View};
 ghost use Rattle.zn_view.specs.Views.{IsOf};
 ghost use Rattle.zs_reap.specs.Steps.{AreFew};
 
-/// In a sound state no session owns more nodes than it may: a list of its nodes is damaged in none for its length.
+/// On a view of a sound state, no list of a session's nodes has more than a session may own: none is damaged for its length.
 pub fn a_sound_session_has_few_nodes()
     ensures { (id : ℤ) (v : View) (s : State) → pos 1 ≤ℤ id → IsSound s → IsOf v s → AreFew id v }
 {}

@@ -46,7 +46,7 @@ fn test_nodes(alloc: Global, session: i64, view: &View) -> Result<(), StepFault>
     Ok(())
 }
 
-/// What these keys had at a revision, all of them records.
+/// What these keys had at a revision: all of it is records, and the session's nodes are no more than it may own.
 fn seen(
     alloc: Global,
     session: i64,
@@ -66,7 +66,7 @@ fn seen(
     Ok(view)
 }
 
-/// The first look: a view that lacks the counts of parents is made anew with them.
+/// What follows the first look: the decision, or, where the view lacks the counts of the nodes' parents, a look at these.
 pub(crate) fn looked(
     alloc: Global,
     session: i64,
@@ -89,7 +89,8 @@ pub(crate) fn looked(
     Ok(count(alloc, session, &view, lacking)?)
 }
 
-/// A later look: where the view lacks something, the session had other nodes since.
+/// What follows a later look: the decision, or, where the view lacks something since the session had other nodes by then, a look
+/// anew.
 pub(crate) fn looked_again(
     alloc: Global,
     session: i64,

@@ -43,7 +43,7 @@ pub(crate) fn first_wants(alloc: Global, session: i64) -> Result<Seq<Want>, Memo
     Ok(wants)
 }
 
-/// Reads these.
+/// Reads the head, the record of the session's life, and the list of its nodes, as they are now.
 pub(crate) fn look(alloc: Global, session: i64) -> Result<Move, Memory>
     requires { pos 1 ≤ℤ session }
     ensures asks { IfOk result (λ m. LooksFirst session m.phase m.step) }
@@ -56,7 +56,7 @@ pub(crate) fn look(alloc: Global, session: i64) -> Result<Move, Memory>
     })
 }
 
-/// These wants, and others behind them.
+/// These wants, and others after them.
 fn joined(wants: Seq<Want>, more: Seq<Want>) -> Result<Seq<Want>, Memory>
     ensures { IfOk result (λ ws. ws ≡ wants ++ more) }
 {
@@ -66,7 +66,7 @@ fn joined(wants: Seq<Want>, more: Seq<Want>) -> Result<Seq<Want>, Memory>
     Ok(Seq::from_vec(all))
 }
 
-/// Reads what the view lacks, and what it saw once more, at its revision.
+/// Reads at the view's revision what the view lacks, and before that the keys of the first look once more.
 pub(crate) fn count(
     alloc: Global,
     session: i64,

@@ -11,9 +11,9 @@ pub enum Phase {
     Unasked,
     /// The head, the record of the session's life, and the list of its nodes.
     Looking,
-    /// The same keys and the counts of the nodes' parents, all at this revision.
+    /// The keys that were looked at first, and the counts of the nodes' parents, all at this revision.
     Counting { revision: i64, wants: Seq<Want> },
-    /// The transaction that ends the session; where a guard of it does not hold, it reads these keys.
+    /// The transaction that ends the session; where a guard of it fails, it reads these keys.
     Removing { again: Seq<Want> },
     /// Nothing more.
     Over,
@@ -30,12 +30,12 @@ pub struct Reap {
 /// What a step of a reap answers.
 #[derive(Debug, Drop)]
 pub enum ReapStep {
-    /// To be carried out; the next step takes its answer.
+    /// This is to be carried out; the next step takes its answer.
     Ask(Ask),
     /// The session and all its nodes are gone, by the update of this zxid.
     Reaped { zxid: i64 },
     /// The record of the session's life was there at this revision: the session lives.
     Kept { rev: i64 },
-    /// Neither that nor the list of its nodes was there at this revision: the session is not open.
+    /// Neither the record of the session's life nor the list of its nodes was there at this revision: the session is not open.
     Gone { rev: i64 },
 }
