@@ -1,4 +1,4 @@
--- Behind the transaction of an attachment keys stand for the state in which the session is attached anew.
+-- After the transaction of an attachment, keys stand for the state in which the session is attached anew.
 use Rattle.std.proofs.Common.{◌≡◌, ◌≢◌, ℕ, ℤ, pos, negsuc, true, Bool, false, List, [], Option, Some, refl, sym, ap, ◌∙◌, subst, arith}
 use Rattle.std.specs.Prelude.{nat_eq, ◌≤ℤ◌, ◌<ℤ◌, ◌&&◌, ◌+ℤ◌, if◌then◌else◌}
 use Rattle.std.specs.List.{list_all}

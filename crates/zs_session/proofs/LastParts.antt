@@ -4,7 +4,7 @@ use Rattle.ev_types.specs.declared.answer.ActAns.{ActAns}
 use Rattle.ev_types.specs.declared.answer.Kv.{Kv}
 use Rattle.zn_view.specs.Asks.{found_in, last_part}
 
--- what the last of some further parts found, behind what was found before
+-- what the last of these parts found; if there is none, what was found before
 abbrev pub last_from : List Kv → List ActAns → List Kv
 last_from found [] = found
 last_from found (a ∷ more) = last_from (found_in a) more

@@ -1,4 +1,4 @@
--- Behind the transaction of a new session keys stand for the state with it.
+-- After the transaction of a new session, keys stand for the state with the session.
 use Rattle.std.proofs.Common.{◌≡◌, ℕ, ℤ, pos, negsuc, true, Bool, false, cond, List, [], length, Some, None, refl, sym, subst, arith}
 use Rattle.std.specs.Prelude.{nat_eq, ◌≤ℤ◌, ◌<ℤ◌, ◌&&◌, int_lt}
 use Rattle.std.specs.Int.{int_min}

@@ -32,7 +32,7 @@ absent_by (Some kv) least h = absurd (omega (arith, ints, least kv refl, h))
 pub guarded-absent : (m : Keys) (s : State) (k : Key) → StandsFor m s → mod_of (at m k) ≡ pos 0 → at m k ≡ None
 guarded-absent m s k stands h = absent_by (at m k) (λ kv e. (stands.layout).least (key_bytes k) kv e) h
 
--- one that has a revision is there
+-- a key that was last put at a revision is there
 pub record IsThere (o : Option Kv) (revision : ℤ) : Type 0 where
   pub kv : Kv
   pub is : o ≡ Some kv
@@ -90,7 +90,7 @@ module _ (z : ℤ) (s : State) (n : ℕ) (x : Session) where
       subst (λ (i : ℕ). NodesMean (session_at (pos i) opened) (owned s.tree (pos i)) o) (sym (eqb-true m n e)) own
   nodes-fit w m false e nodes = λ o h. subst (λ (y : Option Session). NodesMean y (owned s.tree (pos m)) o) (sym (session-other m e)) h
 
-  -- its nodes aren't written
+  -- the list of its nodes isn't written
   pub nodes-stay : (old : Session) (m : ℕ) (b : Bool) → nat_eq m n ≡ b → session_at (pos n) s ≡ Some old → (o : Option Stored) → NodesMean (session_at (pos m) s) (owned s.tree (pos m)) o → NodesMean (session_at (pos m) opened) (owned s.tree (pos m)) o
   nodes-stay old m true e was o h =
       let same : m ≡ n = eqb-true m n e in

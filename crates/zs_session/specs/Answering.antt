@@ -12,12 +12,12 @@ use Rattle.zn_view.specs.Seen.{View, empty_view, IsCount}
 use Rattle.zs_session.specs.declared.fault.StepFault.{StepFault}
 use Rattle.zs_session.specs.declared.fault.StepFault.TheVariants.{Damaged, Memory}
 
--- numbers in an etcd's range
+-- the revision and the numbers of what was found are in an etcd's range
 pub record IsTxnAnswer (revision : ℤ) (parts : List ActAns) : Type 0 where
   pub revision_is : IsCount revision
   pub numbers : AreNumbers parts
 
--- an answer is of the kind of its ask
+-- an answer is of the kind of its ask; of a transaction, it has numbers in an etcd's range
 abbrev pub IsAnswerTo : Ask → Answer → Type 0
 IsAnswerTo (ask.Txn t) (answer.Txn revision succeeded parts) = IsTxnAnswer revision parts
 IsAnswerTo (ask.Range q) (answer.Range revision found) = Unit {0}
@@ -31,20 +31,21 @@ IsAwaited None None = Unit {0}
 IsAwaited (Some q) (Some a) = IsAnswerTo q a
 IsAwaited _ _ = ⊥
 
+-- it is the answer of a transaction, of which this holds
 abbrev pub OfTxn : Answer → (ℤ → Bool → List ActAns → Type 0) → Type 0
 OfTxn (answer.Txn revision succeeded parts) P = P revision succeeded parts
 OfTxn _ P = ⊥
 
--- the seconds that a lease has left
+-- it is the answer of a keepalive, and this holds of the seconds that the lease has left
 abbrev pub OfAlive : Answer → (ℤ → Type 0) → Type 0
 OfAlive (answer.Alive revision id seconds) P = P seconds
 OfAlive _ P = ⊥
 
--- what a look at some keys shows
+-- what a look at these keys at a revision shows
 abbrev pub viewed : ℤ → List Want → List ActAns → View
 viewed revision ws parts = with_parts (at_revision empty_view revision) ws parts
 
--- what was found under a key isn't a record: the first one's key and value are given; or memory was refused
+-- the first of the keys whose value isn't a record, with that value; or memory was refused
 abbrev pub IsLookFault : List Want → List ActAns → StepFault → Type 0
 IsLookFault ws parts (Damaged key value) = IsFirstDamaged ws parts key value
 IsLookFault ws parts Memory = Unit {0}

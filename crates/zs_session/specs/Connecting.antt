@@ -44,12 +44,12 @@ asked_in c LookingAgain = Some (reading (pos 0) (attach_wants c.request.session)
 asked_in c (Attaching seen life) = Some (ask.Txn (attach_txn c.request.session seen life))
 asked_in c Over = None
 
--- a step is made with an answer to what was asked last, and none behind the end
+-- a step is made with an answer to what was asked last, the first with none; after the end there is no step
 pub record MayStep (c : Connect) (a : Option Answer) : Type 0 where
   pub going : c.phase ≡ Over → ⊥
   pub awaited : IsAwaited (asked_in c c.phase) a
 
--- ---- what a connecting connection knows: whether it is to be a new session, and else which one is resumed
+-- ---- what a connecting connection knows: that it is to have a new session, or which one it resumes
 
 -- a session's number, and a record of its life with the client's password
 pub record IsResumable (r : ConnectRequest) (life : LeaseRec) : Type 0 where
@@ -77,7 +77,7 @@ abbrev pub asked_by : ConnectStep → Option Ask
 asked_by (steps.Ask q) = Some q
 asked_by _ = None
 
--- it asks what this phase asks
+-- the connect goes on to this phase, and the step asks what is asked in it
 abbrev pub Waits : Connect → Phase → Phase → ConnectStep → Type 0
 Waits c next phase step = (phase ≡ next) × (asked_by step ≡ asked_in c next)
 
@@ -109,7 +109,7 @@ pub record SawLifeAt (v : View) (id : ℤ) (seen : ℤ) (life : LeaseRec) : Type
   pub value : IsLifeIn kv life
   pub revision : seen ≡ kv.mod_revision
 
--- and the connect has the session's number and password
+-- the view shows the life of the session that is to be resumed, and the connect has its password
 pub record SawMine (r : ConnectRequest) (v : View) (seen : ℤ) (life : LeaseRec) : Type 0 where
   pub session : pos 1 ≤ℤ r.session
   pub saw : SawLifeAt v r.session seen life
@@ -118,7 +118,7 @@ pub record SawMine (r : ConnectRequest) (v : View) (seen : ℤ) (life : LeaseRec
 abbrev pub SawNoneOfMine : ConnectRequest → View → Type 0
 SawNoneOfMine r v = (seen : ℤ) (life : LeaseRec) → SawMine r v seen life → ⊥
 
--- a resume is refused, or goes on
+-- a resume is refused, or goes on to the next phase
 abbrev pub Resumes : Connect → View → (ℤ → LeaseRec → Phase) → Phase → ConnectStep → Type 0
 Resumes c v next phase step =
     (SawNoneOfMine c.request v × Ends steps.Unknown phase step)
@@ -126,7 +126,7 @@ Resumes c v next phase step =
 
 -- ---- at each answer
 
--- the client has seen no update behind the head; a session of number 0 is a new one
+-- a client that has seen a greater zxid than the head's is ahead; a session number of 0 is a new session's; any other is resumed
 abbrev pub LooksFirst : Connect → View → Phase → ConnectStep → Type 0
 LooksFirst c v phase step =
     let head = head_zxid (head_of v) in
@@ -140,21 +140,22 @@ Looked c revision parts phase step = AreRecords (first_wants c.request) parts ×
 abbrev pub is_taken : ℤ → View → Bool
 is_taken id v = is_there v (life_key id) || is_there v (nodes_key id)
 
--- where a guard failed and neither key is there, the transaction is asked again
+-- the new session is attached; or a guard failed: its number is taken, or where neither key is there the transaction is asked again
 abbrev pub Created : Connect → ℤ → Bool → List ActAns → Phase → ConnectStep → Type 0
 Created c revision true parts phase step = Ends (attached c.request c.fresh.id (timeout_in c) c.fresh.passwd revision parts) phase step
 Created c revision false parts phase step =
     AreRecords (session_wants c.fresh.id) parts
     × MatchBool (is_taken c.fresh.id (viewed revision (session_wants c.fresh.id) parts)) (Ends (steps.Taken revision) phase step) (Waits c Creating phase step)
 
--- after no seconds the lease has gone, or the session moves: it is looked at again
+-- where a keepalive answers no seconds the lease may be gone, and the session is looked at again; otherwise its attachment is asked
 abbrev pub Kept : Connect → ℤ → LeaseRec → ℤ → Phase → ConnectStep → Type 0
 Kept c seen life seconds phase step = MatchBool (int_eq seconds (pos 0)) (Waits c LookingAgain phase step) (Waits c (Attaching seen life) phase step)
 
+-- after another look at the session's life the resume is refused, or the attachment is asked
 abbrev pub LookedAgain : Connect → ℤ → List ActAns → Phase → ConnectStep → Type 0
 LookedAgain c revision parts phase step = AreRecords (attach_wants c.request.session) parts × Resumes c (viewed revision (attach_wants c.request.session) parts) Attaching phase step
 
--- where the guard failed, what is there now is tested, and asked again; the session's own timeout is kept
+-- the session is attached, with its own timeout; or the guard failed: what is there now is tested, and the attachment asked again
 abbrev pub Attached : Connect → LeaseRec → ℤ → Bool → List ActAns → Phase → ConnectStep → Type 0
 Attached c life revision true parts phase step = Ends (attached c.request c.request.session life.timeout life.passwd revision parts) phase step
 Attached c life revision false parts phase step = LookedAgain c revision parts phase step
@@ -175,18 +176,19 @@ abbrev pub Moves : Connect → Option Answer → Phase → ConnectStep → Type 
 Moves c None phase step = Waits c Looking phase step
 Moves c (Some a) phase step = Answers c c.phase a phase step
 
--- from a connect by an answer, with what it answers, to the next
+-- one step: from a connect, by an answer, to what the step says and to the next connect
 pub record Steps (c : Connect) (a : Option Answer) (step : ConnectStep) (new : Connect) : Type 0 where
   pub same : new ≡ record { request = c.request; fresh = c.fresh; phase = new.phase }
   pub moves : Moves c a new.phase step
 
--- what a connect waits for behind a step: an answer to what the step asked; behind a step that asked nothing it is over
+-- what a connect waits for after a step: an answer to what the step asked; after a step that asked nothing it is over
 pub record IsWaiting (step : ConnectStep) (new : Connect) : Type 0 where
   pub asked : asked_by step ≡ asked_in new new.phase
   pub ends : asked_by step ≡ None → new.phase ≡ Over
 
 -- ---- what may be damaged: the parts of a look
 
+-- the keys that were looked at, and the parts that show them; none where the answer shows none
 abbrev pub looked_at_in : Connect → Phase → Answer → List Want × List ActAns
 looked_at_in c Looking (answer.Txn revision succeeded parts) = (first_wants c.request, parts)
 looked_at_in c Creating (answer.Txn revision false parts) = (session_wants c.fresh.id, parts)

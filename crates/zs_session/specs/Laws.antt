@@ -9,13 +9,13 @@ use Rattle.zk_transcript.specs.History.{State, Session, session_at, updated}
 use Rattle.zn_layout.specs.StandsFor.{StandsFor}
 use Rattle.zn_layout.specs.declared.record.LeaseRec.{LeaseRec}
 
--- the session wasn't open, and behind the transaction the keys stand for the state with it
+-- the session wasn't open, and after the transaction the keys stand for the state after the line of the new session
 pub record IsOpened (before : List TranscriptLine) (s : State) (z id : ℤ) (c : ℕ) (m : Keys) (t : TxnReq) : Type 0 where
   pub closed : session_at id s ≡ None
   pub stands : StandsFor (acts_applied z m t.success) (updated before s z (NewSession id c))
 
--- the session was live as the record of its life says, and behind the transaction the keys stand for the state in which it is
--- attached anew
+-- the session lived, last attached at the revision that was seen, with the password and the timeout of the record of its life; and
+-- after the transaction the keys stand for the state in which it is attached anew
 pub record IsAttachedAnew (before : List TranscriptLine) (s : State) (z id : ℤ) (c : ℕ) (m : Keys) (t : TxnReq) (seen : ℤ) (life : LeaseRec) : Type 0 where
   pub session : Session
   pub there : session_at id s ≡ Some session

@@ -20,17 +20,18 @@ use Rattle.zs_session.specs.declared.connect.Fresh.{Fresh}
 abbrev pub lease_seconds : ℤ → ℤ
 lease_seconds timeout = pos ((nat_abs timeout + 999) / 1000)
 
--- the keys of a session: its life, and its nodes
+-- the two keys of a session: its life, and the list of its nodes
 abbrev pub life_key : ℤ → Key
 life_key id = LeaseKey (nat_abs id)
 
 abbrev pub nodes_key : ℤ → Key
 nodes_key id = SessionKey (nat_abs id)
 
+-- the key was last put at this revision; at 0 it is not there
 abbrev pub guard_on : Key → ℤ → Guard
 guard_on k revision = record { key = key_bytes k; mod_revision = revision }
 
--- the record of a session's life, with its lease
+-- puts the record of a session's life, attached to its lease
 abbrev pub put_life : ℤ → LeaseRec → Change
 put_life id life = record { key = life_key id; put = Some (record { value = lease_value life; lease = id }) }
 
@@ -57,7 +58,7 @@ new_session_txn f timeout = update_txn (new_session_guards f.id) (new_session_ch
 abbrev pub attach_wants : ℤ → List Want
 attach_wants id = key_want (life_key id) ∷ head_want ∷ []
 
--- behind the greatest long it begins again at 1
+-- after the greatest long comes 1
 abbrev pub next_attach : ℤ → ℤ
 next_attach n = if int_eq n max_long then pos 1 else n +ℤ pos 1
 
@@ -73,7 +74,7 @@ attach_guards id seen = guard_on (life_key id) seen ∷ []
 abbrev pub attach_txn : ℤ → ℤ → LeaseRec → TxnReq
 attach_txn id seen life = update_txn (attach_guards id seen) (attach_changes id life) [] (ranges_of (pos 0) (attach_wants id))
 
--- ---- the first look: at the head, and at the life of the session that is to be resumed, which a number below 1 doesn't have
+-- ---- the first look: at the head, and at the life of the session that is to be resumed; a number below 1 is no session's
 
 abbrev pub first_wants : ConnectRequest → List Want
 first_wants r = if int_lt r.session (pos 1) then head_want ∷ [] else attach_wants r.session

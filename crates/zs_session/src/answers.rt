@@ -37,7 +37,7 @@ fn looked_at(
     Ok(begun(alloc, connect, &view)?)
 }
 
-/// The head, and the life of the session that is to be resumed.
+/// What follows the first look, at the head and at the life of the session that is to be resumed.
 pub(crate) fn looked(alloc: Global, connect: &Connect, answer: &Answer) -> Result<Move, StepFault>
     requires { IsAnswerTo (reading_ask (pos 0) (wants_of_first connect.now.request)) answer.now }
     ensures ok { IfOk result (λ m. OfTxn answer.now (λ revision succeeded parts. Looked connect.now revision parts m.phase m.step)) }
@@ -89,7 +89,7 @@ fn new_session(connect: &Connect, revision: i64, parts: &[ActAns]) -> Move
     ))
 }
 
-/// The new session, or its keys where one of them is there.
+/// What follows the transaction of a new session: it is there, or a guard failed and its keys were read.
 pub(crate) fn created(alloc: Global, connect: &Connect, answer: &Answer) -> Result<Move, StepFault>
     requires least { pos 1 ≤ℤ connect.now.fresh.id }
     requires awaited { IsAnswerTo (asks.Txn (new_session_txn connect.now.fresh (timeout_in connect.now))) answer.now }
@@ -111,7 +111,7 @@ pub(crate) fn created(alloc: Global, connect: &Connect, answer: &Answer) -> Resu
     }
 }
 
-/// The seconds that the lease of the session has left.
+/// What follows a keepalive, whose answer has the seconds that the lease has left.
 pub(crate) fn kept_alive(
     alloc: Global,
     connect: &Connect,
@@ -148,7 +148,7 @@ fn looked_again_at(
     Ok(attached_by_view(alloc, connect, &view)?)
 }
 
-/// The life of the session again, and the head.
+/// What follows the second look, at the life of the session and at the head.
 pub(crate) fn looked_again(
     alloc: Global,
     connect: &Connect,
@@ -182,7 +182,7 @@ fn old_session(connect: &Connect, life: &LeaseRec, revision: i64, parts: &[ActAn
     ))
 }
 
-/// The session that is attached, or its life where that was written since.
+/// What follows the transaction of an attachment: the session is attached, or the guard failed and its life was read again.
 pub(crate) fn attached_anew(
     alloc: Global,
     connect: &Connect,

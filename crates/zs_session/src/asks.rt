@@ -32,7 +32,7 @@ pub(crate) fn lease_seconds(timeout: i32) -> i64
     i64::from((timeout.unsigned_abs() + 999) / 1000)
 }
 
-/// The life of a session, its nodes, and the head.
+/// The keys of a session, its life and its nodes, and the head.
 pub(crate) fn session_wants(alloc: Global, id: i64) -> Result<Seq<Want>, Memory>
     requires { pos 1 ≤ℤ id }
     ensures { IfOk result (λ wants. wants ≡ wants_of_session id) }
@@ -44,7 +44,7 @@ pub(crate) fn session_wants(alloc: Global, id: i64) -> Result<Seq<Want>, Memory>
     Ok(wants)
 }
 
-/// The life of a session, whose number is at least 1, and the head.
+/// What an attachment of a session looks up: the record of its life, and the head. The session's number is at least 1.
 pub fn attach_wants(alloc: Global, id: i64) -> Result<Seq<Want>, Memory>
     requires { pos 1 ≤ℤ id }
     ensures { IfOk result (λ wants. wants ≡ wants_of_attach id) }
@@ -55,7 +55,7 @@ pub fn attach_wants(alloc: Global, id: i64) -> Result<Seq<Want>, Memory>
     Ok(wants)
 }
 
-/// What is looked up first for a connect.
+/// What is looked up first for a connect: the head, and the life of the session that is to be resumed. A number below 1 has none.
 pub(crate) fn first_wants(alloc: Global, request: &ConnectRequest) -> Result<Seq<Want>, Memory>
     ensures { IfOk result (λ wants. wants ≡ wants_of_first request.now) }
 {

@@ -32,7 +32,7 @@ fn last_found(parts: &[ActAns]) -> &[Kv]
     found
 }
 
-/// The version of the head that was found, 0 without one.
+/// The version of the head among what was found, 0 without one.
 #[tactic(auto, unfolding(zn_layout::specs::Keys::key_bytes))]
 fn number_among(kvs: &[Kv]) -> i64
     ensures { result ≡ head_number (kept_under (key_bytes HeadKey) kvs.now) }

@@ -24,11 +24,11 @@ pub enum Phase {
     Granting,
     /// The transaction of a new session.
     Creating,
-    /// A keepalive of the session that is to be resumed, on the record that was seen.
+    /// A keepalive of the session that is to be resumed. Its life was seen as `life`, last put at revision `seen`.
     Keeping { seen: i64, life: LeaseRec },
-    /// The same keys, after a keepalive of no seconds.
+    /// The life of the session and the head once more, after a keepalive that answered no seconds.
     LookingAgain,
-    /// The transaction that attaches the session, on the record that was seen.
+    /// The transaction that attaches the session, whose life was seen as `life`, last put at revision `seen`.
     Attaching { seen: i64, life: LeaseRec },
     /// Nothing more.
     Over,
@@ -45,20 +45,20 @@ pub struct Connect {
 /// What a step of a connect answers.
 #[derive(Debug, Drop)]
 pub enum ConnectStep {
-    /// To be carried out; the next step takes its answer.
+    /// This is to be carried out; the next step takes its answer.
     Ask(Ask),
     /// The session is attached to this connection.
     Attached {
         response: ConnectResponse,
         who: Who,
-        /// The session's, in milliseconds.
+        /// The session's timeout, in milliseconds.
         timeout: i32,
         /// The number of the update that attached it.
         number: i64,
         /// The zxid of that update.
         zxid: i64,
     },
-    /// The client has seen an update, `client`, behind the last one, `head`. It gets no answer.
+    /// The client has seen a zxid, `client`, that is greater than that of the last update, `head`. It gets no answer.
     Ahead {
         client: i64,
         head: i64,

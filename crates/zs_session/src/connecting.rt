@@ -88,9 +88,9 @@ impl Connecting {
         &self.connect
     }
 
-    /// The next step. The first one has no answer; each other one has the answer to what was asked last. None is made behind a
-    /// step that asked nothing. Where it has a fault the connect is as it was: `Damaged` comes exactly where the answer shows,
-    /// under a key that was looked up, a value that is no record.
+    /// Makes the next step. The first takes no answer, each later one the answer to what was asked last; after a step that asked
+    /// nothing there is none. At a fault the connect stays as it was, and `Memory` may be tried again with the same answer.
+    /// `Damaged`: the answer shows, under a key that was looked up, a value that is no record. No step is made with such an answer.
     pub fn step(&mut self, answer: Option<&Answer>) -> Result<ConnectStep, StepFault>
         requires { MayStep self.old (option_copied answer) }
         ensures ok { IfOk result (λ step. Steps self.old (option_copied answer.entry) step self.new) }

@@ -35,7 +35,7 @@ pub(crate) fn attached_by_view(
     }
 }
 
-/// The first look: a client that is ahead is sent away, a new session gets its lease.
+/// The first look: a client that is ahead is sent away, a new session gets its lease, and any other is resumed.
 pub(crate) fn begun(alloc: Global, connect: &Connect, view: &View) -> Result<Move, Memory>
     ensures { IfOk result (λ m. LooksFirst connect.now view.now m.phase m.step) }
 {

@@ -22,15 +22,16 @@ ghost use Rattle.zs_session.specs.Connecting.{number_shown};
 ghost use Rattle.zs_session.specs.Laws.{IsOpened, IsAttachedAnew};
 ghost use Rattle.zs_session.specs.Sessions.{attach_guards, attach_txn, life_key, new_session_guards, new_session_txn};
 
-/// Wherever the guards of a new session's transaction hold, its session isn't open, and behind it keys that stood for a sound
-/// state stand for the state after the session's line. The connection is opened with this number and password, and has this connect.
+/// Where the guards of a new session's transaction hold in keys that stand for a sound state, the session isn't open there, and
+/// after the transaction the keys stand for the state after the session's line. The connection was opened with this number and
+/// password, and sent this connect.
 pub fn a_new_session_commits()
     ensures { (f : AnyFresh) (r : ConnectRequest) (before : List TranscriptLine) (c : ℕ) (m : Keys) (s : State) (z : ℤ) → pos 1 ≤ℤ f.id → length f.passwd ≡ 16 → opening c before ≡ Some (f.id, f.passwd) → connect c before ≡ Some r → IsSound s → StandsFor m s → list_all (holds m) (new_session_guards f.id) ≡ true → s.zxid <ℤ z → z ≤ℤ last_revision → IsOpened before s z f.id c m (new_session_txn f (granted_timeout r.timeout)) }
 {}
 
-/// Wherever the guard of an attachment holds, its session is live, with the timeout and the password of the record that was seen,
-/// and behind it keys that stood for a state stand for the state after the attachment's line. What is kept at the revision that
-/// was seen is the record that was seen.
+/// Where the guard of an attachment holds in keys that stand for a state, the session lives there, with the timeout and the
+/// password of the record that was seen, and after the transaction the keys stand for the state after the attachment's line. What
+/// is kept at the revision that was seen has to be the record that was seen.
 pub fn a_session_is_attached()
     ensures { (id seen : ℤ) (life : LeaseRec) (before : List TranscriptLine) (c : ℕ) (m : Keys) (s : State) (z : ℤ) → pos 1 ≤ℤ id → pos 1 ≤ℤ seen → IsLeaseRec life → StandsFor m s → ((kv : KeyValue) → at m (life_key id) ≡ Some kv → kv.mod_revision ≡ seen → kv.value ≡ lease_value life) → list_all (holds m) (attach_guards id seen) ≡ true → s.zxid <ℤ z → z ≤ℤ last_revision → IsAttachedAnew before s z id c m (attach_txn id seen life) seen life }
 {}
@@ -47,8 +48,8 @@ pub fn sessions_are_read_again()
     ensures attached { (id seen : ℤ) (life : LeaseRec) → are_present_reads (attach_txn id seen life).failure ≡ true }
 {}
 
-/// The answer of a session's transaction that succeeded shows the number of its update, which is that of the state for which the
-/// keys stand then.
+/// The answer of a session's transaction that succeeded shows the number of its update: that of the state for which the keys stand
+/// then.
 pub fn a_session_shows_its_number()
     ensures opened { (f : AnyFresh) (timeout : ℤ) (s new : Store) (z : ℤ) (parts : List ActAns) (t : State) → carry s (ask.Txn (new_session_txn f timeout)) ≡ Some (new, answer.Txn z true parts) → StandsFor (present new) t → number_shown parts ≡ pos t.updates }
     ensures attached { (id seen : ℤ) (life : LeaseRec) (s new : Store) (z : ℤ) (parts : List ActAns) (t : State) → carry s (ask.Txn (attach_txn id seen life)) ≡ Some (new, answer.Txn z true parts) → StandsFor (present new) t → number_shown parts ≡ pos t.updates }

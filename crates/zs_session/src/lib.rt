@@ -1,16 +1,16 @@
-//! Sessions: how a connection gets its own, and when it has to be kept alive.
+//! Sessions: how a connection gets its session, and when a session has to be kept alive.
 //!
-//! A connection begins with a connect. [`Connecting`] asks an etcd what it takes to answer it, one ask a step: a new session
+//! A connection begins with a connect. [`Connecting`] asks etcd for what it takes to answer it, one ask a step: a new session
 //! gets a lease and then a transaction that puts its two keys; one that is resumed is looked up by its number and password,
-//! its lease is kept alive, and a transaction attaches it to this connection. Where a guard of a transaction failed, its
-//! answer shows what is there now, and the step goes on by that. The end is [`ConnectStep::Attached`], or the cause for
-//! which the connection is closed.
+//! its lease is kept alive, and a transaction attaches it to this connection. If a guard of a transaction fails, its answer
+//! shows what is there now, and the next step goes on from that. The end is [`ConnectStep::Attached`], or the cause for which
+//! the connection is closed.
 //!
-//! A step does no IO and reads no clock: who calls it carries out the ask, and calls it again with the answer.
+//! A step does no IO and reads no clock: the caller has the ask carried out, and makes the next step with the answer.
 //!
 //! In `specs/`, in reading order: `Sessions` (what is asked for a session), `Answering` (which answers an ask may have),
 //! `Connecting` (`asked_in`: what is asked in each phase; `Steps`: what a step does), `Alive`, `Laws`. The laws are the
-//! functions of `laws`: what keys stand for after the transactions.
+//! functions of `laws`: what keys stand for after the transactions, and what their answers show.
 //!
 //! A step takes memory for its ask, and copies what a look shows once; it keeps no view between two steps.
 #![tactic(auto)]

@@ -15,8 +15,8 @@ use zn_layout::{LeaseRec, lease_key, session_key};
 use zn_view::{View, ViewFault, Want};
 use zx_base::Memory;
 
-/// What some keys had at a revision of an etcd, 0 to 2^62 - 1: a part for each want, in their order. `Damaged`: what was found
-/// for the first of them that is no record of its key's kind.
+/// What some keys had at a revision of an etcd, 0 to 2^62 - 1, by a part for each want, in their order. `Damaged` has the first
+/// key, in that order, whose value is no record of the key's kind, and the value.
 pub fn look(
     alloc: Global,
     wants: &[Want],
@@ -50,7 +50,7 @@ fn is_found(view: &View, key: &[u8]) -> bool
     matches!(view.found(key), Some(Some(_)))
 }
 
-/// The record of a session's life that was seen, and the revision of its last put.
+/// The revision at which a session's life was last put, and its record: none where the view saw none.
 fn life_of(alloc: Global, id: i64, view: &View) -> Result<Option<(i64, LeaseRec)>, Memory>
     requires { pos 1 ≤ℤ id }
     ensures { IfOk result (λ o. MatchOption o (is_there view.now (life_key id) ≡ false) (λ x. SawLifeAt view.now id x.0 x.1)) }
@@ -65,7 +65,8 @@ fn life_of(alloc: Global, id: i64, view: &View) -> Result<Option<(i64, LeaseRec)
     }
 }
 
-/// The same of the session that is to be resumed: none where there is no such session, or it has another password.
+/// The revision at which the life of the session that is to be resumed was last put, and its record: none where there is no such
+/// session, or it has another password.
 pub(crate) fn mine(
     alloc: Global,
     request: &ConnectRequest,
@@ -82,7 +83,7 @@ pub(crate) fn mine(
     }
 }
 
-/// Whether a session's number is in use.
+/// Whether a session's number is in use: one of its two keys is there.
 pub(crate) fn is_taken(alloc: Global, id: i64, view: &View) -> Result<bool, Memory>
     requires { pos 1 ≤ℤ id }
     ensures { IfOk result (λ taken. taken ≡ is_number_taken id view.now) }

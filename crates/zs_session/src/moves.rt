@@ -61,7 +61,7 @@ pub(crate) fn grant(connect: &Connect) -> Move
     )
 }
 
-/// Makes the new session.
+/// Asks for the transaction of the new session.
 pub(crate) fn create(alloc: Global, connect: &Connect) -> Result<Move, Memory>
     requires { pos 1 ≤ℤ connect.now.fresh.id }
     ensures { IfOk result (λ m. Waits connect.now phases.Creating m.phase m.step) }
@@ -71,7 +71,7 @@ pub(crate) fn create(alloc: Global, connect: &Connect) -> Result<Move, Memory>
     Ok(ask(Phase::Creating, Ask::Txn(txn)))
 }
 
-/// Keeps the lease alive of the session that is to be resumed.
+/// Asks for a keepalive of the session that is to be resumed.
 pub(crate) fn keep(connect: &Connect, seen: i64, life: LeaseRec) -> Move
     ensures { Waits connect.now (phases.Keeping seen life) result.phase result.step }
 {
@@ -92,7 +92,7 @@ pub(crate) fn look_again(alloc: Global, connect: &Connect) -> Result<Move, Memor
     Ok(ask(Phase::LookingAgain, reading(alloc, 0, wants.as_slice())?))
 }
 
-/// Attaches the session, on the record of its life that was seen.
+/// Asks for the transaction that attaches the session, whose life was seen as `life`, last put at revision `seen`.
 pub(crate) fn attach(
     alloc: Global,
     connect: &Connect,

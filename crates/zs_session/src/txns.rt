@@ -17,7 +17,7 @@ use zn_layout::{
 use zn_view::ranges;
 use zx_base::{Bytes, Memory, Seq};
 
-/// Puts the record of a session's life, with its lease.
+/// Puts the record of a session's life, attached to its lease.
 fn put_life(alloc: Global, id: i64, life: &LeaseRec) -> Result<Act, Memory>
     requires least { pos 1 ≤ℤ id }
     requires bounded { IsLeaseRec life.now }
@@ -30,7 +30,7 @@ fn put_life(alloc: Global, id: i64, life: &LeaseRec) -> Result<Act, Memory>
     })
 }
 
-/// Puts the record of a session that owns no node.
+/// Puts the list of the nodes of a session that owns none.
 fn put_no_nodes(alloc: Global, id: i64) -> Result<Act, Memory>
     requires { pos 1 ≤ℤ id }
     ensures { IfOk result (λ act. act ≡ act_of (put_key (nodes_key id) (session_value []))) }
@@ -106,7 +106,7 @@ pub(crate) fn new_session_txn(alloc: Global, fresh: &Fresh, timeout: i32) -> Res
     })
 }
 
-/// One attachment more, or 1 behind the greatest number.
+/// One attachment more; after the greatest number comes 1.
 fn next_attach(attaches: i64) -> i64
     ensures { result ≡ attach_behind attaches }
 {
@@ -153,7 +153,7 @@ fn life_guards(alloc: Global, id: i64, seen: i64) -> Result<Seq<Guard>, Memory>
     Ok(guards)
 }
 
-/// The transaction that attaches a session, on the record of its life that was seen, last put at `seen`.
+/// The transaction that attaches a session whose life was seen as `life`, last put at revision `seen`.
 pub(crate) fn attach_txn(
     alloc: Global,
     id: i64,

@@ -1,4 +1,4 @@
--- What the parts so far found, behind which those to come stand.
+-- What the last of the parts to come found, or without any what was found so far, is what the last part found.
 use Rattle.std.proofs.Common.{◌≡◌, drop}
 use Rattle.zn_view.specs.Asks.{last_part}
 use Rattle.zs_session.proofs.LastParts.{last_from}
