@@ -39,7 +39,7 @@ fn is_grantable(ask: &Ask) -> bool
     }
 }
 
-/// What the etcd answers, or the text of its denial.
+/// What the etcd answers, or the text of its denial: `no ask` and `no answer` where a number is out of range.
 pub fn answer_of(
     alloc: Global,
     store: &mut Store,

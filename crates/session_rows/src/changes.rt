@@ -7,7 +7,7 @@ use row_files::{Words, bytes_of};
 use std::alloc::Global;
 use zx_base::{Bytes, Memory, Seq};
 
-/// The revision after an ask, or the denial.
+/// The revision of an ask's answer, or the denial.
 fn revision_after(alloc: Global, store: &mut Store, ask: &Ask) -> Result<Option<String>, Memory> {
     match answer_of(alloc, store, ask)? {
         Ok(answer) => {
@@ -18,7 +18,7 @@ fn revision_after(alloc: Global, store: &mut Store, ask: &Ask) -> Result<Option<
     }
 }
 
-/// One operation, done as it is.
+/// The revision after one operation, or the denial: it is carried out alone, with no guard.
 fn done(alloc: Global, store: &mut Store, act: Act) -> Result<Option<String>, Memory> {
     let mut success = Seq::new(alloc);
     success.push(act)?;
@@ -30,7 +30,7 @@ fn done(alloc: Global, store: &mut Store, act: Act) -> Result<Option<String>, Me
     revision_after(alloc, store, &Ask::Txn(txn))
 }
 
-/// `put KEY VALUE LEASE`
+/// `put KEY VALUE LEASE`: the revision after it, or the denial; none where the words are others
 pub fn put(alloc: Global, store: &mut Store, words: Words) -> Result<Option<String>, Memory> {
     let mut words = words;
     let (Some(key), Some(digits), Some(lease)) = (words.word(), words.word(), words.long()) else {
@@ -44,7 +44,7 @@ pub fn put(alloc: Global, store: &mut Store, words: Words) -> Result<Option<Stri
     done(alloc, store, Act::Put { key, value, lease })
 }
 
-/// `delete KEY`
+/// `delete KEY`: the revision after it, or the denial; none where the words are others
 pub fn delete(alloc: Global, store: &mut Store, words: Words) -> Result<Option<String>, Memory> {
     let mut words = words;
     let Some(key) = words.word() else {
@@ -54,7 +54,7 @@ pub fn delete(alloc: Global, store: &mut Store, words: Words) -> Result<Option<S
     done(alloc, store, Act::Delete { key })
 }
 
-/// `grant ID SECONDS`
+/// `grant ID SECONDS`: the revision then, or the denial; none where the words are others
 pub fn grant(alloc: Global, store: &mut Store, words: Words) -> Result<Option<String>, Memory> {
     let mut words = words;
     let (Some(id), Some(ttl)) = (words.long(), words.long()) else {
@@ -63,7 +63,7 @@ pub fn grant(alloc: Global, store: &mut Store, words: Words) -> Result<Option<St
     revision_after(alloc, store, &Ask::Grant { id, ttl })
 }
 
-/// `lapse ID`
+/// `lapse ID`: the revision after it, or the denial; none where the words are others
 pub fn lapse(alloc: Global, store: &mut Store, words: Words) -> Result<Option<String>, Memory> {
     let mut words = words;
     let Some(id) = words.long() else {

@@ -20,10 +20,11 @@ enum Round {
     Read,
     /// Nothing is lacking.
     Whole,
+    /// The close ends with this text.
     Said(String),
 }
 
-/// `SESSION MINE`: reads what the close needs, and carries out its plan
+/// `SESSION MINE`: reads what the close needs, and carries out its plan; none where the words are others
 pub fn close(alloc: Global, store: &mut Store, words: Words) -> Result<Option<String>, Memory> {
     let mut words = words;
     let (Some(session), Some(mine)) = (words.long(), words.long()) else {

@@ -36,7 +36,7 @@ fn password(alloc: Global, digits: &str) -> Result<Option<[u8; 16]>, Memory> {
     Ok(Some(passwd))
 }
 
-/// `SESSION PASSWORD TIMEOUT ZXID FRESH FRESHPASSWORD`: the first step
+/// `SESSION PASSWORD TIMEOUT ZXID FRESH FRESHPASSWORD`: the first step; none where the words are others
 pub fn begin(alloc: Global, words: Words) -> Result<Option<(String, Option<Begun>)>, Memory> {
     let mut words = words;
     let (Some(session), Some(digits)) = (words.long(), words.word()) else {
@@ -113,7 +113,7 @@ fn end_text(alloc: Global, end: &ConnectStep) -> Result<String, Memory> {
     }
 }
 
-/// `LAST NOW TIMEOUT`: whether a keepalive is due
+/// `LAST NOW TIMEOUT`, in milliseconds: whether a keepalive is due; none where the words are others
 pub fn alive(alloc: Global, words: Words) -> Result<Option<String>, Memory> {
     let mut words = words;
     let (Some(last), Some(now)) = (words.number(), words.number()) else {
@@ -131,7 +131,7 @@ pub fn alive(alloc: Global, words: Words) -> Result<Option<String>, Memory> {
 }
 
 impl Begun {
-    /// Carries out what was asked, and makes the next step.
+    /// Has what was asked carried out, and makes the next step: what it says, and the connect where it waits again.
     pub fn go_on(
         self,
         alloc: Global,

@@ -91,7 +91,7 @@ impl Sessions {
         Ok(Some(text))
     }
 
-    /// What was asked is carried out, and the next step made.
+    /// Has what was asked carried out, and makes the next step.
     fn step(&mut self, alloc: Global) -> Result<Option<String>, Memory> {
         let waiting = std::mem::replace(&mut self.waiting, Waiting::Nothing);
         match waiting {

@@ -34,7 +34,7 @@ impl Model for BegunReap {
     ghost invariant = { λ b. IsAsked b.reaper.phase × IsTxn b.asked };
 }
 
-/// `SESSION`: the first step
+/// `SESSION`: the first step; none where the words are others
 pub fn begin_reap(
     alloc: Global,
     words: Words,
@@ -76,7 +76,7 @@ fn stepped(
 }
 
 impl BegunReap {
-    /// Carries out what was asked, and makes the next step.
+    /// Has what was asked carried out, and makes the next step: what it says, and the reap where it waits again.
     pub fn go_on(
         self,
         alloc: Global,

@@ -5,7 +5,7 @@ use row_files::hex_of;
 use std::alloc::Global;
 use zx_base::Memory;
 
-/// Bytes as a word, `-` for none.
+/// Bytes as a word: `-` for none, and `?` where they are not UTF-8.
 pub fn word_of<'a>(bytes: &'a [u8]) -> &'a str {
     if bytes.is_empty() {
         return "-";
@@ -31,8 +31,8 @@ fn push_guard(alloc: Global, text: &mut String, guard: &Guard) -> Result<(), Mem
     Ok(())
 }
 
-/// ` put KEY VALUE`, with `lease ID` behind it where it has one, ` delete KEY`, ` get KEY`, with `at REVISION` behind it where
-/// that is not the present
+/// ` put KEY VALUE`, with `lease ID` after it if it has one; ` delete KEY`; ` get KEY`, with `at REVISION` after it where it is not
+/// of the present
 fn push_act(alloc: Global, text: &mut String, act: &Act) -> Result<(), Memory> {
     match act {
         Act::Put { key, value, lease } => {
@@ -88,7 +88,7 @@ pub fn txn_text(alloc: Global, txn: &TxnReq) -> Result<String, Memory> {
     Ok(text)
 }
 
-/// A transaction, `grant ID SECONDS`, `keep ID`
+/// A transaction, `grant ID SECONDS`, `keep ID` or `range KEY`
 pub fn ask_text(alloc: Global, ask: &Ask) -> Result<String, Memory> {
     match ask {
         Ask::Txn(txn) => txn_text(alloc, txn),
