@@ -66,8 +66,8 @@ decision_of v (Make cs ts draft) = Planned (plan_of v cs ts draft)
 
 -- ---- what it is worth
 
--- A request that its form does not decide is decided as by the tree, in each sound state that the view is of and in which the
--- session is open.
+-- A request that its form does not decide is decided by the tree, in each sound state that the view is of and in which the session
+-- is open.
 abbrev pub IsBySound : Request → Who → View → Decision → Type 0
 IsBySound r who v d = plain_request no_watches r ≡ None → (s : State) → IsSound s → IsOf v s → (x : Session) → session_at who.session s ≡ Some x
     → IsByTree r d (tree_reply s.tree (limit_of x) who.session no_watches r)
@@ -82,7 +82,7 @@ pub record IsGuarded (r : Request) (who : Who) (now : ℕ) (v : View) (p : Plan)
 
 -- ---- what the code chose on
 
--- what watches see, if it is an update
+-- this holds of what watches see, if it is an update
 abbrev pub IfMakes : (List Trigger → Type 0) → Choice → Type 0
 IfMakes P (Refuse code) = Unit {0}
 IfMakes P (Make cs ts draft) = P ts

@@ -6,7 +6,7 @@ use Rattle.zx_base.specs.Maps.{Bytes, same}
 use Rattle.zn_updates.specs.declared.form.Form.{Form}
 use Rattle.zn_updates.specs.declared.form.Form.TheVariants.{Valid, Refused}
 
--- the path as which a text is tested, none where the text isn't valid
+-- the path that is tested for a text, none where the text isn't valid
 abbrev pub IsPathOf : Bool → Bytes → Option Bytes → Type 0
 IsPathOf sequential text (Some p) = (p ≡ tested sequential text) × (is_valid sequential text ≡ true)
 IsPathOf sequential text None = is_valid sequential text ≡ false

@@ -65,7 +65,7 @@ IsPartSeen id v p = form_refusal p ≡ None → IsSeenFor id v p
 
 -- ---- what is promised of it
 
--- its changes and what watches see, if it is an update
+-- this holds of its changes and of what watches see, if it is an update
 abbrev pub IfChanges : (List Change → List Trigger → Type 0) → Choice → Type 0
 IfChanges P (Refuse code) = Unit {0}
 IfChanges P (Make cs ts draft) = P cs ts

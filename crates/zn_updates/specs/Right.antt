@@ -23,7 +23,7 @@ pub record IsOutcome (z : ℤ) (s : State) (cs : List Change) (ts : List Trigger
   pub fits : Fits z cs s (with_tree s tree)
   pub headless : last cs HeadKey ≡ None
 
--- a choice is right where it refuses with the outcome's code, or makes what the outcome makes
+-- a choice is right if it refuses with the outcome's code, or makes the outcome's update
 abbrev pub IsRight : ℤ → State → Choice → Outcome → Type 0
 IsRight z s (Refuse code) outcome = outcome ≡ Refused code
 IsRight z s (Make cs ts draft) outcome = IsOutcome z s cs ts draft outcome

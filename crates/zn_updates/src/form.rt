@@ -57,8 +57,8 @@ fn is_open(acl: &[Acl]) -> bool
     }
 }
 
-/// The path of a request, none where the text is not valid. With `sequential` the text is tested, and given, with `1` after it: the
-/// path of a sequence node without its number.
+/// The path of a request, none where the text is not valid. With `sequential` the text is the path of a sequence node without its
+/// number, and is tested and returned with `1` in that place.
 pub fn read_path(alloc: Global, text: &[u8], sequential: bool) -> Result<Option<Path>, Memory>
     ensures { IfOk result (λ p. IsPathOf sequential text.now p) }
 {
@@ -86,7 +86,7 @@ pub fn create_form(alloc: Global, path: &[u8], acl: &[Acl], flags: i32) -> Resul
     Ok(Form::Valid(named))
 }
 
-/// The path of a delete: none where the text is not valid, or is the root's.
+/// The path of a node that is not the root: none where the text is not valid, or is the root's.
 pub fn inner_path(alloc: Global, text: &[u8]) -> Result<Option<Path>, Memory>
     ensures { IfOk result (λ p. IsInnerPath text.now p) }
 {

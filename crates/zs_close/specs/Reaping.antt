@@ -56,7 +56,7 @@ IsReapingOf (Some x) r = MatchBool x.lapsed ((p : Plan) × (r ≡ Planned p)) (r
 abbrev pub IsReapDecision : ℤ → View → Reaping → Type 0
 IsReapDecision id v r = (s : State) → IsSound s → IsOf v s → IsReapingOf (session_at id s) r
 
--- the plan, if the session is to end
+-- this holds of the plan, if the session is to end
 abbrev pub IfReaped : (Plan → Type 0) → Reaping → Type 0
 IfReaped P (Planned p) = P p
 IfReaped P Kept = Unit {0}

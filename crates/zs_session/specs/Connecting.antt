@@ -155,7 +155,7 @@ Kept c seen life seconds phase step = MatchBool (int_eq seconds (pos 0)) (Waits 
 abbrev pub LookedAgain : Connect → ℤ → List ActAns → Phase → ConnectStep → Type 0
 LookedAgain c revision parts phase step = AreRecords (attach_wants c.request.session) parts × Resumes c (viewed revision (attach_wants c.request.session) parts) Attaching phase step
 
--- the session is attached, with its own timeout; or the guard failed: what is there now is tested, and the attachment asked again
+-- the session is attached, with its own timeout; or the guard failed, and what is there now is taken as another look
 abbrev pub Attached : Connect → LeaseRec → ℤ → Bool → List ActAns → Phase → ConnectStep → Type 0
 Attached c life revision true parts phase step = Ends (attached c.request c.request.session life.timeout life.passwd revision parts) phase step
 Attached c life revision false parts phase step = LookedAgain c revision parts phase step
