@@ -18,7 +18,7 @@ put_now key value lease = record { key = key; value = value; create_revision = p
 
 -- ---- one operation after the other
 
--- the key of a put or a delete in place of what the view saw of it
+-- lays the key of a put or a delete over what the view saw of it; a read lays nothing
 abbrev pub with_act : View → Act → View
 with_act v (act.Put key value lease) = with_laid v (record { key = key; found = Some (put_now key value lease) })
 with_act v (act.Delete key) = with_laid v (record { key = key; found = None })
