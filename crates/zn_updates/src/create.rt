@@ -73,7 +73,7 @@ fn new_record(alloc: Global, now: u64, owner: i64) -> NodeRec
     }
 }
 
-/// The node's keys come, and the parent counts one child and one create more.
+/// Puts the node's keys, and the parent's counts with one child and one create more.
 fn create_acts(
     alloc: Global,
     path: &Path,
@@ -421,7 +421,7 @@ pub(crate) fn decide_create(
     }
 }
 
-/// What a create needs.
+/// What a create still has to look up: nothing where its form is refused.
 pub(crate) fn create_needs(
     alloc: Global,
     path: &[u8],

@@ -48,7 +48,7 @@ fn one_less(above: &CountRec) -> CountRec
     }
 }
 
-/// The node's keys go, and the parent counts one child less.
+/// Deletes the node's keys, and puts the parent's counts with one child less.
 fn delete_acts(
     alloc: Global,
     path: &Path,
@@ -288,7 +288,7 @@ pub(crate) fn decide_delete(
     }
 }
 
-/// What a delete needs.
+/// What a delete still has to look up: nothing where its form is refused.
 pub(crate) fn delete_needs(
     alloc: Global,
     path: &[u8],

@@ -48,7 +48,7 @@ pub(crate) fn set_data_keys(alloc: Global, session: i64, path: &Path) -> Result<
     Ok(keys)
 }
 
-/// What a setData needs.
+/// What a setData of this path still has to look up.
 pub(crate) fn set_data_wants(
     alloc: Global,
     view: &View,
@@ -140,7 +140,7 @@ pub fn owner_seen(alloc: Global, view: &View, path: &Path) -> Result<i64, Memory
     }
 }
 
-/// What a delete needs.
+/// What a delete of this path still has to look up.
 pub(crate) fn delete_wants(
     alloc: Global,
     view: &View,
@@ -323,7 +323,7 @@ fn create_keys_of(
     }
 }
 
-/// What a create needs.
+/// What a create of this path still has to look up.
 pub(crate) fn create_wants(
     alloc: Global,
     view: &View,

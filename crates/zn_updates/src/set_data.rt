@@ -230,7 +230,7 @@ pub(crate) fn decide_set_data(
     }
 }
 
-/// What a setData needs.
+/// What a setData still has to look up: nothing where its form is refused.
 pub(crate) fn set_data_needs(
     alloc: Global,
     path: &[u8],
