@@ -22,3 +22,4 @@ pub mod SoundHistories
 pub mod Attachments
 pub mod Requests
 pub mod Conditions
+pub mod ReplySizes

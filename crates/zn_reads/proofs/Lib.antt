@@ -1,7 +1,6 @@
 pub mod Agreeing
 pub mod Stats
 pub mod Answering
-pub mod Sizes
 pub mod LastNames
 pub mod Looking
 pub mod Forms

@@ -1,4 +1,4 @@
--- How many bytes a reply with names takes.
+-- How many bytes a reply that lists names takes, and whether it fits a frame.
 use Rattle.std.proofs.Common.{◌≡◌, ℕ, ◌+◌, ◌-◌, ◌<◌, ◌≤◌, true, false, not, ℤ, pos, List, [], ◌∷◌, ◌++◌, length, take, get_or, refl, ap, ◌∙◌, arith}
 use Rattle.std.specs.Prelude.{sum_by, nat_le, nat_lt}
 use Rattle.std.specs.List.{flat_map}
@@ -15,7 +15,7 @@ use Rattle.zk_transcript.specs.Answers.{fits_reply}
 use Rattle.zk_jute.specs.Packets.{reply_bytes}
 use Rattle.zk_jute.proofs.Lengths.{length-int_bytes, length-long_bytes, length-string_bytes, length-vector_bytes}
 
--- the bytes of texts, each behind its length
+-- how many bytes texts take, each after its length
 abbrev pub size : List Bytes → ℕ
 size ts = sum_by (λ t. 4 + length t) ts
 
