@@ -1,4 +1,4 @@
--- What a line more does to states, legality and look-ups.
+-- What one more line does to states, legality and look-ups.
 use Rattle.std.proofs.Common.{◌≡◌, ℕ, ◌+◌, List, [], ◌∷◌, ◌++◌, sym, ap, ◌∙◌, append_assoc, append-nil, true}
 use Rattle.std.specs.Prelude.{Option, Some, None, ◌&&◌}
 use Rattle.std.proofs.lemmas.Bool.{and_parts}

@@ -60,7 +60,7 @@ attach_of-push lines more c x h = first_place-push (attach_shown c) 0 lines more
 pub attach_of-skip : (lines : List TranscriptLine) (l : TranscriptLine) (c : ℕ) → attach_shown c l ≡ None → attach_of c (lines ++ l ∷ []) ≡ attach_of c lines
 attach_of-skip lines l c none = first_place-skip (attach_shown c) 0 lines l none
 
--- and one that attaches the connection, which had no such line
+-- a line that attaches the connection, which had no such line
 pub attach_of-new : (lines : List TranscriptLine) (l : TranscriptLine) (c : ℕ) (a : Attachment) → attach_of c lines ≡ None → attach_shown c l ≡ Some a → attach_of c (lines ++ l ∷ []) ≡ Some (length lines, a)
 attach_of-new lines l c a none shown = first_place-new (attach_shown c) 0 lines l a none shown ∙ ap (λ n. Some (n, a)) (omega arith)
 
@@ -80,7 +80,7 @@ own_id : Option (ℕ × Attachment) → ℤ → ℤ
 own_id None id = id
 own_id (Some x) id = x.1.session
 
--- whose own line there is had it before, or is d
+-- a connection that has an own line had it before, or is d
 old_or_new : (lines : List TranscriptLine) (l : TranscriptLine) (c d k : ℕ) (z id w own : ℤ) → Attaches l d z id → attach_of c (lines ++ l ∷ []) ≡ Some (k, own_line w own)
     → (attach_of c lines ≡ Some (k, own_line w own)) ⊎ ((c ≡ d) × (w ≡ z) × (own ≡ id))
 unfolding own_zxid own_id
@@ -96,7 +96,7 @@ old_or_new lines l c d k z id w own attaches h = by_line (attach_of c lines) ref
     by_line (Some y) e = inl (e ∙ sym (attach_of-push lines (l ∷ []) c y e) ∙ h)
     by_line None e = by_test (c == d) refl e
 
--- ---- the lines behind a place
+-- ---- the lines after a place
 
 -- none of them is one of these
 abbrev pub NoneBehind : (TranscriptLine → Bool) → ℕ → List TranscriptLine → Type 0
@@ -113,7 +113,7 @@ none_behind-push q place lines l all here j m lt g = by_place (within lines (l �
     by_place (front less) = all j m lt (sym (slice_get-front lines (l ∷ []) j less) ∙ g)
     by_place (back i e) = last i (sym (ap (slice_get (lines ++ l ∷ [])) e ∙ slice_get-back lines (l ∷ []) i) ∙ g)
 
--- nothing stands behind the last line
+-- nothing stands after the last line
 none_behind-last : (q : TranscriptLine → Bool) (lines : List TranscriptLine) (l : TranscriptLine) → NoneBehind q (length lines) (lines ++ l ∷ [])
 none_behind-last q lines l j m lt g = by_place (within lines (l ∷ []) j)
   where
@@ -324,7 +324,7 @@ attached-by_own_line lines c id x legal at =
     let p = (legal-lined lines legal).all id x (attached_session-open c (after lines) (id, x) at) in
     (p.place, ap (λ n. attach_of n lines) (sym (attached_in-of c (entries (after lines).sessions) (id, x) at)) ∙ p.own)
 
--- and a session that was attached last by a connection's own line is attached to it
+-- a session that was attached last by a connection's own line is attached to it
 pub attached-to_own_line : (lines : List TranscriptLine) (c k : ℕ) (z id : ℤ) (x : Session) → is_legal lines ≡ true → attach_of c lines ≡ Some (k, own_line z id) → session_at id (after lines) ≡ Some x → x.attached ≡ z
     → attached_session c (after lines) ≡ Some (id, x)
 unfolding own_id
@@ -346,7 +346,7 @@ pub attached-latest : (lines : List TranscriptLine) (c : ℕ) (id : ℤ) (x : Se
     → (d k : ℕ) (z : ℤ) → attach_of d lines ≡ Some (k, own_line z id) → z ≤ℤ x.attached
 attached-latest lines c id x legal at = ((legal-lined lines legal).all id x (attached_session-open c (after lines) (id, x) at)).latest
 
--- and own lines have zxids of the past
+-- own lines have zxids of the past
 pub own_line-past : (lines : List TranscriptLine) (c k : ℕ) (z id : ℤ) → is_legal lines ≡ true → attach_of c lines ≡ Some (k, own_line z id) → z ≤ℤ (after lines).zxid
 own_line-past lines c k z id legal own = (legal-lined lines legal).past c k z id own
 
@@ -356,14 +356,14 @@ unfolding own_place
 own_line-place lines c id x k a at own p =
     ap (λ o. own_place o k) (sym p.own ∙ ap (λ n. attach_of n lines) (attached_in-of c (entries (after lines).sessions) (id, x) at) ∙ own)
 
--- behind the own line no other line opened, attached or ended the session
+-- no line after the own line opened, attached or ended the session
 pub attached-unmoved : (lines : List TranscriptLine) (c : ℕ) (id : ℤ) (x : Session) (k : ℕ) (a : Attachment) → is_legal lines ≡ true → attached_session c (after lines) ≡ Some (id, x) → attach_of c lines ≡ Some (k, a)
     → NoneBehind (changes_session id) k lines
 attached-unmoved lines c id x k a legal at own =
     let p = (legal-lined lines legal).all id x (attached_session-open c (after lines) (id, x) at) in
     subst (λ (n : ℕ). NoneBehind (changes_session id) n lines) (own_line-place lines c id x k a at own p) p.unmoved
 
--- and none lapsed it, where it lives
+-- no line after the own line lapsed the session, where it lives
 pub attached-alive : (lines : List TranscriptLine) (c : ℕ) (id : ℤ) (x : Session) (k : ℕ) (a : Attachment) → is_legal lines ≡ true → attached_session c (after lines) ≡ Some (id, x) → attach_of c lines ≡ Some (k, a)
     → x.lapsed ≡ false → NoneBehind (lapses_session id) k lines
 attached-alive lines c id x k a legal at own lives =

@@ -61,7 +61,7 @@ not_root r p h e = let bad : None ≡ Some p = sym parent-root ∙ subst (λ (x 
 abbrev pub AreParented : Tree → Type 0
 AreParented t = (p : Bytes) (n : Node) → get t p ≡ Some n → (p ≡ root → ⊥) → HasParent t p
 
--- then what isn't there has no children
+-- a path that is not there has no children
 pub no_children-absent : (t : Tree) (p : Bytes) → AreParented t → get t p ≡ None → num_children t p ≡ 0
 no_children-absent t p parents none = no_children t p (λ r h.
     ⊎_elim (λ e. e) (λ w. absurd (parent_is t r p (parents r w.0 w.1 (not_root r p h)) h none)) (some_or_none (get t r)))

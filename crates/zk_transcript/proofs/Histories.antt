@@ -1,4 +1,4 @@
--- What holds right after Begin, and is kept by each legal line behind it, holds after each legal history.
+-- What holds right after Begin, and is kept by each legal line after it, holds after each legal history.
 use Rattle.std.proofs.Common.{◌≡◌, ℕ, ◌+◌, ◌≤◌, List, [], ◌∷◌, ◌++◌, Option, Some, None, refl, sym, subst, arith, Bool, true, false, ℤ, append_assoc, append-nil}
 use Rattle.std.specs.Prelude.{◌≤ℤ◌, ◌<ℤ◌, ◌||◌, ◌==◌, int_lt, int_le}
 use Rattle.std.specs.List.{list_all}
@@ -100,7 +100,7 @@ module _ (P : List TranscriptLine → State → Type 0)
       subst (λ (all : List TranscriptLine). P all (after_from (before ++ l ∷ []) (change before s l) ls)) (append_assoc before (l ∷ []) ls)
       (on (before ++ l ∷ []) (change before s l) ls (next before s l was some both.0) (change-some before s l some) both.1)
 
-  -- Begin, and what stands behind it
+  -- Begin, and the lines after it
   from_begin : (before : List TranscriptLine) (z : ℤ) (kind : UpdateKind) (ls : List TranscriptLine) → list_all is_still before ≡ true → begins (Update (record { zxid = z; kind = kind }) ∷ ls) ≡ true
       → is_legal_from before nothing_yet (Update (record { zxid = z; kind = kind }) ∷ ls) ≡ true → P (before ++ Update (record { zxid = z; kind = kind }) ∷ ls) (after_from before nothing_yet (Update (record { zxid = z; kind = kind }) ∷ ls))
   unfolding updated

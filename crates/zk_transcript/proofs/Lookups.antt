@@ -1,4 +1,4 @@
--- What a line more does to look-ups: to the first line that shows something, and to the lines at a place.
+-- What one more line does to look-ups: to the first line that shows something, and to the line at a place.
 use Rattle.std.proofs.Common.{◌≡◌, ℕ, zero, suc, ◌+◌, ◌<◌, List, [], ◌∷◌, ◌++◌, length, refl, ap, ◌∙◌, arith, add-zero}
 use Rattle.std.specs.Prelude.{Option, Some, None, slice_get}
 use Rattle.zk_transcript.specs.declared.transcript.TranscriptLine.{TranscriptLine}

@@ -101,7 +101,7 @@ none_owned t k id none = get-owned_as t id k None none
 pub num_owned-new_other : (t : Tree) (k : Bytes) (v : Node) (id : ℤ) → get t k ≡ None → int_eq v.owner id ≡ false → length (owned (insert t k v) id) ≡ length (owned t id)
 num_owned-new_other t k v id none out = num_owned (insert t k v) id ∙ ap len (own-put_out t k v id out (none_owned t k id none)) ∙ sym (num_owned t id)
 
--- and of the session
+-- a node that is new, of the session
 pub num_owned-new : (t : Tree) (k : Bytes) (v : Node) (id : ℤ) → get t k ≡ None → int_eq v.owner id ≡ true → length (owned (insert t k v) id) ≡ length (owned t id) + 1
 num_owned-new t k v id none inside =
     num_owned (insert t k v) id ∙ ap len (own-put_in t k v id inside) ∙ len-insert_new (owned_by t id) k v (none_owned t k id none) ∙ ap (λ n. n + 1) (sym (num_owned t id))

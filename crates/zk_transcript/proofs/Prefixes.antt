@@ -16,7 +16,7 @@ legal_from-take before s (l ∷ ls) (suc k) h =
     let both = and_parts (is_legal_line before s l) (is_legal_from (before ++ l ∷ []) (change before s l) ls) h in
     and_from (is_legal_line before s l) (is_legal_from (before ++ l ∷ []) (change before s l) (take k ls)) both.0 (legal_from-take (before ++ l ∷ []) (change before s l) ls k both.1)
 
--- the place of the update is behind a line that is none
+-- the place of the update is after a line that is none
 behind : (l : TranscriptLine) (ls : List TranscriptLine) (k j : ℕ) (u : UpdateRec) → j < suc k → slice_get (l ∷ ls) j ≡ Some (Update u) → ((i : ℕ) → i < k → slice_get ls i ≡ Some (Update u) → begins (take k ls) ≡ true)
     → (l ≡ Update u → ⊥) → begins (take k ls) ≡ true
 behind l ls k zero u lt at later apart = absurd (apart (let same : l ≡ Update u = cc in same))

@@ -1,4 +1,5 @@
--- While a session is attached to a connection, no line behind the connection's own one changed it, nor lapsed it where it lives.
+-- While a session is attached to a connection, no line after the connection's own line changed it; nor did one lapse it, where it
+-- lives.
 use Rattle.std.proofs.Common.{◌≡◌, ℕ, suc, ◌+◌, ◌<◌, List, [], ◌∷◌, take, drop, Option, Some, None, refl, sym, ap, ◌∙◌, subst, arith, true, false, ℤ}
 use Rattle.std.specs.Prelude.{slice_get}
 use Rattle.std.proofs.lemmas.List.{take-append-drop}
@@ -34,7 +35,7 @@ first_place-found {A} show n (l ∷ ls) k x h = by_shown (show l) refl h (first_
         (0, l, omega (arith, at), refl, is ∙ ap (λ (p : ℕ × A). Some p.1) same)
     by_shown None is e later = let p = later e in let at = p.2 in (suc p.0, p.1, omega (arith, at), p.3, p.4)
 
--- the lines before a moment that is behind a connection's own line
+-- the lines before a moment that comes after a connection's own line
 module _ (lines : List TranscriptLine) (c k m : ℕ) (a : Attachment) (legal : is_legal lines ≡ true) (own : attach_of c lines ≡ Some (k, a)) (lt : k < m) where
   front-legal : is_legal (take m lines) ≡ true
   front-legal =

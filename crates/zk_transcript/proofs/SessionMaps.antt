@@ -59,7 +59,7 @@ at-remove_other m id other h = get-remove int_cmp_total m id other ∙ ap (λ b.
 abbrev pub EachSession : (ℤ → Session → Type 0) → Sessions → Type 0
 EachSession Q m = (id : ℤ) (x : Session) → get m id ≡ Some x → Q id x
 
--- where one is put, of the others
+-- where a session is put, the others stay
 pub each_session-put_apart : (Q : ℤ → Session → Type 0) (m : Sessions) (id : ℤ) (x : Session) → ((other : ℤ) (y : Session) → other ≢ id → get m other ≡ Some y → Q other y) → Q id x → EachSession Q (insert m id x)
 each_session-put_apart Q m id x all here other y is = ⊎_elim
     (λ e. let same : ◌≡◌ {A = Option Session} (Some x) (Some y) = sym (at-insert_same m id x) ∙ sym (ap (get (insert m id x)) e) ∙ is in

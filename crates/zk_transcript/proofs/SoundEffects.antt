@@ -64,7 +64,7 @@ false_true e f = cc
 not_equal : (x y : ℤ) → int_eq x y ≡ false → x ≢ y
 not_equal x y h e = false_true h ((Decides-int_eq x y).1 e)
 
--- ---- the session of a request: none, or an open begun with this limit
+-- ---- the session of a request: an open one, which has this limit
 
 abbrev pub IsOpen : Sessions → ℕ → ℤ → Type 0
 IsOpen opened limit session = (x : Session) × (get opened session ≡ Some x) × (limit ≡ limit_of x)
@@ -92,7 +92,7 @@ record IsKept (Q : Bytes → Node → Type 0) (session z : ℤ) : Type 0 where
   below : IsKeptBelow Q z
   changed : (p content : Bytes) (n : Node) (now : ℕ) → n.version ≢ max_version → Q p n → Q p (with_content n content z now)
 
--- of soundness alone
+-- the removal of a child, where soundness alone is asked
 abbrev Anything : Bytes → Node → Type 0
 Anything p n = ⊤
 
@@ -294,7 +294,7 @@ check-leads : (opened : Sessions) (Q : Bytes → Node → Type 0) (t : Tree) (ve
 check-leads opened Q t version None st = tt
 check-leads opened Q t version (Some n) st = unless (Holds opened Q) (not (matches version n.version)) _ _ (λ _. st)
 
--- ---- begun request
+-- ---- one request
 
 leads-unrefused : (P : Tree → Type 0) (refusal : Option ℤ) (o : Outcome) → (refusal ≡ None → Leads P o) → Leads P (unless_refused refusal o)
 leads-unrefused P (Some code) o leads = tt

@@ -44,7 +44,7 @@ sound-session m t id x sound least few = record {
 
 -- ---- a session opens
 
--- who isn't open owns nothing
+-- a session that is not open owns nothing
 none_owned : (m : Sessions) (t : Tree) (id : ℤ) → IsSoundTree m t → pos 1 ≤ℤ id → get m id ≡ None → (p : Bytes) → get (owned_by t id) p ≡ None
 none_owned m t id sound least none p = by_node (get t p) refl
   where
@@ -65,7 +65,7 @@ owns_none m t id sound least none =
 
 -- ---- many nodes are removed
 
--- a path is begun of these
+-- a path is one of these
 has : List Bytes → Bytes → Bool
 has ps p = list_any (eq_by_cmp (slice_cmp nat_cmp) p) ps
 

@@ -36,7 +36,7 @@ only w r = record { reply = r; notices = []; watches = w }
 abbrev pub told : Watches → Reply → Option Told
 told w r = Some (only w r)
 
--- ---- answers that need no tree, with these watches armed
+-- ---- answers that need no tree; w are the watches that are armed
 
 abbrev pub told_refusal : Watches → Option ℤ → Option Told
 told_refusal w None = None
@@ -45,6 +45,7 @@ told_refusal w (Some code) = told w (reply.Refused code)
 abbrev pub told_of_path : Watches → List ℕ → Option Told
 told_of_path w p = if is_path p then None else told w (reply.Refused bad_arguments)
 
+-- the answer to a request where the tree does not decide it
 unfoldable pub plain_request : Watches → Request → Option Told
 plain_request w req.Ping = told w (reply.Good body.Empty)
 plain_request w (req.Auth kind scheme auth) = told w (if bytes_eq scheme (codes "digest") then reply.Good body.Empty else reply.Refused auth_failed)
@@ -77,7 +78,7 @@ xid_of (Asks xid r) = xid
 
 -- ---- the session test
 
--- the refusal where the session isn't open or is lapsed, or where another connection is attached to it
+-- the refusal where the session is not open or has lapsed, or is attached to another connection than c
 abbrev pub session_refusal : ℕ → Option Session → Option Reply
 session_refusal c None = Some (reply.Refused session_expired)
 session_refusal c (Some x) =
@@ -85,7 +86,7 @@ session_refusal c (Some x) =
     else if not (c == x.connection) then Some (reply.Refused session_moved)
     else None
 
--- how many nodes it may own
+-- how many ephemeral nodes the session may own
 abbrev pub limit_in : Option Session → ℕ
 limit_in None = 0
 limit_in (Some x) = limit_of x
@@ -98,20 +99,21 @@ armed_data watch p w = if watch then arm_data w p else w
 abbrev pub armed_children : Bool → List ℕ → Watches → Watches
 armed_children watch p w = if watch then arm_children w p else w
 
--- the answer about the node at p, which arms where the node is there
+-- the answer about a node. The watches are `armed` afterwards where the node is there, and w where it is not
 abbrev pub about : Watches → Watches → Option Node → (Node → Body) → Option Told
 about armed w None f = told w (reply.Refused no_node)
 about armed w (Some n) f = told armed (reply.Good (f n))
 
--- a reply's frame is at most what an int counts
+-- the reply with this body has at most as many bytes as an `int` can count
 abbrev pub fits_reply : Body → Bool
 fits_reply b = not (nat_lt 2147483647 (length (reply_bytes (pos 0) (pos 0) (reply.Good b))))
 
+-- the answer about a node's children, which is refused where it is too long for a frame
 abbrev pub listing : Watches → Watches → Option Node → (Node → Body) → Option Told
 listing armed w None f = told w (reply.Refused no_node)
 listing armed w (Some n) f = if fits_reply (f n) then told armed (reply.Good (f n)) else told w (reply.Refused system_error)
 
--- an update is answered by its refusal here; what succeeds has a line of its own
+-- only the refusal of an update is an answer by the tree: one that succeeds has a line of its own, and is answered by that
 abbrev pub refusal_of : Watches → Outcome → Option Told
 refusal_of w (Refused code) = told w (reply.Refused code)
 refusal_of w (Done r t g) = None
@@ -128,7 +130,7 @@ refusal_of_several w (AllDone rs t g) = None
 abbrev pub rearmed : Seen → Option Told
 rearmed s = Some (record { reply = reply.Good body.Empty; notices = s.notices; watches = s.watches })
 
--- the answer by the tree to a session that may own so many nodes
+-- the answer by the tree to a session that may own at most `limit` ephemeral nodes
 unfoldable pub tree_reply : Tree → ℕ → ℤ → Watches → Request → Option Told
 tree_reply t limit session w (req.Exists p watch) = about (armed_data watch p w) (armed_data watch p w) (get t p) (λ n. body.Stat (stat_of t p n))
 tree_reply t limit session w (req.GetData p watch) = about (armed_data watch p w) w (get t p) (λ n. body.Content n.content (stat_of t p n))

@@ -1,5 +1,5 @@
 -- What one connection is sent (Programmer's Guide, "ZooKeeper Sessions", "ZooKeeper Watches", "Consistency Guarantees"): first the
--- answer to its connect, and behind a welcome a walk from its attachment on.
+-- answer to its connect, and after a welcome the packets of a walk from its attachment on.
 use Rattle.std.specs.Prelude.{◌≡◌, ℕ, ℤ, pos, ◌+◌, ◌<◌, ◌≤◌, Bool, true, false, not, ◌&&◌, ◌||◌, List, [], ◌∷◌, drop, replicate, nat_lt, ◌==◌, int_le, Option, Some, None, option_map, bytes_eq, slice_get, IsTrue, ⊤}
 use Rattle.std.specs.List.{list_all}
 use Rattle.std.specs.Ordering.{int_eq}
@@ -14,6 +14,7 @@ use Rattle.zk_transcript.specs.Walks.{Due, packets, placed_frame, IsFreshWalk, I
 
 -- ---- the answer to the connect
 
+-- the answer has the field where the connect has it, and says that the service is not read-only
 abbrev pub answered_read_only : ConnectRequest → Option Bool
 answered_read_only r = option_map (λ (b : Bool). false) r.read_only
 
@@ -23,23 +24,27 @@ welcome r id x = record { timeout = x.timeout; session = id; passwd = x.passwd; 
 abbrev pub refusal : ConnectRequest → ConnectResponse
 refusal r = record { timeout = pos 0; session = pos 0; passwd = replicate 16 0; read_only = answered_read_only r }
 
+-- the session is not open, has lapsed, or has another password than the connect shows
 abbrev pub is_other_session : ConnectRequest → Option Session → Bool
 is_other_session r None = true
 is_other_session r (Some x) = x.lapsed || not (bytes_eq r.passwd x.passwd)
 
--- the state lets this resume be refused
+-- the connect names a session, its client has seen no later zxid than the state's, and the session cannot be resumed
 abbrev pub may_refuse : ConnectRequest → State → Bool
 may_refuse r s = not (int_eq r.session (pos 0)) && int_le r.last_zxid s.zxid && is_other_session r (session_at r.session s)
 
+-- packet p stands after the line at k, which attached the session id, and is the welcome
 abbrev pub IsWelcomed : List TranscriptLine → ℕ → ℕ → ℤ → Due → Option ConnectRequest → Option Session → Type 0
 IsWelcomed lines c k id p (Some r) (Some x) = (k < p.0) × (p.1 ≡ connect_packet (welcome r id x))
 IsWelcomed lines c k id p _ _ = ⊥
 
+-- packet p is the refusal, and the state at some moment between the connect's line and the packet's lets it be refused
 abbrev pub IsRefused : List TranscriptLine → ℕ → Due → Option (ℕ × List ℕ) → Option ConnectRequest → Type 0
 IsRefused lines c p (Some f) (Some r) = (m : ℕ) × (f.0 < m) × (m ≤ p.0) × IsTrue (may_refuse r (state_at lines m)) × (p.1 ≡ connect_packet (refusal r))
 IsRefused lines c p _ _ = ⊥
 
--- the first packet is the welcome behind the attachment's line; without one it is the refusal, and the last
+-- the first packet, if there is one, is the welcome after the attachment's line; where there is no attachment it is the refusal,
+-- and the only packet
 abbrev pub IsConnectAnswered : List TranscriptLine → ℕ → List Due → Option (ℕ × Attachment) → Type 0
 IsConnectAnswered lines c [] o = ⊤
 IsConnectAnswered lines c (p ∷ ps) None = IsRefused lines c p (placed_frame c 0 lines) (connect c lines) × (ps ≡ [])
@@ -63,17 +68,18 @@ are_before_close lines c = list_all (λ (p : Due). is_before p.0 (first_place (c
 abbrev pub IsSilentUnopened : List TranscriptLine → ℕ → Type 0
 IsSilentUnopened lines c = opening c lines ≡ None → packets c lines ≡ []
 
--- what holds besides the walk: the packets stand within the connection
+-- what holds besides the walk: a number that was never opened is sent nothing, the first packet answers the connect, and no packet
+-- stands after the close
 pub record IsInConnection (lines : List TranscriptLine) (c : ℕ) : Type 0 where
   pub silent : IsSilentUnopened lines c
   pub connected : IsConnectAnswered lines c (packets c lines) (attach_of c lines)
   pub in_time : IsTrue (are_before_close lines c)
 
--- the packets behind the welcome
+-- the packets after the first, which is the welcome
 abbrev pub later_packets : ℕ → List TranscriptLine → List Due
 later_packets c lines = drop 1 (packets c lines)
 
--- lawful and fresh: where c has an attachment, some walk from there gives the packets behind the welcome
+-- lawful and fresh: where c has an attachment, some fresh walk from there gives the packets after the welcome
 pub record IsLawfulAndFresh (lines : List TranscriptLine) (c : ℕ) : Type 0 where
   pub within : IsInConnection lines c
   pub walks : (a : ℕ × Attachment) → attach_of c lines ≡ Some a → IsFreshWalk lines c a.1.session a.1.zxid (a.0 + 1) (later_packets c lines)
@@ -83,6 +89,6 @@ pub record IsServed (lines : List TranscriptLine) (c : ℕ) : Type 0 where
   pub within : IsInConnection lines c
   pub walks : (a : ℕ × Attachment) → attach_of c lines ≡ Some a → IsWalk lines c a.1.session a.1.zxid (a.0 + 1) (later_packets c lines)
 
--- a frame's line shows the last update before it
+-- each frame's line shows the zxid of the last update before it
 abbrev pub IsShownFresh : List TranscriptLine → Type 0
 IsShownFresh lines = (k c i : ℕ) (z : ℤ) (bytes : List ℕ) → slice_get lines k ≡ Some (FrameLine c i z bytes) → z ≡ (state_at lines k).zxid

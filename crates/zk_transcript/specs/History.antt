@@ -32,12 +32,12 @@ use Rattle.zk_model.specs.Limits.{max_creates, max_frame, max_long, max_owned, m
 
 -- ---- what a transcript shows of a connection
 
--- the first line that shows it
+-- what the first line that shows something shows
 abbrev pub first_shown : {A : Type 0} → (TranscriptLine → Option A) → List TranscriptLine → Option A
 first_shown show [] = None
 first_shown show (l ∷ ls) = elim (show l) [ Some x ↦ Some x | None ↦ first_shown show ls ]
 
--- the same, with its place
+-- what the first line that shows something shows, with that line's place; the first of these lines is at place k
 abbrev pub first_place : {A : Type 0} → (TranscriptLine → Option A) → ℕ → List TranscriptLine → Option (ℕ × A)
 first_place show k [] = None
 first_place show k (l ∷ ls) = elim (show l) [ Some x ↦ Some (k, x) | None ↦ first_place show (k + 1) ls ]
@@ -70,7 +70,7 @@ asked_in (Unreadable xid place) = None
 asked_in (Unknown xid kind) = None
 asked_in (Asks xid r) = Some r
 
--- the request of a frame, where it is readable
+-- the request of frame i of a connection, where it can be read
 abbrev pub request : ℕ → ℕ → List TranscriptLine → Option Request
 request c i lines = option_and_then (λ bytes. asked_in (read_request bytes)) (frame c i lines)
 
@@ -84,7 +84,7 @@ pub record Session : Type 0 where
   pub attached : ℤ
   pub lapsed : Bool
 
--- by their numbers
+-- the open sessions, by their numbers
 abbrev pub Sessions : Type 0
 Sessions = FinMap int_cmp Session
 
@@ -94,7 +94,6 @@ pub record State : Type 0 where
   pub zxid : ℤ
   pub updates : ℕ
   pub triggers : List Trigger
-  -- the open sessions
   pub sessions : Sessions
 
 abbrev pub nothing_yet : State
@@ -110,7 +109,7 @@ abbrev pub attached_in : ℕ → List (ℤ × Session) → Option (ℤ × Sessio
 attached_in c [] = None
 attached_in c (e ∷ es) = if is_attached_to c e then Some e else attached_in c es
 
--- the session that is attached to a connection, and that it acts for
+-- the session that is attached to a connection, for which the connection acts: the first such, in the order of numbers
 abbrev pub attached_session : ℕ → State → Option (ℤ × Session)
 attached_session c s = attached_in c (entries s.sessions)
 
@@ -140,7 +139,7 @@ commit_several (Denied code) = None
 commit_several (Codes row) = None
 commit_several (AllDone rs t g) = Some (record { response = body.Parts rs; tree = t; triggers = g })
 
--- a create, delete, setData or multi that isn't refused
+-- what a create, delete, setData or multi does where it is not refused; any other request does nothing
 unfoldable pub commit : Tree → ℕ → ℤ → Request → ℤ → ℕ → Option Commit
 commit t limit session (req.Create p d a f) zxid now = commit_single (single t limit session (part.Create p d a f) zxid now)
 commit t limit session (req.Delete p v) zxid now = commit_single (single t limit session (part.Delete p v) zxid now)
@@ -188,7 +187,7 @@ session_ended s zxid id =
     let ps = owned s.tree id in
     advanced s zxid (removed_all s.tree ps zxid) (flat_map removal ps) (remove s.sessions id)
 
--- how many nodes a session may own: as many as any other
+-- how many ephemeral nodes a session may own: the same number for each
 abbrev pub limit_of : Session → ℕ
 limit_of x = max_owned
 
@@ -211,17 +210,18 @@ abbrev pub lapsed_in : State → ℤ → Option Session → State
 lapsed_in s id None = s
 lapsed_in s id (Some x) = record s { sessions = with_session s id (record x { lapsed = true }) }
 
--- the state after a line that stands behind these
+-- the state after a line, where s is the state before it and `before` are the lines before it
 abbrev pub change : List TranscriptLine → State → TranscriptLine → State
 change before s (Update u) = updated before s u.zxid u.kind
 change before s (Lapse revision id) = lapsed_in s id (session_at id s)
 change before s _ = s
 
--- the state after the updates and lapses among these lines
+-- the state after these lines, which follow the lines `before`; s is the state before them
 abbrev pub after_from : List TranscriptLine → State → List TranscriptLine → State
 after_from before s [] = s
 after_from before s (l ∷ ls) = after_from (before ++ l ∷ []) (change before s l) ls
 
+-- the state after all of these lines
 unfoldable pub after : List TranscriptLine → State
 after lines = after_from [] nothing_yet lines
 
@@ -250,7 +250,7 @@ pub record HasParent (t : Tree) (p : Bytes) : Type 0 where
   pub is : parent p ≡ Some path
   pub has : HasPlain t path
 
--- a node has counted as many creates as it has children, and no more than it may count
+-- a node has counted at least as many creates as it has children, and no more than it may count
 pub record IsCounted (n : Node) (children : ℕ) : Type 0 where
   pub counted : pos children ≤ℤ n.creates
   pub most : n.creates ≤ℤ max_creates
@@ -270,7 +270,7 @@ IsSound s = IsSoundTree s.sessions s.tree
 
 -- ---- the ranges of a state's numbers, which a stored layout needs besides: those of the state after each legal history
 
--- a zxid of the updates from the first to the last
+-- a zxid not below the first update's and not above the last one's
 pub record IsPast (first last zxid : ℤ) : Type 0 where
   pub least : first ≤ℤ zxid
   pub most : zxid ≤ℤ last
@@ -293,7 +293,7 @@ pub record IsBoundedSession (first last : ℤ) (id : ℤ) (x : Session) : Type 0
   pub timeout_least : min_timeout ≤ℤ x.timeout
   pub timeout_most : x.timeout ≤ℤ max_timeout
 
--- of a state whose history began with an update of this zxid
+-- the numbers of a state are in their ranges; `first` is the zxid of the first update of its history
 pub record IsBounded (first : ℤ) (s : State) : Type 0 where
   pub zxid : IsPast first max_long s.zxid
   pub nodes : (p : Bytes) (n : Node) → get s.tree p ≡ Some n → IsBoundedNode first s.zxid p n

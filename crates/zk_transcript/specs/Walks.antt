@@ -1,8 +1,8 @@
--- The walk of one connection: what it is sent behind its attachment (Programmer's Guide, "ZooKeeper Watches", "What ZooKeeper
+-- The walk of one connection: what it is sent after its attachment (Programmer's Guide, "ZooKeeper Watches", "What ZooKeeper
 -- Guarantees about Watches", "Consistency Guarantees": single system image, order of a client's requests).
--- The service is free in three ways only: when it tells the next update, whether it looks at the tree for a request that needs
--- none, and at which moment it looks. A list of choices settles them, and then each packet is determined. The packets are lawful where some choices give them; two tests of the
--- choices, fresh and in turn, stand beside that.
+-- The service is free in three ways only: when it tells the next update, whether it tests the session for a request that needs no
+-- tree, and at which moment it looks. A list of choices settles these, and then each packet is determined. The packets are lawful
+-- where some choices give them; two tests of the choices, fresh and in turn, come on top of that.
 use Rattle.std.specs.Prelude.{ℕ, ℤ, ◌+◌, Bool, true, false, ◌&&◌, List, [], ◌∷◌, ◌++◌, length, take, map, nat_lt, nat_le, ◌==◌, int_lt, int_le, if◌then◌else◌, Option, Some, None, option_map, option_and_then, bytes_eq, IsTrue}
 use Rattle.std.specs.List.{list_all}
 use Rattle.std.specs.Ordering.{int_eq}
@@ -34,7 +34,6 @@ above_shown p _ = None
 abbrev pub next_update : ℤ → List TranscriptLine → Option (ℕ × ℤ)
 next_update p lines = first_place (above_shown p) 0 lines
 
--- the moment right after the update of a zxid
 abbrev pub update_shown : ℤ → TranscriptLine → Option ℤ
 update_shown z (Update u) = when (int_eq z u.zxid) u.zxid
 update_shown z _ = None
@@ -43,14 +42,15 @@ abbrev pub after_place : {A : Type 0} → Option (ℕ × A) → ℕ
 after_place None = 0
 after_place (Some x) = x.0 + 1
 
+-- the moment right after the update of a zxid, or 0 where there is none
 abbrev pub after_update : ℤ → List TranscriptLine → ℕ
 after_update z lines = after_place (first_place (update_shown z) 0 lines)
 
--- the place and the bytes of a frame
+-- the place and the bytes of frame i of a connection
 abbrev pub placed_frame : ℕ → ℕ → List TranscriptLine → Option (ℕ × List ℕ)
 placed_frame c i lines = first_place (frame_shown c i) 0 lines
 
--- a request's own update: the line that carries it out
+-- a request's own update: the one that carries it out
 abbrev pub own_update_in : ℕ → ℕ → UpdateRec → UpdateKind → Option UpdateRec
 own_update_in c i u (Asked connection index now) = when ((c == connection) && (i == index)) u
 own_update_in c i u (Closed id connection index) = when ((c == connection) && (i == index)) u
@@ -78,15 +78,15 @@ pub record Walker : Type 0 where
   pub next : ℕ
   -- the moment of the last reply that had one
   pub moment : ℕ
-  -- no request is answered any more
+  -- no further request is answered
   pub over : Bool
 
 pub data Choice : Type 0 where
-  -- the next update is told
+  -- tell the next update
   Tell : Choice
-  -- the next frame is answered without the tree
+  -- answer the next frame without the tree
   Plain : Choice
-  -- the next frame is answered as of a moment
+  -- answer the next frame as of a moment
   Answer : (moment : ℕ) → Choice
 
 abbrev pub due_notices : ℕ → List Notice → List Due
@@ -106,7 +106,6 @@ told_update lines w (Some u) =
 abbrev pub entry_step : List TranscriptLine → Walker → Option (Walker × List Due)
 entry_step lines w = if is_unarmed w.watches then None else told_update lines w (next_update w.zxid lines)
 
--- the updates above a zxid fire in order
 abbrev pub is_above : ℤ → TranscriptLine → Bool
 is_above p (Update u) = int_lt p u.zxid
 is_above p _ = false
@@ -119,15 +118,16 @@ abbrev pub fired_from : List TranscriptLine → ℤ → ℕ → List TranscriptL
 fired_from lines p k [] x = x
 fired_from lines p k (l ∷ ls) x = fired_from lines p (k + 1) ls (then_fired lines k (is_above p l) x)
 
+-- the updates above a zxid fire in order: what stays armed, and the notices
 unfoldable pub fired_above : List TranscriptLine → ℤ → Watches → Watches × List Due
 fired_above lines p w = fired_from lines p 0 lines (w, [])
 
--- the refusal of an auth, behind which no request is answered
+-- the refusal of an auth, after which no request is answered
 abbrev pub is_auth_refusal : Reply → Bool
 is_auth_refusal (reply.Refused code) = int_eq code auth_failed
 is_auth_refusal (reply.Good b) = false
 
--- ---- an answer without the tree, which repeats the place
+-- ---- an answer without the tree, which repeats the walker's zxid
 
 abbrev pub plain_answer : Walker → ℕ → ℤ → Option Told → Option (Walker × List Due)
 plain_answer w k xid None = None
@@ -137,7 +137,7 @@ plain_answer w k xid (Some t) =
 abbrev pub later_of : ℕ → ℕ → ℕ
 later_of a b = if nat_le a b then b else a
 
--- it stands neither before the line of its frame nor before the update whose zxid it repeats
+-- such an answer is due after the line of its frame and after the update whose zxid it repeats
 abbrev pub answer_plainly : Walker → Option (ℕ × List ℕ) → Option (Walker × List Due)
 answer_plainly w None = None
 answer_plainly w (Some f) = let x = read_request f.1 in plain_answer w (later_of w.since (f.0 + 1)) (xid_of x) (plain_reply w.watches x)
@@ -148,7 +148,7 @@ abbrev pub with_end : Bool → Option Told → Option (Bool × Told)
 with_end over None = None
 with_end over (Some t) = Some (over, t)
 
--- the tree's answer, where none without it stands
+-- the tree's answer to a request, where t is the answer that needs no tree: there is none where t is one
 abbrev pub looked : State → ℕ → ℤ → Watches → Frame → Option Told → Option Told
 looked s limit id w x (Some t) = None
 looked s limit id w x None = option_and_then (tree_reply s.tree limit id w) (asked_in x)
@@ -175,7 +175,7 @@ abbrev pub closes_session : UpdateKind → Bool
 closes_session (Closed id c i) = true
 closes_session _ = false
 
--- a request that was carried out is answered as of right after its own line, and any other by what the state shows
+-- a request that was carried out is answered only as of the moment right after its own line, and any other by the state then
 unfoldable pub told_as_of : List TranscriptLine → ℕ → ℤ → Frame → Watches → Option (ℕ × UpdateRec) → Option (Bool × Told)
 told_as_of past c id x w (Some u) =
     if length past == u.0 + 1 then with_end (closes_session u.1.kind) (told_response w (response_at past u.0 u.1.zxid u.1.kind)) else None
@@ -204,7 +204,7 @@ has_header (Unreadable xid place) = true
 has_header (Unknown xid kind) = true
 has_header (Asks xid r) = true
 
--- the moment isn't before that of the last reply that had one, and its last update isn't below the place
+-- the moment is not before that of the last reply that had one, and the last update before it is not below the walker's zxid
 abbrev pub may_answer_at : List TranscriptLine → Walker → Bool
 may_answer_at past w = nat_le w.moment (length past) && int_le w.zxid (after past).zxid
 
@@ -248,7 +248,7 @@ packets_from c k (l ∷ ls) = packets_from c (k + 1) ls
 abbrev pub packets : ℕ → List TranscriptLine → List Due
 packets c lines = packets_from c 0 lines
 
--- each packet is the one due, not before its place
+-- the packets that were sent are those that were due, in order, and none stands before the first place where it may
 abbrev pub are_sent : List Due → List Due → Bool
 are_sent [] [] = true
 are_sent [] (p ∷ ps) = false
@@ -259,6 +259,7 @@ abbrev pub is_walked : Option (Walker × List Due) → List Due → Bool
 is_walked None ps = false
 is_walked (Some x) ps = are_sent x.1 ps
 
+-- the walker right after an attachment: nothing is armed, and frame 1 is the first to answer
 abbrev pub at_start : ℤ → ℕ → Walker
 at_start zxid since = record { zxid = zxid; since = since; watches = no_watches; next = 1; moment = 0; over = false }
 
@@ -281,11 +282,11 @@ abbrev pub is_fresh : List TranscriptLine → ℕ → ℕ → Choice → Bool
 is_fresh lines c i (Answer m) = is_past m (placed_frame c i lines)
 is_fresh lines c i _ = true
 
--- fresh: no reply has a moment before the line of its frame
+-- fresh: each reply that has a moment has one after the line of its frame
 abbrev pub are_fresh : List TranscriptLine → ℕ → ℕ → List Choice → Bool
 are_fresh lines c i xs = all_choices (is_fresh lines c) i xs
 
--- no request of c behind this one was carried out
+-- no request of c with a number above i was carried out
 abbrev pub is_not_overtaken : List TranscriptLine → ℕ → ℕ → Bool
 is_not_overtaken past c i = list_all (λ l. is_below (i + 1) (index_shown c l)) past
 
@@ -297,9 +298,9 @@ is_in_turn lines c i _ = true
 abbrev pub are_in_turn : List TranscriptLine → ℕ → ℕ → List Choice → Bool
 are_in_turn lines c i xs = all_choices (is_in_turn lines c) i xs
 
--- ---- walks from an attachment at a zxid, whose line stands before `since`
+-- ---- walks from an attachment with this zxid, whose line is the last before the moment `since`
 
--- lawful and fresh: some choices give these packets, each of a fresh moment
+-- lawful and fresh: some choices give these packets, and are fresh
 pub record IsFreshWalk (lines : List TranscriptLine) (c : ℕ) (id zxid : ℤ) (since : ℕ) (ps : List Due) : Type 0 where
   pub choices : List Choice
   pub lawful : IsTrue (is_walked (walk lines c id (at_start zxid since) choices) ps)

@@ -10,7 +10,7 @@ ghost use Rattle.zk_transcript.specs.declared.transcript.UpdateRec.{UpdateRec};
 ghost use Rattle.zk_transcript.specs.History.{Session, IsSound, IsBounded, after, session_at, attached_session, connect, first_shown, opening, state_at, update_in, updates};
 ghost use Rattle.zk_transcript.specs.Legal.{Attachment, attach_of, index_shown, is_legal, is_ordered, changes_session, lapses_session};
 
-/// Begin may have any zxid, and lines that are no update or lapse may stand before it.
+/// Begin may have any zxid up to the greatest of a `long`, and may follow a line that is neither an update nor a lapse.
 pub fn begin_comes_behind_an_open_line()
     ensures { (c proxy : ℕ) (id : ℤ) (passwd : List ℕ) (z : ℤ) (now : ℕ) → z ≤ℤ max_long → is_legal (Open c proxy id passwd ∷ Update (record { zxid = z; kind = Begin now }) ∷ []) ≡ true }
 {}
@@ -45,7 +45,7 @@ pub fn attached_by_own_line()
     ensures { (lines : List TranscriptLine) (c : ℕ) (id : ℤ) (x : Session) → is_legal lines ≡ true → attached_session c (after lines) ≡ Some (id, x) → (k : ℕ) × (attach_of c lines ≡ Some (k, record { zxid = x.attached; session = id })) }
 {}
 
-/// No line attached it later.
+/// Of the own lines that attached a session, the last is that of the connection to which the session is attached.
 pub fn attached_last()
     ensures { (lines : List TranscriptLine) (c : ℕ) (id : ℤ) (x : Session) → is_legal lines ≡ true → attached_session c (after lines) ≡ Some (id, x) → (d k : ℕ) (z : ℤ) → attach_of d lines ≡ Some (k, record { zxid = z; session = id }) → z ≤ℤ x.attached }
 {}
@@ -55,17 +55,18 @@ pub fn attached_to_own_line()
     ensures { (lines : List TranscriptLine) (c k : ℕ) (z id : ℤ) (x : Session) → is_legal lines ≡ true → attach_of c lines ≡ Some (k, record { zxid = z; session = id }) → session_at id (after lines) ≡ Some x → x.attached ≡ z → attached_session c (after lines) ≡ Some (id, x) }
 {}
 
-/// While a session is attached to a connection, no line behind the connection's own one opens, attaches or ends that session.
+/// While a session is attached to a connection, no line after the connection's own line opens, attaches or ends that session.
 pub fn attached_since_own_line()
     ensures { (lines : List TranscriptLine) (c k moment : ℕ) (own : Attachment) (id : ℤ) (x : Session) → is_legal lines ≡ true → attach_of c lines ≡ Some (k, own) → k < moment → attached_session c (state_at lines moment) ≡ Some (id, x) → (j : ℕ) (l : TranscriptLine) → k < j → j < moment → slice_get lines j ≡ Some l → changes_session id l ≡ false }
 {}
 
-/// And while it lives no such line lapses it.
+/// While a session is attached to a connection and has not lapsed, no line after the connection's own line lapses it.
 pub fn alive_since_own_line()
     ensures { (lines : List TranscriptLine) (c k moment : ℕ) (own : Attachment) (id : ℤ) (x : Session) → is_legal lines ≡ true → attach_of c lines ≡ Some (k, own) → k < moment → attached_session c (state_at lines moment) ≡ Some (id, x) → x.lapsed ≡ false → (j : ℕ) (l : TranscriptLine) → k < j → j < moment → slice_get lines j ≡ Some l → lapses_session id l ≡ false }
 {}
 
-/// A new session has the number that its connection offered, which no open session had, and the connect asked for no other.
+/// A new session has the number that its connection offered, which no open session had, and the connect asked for a new session:
+/// it named session 0.
 pub fn sessions_begin_as_offered()
     ensures { (lines : List TranscriptLine) (k c : ℕ) (z id : ℤ) → is_legal lines ≡ true → slice_get lines k ≡ Some (Update (record { zxid = z; kind = NewSession id c })) → (o : ℤ × List ℕ) × (r : SomeConnect) × (opening c (take k lines) ≡ Some o) × (connect c (take k lines) ≡ Some r) × (o.0 ≡ id) × (r.session ≡ pos 0) × (session_at id (state_at lines k) ≡ None) }
 {}
@@ -82,7 +83,7 @@ pub fn reaped_sessions_had_lapsed()
     ensures { (lines : List TranscriptLine) (k : ℕ) (z id : ℤ) → is_legal lines ≡ true → slice_get lines k ≡ Some (Update (record { zxid = z; kind = Reaped id })) → (x : Session) × (session_at id (state_at lines k) ≡ Some x) × (x.lapsed ≡ true) }
 {}
 
-/// What is carried out later for a connection is a later request of it.
+/// A connection's requests are carried out in the order of their frames, each at most once.
 pub fn requests_are_carried_out_in_order()
     ensures { (lines : List TranscriptLine) (j k c i m : ℕ) (a b : TranscriptLine) → is_ordered lines ≡ true → j < k → slice_get lines j ≡ Some a → slice_get lines k ≡ Some b → index_shown c a ≡ Some i → index_shown c b ≡ Some m → i < m }
 {}

@@ -2,7 +2,7 @@
 //! statement about a run is made of.
 //!
 //! In reading order: `History` (the state of the service at each moment of a transcript), `Legal` (the updates are one run
-//! of the machine), `Answers` (what a request is answered in a state), `Walks` (what a connection is sent behind its attachment),
+//! of the machine), `Answers` (what a request is answered in a state), `Walks` (what a connection is sent after its attachment),
 //! `Conversations` (all that it is sent).
 #![tactic(auto)]
 

@@ -1,121 +1,136 @@
 //! What a run of the service shows, line by line.
 //!
-//! Connections and proxies are numbers of the script; `index` counts the frames of a connection from 0, its connect;
-//! zxids and revisions are etcd's; times are the script's clock in milliseconds.
+//! Connections and proxies have the numbers that the script gives them. `index` counts the frames of a connection from 0, which is
+//! its connect. A zxid is the revision of etcd that the update made. Times are the script's clock, in milliseconds.
 
 use zx_base::{Bytes, Seq};
 
 /// What an update was.
 #[derive(Clone, Copy, Debug)]
 pub enum UpdateKind {
-    /// The first update of a store: the root.
+    /// The first update of a store, at time `now`: the root is made.
     Begin {
         now: u64,
     },
-    /// A new session.
+    /// The connection began a new session.
     Session {
         id: i64,
         connection: u32,
     },
-    /// A session that another connection took over.
+    /// The connection resumed a session, which leaves the one that it was attached to.
     Attach {
         id: i64,
         connection: u32,
     },
-    /// A create, delete, setData or multi. `now` is the moment of its plan.
+    /// A create, delete, setData or multi: the frame `index` of the connection. `now` is the time at which it was planned.
     Asked {
         connection: u32,
         index: u64,
         now: u64,
     },
-    /// A session that its client closed.
+    /// The client closed its session by the frame `index` of the connection; its ephemeral nodes went with it.
     Closed {
         id: i64,
         connection: u32,
         index: u64,
     },
-    /// A lapsed session that was removed.
+    /// A lapsed session was removed, and its ephemeral nodes with it.
     Reaped {
         id: i64,
     },
 }
 
+/// An update and its zxid.
 #[derive(Clone, Copy, Debug)]
 pub struct UpdateRec {
     pub zxid: i64,
     pub kind: UpdateKind,
 }
 
-/// Why a connection ended. `place` counts the bytes of the client's stream.
+/// Why a connection ended. `place` counts the bytes of the client's stream; `rev` is a revision of etcd.
 #[derive(Debug, Drop)]
 pub enum Cause {
     /// A closeSession was answered.
     Closed,
     /// The client's stream ended after so many bytes.
     ClientEnd { place: u64 },
+    /// The client's stream could not be read.
     ReadFault,
+    /// The client's stream could not be written.
     WriteFault,
     /// A length out of range stands at this place.
     BadLength { place: u64, length: i32 },
     /// A frame too short for a header, or an unreadable connect, stands at this place.
     NoHeader { place: u64 },
-    /// An auth with an unknown scheme.
+    /// The client sent an `auth` with a scheme that is not served.
     AuthRefused,
-    /// A resume of a session that is not open, or with another password.
+    /// The session to be resumed is not open, has lapsed, or has another password.
     Unknown,
-    /// The client has seen a later zxid than this store has.
+    /// The client has seen zxid `client`; the last update of this store is `head`.
     ZxidAhead { client: i64, head: i64 },
-    /// The number of a new session is in use.
+    /// The number of a new session is in use, as seen at this revision.
     Taken { rev: i64 },
+    /// The session has lapsed or ended, as seen at this revision.
     Expired { rev: i64 },
+    /// Another connection resumed the session by the update with zxid `found`; this one was attached by that with zxid `mine`.
     Moved { mine: i64, found: i64 },
+    /// The link to etcd failed, or etcd denied what it was asked.
     LinkFault,
+    /// The client was told the updates up to number `cursor`; those up to number `floor` are no longer kept.
     Lagged { cursor: i64, floor: i64 },
+    /// No more updates are told.
     FeedClosed,
-    /// A value under this key is no record.
+    /// The value under this key of the service is no record.
     Damaged { key: Bytes, value: Bytes },
+    /// The proxy restarted.
     Restart,
+    /// Out of memory.
     Memory,
 }
 
-/// How an activity ended: a connection by a cause, or a reaper.
+/// How a connection or a reaper ended.
 #[derive(Debug, Drop)]
 pub enum Ended {
+    /// A connection ended, or a reaper failed.
     Cause(Cause),
     /// The session was removed by the update with this zxid.
     Reaped { zxid: i64 },
-    /// The session is alive at this revision.
+    /// The session was alive at this revision.
     Kept { rev: i64 },
-    /// There is no such session at this revision.
+    /// The session was not open at this revision.
     Gone { rev: i64 },
 }
 
+/// A line of a transcript.
 #[derive(Debug, Drop)]
 pub enum TranscriptLine {
+    /// An update was committed.
     Update(UpdateRec),
+    /// A connection opened at a proxy; `id` and `passwd` are what it offers if its client asks for a new session.
     Open {
         connection: u32,
         proxy: u32,
         id: i64,
         passwd: [u8; 16],
     },
-    /// A frame is whole; `zxid` is the last update's then.
+    /// A frame of the client came, `bytes` without its length; `zxid` is that of the last update then.
     Frame {
         connection: u32,
         index: u64,
         zxid: i64,
         bytes: Bytes,
     },
-    /// A packet, with its length.
+    /// The client was sent a packet, `bytes` with its length.
     Send {
         connection: u32,
         bytes: Bytes,
     },
-    /// A lease lapsed; the store's revision after it.
+    /// The lease of session `id` lapsed; `revision` is the store's after it.
     Lapse {
         revision: i64,
         id: i64,
     },
+    /// A connection or a reaper ended.
     Close {
         connection: u32,
         end: Ended,
