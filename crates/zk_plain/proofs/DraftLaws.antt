@@ -72,7 +72,7 @@ children-written t (w ∷ ws) p told =
 
 -- ---- nodes of a session
 
--- it was there, or was not
+-- how a session's count changes where a node that was there, or was not, is taken out
 left_tally : (t : Tree) (q : Bytes) (id : ℤ) (old : Option Node) (b : Bool) → is_owner id old ≡ b → get t q ≡ old → tallied b false (len (owned_by t id)) ≡ len (remove (owned_by t id) q)
 left_tally t q id None true is there = absurd (cc)
 left_tally t q id (Some n) true is there = sym (len-remove_there (owned_by t id) q n (get-owned_as t id q (Some n) there ∙ ap (λ b. cond b (Some n) None) is))

@@ -54,7 +54,7 @@ module _ {X : Type 0} where
   pub empty-map : map_of {X = X} [] ≡ empty
   empty-map = same_entries_map _ _ (entries-map [] refl ∙ sym entries-empty)
 
-  -- ---- what is read off them
+  -- ---- the keys and the length of the map
 
   pub keys-map : (es : Entries X) → is_sorted order es ≡ true → keys (map_of es) ≡ map (λ (e : Bytes × X). e.0) es
   keys-map es h = ap (map (λ (e : Bytes × X). e.0)) (entries-map es h)
@@ -70,7 +70,7 @@ module _ {X : Type 0} where
   find-where : (f : Bytes → Bool) (es : Entries X) (q : Bytes) → find order q (where_key order f es) ≡ cond (f q) (find order q es) None
   find-where f es q = find-where_key order f q (λ x h. ap f (sym (exact_bytes q x h))) es
 
-  -- they make the part of the map that passes it
+  -- the entries whose paths pass a test make the part of the map that passes it
   retain-map : (f : Bytes → Bool) (es : Entries X) → is_sorted order es ≡ true → map_of (where_key order f es) ≡ retain_keys (map_of es) f
   retain-map f es h = ext _ _ (λ q.
       get-map (where_key order f es) q (sorted-where f es h) ∙ find-where f es q

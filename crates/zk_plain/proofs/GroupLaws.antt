@@ -24,7 +24,7 @@ use Rattle.zk_plain.proofs.EntryLaws.{entries-empty, entries-map, others, remove
 
 -- ---- keys after a change
 
--- the keys with one more in its place
+-- some keys in order, and one more in its place
 abbrev pub put_key : Bytes → List Bytes → List Bytes
 put_key k [] = k ∷ []
 put_key k (x ∷ xs) = by_order (order k x) (k ∷ x ∷ xs) (x ∷ xs) (x ∷ put_key k xs)
@@ -94,7 +94,7 @@ no_child path p none = ap (λ o. is_at_path o p) none
 pub none_below : (t : Tree) (p q : Bytes) → is_child p q ≡ false → get (below t p) q ≡ None
 none_below t p q h = get-retain t (is_child p) q ∙ ap (λ b. cond b (get t q) None) h
 
--- of another node
+-- a put of no child of p leaves p's children as they were
 children-put_other : (t : Tree) (p q : Bytes) (n : Node) → is_child p q ≡ false → children (insert t q n) p ≡ children t p
 children-put_other t p q n h = ap (λ (x : Tree). keys x) (retain-insert_out t (is_child p) q n h)
 

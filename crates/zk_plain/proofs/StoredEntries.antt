@@ -24,7 +24,7 @@ module _ {X : Type 0} where
       let tied : order path e.0 ≡ Equal = ap (order path) is ∙ tied_itself nat_list_cmp_total path in
       let both : false ≡ true = sym (ap is_lt tied) ∙ above in absurd (cc))
 
-  -- the entries behind a path have other paths
+  -- entries that come after a path in the order have other paths
   others-above : (path : Bytes) (vs : Entries X) → below_all order path vs ≡ true → others path vs ≡ vs
   others-above path [] above = refl
   others-above path (e ∷ vs) above =
@@ -140,7 +140,7 @@ module _ {K X : Type 0} (bytes : K → Bytes) where
   removed-map es fs path in_order e =
       ap (λ (x : Stored K X). map_of (values_of x)) e ∙ ap (λ (x : Entries X). map_of x) (values-remove path es in_order.1 in_order.0) ∙ remove-map path (values_of es) in_order.0
 
-  -- ---- and of a map that is known by another name
+  -- ---- look-ups, puts and removals, where the map of the entries is known by another name
 
   pub found-in : (path : Bytes) (es : Stored K X) (m : Map X) (found : Option (Bytes × X)) → IsInOrder es → map_of (values_of es) ≡ m
       → found ≡ lookup (is_at (λ k. order path (bytes k))) es → option_map (λ (x : Bytes × X). x.1) found ≡ get m path

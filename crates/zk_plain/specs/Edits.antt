@@ -8,7 +8,7 @@ use Rattle.zk_model.specs.Single.{removed}
 use Rattle.zk_plain.specs.declared.edit.Edit.{Edit}
 use Rattle.zk_plain.specs.declared.edit.Edit.TheVariants.{Made, Written, Removed}
 
--- the parent with its count of creates; a parent that is not there stays away
+-- the tree with this count of creates and this pzxid at the parent q; unchanged, where the parent is not there
 abbrev pub counted_create : Tree → Bytes → ℤ → ℤ → Option Node → Tree
 counted_create t q creates zxid None = t
 counted_create t q creates zxid (Some up) = insert t q (record up { pzxid = zxid; creates = creates })

@@ -1,4 +1,4 @@
--- When a number is beyond its field: in no tree of a run, and for no data that a frame carries.
+-- When the numbers of a tree are within their fields, as they are in each tree of a run.
 use Rattle.std.specs.Prelude.{◌≡◌, ◌≤◌, ◌≤ℤ◌, ℕ, ℤ, pos, ⊤, List, [], ◌∷◌, Some, None, length}
 use Rattle.std.specs.FinMap.{get}
 use Rattle.zx_base.specs.Maps.{Bytes}
@@ -12,7 +12,7 @@ use Rattle.zk_plain.specs.declared.fault.Fault.{Fault}
 use Rattle.zk_plain.specs.declared.fault.Fault.TheVariants.{Memory, Beyond}
 use Rattle.zk_model.specs.Limits.{max_creates, max_frame}
 
--- a node's counts and data are those of a run
+-- a node counts at least as many creates as it has children, and no more than it may, and its data fit a frame
 pub record IsCounted (n : Node) (children : ℕ) : Type 0 where
   pub counted : pos children ≤ℤ n.creates
   pub creates : n.creates ≤ℤ max_creates
@@ -21,7 +21,7 @@ pub record IsCounted (n : Node) (children : ℕ) : Type 0 where
 abbrev pub IsWithin : Tree → Type 0
 IsWithin t = (p : Bytes) (n : Node) → get t p ≡ Some n → IsCounted n (num_children t p)
 
--- nothing stands below a path where nothing is
+-- a node whose parent is not there is not there
 abbrev pub IsClosed : Tree → Type 0
 IsClosed t = (p q : Bytes) → parent p ≡ Some q → get t q ≡ None → get t p ≡ None
 
@@ -30,7 +30,7 @@ pub record IsWhole (t : Tree) : Type 0 where
   pub closed : IsClosed t
   pub within : IsWithin t
 
--- want of memory, or the numbers are not such
+-- out of memory, or a number is beyond its field: then `fits` does not hold
 abbrev pub BeyondUnless : Type 0 → Fault → Type 0
 BeyondUnless fits Memory = ⊤
 BeyondUnless fits Beyond = fits → ⊥
@@ -39,7 +39,7 @@ abbrev pub After : Outcome → (Tree → Type 0) → Type 0
 After (Refused code) P = ⊤
 After (Done result tree triggers) P = P tree
 
--- each tree to which a part comes is such
+-- the numbers of each tree on which a part is done are within their fields, and the part's data fit a frame
 unfoldable pub StaysWithin : Tree → ℕ → ℤ → List Part → ℤ → ℕ → Type 0
 StaysWithin t limit session [] zxid now = ⊤
 StaysWithin t limit session (p ∷ ps) zxid now =

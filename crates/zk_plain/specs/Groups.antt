@@ -16,7 +16,7 @@ Families = Map Group
 abbrev pub Owners : Type 0
 Owners = BTreeMap ℤ Group
 
--- where no group is kept, it has no paths
+-- a group that is not kept has no paths
 abbrev pub group_of : Option Group → Group
 group_of None = empty
 group_of (Some g) = g

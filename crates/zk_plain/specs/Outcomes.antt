@@ -15,7 +15,7 @@ use Rattle.zk_model.specs.Znodes.{Tree}
 use Rattle.zk_plain.specs.Edits.{edited_if}
 use Rattle.zk_plain.specs.Writes.{written_all}
 
--- of a request that was planned on this tree
+-- what came of a request that was planned on this tree
 abbrev pub outcome_of : Tree → Answer → Outcome
 outcome_of t (answer.Refused code) = Refused code
 outcome_of t (answer.Done result edit triggers) = Done result (edited_if t edit) triggers
@@ -25,7 +25,7 @@ abbrev pub IsRead : Option Bytes → Bool → Bytes → Type 0
 IsRead None sequential text = is_valid sequential text ≡ false
 IsRead (Some path) sequential text = (path ≡ tested sequential text) × (is_valid sequential text ≡ true)
 
--- of parts whose writes are made in this tree
+-- what came of the parts of a transaction, whose writes are to be made in this tree
 abbrev pub parts_as : Tree → Chain → Parts
 parts_as t (chain.Stopped place code) = Stopped place code
 parts_as t (chain.Passed results writes triggers touched) = Passed results.items (written_all t writes.items) triggers.items touched.items
@@ -34,7 +34,7 @@ abbrev pub IsPlacedBelow : Chain → ℕ → Type 0
 IsPlacedBelow (chain.Stopped place code) n = place < n
 IsPlacedBelow (chain.Passed results writes triggers touched) n = ⊤
 
--- a load that is not above the most
+-- a load, or None where it is above the most
 abbrev pub within : ℕ → Option ℕ
 within n = if nat_le n max_load then Some n else None
 

@@ -7,7 +7,7 @@ use Rattle.zk_model.specs.Paths.{is_child}
 use Rattle.zk_model.specs.Znodes.{is_owner}
 use Rattle.zk_plain.specs.declared.write.Write.{Write}
 
--- one more where a node counts that did not, one less where it counted
+-- one more where a node counts that did not before, one less where it counted and no longer does
 abbrev pub tallied : Bool → Bool → ℕ → ℕ
 tallied false true n = n + 1
 tallied true false n = n - 1
@@ -35,7 +35,7 @@ was_owned id w = is_own id w.before
 abbrev pub is_owned_now : ℤ → Write → Bool
 is_owned_now id w = is_owner id w.node
 
--- the node at a path after writes, of which this one was there before
+-- the node at a path after writes, where o was there before them
 abbrev pub found_after : Bytes → Option Node → List Write → Option Node
 found_after p o [] = o
 found_after p o (w ∷ ws) = found_after p (cond (same w.path p) w.node o) ws

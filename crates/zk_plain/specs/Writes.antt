@@ -20,7 +20,7 @@ written_all t (w ∷ ws) = written_all (written t w) ws
 abbrev pub owner_at : Tree → Bytes → Option ℤ
 owner_at t p = option_map (λ n. n.owner) (get t p)
 
--- each says whose node it found
+-- each write says who owned the node that it found, if it found one
 abbrev pub AreTold : Tree → List Write → Type 0
 AreTold t [] = ⊤
 AreTold t (w ∷ ws) = (w.before ≡ owner_at t w.path) × AreTold (written t w) ws

@@ -75,7 +75,7 @@ pub fn single_check(
     requests::single_check(alloc, &Draft::of(tree), turn, text, version)
 }
 
-/// What one request makes of the tree.
+/// What one create, delete, setData or check makes of the tree.
 pub fn single(alloc: Global, tree: &Tree, turn: &Turn, part: &Part) -> Result<Outcome, Fault>
     ensures ok { IfOk result (λ o. outcome_of tree.now o ≡ single tree.now turn.now.limit turn.now.session part.now turn.now.zxid turn.now.moment) }
     ensures beyond { IfErr result (BeyondUnless (IsWithin tree.now × (data_len part.now ≤ max_frame))) }

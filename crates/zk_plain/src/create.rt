@@ -26,25 +26,28 @@ use zk_model::limit::MAX_CREATES;
 use zk_model::{Acl, Node, PartResult, Path, Trigger};
 use zx_base::{Bytes, Memory, Seq, Text};
 
+/// Whether a create's flags are one of the four modes, 0 to 3 (`CreateMode`).
 pub fn is_create_mode(flags: i32) -> bool
     ensures { result ≡ is_create_mode flags }
 {
     matches!(flags, 0..=3)
 }
 
+/// Whether a create's flags are those of an ephemeral node, sequential or not.
 pub fn is_ephemeral(flags: i32) -> bool
     ensures { result ≡ is_ephemeral flags }
 {
     flags == 1 || flags == 3
 }
 
+/// Whether a create's flags are those of a sequential node, ephemeral or not.
 pub fn is_sequential(flags: i32) -> bool
     ensures { result ≡ is_sequential flags }
 {
     flags == 2 || flags == 3
 }
 
-/// Whether the list is `OPEN_ACL_UNSAFE`.
+/// Whether the list is `ZooDefs.Ids.OPEN_ACL_UNSAFE`: everything is allowed to everyone.
 pub fn is_open_acl(entries: &[Acl]) -> bool
     ensures { result ≡ is_open_acl entries.now }
 {
@@ -54,7 +57,7 @@ pub fn is_open_acl(entries: &[Acl]) -> bool
     }
 }
 
-/// A new node, made at this moment.
+/// A new node, made at this zxid and time.
 fn new_node(alloc: Global, content: &[u8], owner: i64, turn: &Turn) -> Result<Node, Memory>
     ensures { IfOk result (λ n. n ≡ new_node content.now owner turn.now.zxid turn.now.moment) }
 {
@@ -81,7 +84,7 @@ pub fn begin(alloc: Global, turn: &Turn) -> Result<Tree, Memory>
     Ok(tree)
 }
 
-/// One create more.
+/// A count of creates, and one more.
 fn counted(creates: i32) -> Result<i32, Fault>
     ensures ok { IfOk result (λ more. more ≡ creates +ℤ pos 1) }
     ensures beyond { IfErr result (BeyondUnless (creates ≤ℤ max_creates)) }
@@ -104,7 +107,7 @@ fn is_full_by(creates: i32, ephemeral: bool, most: bool) -> bool
     creates == MAX_CREATES || (ephemeral && most)
 }
 
-/// Whether the parent or the session can have no more.
+/// Whether the parent can count no further create, or the session may own no further ephemeral node and this is to be one.
 fn is_full(tree: &Draft, turn: &Turn, flags: i32, parent: &Node) -> bool
     ensures { result ≡ is_full tree.now turn.now.limit turn.now.session flags parent.now }
 {
@@ -198,7 +201,7 @@ fn create_absent(
     Ok(create_allowed(alloc, tree, turn, flags, content, parent, up, path)?)
 }
 
-/// A create under a parent that is there.
+/// A create below a parent that is there.
 fn create_node(
     alloc: Global,
     tree: &Draft,

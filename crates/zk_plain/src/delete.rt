@@ -13,14 +13,14 @@ use zk_model::code::{BAD_VERSION, NO_NODE, NOT_EMPTY};
 use zk_model::{PartResult, Path, Trigger};
 use zx_base::{Memory, Seq};
 
-/// Whether a node of this version is the one that was asked for; -1 asks for any.
+/// Whether a node's version is the one that was asked for; -1 asks for any.
 pub fn matches(asked: i32, version: i32) -> bool
     ensures { result ≡ matches asked version }
 {
     asked == -1 || asked == version
 }
 
-/// What watches see of it.
+/// What watches see of the removal of the node at a path.
 fn removal(alloc: Global, path: &Path) -> Result<Seq<Trigger>, Memory>
     ensures { IfOk result (λ triggers. triggers ≡ removal path.now) }
 {
@@ -33,6 +33,7 @@ fn removal(alloc: Global, path: &Path) -> Result<Seq<Trigger>, Memory>
     Ok(triggers)
 }
 
+/// A delete, once its path has been read.
 pub fn delete(
     alloc: Global,
     tree: &Draft,

@@ -11,7 +11,8 @@ use crate::write::Write;
 use std::marker::Model;
 use zk_model::Node;
 
-/// A tree as it is after some writes, which are not made in it. A look-up takes a step for each write besides the tree's own.
+/// A tree as it is after some writes, which are not made in it. A look-up takes a step for each write, besides what it takes in the
+/// tree.
 #[derive(Debug, Drop)]
 pub struct Draft<'a> {
     tree: &'a Tree,
@@ -32,7 +33,7 @@ impl<'a> Model for Draft<'a> {
     ghost invariant = { λ d. AreTold d.tree.now d.writes.now };
 }
 
-/// A count after a write, at which a node did or did not count before, and does or does not now.
+/// A count after a write to a node, which did or did not count before the write, and does or does not after it.
 fn tallied(did: bool, does: bool, count: usize) -> usize
     requires { count < 18446744073709551615 }
     ensures { result ≡ tallied did does count }
@@ -62,7 +63,7 @@ fn is_owner(session: i64, node: &Option<Node>) -> bool
     }
 }
 
-/// The node at a path after these writes, of which this one was there before.
+/// The node at a path after these writes, where `found` was there before them.
 fn found_after<'a>(found: Option<&'a Node>, writes: &'a [Write], path: &[u8]) -> Option<&'a Node>
     ensures { option_map (λ n. n.now) result ≡ found_after path.now (option_map (λ n. n.now) found.entry) writes.now }
 {
@@ -75,7 +76,7 @@ fn found_after<'a>(found: Option<&'a Node>, writes: &'a [Write], path: &[u8]) ->
     node
 }
 
-/// How many children a node has after these writes, of so many before.
+/// How many children a node has after these writes, where it had `before`.
 fn children_after(before: usize, writes: &[Write], path: &[u8]) -> usize
     requires { before < 2 ^ 63 }
     ensures { result ≡ tallied_all (was_child path.now) (is_child_now path.now) before writes.now }
@@ -92,7 +93,7 @@ fn children_after(before: usize, writes: &[Write], path: &[u8]) -> usize
     count
 }
 
-/// How many nodes a session owns after these writes, of so many before.
+/// How many nodes a session owns after these writes, where it owned `before`.
 fn owned_after(before: usize, writes: &[Write], session: i64) -> usize
     requires { before < 2 ^ 63 }
     ensures { result ≡ tallied_all (was_owned session) (is_owned_now session) before writes.now }
@@ -116,7 +117,7 @@ impl<'a> Draft<'a> {
         Draft { tree, writes: &[] }
     }
 
-    /// The tree after these writes, each of which says whose node it found.
+    /// The tree after these writes, each of which says who owned the node that it found.
     pub fn after(tree: &'a Tree, writes: &'a [Write]) -> Draft<'a>
         requires { AreTold tree.now writes.now }
         ensures { result ≡ written_all tree.now writes.now }
@@ -131,6 +132,7 @@ impl<'a> Draft<'a> {
         found_after(self.tree.get(path), self.writes, path)
     }
 
+    /// How many children the node at a path has.
     pub fn num_children(&self, path: &[u8]) -> usize
         ensures { result ≡ num_children self.now path.now }
     {

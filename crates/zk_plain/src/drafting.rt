@@ -33,7 +33,7 @@ fn copy_at(alloc: Global, draft: &Draft, path: &[u8]) -> Result<Option<Node>, Me
     }
 }
 
-/// One write more.
+/// The writes followed by one more, which notes the owner of the node that it finds.
 fn write(
     tree: &Tree,
     writes: Vec<Write>,
@@ -50,7 +50,7 @@ fn write(
     Ok(more)
 }
 
-/// The parent with its count of creates; a parent that is not there stays away.
+/// The writes followed by one that sets the parent's count of creates and its pzxid, if the parent is there.
 fn count_create(
     alloc: Global,
     tree: &Tree,
@@ -74,7 +74,7 @@ fn count_create(
     }
 }
 
-/// A node without children goes, which its parent's pzxid shows.
+/// The writes followed by those that take out a node without children and set its parent's pzxid.
 fn remove(
     alloc: Global,
     tree: &Tree,
@@ -101,7 +101,7 @@ fn remove(
     }
 }
 
-/// The writes with those of a planned change behind them.
+/// The writes followed by those of a planned change.
 fn carried_out(
     alloc: Global,
     tree: &Tree,
@@ -128,7 +128,7 @@ fn carried_out(
     }
 }
 
-/// The writes with those of a planned change behind them, if there is one.
+/// The writes followed by those of a planned change, if there is one.
 pub fn carried_out_if(
     alloc: Global,
     tree: &Tree,

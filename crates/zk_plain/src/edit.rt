@@ -10,9 +10,10 @@ use std::alloc::Global;
 use zk_model::{Node, Path};
 use zx_base::Memory;
 
+/// What one request changes of a tree.
 #[derive(Debug, Drop)]
 pub enum Edit {
-    /// A node is made at `path`, and its parent has so many creates and this pzxid.
+    /// `node` is put at `path`; its parent then has this count of creates, and `zxid` as its pzxid.
     Made {
         parent: Path,
         creates: i32,
@@ -20,12 +21,12 @@ pub enum Edit {
         path: Path,
         node: Node,
     },
-    /// The node at a path is this one.
+    /// `node` is put at `path`.
     Written {
         path: Path,
         node: Node,
     },
-    /// A node without children is removed, which its parent's pzxid shows.
+    /// The node at `path`, which has no children, is removed; its parent then has `zxid` as its pzxid.
     Removed {
         path: Path,
         zxid: i64,
@@ -51,7 +52,7 @@ impl Tree {
         self.put(alloc, path, counted)
     }
 
-    /// Removes a node that has no children. Without memory the tree may be without it and its parent: throw it away.
+    /// Removes a node that has no children, and sets its parent's pzxid. Without memory the tree may lack both: throw it away.
     pub fn remove(&mut self, alloc: Global, path: &Path, zxid: i64) -> Result<(), Memory>
         ensures { OnOk result (self.new ≡ removed self.old path.now zxid) }
     {
@@ -89,7 +90,7 @@ impl Tree {
         }
     }
 
-    /// Carries a change out, if there is one. Without memory as [`Tree::carry_out`].
+    /// Carries a change out, if there is one. Without memory the tree may be left half changed: throw it away.
     pub fn carry_out_if(&mut self, alloc: Global, edit: Option<Edit>) -> Result<(), Memory>
         ensures { OnOk result (self.new ≡ edited_if self.old edit) }
     {

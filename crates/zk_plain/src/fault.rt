@@ -1,12 +1,14 @@
-//! Why there is no answer.
+//! Why the machine gives no answer.
 
 use zx_base::Memory;
 
+/// Why the machine gives no answer.
 #[derive(Clone, Copy, Debug, PartialEq, Eq)]
 pub enum Fault {
+    /// Out of memory.
     Memory,
-    /// A number is beyond its field, as in no tree of a run: a count of children beyond a node's count of creates, or data
-    /// of more than 2,147,483,647 bytes; of a state, more than 2^64 - 1 updates, or a moment of 2^63 milliseconds.
+    /// A number does not fit its field, which happens in no run: a node's children, bytes of data, `cversion` or creates do not
+    /// fit an `int`; 2^64 - 1 updates were made before this one; or its time is 2^63 milliseconds or more.
     Beyond,
 }
 

@@ -15,10 +15,10 @@ use zx_base::Memory;
 /// Some paths.
 pub type Group = PathMap<()>;
 
-/// By a node's path, the paths of its children.
+/// The paths of each node's children, by the node's path.
 pub type Families = PathMap<Group>;
 
-/// By a session's number, the paths of its nodes; by 0 those of the nodes that no session owns.
+/// The paths of each session's nodes, by the session's number; under 0, those of the nodes that no session owns.
 pub type Owners = BTreeMap<i64, Group>;
 
 fn kept_or_new(alloc: Global, kept: Option<Group>) -> Group
@@ -44,7 +44,7 @@ fn join_family(
     families.put(alloc, parent, group)
 }
 
-/// Takes a path out of a family, of which nothing is kept once it is empty.
+/// Takes a path out of a family, and drops the family once it is empty.
 fn leave_family(
     alloc: Global,
     families: &mut Families,
@@ -74,7 +74,7 @@ fn join_owner(alloc: Global, owners: &mut Owners, id: i64, path: Path) -> Result
     Ok(())
 }
 
-/// Takes a path out of the nodes of a session, of which nothing is kept once it has none.
+/// Takes a path out of the nodes of a session, and drops the session's entry once it has none.
 fn leave_owner(owners: &mut Owners, id: i64, path: &[u8]) -> Result<(), Memory>
     ensures { OnOk result (HasOwner owners.old owners.new id (remove (owned_group owners.old id) path.now)) }
 {
@@ -90,7 +90,7 @@ fn leave_owner(owners: &mut Owners, id: i64, path: &[u8]) -> Result<(), Memory>
     Ok(())
 }
 
-/// The families once a node is put at this path.
+/// The families after a node is put at this path.
 pub fn with_child(alloc: Global, families: Families, path: &Path) -> Result<Families, Memory>
     ensures { IfOk result (λ m. (t : Nodes) (n : Node) → HasFamilies t families → HasFamilies (insert t path.now n) m) }
 {
@@ -104,7 +104,7 @@ pub fn with_child(alloc: Global, families: Families, path: &Path) -> Result<Fami
     }
 }
 
-/// The families once no node is at this path.
+/// The families after the node at this path is taken out.
 pub fn without_child(alloc: Global, families: Families, path: &Path) -> Result<Families, Memory>
     ensures { IfOk result (λ m. (t : Nodes) → HasFamilies t families → HasFamilies (remove t path.now) m) }
 {
@@ -118,7 +118,7 @@ pub fn without_child(alloc: Global, families: Families, path: &Path) -> Result<F
     }
 }
 
-/// The nodes of sessions once a node of this one is put at a path that had none.
+/// The nodes of sessions after a node of session `id` is put at a path that had none.
 pub fn with_owned(alloc: Global, owners: Owners, id: i64, path: &Path) -> Result<Owners, Memory>
     ensures { IfOk result (λ m. (t : Nodes) (n : Node) → get t path.now ≡ None → n.owner ≡ id → HasOwners t owners → HasOwners (insert t path.now n) m) }
 {
@@ -127,7 +127,7 @@ pub fn with_owned(alloc: Global, owners: Owners, id: i64, path: &Path) -> Result
     Ok(more)
 }
 
-/// The nodes of sessions once the node of this one at the path is gone.
+/// The nodes of sessions after the node at the path, which session `id` owned, is taken out.
 pub fn without_owned(owners: Owners, id: i64, path: &Path) -> Result<Owners, Memory>
     ensures { IfOk result (λ m. (t : Nodes) (n : Node) → get t path.now ≡ Some n → n.owner ≡ id → HasOwners t owners → HasOwners (remove t path.now) m) }
 {

@@ -1,4 +1,4 @@
-//! What the faults mean.
+//! Where no number is beyond its field.
 
 ghost use Rattle.std.specs.Prelude.{◌≤◌, ℕ, ℤ, List};
 ghost use Rattle.std.specs.List.{AllByRecursion};
@@ -9,14 +9,14 @@ ghost use Rattle.zk_model.specs.Znodes.{Tree};
 ghost use Rattle.zk_transcript.specs.History.{State, IsSound};
 ghost use Rattle.zk_plain.specs.Faults.{IsWhole, IsWithin, StaysWithin};
 
-/// The tree of a sound state has no number beyond its field.
+/// The numbers of a sound state's tree are within their fields.
 pub fn sound_trees_fit()
     ensures fit { (s : State) → IsSound s → IsWithin s.tree }
     ensures whole { (s : State) → IsSound s → IsWhole s.tree }
 {}
 
-/// Nor has any tree to which the parts of a transaction come one after the other, whoever asks for it, where the data of each
-/// are no longer than a frame.
+/// From a whole tree, the numbers stay within their fields at each part of a transaction, whoever asks for it, where the data of
+/// each part are no longer than a frame.
 pub fn parts_fit()
     ensures { (t : Tree) (parts : List Part) → IsWhole t → AllByRecursion (λ p. data_len p ≤ max_frame) parts → (limit : ℕ) (session zxid : ℤ) (moment : ℕ) → StaysWithin t limit session parts zxid moment }
 {}

@@ -30,16 +30,17 @@ use zx_base::{Memory, Seq};
 /// What the parts make of the tree in turn.
 #[derive(Debug, Drop)]
 pub enum Parts {
-    /// The first part that is refused, and its code.
+    /// The place of the first part that is refused, counted from 0, and its code.
     Stopped {
         place: usize,
         code: i32,
     },
+    /// No part is refused.
     Passed {
         results: Vec<PartResult>,
         writes: Vec<Write>,
         triggers: Vec<Trigger>,
-        /// The sessions whose nodes were made or removed, as they come.
+        /// The session of each ephemeral node that was made or removed, in the order of the parts.
         touched: Vec<i64>,
     },
 }
@@ -53,7 +54,7 @@ fn owner(tree: &Draft, path: &[u8]) -> Option<i64>
     }
 }
 
-/// The session whose node a part makes or removes.
+/// The session whose ephemeral node a part makes or removes.
 fn touched_by(tree: &Draft, session: i64, part: &Part) -> Option<i64>
     ensures { option_to_list result ≡ touched_by tree.now session part.now }
 {
@@ -64,7 +65,7 @@ fn touched_by(tree: &Draft, session: i64, part: &Part) -> Option<i64>
     }
 }
 
-/// Some items and others behind them.
+/// Some items followed by others.
 fn joined<T: Drop>(first: Vec<T>, rest: Vec<T>) -> Result<Vec<T>, Memory>
     ensures { IfOk result (λ v. v.items ≡ first.items ++ rest.items) }
 {
@@ -91,7 +92,7 @@ fn listed_if(alloc: Global, item: Option<i64>) -> Result<Vec<i64>, Memory>
     }
 }
 
-/// A part that was not refused, and what the later parts made of its tree.
+/// What comes of a part that was not refused and of the later parts.
 fn passed_on(
     alloc: Global,
     outcome: PartResult,
@@ -121,8 +122,8 @@ fn passed_on(
     }
 }
 
-/// What the parts make in turn of the tree with these writes. It recurs once a part, and a part looks at each write of those
-/// before it.
+/// What the parts make in turn of the tree with these writes. It recurs once for each part, and each part looks at all writes of
+/// the parts before it.
 #[tactic(auto, unfolding(zk_model::specs::Multi::parts_of))]
 fn parts_of(
     alloc: Global,
@@ -159,7 +160,7 @@ fn parts_of(
     }
 }
 
-/// A sum, unless it is above the most.
+/// A sum and some more, or `None` above 1,000,000.
 fn add_within(sum: Option<usize>, more: usize) -> Option<usize>
     ensures { (n : ℕ) → sum ≡ within n → result ≡ within (n + more) }
 {
@@ -169,7 +170,7 @@ fn add_within(sum: Option<usize>, more: usize) -> Option<usize>
     }
 }
 
-/// The bytes of a part's data.
+/// How many bytes of data a part has.
 fn data_len(part: &Part) -> usize
     ensures { result ≡ data_len part.now }
 {
@@ -180,7 +181,7 @@ fn data_len(part: &Part) -> usize
     }
 }
 
-/// The bytes of all parts' data, none above 1,000,000.
+/// How many bytes of data all parts have together, or `None` above 1,000,000.
 pub fn data_load(parts: &[Part]) -> Option<usize>
     ensures { result ≡ within (sum_by data_len parts.now) }
 {
@@ -191,7 +192,7 @@ pub fn data_load(parts: &[Part]) -> Option<usize>
     sum
 }
 
-/// The bytes of these paths, added to a sum: none above 1,000,000.
+/// How many bytes these paths have, added to a sum, or `None` above 1,000,000.
 pub fn path_load(paths: &[Path], before: Option<usize>) -> Option<usize>
     ensures { (n : ℕ) → before ≡ within n → result ≡ within (n + sum_by length paths.now) }
 {
@@ -213,7 +214,7 @@ pub fn distinct(alloc: Global, sessions: &[i64]) -> Result<Vec<i64>, Memory>
     Ok(once.iter().copied().collect(alloc)?)
 }
 
-/// The bytes of the paths that each of these sessions owns, added.
+/// How many bytes the paths of these sessions' nodes have, added to a sum, or `None` above 1,000,000.
 fn owned_load(
     alloc: Global,
     tree: &Tree,
@@ -230,7 +231,7 @@ fn owned_load(
     Ok(sum)
 }
 
-/// Whether the load of a transaction on this tree is above the most.
+/// Whether the load of a transaction on this tree is above 1,000,000.
 fn exceeds(alloc: Global, tree: &Tree, parts: &[Part], touched: &[i64]) -> Result<bool, Memory>
     ensures { IfOk result (λ above. above ≡ nat_lt max_load (load tree.now parts.now touched.now)) }
 {
@@ -238,7 +239,7 @@ fn exceeds(alloc: Global, tree: &Tree, parts: &[Part], touched: &[i64]) -> Resul
     Ok(owned_load(alloc, tree, &sessions, data_load(parts))?.is_none())
 }
 
-/// So many times the same code.
+/// A row of `len` times the same code.
 fn codes(alloc: Global, len: usize, code: i32) -> Result<Vec<PartResult>, Memory>
     ensures { IfOk result (λ v. v.items ≡ replicate len (Code code)) }
 {
@@ -249,7 +250,8 @@ fn codes(alloc: Global, len: usize, code: i32) -> Result<Vec<PartResult>, Memory
     Ok(row)
 }
 
-/// The row of codes of a transaction whose part at this place is refused.
+/// The codes of a transaction's `len` parts where the one at `place` is refused with `code`: 0 for each part before it,
+/// `RUNTIMEINCONSISTENCY` for each after it (`KeeperException.Code`).
 pub fn row_of(alloc: Global, len: usize, place: usize, code: i32) -> Result<Vec<PartResult>, Memory>
     requires { place < len }
     ensures { IfOk result (λ row. row.items ≡ row_of len place code) }
@@ -260,12 +262,14 @@ pub fn row_of(alloc: Global, len: usize, place: usize, code: i32) -> Result<Vec<
     Ok(joined(earlier, joined(refused, later)?)?)
 }
 
+/// What comes of a multi.
 #[derive(Debug, Drop)]
 pub enum Transaction {
-    /// The transaction is refused as a whole.
+    /// The transaction is refused as a whole, with this code.
     Denied(i32),
     /// A part is refused: the code of each part.
     Codes(Seq<PartResult>),
+    /// No part is refused: the result of each part, and what they do together.
     All {
         results: Seq<PartResult>,
         /// The changes of the tree, in order.
@@ -274,7 +278,7 @@ pub enum Transaction {
     },
 }
 
-/// What several requests make of the tree, as one transaction.
+/// What several requests make of the tree as one transaction, which is done whole or not at all.
 #[tactic(auto, unfolding(zk_model::specs::Multi::several))]
 pub fn several(
     alloc: Global,

@@ -1,4 +1,4 @@
-//! Copies of nodes and entries.
+//! Copies of nodes.
 
 ghost use Rattle.std.specs.Prelude.{◌≡◌, ◌++◌, IfOk, OnOk};
 

@@ -4,11 +4,12 @@ use crate::edit::Edit;
 use zk_model::{PartResult, Trigger};
 use zx_base::Seq;
 
+/// What a single request makes of a tree.
 #[derive(Debug, Drop)]
 pub enum Outcome {
-    /// A code other than 0; the tree stays as it is.
+    /// The request is refused with this code (`KeeperException.Code`); the tree stays as it is.
     Refused(i32),
-    /// The result, the change of the tree, and what watches see, in order.
+    /// The request is done: its result, the change of the tree, if it is one, and what watches see, in order.
     Done {
         result: PartResult,
         edit: Option<Edit>,

@@ -10,8 +10,8 @@ use std::marker::Model;
 use zk_model::Path;
 use zx_base::{Memory, Seq, Text};
 
-/// A finite map from paths, in the order of their bytes. Each call takes the logarithm of their number, and the lists a step for
-/// each path.
+/// A finite map from paths, in the order of their bytes. A call takes the logarithm of the number of paths; one that lists them
+/// takes a step for each.
 #[derive(Debug, Drop)]
 pub struct PathMap<V> {
     /// By the bytes of their paths.
@@ -54,7 +54,7 @@ impl<V: Drop> PathMap<V> {
         }
     }
 
-    /// Puts a value at the path, in the place of the one that was there. Without memory the map stays as it was.
+    /// Puts a value at the path, in place of the one that was there.
     pub fn put(&mut self, alloc: Global, path: Path, value: V) -> Result<(), Memory>
         ensures { OnOk result (self.new ≡ insert self.old path value) }
     {
@@ -63,7 +63,7 @@ impl<V: Drop> PathMap<V> {
         Ok(())
     }
 
-    /// Takes the value at the path out.
+    /// Takes out the value at the path.
     pub fn take(&mut self, path: &[u8]) -> Option<V>
         ensures map { self.new ≡ remove self.old path.now }
         ensures value { result ≡ get self.old path.now }

@@ -22,7 +22,8 @@ use zk_model::code::{BAD_ARGUMENTS, INVALID_ACL};
 use zk_model::{Acl, Part, Path, PathFault};
 use zx_base::Memory;
 
-/// The path of a text, where it is valid; of a sequential one, the text with `1` behind it.
+/// The path that a text is, or `None` where it is no valid one. The text of a sequential create is tested with a `1` after it,
+/// as ZooKeeper tests it, and the path is that.
 pub fn read_path(alloc: Global, text: &[u8], sequential: bool) -> Result<Option<Path>, Memory>
     ensures { IfOk result (λ o. IsRead o sequential text.now) }
 {
@@ -110,7 +111,7 @@ pub fn single_check(
     }
 }
 
-/// What one request makes of the tree.
+/// What one create, delete, setData or check makes of the tree.
 pub fn single(alloc: Global, tree: &Draft, turn: &Turn, part: &Part) -> Result<Outcome, Fault>
     ensures ok { IfOk result (λ o. outcome_of tree.now o ≡ single tree.now turn.now.limit turn.now.session part.now turn.now.zxid turn.now.moment) }
     ensures beyond { IfErr result (BeyondUnless (IsWithin tree.now × (data_len part.now ≤ max_frame))) }

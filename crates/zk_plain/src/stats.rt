@@ -1,4 +1,4 @@
-//! What a client is shown of a node.
+//! What a client is shown of a node (Programmer's Guide, "ZooKeeper Stat Structure").
 
 ghost use Rattle.std.specs.Prelude.{◌≡◌, ◌≤◌, ◌≤ℤ◌, ◌*ℤ◌, ◌-ℤ◌, pos, IfOk, IfErr};
 ghost use Rattle.zk_plain.specs.Faults.{BeyondUnless, IsCounted};
@@ -19,7 +19,7 @@ fn count(number: usize) -> Result<i32, Fault>
     }
 }
 
-/// Twice the creates of children, less the children that are there.
+/// The `cversion` of a node: each create and each delete of a child counts one, so it is twice the creates less the children left.
 fn child_version(creates: i32, children: i32) -> Result<i32, Fault>
     ensures ok { IfOk result (λ n. n ≡ (pos 2 *ℤ creates) -ℤ children) }
     ensures beyond { IfErr result (BeyondUnless ((pos 0 ≤ℤ children) × (children ≤ℤ creates) × (creates ≤ℤ max_creates))) }
@@ -30,7 +30,7 @@ fn child_version(creates: i32, children: i32) -> Result<i32, Fault>
     }
 }
 
-/// The stat of a node with so many children.
+/// The Stat of a node with so many children; `Beyond` where one of its numbers does not fit an `int`.
 pub fn stat(node: &Node, children: usize) -> Result<Stat, Fault>
     ensures ok { IfOk result (λ s. s ≡ stat node.now children) }
     ensures beyond { IfErr result (BeyondUnless (IsCounted node.now children)) }

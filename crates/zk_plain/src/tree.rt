@@ -15,8 +15,8 @@ use std::mem;
 use zk_model::{Node, Path};
 use zx_base::{Memory, Seq, Text};
 
-/// A finite map from paths to nodes. What it answers of one node takes the logarithm of their number; a list takes a step for each
-/// of its items besides.
+/// A finite map from paths to nodes. A call about one node takes the logarithm of the number of nodes; one that gives a list takes
+/// a step for each of its items besides.
 #[derive(Debug, Drop)]
 pub struct Tree {
     nodes: PathMap<Node>,
@@ -101,7 +101,7 @@ impl Tree {
         }
     }
 
-    /// Puts a node at the path, in the place of the one that was there. Without memory the tree may be empty: throw it away.
+    /// Puts a node at the path, in place of the one that was there. Without memory the tree may be left empty: throw it away.
     pub fn put(&mut self, alloc: Global, path: Path, node: Node) -> Result<(), Memory>
         ensures { OnOk result (self.new ≡ insert self.old path node) }
     {
@@ -112,7 +112,7 @@ impl Tree {
         Ok(())
     }
 
-    /// Takes the node at the path out. Without memory the tree may be empty: throw it away.
+    /// Takes out the node at the path. Without memory the tree may be left empty: throw it away.
     pub fn take(&mut self, alloc: Global, path: &Path) -> Result<Option<Node>, Memory>
         ensures tree { OnOk result (self.new ≡ remove self.old path.now) }
         ensures node { IfOk result (λ n. n ≡ get self.old path.now) }
@@ -146,6 +146,7 @@ impl Tree {
         }
     }
 
+    /// How many children the node at a path has.
     pub fn num_children(&self, path: &[u8]) -> usize
         ensures count { result ≡ num_children self.now path.now }
         ensures small { result < 2 ^ 63 }
@@ -156,7 +157,7 @@ impl Tree {
         }
     }
 
-    /// The names of the children, in the order of their bytes.
+    /// The last names of the children of the node at a path, in the order of their bytes.
     pub fn child_names(&self, alloc: Global, path: &[u8]) -> Result<Seq<Text>, Memory>
         ensures { IfOk result (λ names. names ≡ child_names self.now path.now) }
     {

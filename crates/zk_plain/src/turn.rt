@@ -1,15 +1,17 @@
-//! Who asks, and when.
+//! Who makes an update, and when.
 
 ghost use Rattle.std.specs.Prelude.{◌<◌, ◌^◌};
 
-/// The session that asks, how many ephemeral nodes it may own, and the zxid and moment of its update.
+/// The session that asks, how many ephemeral nodes it may own, and the zxid and time of its update.
 #[derive(Clone, Copy, Debug)]
 pub struct Turn {
+    /// How many ephemeral nodes the session may own.
     pub limit: usize,
-    /// The session's number, or 0 where there are no sessions.
+    /// The session's number, or 0 for the update that makes the root.
     pub session: i64,
+    /// The zxid that the update gets.
     pub zxid: i64,
-    /// Milliseconds since 1970.
+    /// The time of the update in milliseconds, since 1970 or on a script's clock.
     pub moment: u64,
     ghost clock: { moment < 2 ^ 63 },
 }

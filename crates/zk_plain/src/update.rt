@@ -1,4 +1,4 @@
-//! Reads of versions and writes of data (Programmer's Guide, "ZNodes").
+//! Checks of versions and writes of data (Programmer's Guide, "ZNodes").
 
 ghost use Rattle.std.specs.Prelude.{◌≡◌, ◌≢◌, ◌∷◌, [], ◌+ℤ◌, ◌≤◌, pos, length, IfOk, IfErr};
 ghost use Rattle.std.specs.FinMap.{get, insert};
@@ -29,7 +29,7 @@ fn next_version(version: i32) -> i32
     version + 1
 }
 
-/// The node with these data, set at this moment.
+/// The node with these data, set at this zxid and time.
 fn with_content(alloc: Global, node: &Node, content: &[u8], turn: &Turn) -> Result<Node, Memory>
     requires { node.now.version ≢ pos 2147483647 }
     ensures { IfOk result (λ n. n ≡ with_content node.now content.now turn.now.zxid turn.now.moment) }
@@ -62,6 +62,7 @@ fn written(alloc: Global, tree: &Draft, path: Path, node: Node) -> Result<Outcom
     })
 }
 
+/// A setData, once its path has been read.
 pub fn set_data(
     alloc: Global,
     tree: &Draft,
@@ -86,6 +87,7 @@ pub fn set_data(
     Ok(written(alloc, tree, path, changed)?)
 }
 
+/// A check, once its path has been read.
 pub fn check(alloc: Global, tree: &Draft, path: Path, version: i32) -> Result<Outcome, Memory>
     ensures { IfOk result (λ o. outcome_of tree.now o ≡ check tree.now version (get tree.now path)) }
 {
