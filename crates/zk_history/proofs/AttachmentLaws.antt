@@ -17,13 +17,13 @@ use Rattle.std.specs.BTreeSet.{BTreeSet, contains, IsKeyInRange, IsKeyRangeOf}
 use Rattle.std.specs.FinMap.{find, is_sorted, get, insert, remove, entries, entries_sorted, get-entries, get-insert, get-remove}
 use Rattle.std.specs.FinMap.Entries.{below_all}
 use Rattle.zk_transcript.specs.History.{Session, Sessions, attached_in, is_attached_to}
-use Rattle.zk_history.specs.Attachments.{Pair, pair_order, has, is_on, least_id, AreAttached, IsFirst}
+use Rattle.zk_history.specs.Attachments.{Pair, pair_order, has, is_on, least_id, AreAttached, IsLeastAttached}
 use Rattle.zk_history.proofs.SessionLaws.{Entries, numbered, get-numbered}
 
-equal : (r : Ordering) → is_eq r ≡ true → r ≡ Equal
-equal Less h = cc
-equal Equal h = refl
-equal Greater h = cc
+equal-from_is_eq : (r : Ordering) → is_eq r ≡ true → r ≡ Equal
+equal-from_is_eq Less h = cc
+equal-from_is_eq Equal h = refl
+equal-from_is_eq Greater h = cc
 
 -- ---- the session with the least number among those on a connection
 
@@ -39,27 +39,27 @@ both_parts : (a b : Bool) → T a → T b → T (a && b)
 both_parts true b h k = k
 both_parts false b h k = h
 
-less : (r : Ordering) → T (is_lt r) → r ≡ Less
-less Less h = refl
-less Equal h = absurd h
-less Greater h = absurd h
+less-from_is_lt : (r : Ordering) → T (is_lt r) → r ≡ Less
+less-from_is_lt Less h = refl
+less-from_is_lt Equal h = absurd h
+less-from_is_lt Greater h = absurd h
 
 -- a number below all has no session
 find-below : (id : ℤ) (es : Entries) → T (below_all int_cmp id es) → find int_cmp id es ≡ None
 find-below id [] below = refl
 find-below id (e ∷ es) below =
-    ap (λ r. cond (is_eq r) (Some e.1) (find int_cmp id es)) (less _ (first_part _ _ below)) ∙ find-below id es (second_part _ _ below)
+    ap (λ r. cond (is_eq r) (Some e.1) (find int_cmp id es)) (less-from_is_lt _ (first_part _ _ below)) ∙ find-below id es (second_part _ _ below)
 
 below-less : (i k : ℤ) (es : Entries) → int_cmp i k ≡ Less → T (below_all int_cmp k es) → T (below_all int_cmp i es)
 below-less i k [] h below = tt
 below-less i k (e ∷ es) h below =
-    let next : int_cmp i e.0 ≡ Less = int_cmp_total.trans i k e.0 h (less _ (first_part _ _ below)) in
+    let next : int_cmp i e.0 ≡ Less = int_cmp_total.trans i k e.0 h (less-from_is_lt _ (first_part _ _ below)) in
     both_parts _ _ (subst (λ (r : Ordering). T (is_lt r)) (sym next) tt) (below-less i k es h (second_part _ _ below))
 
 find-here : (e : ℤ × Session) (es : Entries) → find int_cmp e.0 (e ∷ es) ≡ Some e.1
 find-here e es = ap (λ r. cond (is_eq r) (Some e.1) (find int_cmp e.0 es)) (tied_itself int_cmp_total e.0)
 
--- a number behind the first one is looked for behind it
+-- a session on a connection that the later entries have is not that of the first entry
 find-behind : (c : ℕ) (id : ℤ) (e : ℤ × Session) (es : Entries) → T (below_all int_cmp e.0 es) → is_on c (find int_cmp id es) ≡ true → find int_cmp id (e ∷ es) ≡ find int_cmp id es
 find-behind c id e es below on =
     elim (int_cmp id e.0) as (λ r. int_cmp id e.0 ≡ r → cond (is_eq r) (Some e.1) (find int_cmp id es) ≡ find int_cmp id es) [
@@ -113,12 +113,12 @@ le-int x y h = by_ranked (x <ℤ y) (x ≡ y) (y <ℤ x) (int_cmp x y) (int_rank
 int-le : (x y : ℤ) → x ≤ℤ y → is_gt (int_cmp x y) ≡ false
 int-le x y h = by_ranked (x <ℤ y) (x ≡ y) (y <ℤ x) (int_cmp x y) (int_ranked x y _ refl) (λ is lt. ap is_gt is) (λ is eq. ap is_gt is) (λ is gt. absurd (omega (arith, ints)))
 
--- the connections ascend
+-- of two pairs in order, the connections do not fall
 le-first : (p q : Pair) → is_gt (pair_order p q) ≡ false → p.0 ≤ q.0
 le-first p q h = by_ranked (p.0 < q.0) (p.0 ≡ q.0) (q.0 < p.0) (nat_cmp p.0 q.0) (ranked p.0 q.0 _ refl)
     (λ is lt. omega arith) (λ is eq. omega arith) (λ is gt. absurd (refuted _ (ap (λ r. ordering_then r (int_cmp p.1 q.1)) is) h))
 
--- and behind one connection the numbers
+-- of two pairs in order with the same connection, the sessions' numbers do not fall
 le-second : (p q : Pair) → p.0 ≡ q.0 → is_gt (pair_order p q) ≡ false → p.1 ≤ℤ q.1
 le-second p q same h =
     let level : nat_cmp p.0 q.0 ≡ Equal = ap (nat_cmp p.0) (sym same) ∙ tied_itself nat_cmp_total p.0 in
@@ -127,7 +127,7 @@ le-second p q same h =
 second-le : (c : ℕ) (x y : ℤ) → x ≤ℤ y → is_gt (pair_order (c, x) (c, y)) ≡ false
 second-le c x y h = ap (λ r. is_gt (ordering_then r (int_cmp x y))) (tied_itself nat_cmp_total c) ∙ int-le x y h
 
--- ---- the least number behind a connection, as the first pair from the least long on
+-- ---- the least number of a session on a connection, as the first pair from the least long on
 
 module _ (pairs : BTreeSet Pair) (c : ℕ) (rest : List Pair) where
   abbrev IsRest : Type 0
@@ -143,13 +143,13 @@ module _ (pairs : BTreeSet Pair) (c : ℕ) (rest : List Pair) where
   head-least p more id part is long there =
       subst (λ (ps : List Pair). IfSome (slice_get ps 0) (λ q. IsLeBy pair_order q (c, id))) is (part.2 (c, id) (is_in id long) there)
 
-  pub first-found : (p : Pair) (more : List Pair) → IsRest → rest ≡ p ∷ more → p.0 ≡ c → IsFirst pairs c (Some p.1)
+  pub first-found : (p : Pair) (more : List Pair) → IsRest → rest ≡ p ∷ more → p.0 ≡ c → IsLeastAttached pairs c (Some p.1)
   first-found p more part is same = (
     ap (λ (d : ℕ). has pairs d p.1) (sym same) ∙ (head_in p more part is).1,
     λ id long there. le-second p (c, id) same (head-least p more id part is long there),
   )
 
-  pub first-other : (p : Pair) (more : List Pair) → IsRest → rest ≡ p ∷ more → p.0 ≢ c → IsFirst pairs c None
+  pub first-other : (p : Pair) (more : List Pair) → IsRest → rest ≡ p ∷ more → p.0 ≢ c → IsLeastAttached pairs c None
   first-other p more part is other id long = elim (cases_Bool (has pairs c id)) [
     | inl there ↦
         let up : c ≤ p.0 = le-first (c, least_id) p (head_in p more part is).0.0 in
@@ -158,7 +158,7 @@ module _ (pairs : BTreeSet Pair) (c : ℕ) (rest : List Pair) where
     | inr gone ↦ gone
   ]
 
-  pub first-none : IsRest → rest ≡ [] → IsFirst pairs c None
+  pub first-none : IsRest → rest ≡ [] → IsLeastAttached pairs c None
   first-none part is id long = part.5 is (c, id) (is_in id long)
 
 -- ---- one session more or less
@@ -178,7 +178,7 @@ and_false : (b : Bool) → (b && false) ≡ false
 and_false true = refl
 and_false false = refl
 
--- whether a pair at the number of p is on the same connection, or is at another number
+-- where a pair has the number of p, it is p exactly where it has p's connection
 tied-here : (p : Pair) (c : ℕ) (id : ℤ) → is_eq (int_cmp p.1 id) ≡ true → is_eq (pair_order p (c, id)) ≡ (c == p.0)
 tied-here p c id here = tied p c id ∙ ap (λ b. (p.0 == c) && b) here ∙ and_true (p.0 == c) ∙ nat_eq_equiv.symm p.0 c
 
@@ -210,7 +210,7 @@ longs-removed m pairs k id s before is = elim (cases_Bool (is_eq (int_cmp k id))
 pub detached-none : (m : Sessions) (pairs : BTreeSet Pair) (k : ℤ) → get m k ≡ None → AreAttached m pairs → AreAttached (remove m k) pairs
 detached-none m pairs k none before = record {
   each = λ c id. before.each c id ∙ elim (cases_Bool (is_eq (int_cmp k id))) [
-    | inl here ↦ ap (is_on c) (ap (get m) (sym (exact_signed k id (equal _ here))) ∙ none ∙ sym (removed-here m k id here))
+    | inl here ↦ ap (is_on c) (ap (get m) (sym (exact_signed k id (equal-from_is_eq _ here))) ∙ none ∙ sym (removed-here m k id here))
     | inr other ↦ ap (is_on c) (sym (removed-elsewhere m k id other))
   ];
   longs = λ id s is. longs-removed m pairs k id s before is;
@@ -226,7 +226,7 @@ pub detached-some : (m : Sessions) (pairs rest : BTreeSet Pair) (k : ℤ) (s : S
 detached-some m pairs rest k s some updates before = record {
   each = λ c id. updates (c, id) ∙ elim (cases_Bool (is_eq (int_cmp k id))) [
     | inl here ↦
-        let on : has pairs c id ≡ (c == s.connection) = before.each c id ∙ ap (is_on c) (ap (get m) (sym (exact_signed k id (equal _ here))) ∙ some) in
+        let on : has pairs c id ≡ (c == s.connection) = before.each c id ∙ ap (is_on c) (ap (get m) (sym (exact_signed k id (equal-from_is_eq _ here))) ∙ some) in
         ap (λ b. cond b false (has pairs c id)) (tied-here (s.connection, k) c id here) ∙ left_out _ _ on ∙ sym (ap (is_on c) (removed-here m k id here))
     | inr other ↦
         ap (λ b. cond b false (has pairs c id)) (tied-elsewhere (s.connection, k) c id other) ∙ before.each c id ∙ ap (is_on c) (sym (removed-elsewhere m k id other))
@@ -253,14 +253,14 @@ attached-more m rest pairs k s long updates before = record {
         ap (λ b. cond b true (has rest c id)) (tied-elsewhere (s.connection, k) c id other) ∙ before.each c id ∙ ap (is_on c) (removed-inserted m k id s other)
   ];
   longs = λ id t is. elim (cases_Bool (is_eq (int_cmp k id))) [
-    | inl here ↦ subst (λ (z : ℤ). least_id ≤ℤ z) (exact_signed k id (equal _ here)) long
+    | inl here ↦ subst (λ (z : ℤ). least_id ≤ℤ z) (exact_signed k id (equal-from_is_eq _ here)) long
     | inr other ↦ before.longs id t (removed-inserted m k id s other ∙ is)
   ];
 }
 
 -- ---- the session on a connection
 
-pub attached-first : (m : Sessions) (pairs : BTreeSet Pair) (c : ℕ) (id : ℤ) (s : Session) → AreAttached m pairs → IsFirst pairs c (Some id) → get m id ≡ Some s
+pub attached-first : (m : Sessions) (pairs : BTreeSet Pair) (c : ℕ) (id : ℤ) (s : Session) → AreAttached m pairs → IsLeastAttached pairs c (Some id) → get m id ≡ Some s
     → attached_in c (entries m) ≡ Some (id, s)
 attached-first m pairs c id s stand first is =
     least-in c (entries m) id s (entries_sorted m) (sym (get-entries m id) ∙ is) (ap (is_on c) (sym is) ∙ sym (stand.each c id) ∙ first.0)
@@ -274,14 +274,14 @@ attached-first m pairs c id s stand first is =
       | None ↦ λ e h. absurd (cc)
     ] refl there
 
--- the first one behind a connection is open
-pub first-open : (m : Sessions) (pairs : BTreeSet Pair) (c : ℕ) (id : ℤ) → AreAttached m pairs → IsFirst pairs c (Some id) → get m id ≡ None → ⊥
+-- the session with the least number on a connection is open
+pub first-open : (m : Sessions) (pairs : BTreeSet Pair) (c : ℕ) (id : ℤ) → AreAttached m pairs → IsLeastAttached pairs c (Some id) → get m id ≡ None → ⊥
 first-open m pairs c id stand first none =
     let off : has pairs c id ≡ false = stand.each c id ∙ ap (is_on c) none in
     let on : has pairs c id ≡ true = first.0 in
     absurd (cc)
 
-pub attached-none : (m : Sessions) (pairs : BTreeSet Pair) (c : ℕ) → AreAttached m pairs → IsFirst pairs c None → attached_in c (entries m) ≡ None
+pub attached-none : (m : Sessions) (pairs : BTreeSet Pair) (c : ℕ) → AreAttached m pairs → IsLeastAttached pairs c None → attached_in c (entries m) ≡ None
 attached-none m pairs c stand none =
     none-in c (entries m) (entries_sorted m) (λ other. ap (is_on c) (sym (get-entries m other)) ∙ off other)
   where

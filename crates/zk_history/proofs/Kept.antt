@@ -12,7 +12,7 @@ use Rattle.zk_history.specs.Effects.{AreKept, AreNexts, IsKept, IsNext}
 use Rattle.zk_history.specs.Shown.{update_zxid}
 use Rattle.zk_history.specs.declared.effects.Effect.{Effect}
 
--- an element of a list with one more behind is one of the list, or the last
+-- an element of a list with one more at its end is one of the list, or the last
 of_more : {A : Type 0} (xs : List A) (x : A) (j : ℕ) (e : A) → slice_get (xs ++ x ∷ []) j ≡ Some e → (slice_get xs j ≡ Some e) ⊎ ((j ≡ length xs) × (x ≡ e))
 of_more [] x zero e h = inr (refl, same_Some x e h)
 of_more [] x (suc j) e h = absurd cc

@@ -91,7 +91,7 @@ module _ {A : Type 0} (show : TranscriptLine → Option A) (test : TranscriptLin
   pub shown-none : first_place (λ x. when (test x) x) 0 lines ≡ None → first_shown show lines ≡ None
   shown-none e = first_shown-placed show 0 lines ∙ ap (λ o. option_map (λ (x : ℕ × A). x.1) o) (place-none e)
 
--- where something is shown stands before the end
+-- the place of the first line that shows something is before the end
 pub place-within : {A : Type 0} (show : TranscriptLine → Option A) (k : ℕ) (ls : List TranscriptLine) (x : ℕ × A) → first_place show k ls ≡ Some x → x.0 < k + length ls
 place-within show k [] x h = absurd (cc)
 place-within {A} show k (l ∷ ls) x h =

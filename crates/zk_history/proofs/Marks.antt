@@ -68,7 +68,7 @@ noted-new f g m place free updates c i =
 pub noted-old : (f : Mark → Option ℕ) (m : Mark) (place : ℕ) → is_some (f m) ≡ true → (c i : ℕ) → f (c, i) ≡ kept (f (c, i)) (is_mark (Some m) c i) place
 noted-old f m place there c i = old-kept is_same (λ n q h. same n q.0 q.1 h) f m place there (c, i)
 
--- ---- the tables of one line more
+-- ---- the tables after one more line
 
 pub firsts-more : (mark : TranscriptLine → Option Mark) (lines : List TranscriptLine) (l : TranscriptLine) (f g : Firsts) → AreFirsts mark lines f
     → ((c i : ℕ) → place_in g c i ≡ kept (place_in f c i) (is_mark (mark l) c i) (length lines)) → AreFirsts mark (lines ++ l ∷ []) g
@@ -115,7 +115,7 @@ first_shown-placed {A} show k (l ∷ ls) =
       | None ↦ first_shown-placed show (k + 1) ls
     ]
 
--- the line at a place that was found
+-- the line that was found stands at its place
 pub record IsAt (k : ℕ) (ls : List TranscriptLine) (x : ℕ × TranscriptLine) : Type 0 where
   pub from : ℕ
   pub place : x.0 ≡ k + from

@@ -26,7 +26,7 @@ find-lookup id (e ∷ es) = ap (cond (eq_by_cmp int_cmp id e.0) (Some e.1)) (fin
 pub get-numbered : (es : Entries) (id : ℤ) → get (numbered es) id ≡ lookup (is_at (int_cmp id)) es
 get-numbered es id = get-from_entries int_cmp_total es id ∙ find-lookup id es
 
--- a number that took a session, or lost its own
+-- the sessions after the one of a number is put or removed
 updated : (es fs : Entries) (id : ℤ) (x : Option Session) → ((q : ℤ) → lookup (is_at (int_cmp q)) fs ≡ cond (is_at (int_cmp id) q) x (lookup (is_at (int_cmp q)) es))
     → (q : ℤ) → get (numbered fs) q ≡ cond (eq_by_cmp int_cmp q id) x (get (numbered es) q)
 updated es fs id x updates q =

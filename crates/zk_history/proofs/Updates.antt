@@ -23,7 +23,7 @@ is_some-when : (b : Bool) (x : ℤ) → is_some (when b x) ≡ b
 is_some-when true x = refl
 is_some-when false x = refl
 
--- the lines that show an update of a zxid are those that have it
+-- a line shows the update of a zxid exactly where its update has that zxid
 has-zxid : (z : ℤ) (l : TranscriptLine) → is_zxid (update_zxid l) z ≡ is_some (update_shown z l)
 has-zxid z (Update u) = int_eq_equiv.symm u.zxid z ∙ sym (is_some-when (int_eq z u.zxid) u.zxid)
 has-zxid z (Open c p id pw) = refl
@@ -32,7 +32,7 @@ has-zxid z (Send c bytes) = refl
 has-zxid z (Lapse r id) = refl
 has-zxid z (Close c e) = refl
 
--- what they show is that zxid
+-- what a line shows for a zxid is that zxid
 shows-zxid : (z : ℤ) (l : TranscriptLine) (y : ℤ) → update_shown z l ≡ Some y → z ≡ y
 shows-zxid z (Update u) y h =
     elim (int_eq z u.zxid) as (λ b. int_eq z u.zxid ≡ b → when b u.zxid ≡ Some y → z ≡ y) [
@@ -57,7 +57,7 @@ with-zxid z k (l ∷ ls) =
       | None ↦ λ e. with-zxid z (k + 1) ls
     ] refl
 
--- ---- one line more
+-- ---- one more line
 
 updates-more : (lines : List TranscriptLine) (l : TranscriptLine) (f g : Zxids) → AreUpdates lines f → ((z : ℤ) → place_of g z ≡ kept (place_of f z) (is_zxid (update_zxid l) z) (length lines))
     → AreUpdates (lines ++ l ∷ []) g
@@ -80,7 +80,7 @@ updates-advanced all k l m f g h is marks stand notes =
     subst (λ (ls : List TranscriptLine). AreUpdates ls g) next (updates-more (take k all) l f g stand (λ z.
     notes z ∙ ap (λ o. kept (place_of f z) (is_zxid o z) k) marks ∙ ap (λ n. kept (place_of f z) (is_zxid (update_zxid l) z) n) (sym len)))
 
--- where it is found stands before the end
+-- the place that is found is before the end
 pub within-zxid : (o : Option ℕ) (z : ℤ) (lines : List TranscriptLine) (n : ℕ) → option_map {U = ℕ × ℤ} (λ (k : ℕ). (k, z)) o ≡ first_place (update_shown z) 0 lines → length lines ≤ n → IfSome o (λ k. k < n)
 within-zxid None z lines n is few = tt {0}
 within-zxid (Some k) z lines n is few =

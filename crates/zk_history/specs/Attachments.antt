@@ -20,16 +20,16 @@ abbrev pub is_on : ℕ → Option Session → Bool
 is_on c None = false
 is_on c (Some s) = c == s.connection
 
--- the least number of a session, which is a long
+-- the least `long`: no session has a number below it
 abbrev pub least_id : ℤ
 least_id = negsuc 9223372036854775807
 
--- each open session stands behind its connection
+-- the pairs are the open sessions, each with its connection, and the sessions' numbers are not below the least `long`
 pub record AreAttached (m : Sessions) (pairs : BTreeSet Pair) : Type 0 where
   pub each : (c : ℕ) (id : ℤ) → has pairs c id ≡ is_on c (get m id)
   pub longs : (id : ℤ) (s : Session) → get m id ≡ Some s → least_id ≤ℤ id
 
--- the least long behind a connection, if there is one
-abbrev pub IsFirst : BTreeSet Pair → ℕ → Option ℤ → Type 0
-IsFirst pairs c None = (id : ℤ) → least_id ≤ℤ id → has pairs c id ≡ false
-IsFirst pairs c (Some first) = (has pairs c first ≡ true) × ((id : ℤ) → least_id ≤ℤ id → has pairs c id ≡ true → first ≤ℤ id)
+-- the least number, not below the least `long`, of a session on a connection, or None where there is none
+abbrev pub IsLeastAttached : BTreeSet Pair → ℕ → Option ℤ → Type 0
+IsLeastAttached pairs c None = (id : ℤ) → least_id ≤ℤ id → has pairs c id ≡ false
+IsLeastAttached pairs c (Some first) = (has pairs c first ≡ true) × ((id : ℤ) → least_id ≤ℤ id → has pairs c id ≡ true → first ≤ℤ id)

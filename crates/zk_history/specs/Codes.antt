@@ -18,7 +18,7 @@ coded_session = code_by (List ℕ × (ℤ × (ℕ × (ℤ × Bool)))) (coded× (
 abbrev pub coded_sessions : Coded Sessions
 coded_sessions = finmap.code coded_ℤ coded_session
 
--- a trigger as the place of its kind and its path
+-- a trigger as the number of its kind, and its path
 abbrev pub trigger_parts : Trigger → ℕ × Bytes
 trigger_parts (Created p) = (0, p)
 trigger_parts (Deleted p) = (1, p)

@@ -9,18 +9,18 @@ use Rattle.zk_transcript.specs.History.{state_at}
 use Rattle.zk_history.specs.Commits.{response_to}
 use Rattle.zk_history.specs.declared.effects.Effect.{Effect}
 
--- of an update, what watches see of it and the response to its request; of another line, whatever
+-- if the line is an update, these triggers and this response are kept of it; what is kept of another line does not matter
 abbrev pub IsKept : TranscriptLine → Effect → List Trigger → Option Body → Type 0
 IsKept l e triggers response = (u : UpdateRec) → l ≡ Update u → (e.triggers ≡ triggers) × (e.response ≡ response)
 
--- of each of the first lines of a transcript, one behind the other
+-- what is kept of the first lines of a transcript, in their order
 abbrev pub AreKept : List TranscriptLine → List Effect → Type 0
 AreKept all kept = (k : ℕ) (l : TranscriptLine) (e : Effect) → slice_get all k ≡ Some l → slice_get kept k ≡ Some e → IsKept l e (state_at all (k + 1)).triggers (response_to (take k all) (state_at all k) l)
 
--- n is the place of the first update from place k on, or the end
+-- n is at place k or later, and no update stands from place k on before n
 abbrev pub IsNext : List TranscriptLine → ℕ → ℕ → Type 0
 IsNext all k n = (k ≤ n) × (n ≤ length all) × ((j : ℕ) (u : UpdateRec) → k ≤ j → j < n → slice_get all j ≡ Some (Update u) → ⊥)
 
--- of the last places, from the end on
+-- the entry at j is that of the place which is j before the end
 abbrev pub AreNexts : List TranscriptLine → List ℕ → Type 0
 AreNexts all nexts = (j n : ℕ) → slice_get nexts j ≡ Some n → IsNext all (length all - j) n

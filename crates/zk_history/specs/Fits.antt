@@ -1,4 +1,4 @@
--- When each number of an update is within its field, beside the number of updates.
+-- When the numbers of a line are within their fields, and there is a number for one more update.
 use Rattle.std.specs.Prelude.{◌≡◌, ◌≤◌, ◌<◌, ℕ, ℤ, ⊤, List, ◌∷◌, ◌++◌, Option, Some}
 use Rattle.zk_model.specs.declared.request.Part.{Part}
 use Rattle.zk_model.specs.declared.request.Part.TheVariants as part
@@ -14,7 +14,7 @@ use Rattle.zk_model.specs.Znodes.{Tree}
 use Rattle.zk_plain.specs.Faults.{IsWithin, StaysWithin}
 use Rattle.zk_model.specs.Limits.{max_frame, max_owned}
 
--- the tree's counts are those of a run, and the data are no more than a frame has
+-- the numbers of the tree are within their fields, and the part's data fit a frame
 abbrev pub PartFits : Tree → Part → Type 0
 PartFits t p = IsWithin t × (data_len p ≤ max_frame)
 
@@ -25,11 +25,11 @@ RequestFits t limit session (req.SetData p d v) zxid now = PartFits t (part.SetD
 RequestFits t limit session (req.Multi parts) zxid now = StaysWithin t limit session parts zxid now
 RequestFits t limit session _ zxid now = ⊤
 
--- the moment of an update is below 2^63 milliseconds
+-- the time of an update is below 2^63 milliseconds
 abbrev pub IsMoment : ℕ → Type 0
 IsMoment now = now < 9223372036854775808
 
--- there is a number for one update more
+-- one more update can be counted in 64 bits
 abbrev pub IsCountable : State → Type 0
 IsCountable s = s.updates < 18446744073709551615
 
@@ -42,11 +42,11 @@ UpdateFits before s zxid (Begin now) = IsMoment now
 UpdateFits before s zxid (Asked c i now) = IsMoment now × AskedFits s.tree (session_of c s) (request c i before) zxid now
 UpdateFits before s zxid _ = ⊤
 
--- a line that stands behind these and meets this state
+-- the numbers of a line fit, where s is the state before it and `before` are the lines before it
 abbrev pub Fits : List TranscriptLine → State → TranscriptLine → Type 0
 Fits before s (Update u) = UpdateFits before s u.zxid u.kind
 Fits before s _ = ⊤
 
--- each line of a transcript
+-- the numbers of each line of a transcript fit
 abbrev pub AllFit : List TranscriptLine → Type 0
 AllFit lines = (before : List TranscriptLine) (l : TranscriptLine) (rest : List TranscriptLine) → lines ≡ before ++ l ∷ rest → Fits before (after before) l

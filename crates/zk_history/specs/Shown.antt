@@ -1,4 +1,4 @@
--- What lines are looked up by, and where they stand first.
+-- By what lines are looked up, and the place of the first one that is found.
 use Rattle.std.specs.Prelude.{◌≡◌, ℕ, ℤ, ◌&&◌, Bool, false, ◌==◌, List, Option, Some, None, option_map}
 use Rattle.std.specs.BTreeMap as tree
 use Rattle.std.specs.Ordering.{int_cmp, int_eq, nat_cmp, ordering_then}
@@ -31,14 +31,15 @@ abbrev pub is_mark : Option Mark → ℕ → ℕ → Bool
 is_mark None c i = false
 is_mark (Some m) c i = (m.0 == c) && (m.1 == i)
 
--- an earlier place stays
+-- the place that is kept: an earlier one, or else this one where the test holds
 abbrev pub kept : Option ℕ → Bool → ℕ → Option ℕ
 kept (Some k) is place = Some k
 kept None is place = when is place
 
 -- ---- the marks of a line
 
--- the open, the close and the attachment of a connection, at index 0, its frames, and the updates that carry its requests out
+-- the marks of a connection's open, close and attachment have index 0, those of its frames and of the updates that carry out its
+-- requests have the frame's index
 abbrev pub open_mark : TranscriptLine → Option Mark
 open_mark (Open c proxy id passwd) = Some (c, 0)
 open_mark _ = None
@@ -73,7 +74,7 @@ own_mark _ = None
 abbrev pub first_marked : (TranscriptLine → Option Mark) → ℕ → ℕ → List TranscriptLine → Option (ℕ × TranscriptLine)
 first_marked mark c i lines = first_place (λ l. when (is_mark (mark l) c i) l) 0 lines
 
--- the places of these lines
+-- f has the place of the first of these lines with each mark
 abbrev pub AreFirsts : (TranscriptLine → Option Mark) → List TranscriptLine → Firsts → Type 0
 AreFirsts mark lines f = (c i : ℕ) → place_in f c i ≡ option_map (λ (x : ℕ × TranscriptLine). x.0) (first_marked mark c i lines)
 
@@ -90,7 +91,7 @@ is_zxid (Some y) z = int_eq y z
 abbrev pub place_of : Zxids → ℤ → Option ℕ
 place_of f z = tree.get int_cmp f.places z
 
--- the places of the first updates of these lines, by their zxids
+-- f has the place of the first update among these lines with each zxid
 abbrev pub AreUpdates : List TranscriptLine → Zxids → Type 0
 AreUpdates lines f = (z : ℤ) → place_of f z ≡ option_map (λ (x : ℕ × ℤ). x.0) (first_place (update_shown z) 0 lines)
 

@@ -1,4 +1,4 @@
-//! The state at a moment that moves on over the lines of a transcript.
+//! The state at a moment that moves on, line by line.
 
 ghost use Rattle.std.specs.Prelude.{◌≡◌, ◌+◌, ◌<◌, ◌≤◌, Some, length, slice_get, IfErr, IfOk};
 ghost use Rattle.zk_transcript.specs.declared.transcript.TranscriptLine.{TranscriptLine as Line};
@@ -16,7 +16,8 @@ use zk_model::Body;
 use zk_plain::Fault;
 use zk_transcript::TranscriptLine;
 
-/// A moment of a transcript, and the state at it. The lines up to it were gone over once.
+/// A moment of a transcript, which is a place between two lines, and the state at it. It moves on without going over the earlier
+/// lines again.
 #[derive(Drop)]
 pub struct Cursor<'a> {
     /// The lines before the moment.
@@ -26,7 +27,7 @@ pub struct Cursor<'a> {
     ghost few: { state.updates ≤ past.len },
 }
 
-/// The moment behind these lines, which lead to this state.
+/// The moment after these lines, which lead to this state.
 fn at<'a>(past: Past<'a>, state: State) -> Cursor<'a>
     requires reached { state ≡ after (lines_of past) }
     requires few { state.updates ≤ past.len }
@@ -51,8 +52,8 @@ impl<'a> Cursor<'a> {
         &self.state
     }
 
-    /// The moment behind the next line, and the body of the reply to the request that this line carries out. `Beyond` where a
-    /// number of that line is beyond its field, as in no transcript of a run.
+    /// The moment after the next line, and the body of the reply to the request that this line carries out, unless that is a
+    /// closeSession. `Beyond` where a number does not fit its field, which happens in no transcript of a run.
     pub fn advanced(self, alloc: Global) -> Result<(Cursor<'a>, Option<Body>), Fault>
         requires { self.past.len < length self.past.all.now }
         ensures moment { IfOk result (λ r. r.0.past.len ≡ self.entry.past.len + 1) }

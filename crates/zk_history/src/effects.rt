@@ -19,8 +19,8 @@ use zk_plain::Fault;
 use zk_transcript::TranscriptLine;
 use zx_base::{Memory, Seq};
 
-/// What is kept of a line: of an update, what watches see of it and the body of the reply to the request that it carried out; of
-/// another line, nothing.
+/// What is kept of a line: of an update, what watches see of it and the body of the reply to the request that it carried out,
+/// unless that is a closeSession; of any other line, nothing.
 #[derive(Debug, Drop)]
 pub struct Effect {
     triggers: Seq<Trigger>,
@@ -48,7 +48,7 @@ fn copies(alloc: Global, triggers: &[Trigger]) -> Result<Seq<Trigger>, Memory>
     Ok(Seq::from_vec(copied))
 }
 
-/// What is kept of a line behind which watches see these triggers, and which gave this response.
+/// What is kept of a line, where the state after it has these triggers and it gave this response.
 fn effect_of(
     alloc: Global,
     line: &TranscriptLine,
@@ -83,7 +83,7 @@ fn keep(
     Ok(())
 }
 
-/// The first update from a place on, by the first one behind that place.
+/// The place of the first update from the line at `place` on, where the first later one is at `next`.
 fn next_at(line: &TranscriptLine, place: usize, next: usize) -> usize
     ensures { (all : List Line) → slice_get all place ≡ Some line.now → place < length all → IsNext all (place + 1) next → IsNext all place result }
 {
@@ -94,7 +94,7 @@ fn next_at(line: &TranscriptLine, place: usize, next: usize) -> usize
     }
 }
 
-/// The first update from each place on, from the end to the first line.
+/// The place of the first update from each place on, the last place first.
 fn nexts(alloc: Global, all: &[TranscriptLine]) -> Result<Vec<usize>, Memory>
     ensures stand { IfOk result (λ v. AreNexts all.now v.items) }
     ensures len { IfOk result (λ v. length v.items ≡ length all.now + 1) }
@@ -113,10 +113,11 @@ fn nexts(alloc: Global, all: &[TranscriptLine]) -> Result<Vec<usize>, Memory>
 /// What each update of a transcript did.
 #[derive(Drop)]
 pub struct Effects<'a> {
+    /// The lines of the transcript.
     pub all: &'a [TranscriptLine],
     /// One for each line.
     kept: Vec<Effect>,
-    /// The first update from each place on, from the end to the first line.
+    /// The place of the first update from each place on, the last place first.
     nexts: Vec<usize>,
     ghost each: { AreKept all.now kept.items },
     ghost len: { length kept.items ≡ length all.now },
@@ -125,7 +126,7 @@ pub struct Effects<'a> {
 }
 
 impl<'a> Effects<'a> {
-    /// Goes over the lines once; faults as in [`Cursor::advanced`].
+    /// Goes over the lines once. Faults as [`Cursor::advanced`] does.
     pub fn of(alloc: Global, all: &'a [TranscriptLine]) -> Result<Effects<'a>, Fault>
         ensures all { IfOk result (λ e. e.all.now ≡ all.now) }
         ensures beyond { IfErr result (BeyondUnless (AllFit all.now)) }
@@ -149,7 +150,7 @@ impl<'a> Effects<'a> {
         self.kept[place].triggers.as_slice()
     }
 
-    /// The body of the reply to the request that the update at a place carried out.
+    /// The body of the reply to the create, delete, setData or multi that the update at a place carried out.
     pub fn response(&self, place: usize) -> Option<&Body>
         requires { place < length self.now.all.now }
         ensures { (u : Updated) → slice_get self.now.all.now place ≡ Some (Update u) → option_map (λ b. b.now) result ≡ response_in (take place self.now.all.now) (state_at self.now.all.now place) u.zxid u.kind }

@@ -1,4 +1,4 @@
-//! Where something stands first among lines, by a connection and an index.
+//! The places of lines, looked up by a connection and an index.
 
 ghost use Rattle.std.specs.Prelude.{◌≡◌, ℕ, Some, IfOk};
 ghost use Rattle.zk_history.specs.Shown.{is_mark, kept, place_in, nowhere};
@@ -7,17 +7,17 @@ use std::alloc::Global;
 use std::collections::BTreeMap;
 use zx_base::Memory;
 
-/// A connection and an index that a line is looked up by.
+/// A connection and an index by which a line is looked up.
 pub type Mark = (u32, u64);
 
-/// The places of the first lines of their marks.
+/// The place of the first line with each mark.
 #[derive(Debug, Drop)]
 pub struct Firsts {
     places: BTreeMap<Mark, usize>,
 }
 
 impl Firsts {
-    /// No line is marked.
+    /// The table of no lines.
     pub fn new(alloc: Global) -> Firsts
         ensures { (c i : ℕ) → place_in result c i ≡ nowhere }
     {
@@ -36,7 +36,7 @@ impl Firsts {
         }
     }
 
-    /// One line more, at a place behind the others.
+    /// The table with one more line, at a place after the others.
     pub fn noted(self, mark: Option<Mark>, place: usize) -> Result<Firsts, Memory>
         ensures { IfOk result (λ f. (c i : ℕ) → place_in f c i ≡ kept (place_in self c i) (is_mark mark c i) place) }
     {

@@ -1,8 +1,8 @@
 //! The state of the service after the lines of a transcript.
 //!
 //! [`after`] goes over the lines and [`change`] takes one of them, in place; their contracts are the definitions of those names
-//! in `zk_transcript`. What a line needs of the lines before it is looked up in the tables of [`Past`]. A judge of transcripts
-//! stands on this crate, and the service does not.
+//! in `zk_transcript`. What a line needs of the lines before it is looked up in the tables of [`Past`]. The judge of transcripts
+//! stands on this crate, the service does not.
 #![tactic(auto)]
 
 mod attachments;

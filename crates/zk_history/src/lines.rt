@@ -21,10 +21,10 @@ use zk_plain::{Fault, Turn, begin};
 use zk_transcript::{TranscriptLine, UpdateKind, UpdateRec};
 use zx_base::{Memory, Seq};
 
-/// The last moment that the times of a node hold, in milliseconds.
+/// The latest time that a node can hold, in milliseconds: the greatest `long`.
 const MAX_LONG: u64 = 9223372036854775807;
 
-/// Who asks for an update, and when.
+/// Who makes an update, and when. `Beyond` where the time, in milliseconds, is above the greatest `long`.
 fn turn(session: i64, zxid: i64, moment: u64) -> Result<Turn, Fault>
     ensures limit { IfOk result (λ t. t.limit ≡ 40) }
     ensures session { IfOk result (λ t. t.session ≡ session) }
@@ -61,7 +61,7 @@ fn begun(alloc: Global, zxid: i64, moment: u64) -> Result<State, Fault>
     Ok(State::begun(alloc, tree, zxid))
 }
 
-/// The state after a session began on a connection.
+/// The state after a connection began a session.
 #[tactic(auto, unfolding(zk_transcript::specs::History::updated))]
 fn session_begun(
     alloc: Global,
@@ -81,7 +81,7 @@ fn session_begun(
         .advanced(zxid, Seq::new(alloc))
 }
 
-/// The state with a session attached to another connection: as it was, where the session is not open.
+/// The state with a session attached to another connection, or as it was where the session is not open.
 fn with_attached(
     alloc: Global,
     state: State,
@@ -115,7 +115,8 @@ fn attached(
     with_attached(alloc, state, zxid, id, connection)?.advanced(zxid, Seq::new(alloc))
 }
 
-/// What the request of a frame does at this zxid and moment, in milliseconds, where it is not refused; faults as in [`change`].
+/// What the create, delete, setData or multi of a frame does at this zxid and time, in milliseconds, where it is not refused.
+/// Faults as [`change`] does.
 pub fn planned_commit(
     alloc: Global,
     before: &Past,
@@ -138,14 +139,15 @@ pub fn planned_commit(
     Ok(commit(alloc, state.tree(), &turn, asked)?)
 }
 
-/// What an update made of the state, and the body of the reply to the request that it carried out.
+/// The state after a line, and what the line answers.
 #[derive(Debug, Drop)]
 pub struct Applied {
     pub state: State,
+    /// The body of the reply to the create, delete, setData or multi that the line carried out; `None` for any other line.
     pub response: Option<Body>,
 }
 
-/// The state after an update that carried out no request.
+/// The state after a line that carried out no create, delete, setData or multi.
 fn silent(state: State) -> Applied
     ensures { (result.state ≡ state) × (result.response ≡ None) }
 {
@@ -155,7 +157,7 @@ fn silent(state: State) -> Applied
     }
 }
 
-/// The state after what a request did: as it was, where the request was refused.
+/// The state after what a request did, or as it was where the request was refused.
 fn committed(alloc: Global, state: State, zxid: i64, done: Option<Commit>) -> Result<Applied, Fault>
     ensures ok { IfOk result (λ a. a.state ≡ committed state zxid (option_map (commit_of state.tree) done)) }
     ensures response { IfOk result (λ a. a.response ≡ option_map (λ c. c.response) (option_map (commit_of state.tree) done)) }
@@ -176,7 +178,7 @@ fn committed(alloc: Global, state: State, zxid: i64, done: Option<Commit>) -> Re
     }
 }
 
-/// The state after a request was carried out.
+/// The state after a create, delete, setData or multi was carried out.
 #[tactic(auto, unfolding(zk_transcript::specs::History::updated))]
 fn asked(
     alloc: Global,
@@ -195,7 +197,7 @@ fn asked(
     Ok(committed(alloc, state, zxid, done)?)
 }
 
-/// The state after a session ended, closed or reaped.
+/// The state after a session was closed or reaped.
 #[tactic(auto, unfolding(zk_transcript::specs::History::updated))]
 fn ended(alloc: Global, state: State, zxid: i64, id: i64) -> Result<State, Fault>
     ensures closed { IfOk result (λ s. (before : List TranscriptLine) (connection index : ℕ) → s ≡ updated before state zxid (kind.Closed id connection index)) }
@@ -230,7 +232,7 @@ fn updated(alloc: Global, before: &Past, state: State, update: &UpdateRec) -> Re
     }
 }
 
-/// The state after the lapse of a session: as it was, where the session is not open.
+/// The state after the lapse of a session, or as it was where the session is not open.
 fn lapsed(alloc: Global, state: State, id: i64) -> Result<State, Memory>
     ensures { IfOk result (λ s. s ≡ lapsed_in state id (session_at id state)) }
 {
@@ -243,8 +245,8 @@ fn lapsed(alloc: Global, state: State, id: i64) -> Result<State, Memory>
     }
 }
 
-/// What a line that stands behind these makes of the state, which is changed in place. `Beyond` where a moment, a count of the
-/// tree or the number of updates is beyond its field, as in no transcript of a run.
+/// What a line makes of the state before it, which is changed in place; `before` are the lines before it. `Beyond` where a time, a
+/// number of the tree or the number of updates does not fit its field, which happens in no transcript of a run.
 pub fn apply(
     alloc: Global,
     before: &Past,
@@ -262,7 +264,7 @@ pub fn apply(
     }
 }
 
-/// The state after a line, as [`apply`] leaves it.
+/// The state after a line. `before` are the lines before it, `state` is the state before it. Faults as [`apply`] does.
 pub fn change(
     alloc: Global,
     before: &Past,

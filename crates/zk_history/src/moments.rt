@@ -12,7 +12,7 @@ use std::alloc::Global;
 use zk_plain::Fault;
 use zk_transcript::TranscriptLine;
 
-/// The state after the updates and lapses among these lines; faults as in [`change`].
+/// The state after these lines. Faults as [`change`] does.
 #[tactic(auto, unfolding(zk_transcript::specs::History::after))]
 pub fn after(alloc: Global, lines: &[TranscriptLine]) -> Result<State, Fault>
     ensures ok { IfOk result (λ s. s ≡ after lines.now) }
@@ -27,7 +27,7 @@ pub fn after(alloc: Global, lines: &[TranscriptLine]) -> Result<State, Fault>
     Ok(state)
 }
 
-/// The state at a moment: after so many of the lines.
+/// The state at a moment, which is after this many of the lines. Faults as [`change`] does.
 pub fn state_at(alloc: Global, lines: &[TranscriptLine], moment: usize) -> Result<State, Fault>
     ensures ok { IfOk result (λ s. s ≡ state_at lines.now moment) }
     ensures beyond { IfErr result (BeyondUnless (AllFit (take moment lines.now))) }

@@ -8,7 +8,7 @@ use zk_model::{Body, Trigger};
 use zk_plain::{Edit, Tree, Write};
 use zx_base::{Memory, Seq};
 
-/// What becomes of a tree.
+/// What a request changes of a tree.
 #[derive(Debug, Drop)]
 pub enum Change {
     /// What a single request planned.
@@ -37,11 +37,12 @@ impl Change {
     }
 }
 
-/// What an update that is not refused does.
+/// What a create, delete, setData or multi that is not refused does.
 #[derive(Debug, Drop)]
 pub struct Commit {
     /// The body of its reply.
     pub response: Body,
+    /// What it changes of the tree.
     pub change: Change,
     /// What watches see of it, in order.
     pub triggers: Seq<Trigger>,

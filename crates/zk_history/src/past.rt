@@ -89,6 +89,7 @@ pub fn update_zxid(line: &TranscriptLine) -> Option<i64>
     }
 }
 
+/// The line at a place.
 pub fn line_at(lines: &[TranscriptLine], place: usize) -> &TranscriptLine
     requires { place < length lines.now }
     ensures { result.now ≡ get_or lines.now place result.now }
@@ -96,10 +97,11 @@ pub fn line_at(lines: &[TranscriptLine], place: usize) -> &TranscriptLine
     &lines[place]
 }
 
-/// The first lines of a transcript, with the places of what they show first of each connection. A look-up takes the logarithm
-/// of their number.
+/// The lines of a transcript before a place, with the places of what they show first of each connection. A look-up takes the
+/// logarithm of their number.
 #[derive(Drop)]
 pub struct Past<'a> {
+    /// All lines of the transcript.
     pub all: &'a [TranscriptLine],
     /// How many of them stand before the place.
     pub len: usize,
@@ -138,7 +140,7 @@ impl<'a> Past<'a> {
         }
     }
 
-    /// The place behind the next line.
+    /// The place after the next line.
     pub fn advanced(self) -> Result<Past<'a>, Memory>
         requires { self.len < length self.all.now }
         ensures len { IfOk result (λ p. p.len ≡ self.entry.len + 1) }
@@ -157,7 +159,7 @@ impl<'a> Past<'a> {
         })
     }
 
-    /// The place behind the last line.
+    /// The place after the last line.
     pub fn behind(alloc: Global, all: &'a [TranscriptLine]) -> Result<Past<'a>, Memory>
         ensures len { IfOk result (λ p. p.len ≡ length all.now) }
         ensures all { IfOk result (λ p. p.all.now ≡ all.now) }
@@ -196,12 +198,14 @@ impl<'a> Past<'a> {
         }
     }
 
+    /// Whether an open line of the connection stands before the place.
     pub fn is_opened(&self, connection: u32) -> bool
         ensures { result ≡ is_some (opening connection (lines_of self.now)) }
     {
         self.opens.place(connection, 0).is_some()
     }
 
+    /// Whether a close line of the connection stands before the place.
     pub fn is_closed(&self, connection: u32) -> bool
         ensures { result ≡ is_some (first_shown (close_shown connection) (lines_of self.now)) }
     {
@@ -269,7 +273,7 @@ impl<'a> Past<'a> {
         }
     }
 
-    /// The place of the update of a zxid.
+    /// The place of the update with a zxid.
     pub fn update_place(&self, zxid: i64) -> Option<usize>
         ensures placed { option_map (λ k. (k, zxid)) result ≡ first_place (update_shown zxid) 0 (lines_of self.now) }
         ensures within { IfSome result (λ k. k < self.now.len) }

@@ -1,4 +1,4 @@
-//! Updates that a client asked for.
+//! What a request does to the tree.
 
 ghost use Rattle.std.specs.Prelude.{◌≡◌, option_map, IfOk, IfErr};
 ghost use Rattle.zk_transcript.specs.History.{response_of, commit_single, commit_several, commit};
@@ -27,7 +27,7 @@ fn response_of(outcome: PartResult) -> Body
     }
 }
 
-/// What an outcome does, where it is none of a refusal.
+/// What an outcome does, where it is not a refusal.
 fn done(outcome: Outcome) -> Option<Commit>
     ensures { (t : Nodes) → option_map (commit_of t) result ≡ commit_single (outcome_of t outcome) }
 {
@@ -88,7 +88,8 @@ fn commit_several(
     Ok(all_done(several(alloc, tree, turn, parts)?))
 }
 
-/// What a create, delete, setData or multi does, where it is not refused.
+/// What a create, delete, setData or multi does, where it is not refused; any other request does nothing. Faults as
+/// [`crate::change`] does.
 #[tactic(auto, unfolding(zk_transcript::specs::History::commit))]
 pub fn commit(
     alloc: Global,

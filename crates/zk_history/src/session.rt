@@ -9,10 +9,11 @@ use zk_model::ConnectRequest;
 use zk_model::limit::{MAX_TIMEOUT, MIN_TIMEOUT};
 use zx_base::{Bytes, Memory};
 
+/// An open session, with its password, its timeout, and the connection that it is attached to.
 #[derive(Debug, Drop)]
 pub struct Session {
     passwd: Bytes,
-    /// In milliseconds, as granted.
+    /// The granted timeout, in milliseconds.
     timeout: i32,
     /// The connection that it is attached to, and the zxid of that attachment.
     connection: u32,
@@ -31,7 +32,7 @@ impl Model for Session {
     ghost view = { λ s. record { passwd = s.passwd; timeout = s.timeout; connection = s.connection; attached = s.attached; lapsed = s.lapsed } };
 }
 
-/// The password that a connection offered, if its opening is shown.
+/// The password that a connection offered, or no bytes where no open line is shown.
 fn offered(alloc: Global, opened: Option<(i64, [u8; 16])>) -> Result<Bytes, Memory>
     ensures { IfOk result (λ passwd. passwd ≡ or_nothing [] (option_map (λ o. o.1) opened)) }
 {
@@ -44,7 +45,7 @@ fn offered(alloc: Global, opened: Option<(i64, [u8; 16])>) -> Result<Bytes, Memo
     }
 }
 
-/// The timeout that a connect asked for, in milliseconds: 0 where none was read.
+/// The timeout that a connect asked for, in milliseconds, or 0 where no connect was read.
 fn asked_timeout(asked: &Option<ConnectRequest>) -> i32
     ensures { result ≡ or_nothing (pos 0) (option_map (λ r. r.timeout) asked.now) }
 {
@@ -56,7 +57,7 @@ fn asked_timeout(asked: &Option<ConnectRequest>) -> i32
 
 impl Session {
     /// A session that begins, by what the transcript shows of its connection. The timeout that its connect asked for is brought
-    /// into the service's range.
+    /// between 4 and 40 seconds.
     pub fn new(
         alloc: Global,
         opened: Option<(i64, [u8; 16])>,
@@ -106,19 +107,21 @@ impl Session {
         })
     }
 
+    /// The password that a client has to show to resume the session.
     pub fn passwd(&self) -> &[u8]
         ensures { result.now ≡ self.now.passwd }
     {
         self.passwd.as_slice()
     }
 
-    /// In milliseconds, as granted.
+    /// The granted timeout, in milliseconds.
     pub fn timeout(&self) -> i32
         ensures { result ≡ self.now.timeout }
     {
         self.timeout
     }
 
+    /// The connection that the session is attached to.
     pub fn connection(&self) -> u32
         ensures { result ≡ self.now.connection }
     {
@@ -132,6 +135,7 @@ impl Session {
         self.attached
     }
 
+    /// Whether the session's lease has lapsed.
     pub fn is_lapsed(&self) -> bool
         ensures { result ≡ self.now.lapsed }
     {

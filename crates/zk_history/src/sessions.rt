@@ -11,7 +11,7 @@ use std::collections::{BTreeMap, BTreeSet};
 use std::marker::Model;
 use zx_base::Memory;
 
-/// The open sessions by their numbers. Each call takes the logarithm of how many there are.
+/// The open sessions by their numbers. Each call takes the logarithm of how many are open.
 #[derive(Debug, Drop)]
 pub struct Sessions {
     open: BTreeMap<i64, Session>,

@@ -1,4 +1,4 @@
-//! What the lines of a transcript show of a connection: the first line that shows it.
+//! What a line of a transcript shows of a connection, and the first line that shows it.
 
 ghost use Rattle.std.specs.Prelude.{◌≡◌, option_map, IfOk};
 ghost use Rattle.zk_transcript.specs.History.{open_shown, frame_shown, frame, connect, request, asked_in};
@@ -16,7 +16,7 @@ use zk_transcript::{TranscriptLine, UpdateKind, UpdateRec};
 use zk_wire::{WireFault, read_connect, read_request};
 use zx_base::Memory;
 
-/// The number and the password that a connection offers for a new session, where this is its line.
+/// The number and the password that a connection offers for a new session, where this is its open line.
 pub fn open_shown(line: &TranscriptLine, connection: u32) -> Option<(i64, [u8; 16])>
     ensures { result ≡ open_shown connection line.now }
 {
@@ -31,7 +31,7 @@ pub fn open_shown(line: &TranscriptLine, connection: u32) -> Option<(i64, [u8; 1
     }
 }
 
-/// The bytes of a frame, where this is its line.
+/// The bytes of a connection's frame with this index, where this is its line.
 pub fn frame_shown(line: &TranscriptLine, connection: u32, index: u64) -> Option<&[u8]>
     ensures { option_map (λ b. b.now) result ≡ frame_shown connection index line.now }
 {
@@ -46,7 +46,7 @@ pub fn frame_shown(line: &TranscriptLine, connection: u32, index: u64) -> Option
     }
 }
 
-/// The connection that is closed, where this is its line.
+/// The connection, where this is its close line.
 pub fn close_shown(line: &TranscriptLine, connection: u32) -> Option<u32>
     ensures { result ≡ close_shown connection line.now }
 {
@@ -76,7 +76,7 @@ fn attach_in(zxid: i64, kind: UpdateKind, connection: u32) -> Option<(i64, i64)>
     }
 }
 
-/// The zxid and the session of an attachment to a connection, where this is its line.
+/// The zxid and the session of an attachment to a connection, where this line is one.
 pub fn attach_shown(line: &TranscriptLine, connection: u32) -> Option<(i64, i64)>
     ensures { option_map attachment_of result ≡ attach_shown connection line.now }
 {
@@ -86,7 +86,7 @@ pub fn attach_shown(line: &TranscriptLine, connection: u32) -> Option<(i64, i64)
     }
 }
 
-/// The update that carries out a request of a connection, where this is its line.
+/// The update that carries out a connection's request with this index, where this line is that.
 pub fn own_update_shown(line: &TranscriptLine, connection: u32, index: u64) -> Option<UpdateRec>
     ensures { result ≡ own_update_shown connection index line.now }
 {
@@ -108,7 +108,7 @@ pub fn own_update_shown(line: &TranscriptLine, connection: u32, index: u64) -> O
     }
 }
 
-/// The bytes of a frame; frame 0 is the connect.
+/// The bytes of a connection's frame; frame 0 is the connect. Goes over the lines.
 pub fn frame(lines: &[TranscriptLine], connection: u32, index: u64) -> Option<&[u8]>
     ensures { option_map (λ b. b.now) result ≡ frame connection index lines.now }
 {
@@ -120,7 +120,7 @@ pub fn frame(lines: &[TranscriptLine], connection: u32, index: u64) -> Option<&[
     None
 }
 
-/// The connect request of a frame, where it is one.
+/// The connect request that a frame's bytes spell, if they spell one.
 fn connect_of(alloc: Global, bytes: &[u8]) -> Result<Option<ConnectRequest>, Memory>
     ensures { IfOk result (λ r. r ≡ read_connect bytes.now) }
 {
@@ -131,7 +131,7 @@ fn connect_of(alloc: Global, bytes: &[u8]) -> Result<Option<ConnectRequest>, Mem
     }
 }
 
-/// The connect request of a connection, where it is readable.
+/// The connect request of a connection, where it can be read. Goes over the lines.
 pub fn connect(
     alloc: Global,
     lines: &[TranscriptLine],
@@ -145,7 +145,7 @@ pub fn connect(
     }
 }
 
-/// The request of a frame's bytes, where they are one.
+/// The request that a frame's bytes spell, if they spell one.
 fn request_of(alloc: Global, bytes: &[u8]) -> Result<Option<Request>, Memory>
     ensures { IfOk result (λ r. r ≡ asked_in (read_request bytes.now)) }
 {
@@ -159,7 +159,7 @@ fn request_of(alloc: Global, bytes: &[u8]) -> Result<Option<Request>, Memory>
 impl<'a> Past<'a> {
     ghost use Rattle.zk_history.specs.Pasts.{lines_of};
 
-    /// The connect request of a connection, where it is readable.
+    /// The connect request of a connection, where it can be read.
     pub fn connect(&self, alloc: Global, connection: u32) -> Result<Option<ConnectRequest>, Memory>
         ensures { IfOk result (λ r. r ≡ connect connection (lines_of self.now)) }
     {
@@ -169,7 +169,7 @@ impl<'a> Past<'a> {
         }
     }
 
-    /// The request of a frame, where it is readable.
+    /// The request of a connection's frame, where it can be read.
     pub fn request(
         &self,
         alloc: Global,

@@ -16,7 +16,7 @@ use zk_model::{Path, Trigger};
 use zk_plain::{Fault, Tree};
 use zx_base::{Memory, Seq};
 
-/// The state of the service after an update: its tree, its open sessions, and what the update was.
+/// The state of the service: its tree, its open sessions, and of the last update the zxid, the number and what watches see.
 #[derive(Debug, Drop)]
 pub struct State {
     tree: Tree,
@@ -37,7 +37,7 @@ impl Model for State {
     ghost view = { λ s. record { tree = s.tree; zxid = s.zxid; updates = s.updates; triggers = s.triggers; sessions = s.sessions } };
 }
 
-/// One update more.
+/// The number of updates, and one more.
 fn counted(updates: u64) -> Result<u64, Fault>
     ensures ok { IfOk result (λ n. n ≡ updates + 1) }
     ensures beyond { IfErr result (BeyondUnless (updates < 18446744073709551615)) }
@@ -62,7 +62,7 @@ impl State {
         }
     }
 
-    /// The state after the first update, whose tree this is.
+    /// The state after the first update, which makes this tree.
     pub fn begun(alloc: Global, tree: Tree, zxid: i64) -> State
         ensures { result ≡ record { tree = tree; zxid = zxid; updates = 1; triggers = []; sessions = empty } }
     {
@@ -75,7 +75,7 @@ impl State {
         }
     }
 
-    /// The state after one more update, of which watches see this; `Beyond` after the update of number 2^64 - 1.
+    /// The state after one more update, with its zxid and what watches see of it. `Beyond` where 2^64 - 1 updates were made before.
     pub fn advanced(self, zxid: i64, triggers: Seq<Trigger>) -> Result<State, Fault>
         ensures ok { IfOk result (λ s. s ≡ advanced self zxid self.tree triggers self.sessions) }
         ensures beyond { IfErr result (BeyondUnless (self.updates < 18446744073709551615)) }

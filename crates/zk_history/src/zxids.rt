@@ -1,4 +1,4 @@
-//! Where updates stand first among lines, by their zxids.
+//! The places of updates, looked up by their zxids.
 
 ghost use Rattle.std.specs.Prelude.{◌≡◌, ℤ, Some, IfOk};
 ghost use Rattle.zk_history.specs.Shown.{is_zxid, kept, place_of, nowhere};
@@ -7,14 +7,14 @@ use std::alloc::Global;
 use std::collections::BTreeMap;
 use zx_base::Memory;
 
-/// The places of the first updates of their zxids.
+/// The place of the first update with each zxid.
 #[derive(Debug, Drop)]
 pub struct Zxids {
     places: BTreeMap<i64, usize>,
 }
 
 impl Zxids {
-    /// There is no update.
+    /// The table of no lines.
     pub fn new(alloc: Global) -> Zxids
         ensures { (z : ℤ) → place_of result z ≡ nowhere }
     {
@@ -23,7 +23,7 @@ impl Zxids {
         }
     }
 
-    /// The place of the first update of this zxid.
+    /// The place of the first update with this zxid.
     pub fn place(&self, zxid: i64) -> Option<usize>
         ensures { result ≡ place_of self.now zxid }
     {
@@ -33,7 +33,7 @@ impl Zxids {
         }
     }
 
-    /// One line more, at a place behind the others.
+    /// The table with one more line, at a place after the others.
     pub fn noted(self, zxid: Option<i64>, place: usize) -> Result<Zxids, Memory>
         ensures { IfOk result (λ f. (z : ℤ) → place_of f z ≡ kept (place_of self z) (is_zxid zxid z) place) }
     {
