@@ -6,7 +6,7 @@ use Rattle.zk_model.specs.declared.node.Trigger.{Trigger}
 use Rattle.zk_model.specs.declared.reply.Notice.{Notice}
 use Rattle.zk_model.specs.Watches.{Watches, Seen, fire, fire_all, see_all}
 
--- what further changes leave and give, behind notices that were given before
+-- what further changes leave armed, and their notices after those that were given before
 abbrev pub fired_on : Watches → List Notice → List Trigger → Watches × List Notice
 fired_on w ns ts = ((fire_all w ts).0, ns ++ (fire_all w ts).1)
 

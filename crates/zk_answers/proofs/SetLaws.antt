@@ -29,7 +29,7 @@ there : (o : Option (Unit {0})) → is_some o ≡ true → o ≡ Some tt
 there None h = absurd (cc)
 there (Some u) h = refl
 
--- a path that is in comes in again
+-- a path that is in the set is put in again
 pub insert-there : (s : PathSet) (path : Bytes) → contains_key s path ≡ true → s ≡ insert s path tt
 insert-there s path is = ext _ _ (λ q. ⊎_elim
     (λ (e : q ≡ path). ap (get s) e ∙ there (get s path) is ∙ sym (ap (get (insert s path tt)) e ∙ get-insert_same s path tt))
@@ -77,7 +77,7 @@ module _ {K : Type 0} (bytes : K → Bytes) where
   pub is_empty-keys : (ks : List K) (s : PathSet) → set_of (map bytes ks) ≡ s → (length ks == 0) ≡ (len s == 0)
   is_empty-keys ks s named = ap (λ n. n == 0) (sym (length-map ks bytes)) ∙ length-set_of (map bytes ks) ∙ ap (λ (m : PathSet). len m == 0) named
 
-  -- ---- one path more
+  -- ---- one more path
 
   has-inserted : (q : Bytes) (k : K) (ks : List K) → has q (map bytes (insert_key by_bytes ks k)) ≡ (same (bytes k) q || has q (map bytes ks))
   has-inserted q k [] = refl
@@ -96,7 +96,7 @@ module _ {K : Type 0} (bytes : K → Bytes) where
       ∙ ap (λ (m : PathSet). insert m (bytes k) tt) named
       ∙ ap (λ (p : Bytes). insert s p tt) is
 
-  -- ---- one path less
+  -- ---- a path less
 
   has-removed : (path q : Bytes) (ks : List K) → q ≢ path → has q (map bytes (remove_key (is_path path) ks)) ≡ has q (map bytes ks)
   has-removed path q [] n = refl

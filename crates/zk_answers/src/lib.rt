@@ -1,7 +1,7 @@
 //! What the service answers, as a program over a tree and the watches of one connection.
 //!
-//! Each function's contract is the definition of `zk_transcript` that it runs. The service itself stands on stored keys and
-//! not on this crate; a judge of transcripts runs the definitions by it.
+//! Each function's contract is the definition of `zk_transcript` that it computes. The judge of transcripts stands on this crate;
+//! the service, which keeps its tree as keys of etcd, does not.
 #![tactic(auto)]
 
 mod listings;

@@ -8,7 +8,7 @@ use std::collections::BTreeSet;
 use std::marker::Model;
 use zx_base::Memory;
 
-/// A finite set of paths. Each call takes the logarithm of their number, and a copy takes a step for each of them.
+/// A finite set of paths. A call takes the logarithm of the number of paths, a copy takes a step for each.
 #[derive(Debug, Drop)]
 pub struct PathSet {
     /// The bytes of each.
@@ -57,7 +57,7 @@ impl PathSet {
         self.paths.contains(path)
     }
 
-    /// Puts the path into the set.
+    /// Puts a path into the set.
     pub fn insert(&mut self, alloc: Global, path: &[u8]) -> Result<(), Memory>
         ensures { OnOk result (self.new ≡ insert self.old path.now tt) }
     {
@@ -68,7 +68,7 @@ impl PathSet {
         Ok(())
     }
 
-    /// Takes the path out of the set, and tells whether it was there.
+    /// Takes a path out of the set, and says whether it was there.
     pub fn remove(&mut self, path: &[u8]) -> bool
         ensures rest { self.new ≡ remove self.old path.now }
         ensures was { result ≡ contains_key self.old path.now }

@@ -63,7 +63,7 @@ fn told_refusal(alloc: Global, watches: &Watches, code: Option<i32>) -> Result<O
     ensures { IfOk result (λ o. option_map told_of o ≡ told_refusal watches.now code) }
 {
     match code {
-        Some(code) => Ok(Some(refused(alloc, watches.copy(alloc)?, code))),
+        Some(code) => Ok(Some(refused(alloc, watches.copy()?, code))),
         None => Ok(None),
     }
 }
@@ -78,10 +78,10 @@ fn told_of_path(alloc: Global, watches: &Watches, text: &[u8]) -> Result<Option<
 fn told_done(alloc: Global, watches: &Watches) -> Result<Option<Told>, Memory>
     ensures { IfOk result (λ o. option_map told_of o ≡ told watches.now (reply.Good body.Empty)) }
 {
-    Ok(Some(good(alloc, watches.copy(alloc)?, Body::Empty)))
+    Ok(Some(good(alloc, watches.copy()?, Body::Empty)))
 }
 
-/// The answer to a request that the tree does not decide: a ping, an authentication, or a request of no valid form.
+/// The answer to a request where the tree does not decide it: to a ping, to an auth, and to a request whose form is not valid.
 #[tactic(auto, unfolding(zk_transcript::specs::Answers::plain_request, zk_model::specs::Single::form_refusal))]
 pub fn plain_request(
     alloc: Global,

@@ -17,7 +17,7 @@ use zk_model::{Body, Node, Stat};
 use zk_plain::{Fault, Tree, stat};
 use zx_base::{Bytes, Memory, Text};
 
-/// With a data watch, where one is asked for.
+/// The watches, with a data watch on the path where one is asked for.
 fn armed_data(
     alloc: Global,
     is_watched: bool,
@@ -26,7 +26,7 @@ fn armed_data(
 ) -> Result<Watches, Memory>
     ensures { IfOk result (λ w. w ≡ armed_data is_watched path.now watches.now) }
 {
-    let kept = watches.copy(alloc)?;
+    let kept = watches.copy()?;
     if is_watched {
         kept.arm_data(alloc, path)
     } else {
@@ -34,7 +34,7 @@ fn armed_data(
     }
 }
 
-/// With a child watch, where one is asked for.
+/// The watches, with a child watch on the path where one is asked for.
 fn armed_children(
     alloc: Global,
     is_watched: bool,
@@ -43,7 +43,7 @@ fn armed_children(
 ) -> Result<Watches, Memory>
     ensures { IfOk result (λ w. w ≡ armed_children is_watched path.now watches.now) }
 {
-    let kept = watches.copy(alloc)?;
+    let kept = watches.copy()?;
     if is_watched {
         kept.arm_children(alloc, path)
     } else {
@@ -51,7 +51,7 @@ fn armed_children(
     }
 }
 
-/// What a client is shown of the node at a path of the tree.
+/// The Stat of the node at a path of the tree.
 fn stat_at(tree: &Tree, path: &[u8], node: &Node) -> Result<Stat, Fault>
     requires { get tree.now path.now ≡ Some node.now }
     ensures ok { IfOk result (λ s. s ≡ stat_of tree.now path.now node.now) }
@@ -60,7 +60,7 @@ fn stat_at(tree: &Tree, path: &[u8], node: &Node) -> Result<Stat, Fault>
     stat(node, tree.num_children(path))
 }
 
-/// exists arms also where there is no node.
+/// The answer to an exists, which arms its data watch also where there is no node.
 pub fn exists(
     alloc: Global,
     tree: &Tree,
@@ -82,6 +82,7 @@ pub fn exists(
     }
 }
 
+/// The answer to a getData, which arms its data watch only where there is a node.
 pub fn get_data(
     alloc: Global,
     tree: &Tree,
@@ -93,7 +94,7 @@ pub fn get_data(
     ensures beyond { IfErr result (BeyondUnless (IsWithin tree.now)) }
 {
     let Some(node) = tree.get(path.as_slice()) else {
-        return Ok(refused(alloc, watches.copy(alloc)?, NO_NODE));
+        return Ok(refused(alloc, watches.copy()?, NO_NODE));
     };
     let content = Bytes::copy_of(alloc, node.content.as_slice())?;
     let armed = armed_data(alloc, is_watched, path.as_slice(), watches)?;
@@ -101,18 +102,20 @@ pub fn get_data(
     Ok(good(alloc, armed, Body::Content(content, shown)))
 }
 
+/// The answer to a getACL: each node has the one access list.
 pub fn get_acl(alloc: Global, tree: &Tree, watches: &Watches, path: &Text) -> Result<Told, Fault>
     ensures ok { IfOk result (λ t. Some (told_of t) ≡ about watches.now watches.now (get tree.now path.now) (λ n. body.OpenAcl (stat_of tree.now path.now n))) }
     ensures beyond { IfErr result (BeyondUnless (IsWithin tree.now)) }
 {
     let Some(node) = tree.get(path.as_slice()) else {
-        return Ok(refused(alloc, watches.copy(alloc)?, NO_NODE));
+        return Ok(refused(alloc, watches.copy()?, NO_NODE));
     };
     let shown = stat_at(tree, path.as_slice(), node)?;
-    Ok(good(alloc, watches.copy(alloc)?, Body::OpenAcl(shown)))
+    Ok(good(alloc, watches.copy()?, Body::OpenAcl(shown)))
 }
 
-/// The children's names in the order of their bytes.
+/// The answer to a getChildren: the children's names in the order of their bytes. It arms its child watch where there is a node;
+/// a reply that does not fit a frame is refused, and arms nothing.
 pub fn get_children(
     alloc: Global,
     tree: &Tree,
@@ -123,16 +126,17 @@ pub fn get_children(
     ensures { IfOk result (λ t. Some (told_of t) ≡ listing (armed_children is_watched path.now watches.now) watches.now (get tree.now path.now) (λ n. body.Names (child_names tree.now path.now))) }
 {
     if tree.get(path.as_slice()).is_none() {
-        return Ok(refused(alloc, watches.copy(alloc)?, NO_NODE));
+        return Ok(refused(alloc, watches.copy()?, NO_NODE));
     }
     let names = tree.child_names(alloc, path.as_slice())?;
     if !names_fit(names.as_slice()) {
-        return Ok(refused(alloc, watches.copy(alloc)?, SYSTEM_ERROR));
+        return Ok(refused(alloc, watches.copy()?, SYSTEM_ERROR));
     }
     let armed = armed_children(alloc, is_watched, path.as_slice(), watches)?;
     Ok(good(alloc, armed, Body::Names(names)))
 }
 
+/// The answer to a getChildren2, which is that to a getChildren with the node's Stat.
 pub fn get_children2(
     alloc: Global,
     tree: &Tree,
@@ -144,12 +148,12 @@ pub fn get_children2(
     ensures beyond { IfErr result (BeyondUnless (IsWithin tree.now)) }
 {
     let Some(node) = tree.get(path.as_slice()) else {
-        return Ok(refused(alloc, watches.copy(alloc)?, NO_NODE));
+        return Ok(refused(alloc, watches.copy()?, NO_NODE));
     };
     let shown = stat_at(tree, path.as_slice(), node)?;
     let names = tree.child_names(alloc, path.as_slice())?;
     if !names_and_stat_fit(names.as_slice(), &shown) {
-        return Ok(refused(alloc, watches.copy(alloc)?, SYSTEM_ERROR));
+        return Ok(refused(alloc, watches.copy()?, SYSTEM_ERROR));
     }
     let armed = armed_children(alloc, is_watched, path.as_slice(), watches)?;
     Ok(good(alloc, armed, Body::NamesStat(names, shown)))

@@ -17,7 +17,7 @@ fn is_path(alloc: Global, text: &[u8]) -> Result<bool, Memory>
     Ok(read_path(alloc, text, false)?.is_some())
 }
 
-/// The node of a text, which is none where the text is not a valid path.
+/// The node at a text, or `None` where the text is not a valid path.
 fn valid_at<'a>(alloc: Global, tree: &'a Tree, text: &[u8]) -> Result<Option<&'a Node>, Memory>
     ensures { IfOk result (λ o. option_map (λ n. n.now) o ≡ valid_at text.now tree.now) }
 {
@@ -28,7 +28,7 @@ fn valid_at<'a>(alloc: Global, tree: &'a Tree, text: &[u8]) -> Result<Option<&'a
     }
 }
 
-/// With one more notice.
+/// What was seen so far, with one more notice.
 fn tell(alloc: Global, seen: Seen, kind: u8, path: &[u8]) -> Result<Seen, Memory>
     ensures { IfOk result (λ s. seen_of s ≡ tell (seen_of seen) kind path.now) }
 {
@@ -61,7 +61,7 @@ fn armed_children(alloc: Global, seen: Seen, path: &[u8]) -> Result<Seen, Memory
     })
 }
 
-/// A path with a data watch on a node that was there.
+/// Sees a data path: the client has a data watch on a node that was there.
 fn see_data(alloc: Global, tree: &Tree, since: i64, seen: Seen, path: &[u8]) -> Result<Seen, Memory>
     ensures { IfOk result (λ s. seen_of s ≡ see_data since (seen_of seen) path.now (valid_at path.now tree.now)) }
 {
@@ -72,7 +72,7 @@ fn see_data(alloc: Global, tree: &Tree, since: i64, seen: Seen, path: &[u8]) -> 
     }
 }
 
-/// A path with a data watch on a node that was not there.
+/// Sees an exist path: the client has a data watch on a node that was not there.
 fn see_exist(alloc: Global, tree: &Tree, seen: Seen, path: &[u8]) -> Result<Seen, Memory>
     ensures { IfOk result (λ s. seen_of s ≡ see_exist (is_path path.now) (seen_of seen) path.now (valid_at path.now tree.now)) }
 {
@@ -83,7 +83,7 @@ fn see_exist(alloc: Global, tree: &Tree, seen: Seen, path: &[u8]) -> Result<Seen
     }
 }
 
-/// A path with a child watch.
+/// Sees a child path: the client has a child watch on it.
 fn see_children(
     alloc: Global,
     tree: &Tree,
@@ -142,8 +142,9 @@ fn see_all_children(
     Ok(seen)
 }
 
-/// What happened since the relative zxid is told, and the rest is armed: the data paths, then the exist paths, then the
-/// child paths. A path that is not valid counts as absent, and arms nothing.
+/// Goes over the data paths, then the exist paths, then the child paths: each is told or armed. Of a data or child path it is told
+/// that its node changed since the relative zxid, or is not there; of an exist path, that its node is there. A path that is not
+/// valid counts as absent, and arms nothing.
 #[tactic(auto, unfolding(zk_model::specs::Watches::set_watches))]
 pub fn set_watches(
     alloc: Global,
@@ -157,7 +158,7 @@ pub fn set_watches(
     ensures { IfOk result (λ s. seen_of s ≡ set_watches tree.now since datas.now exists.now children.now watches.now) }
 {
     let before = Seen {
-        watches: watches.copy(alloc)?,
+        watches: watches.copy()?,
         notices: Seq::new(alloc),
     };
     let first = see_all_data(alloc, tree, since, before, datas)?;

@@ -1,4 +1,4 @@
-//! Reads, and refusals by the tree.
+//! What the tree answers: reads, and refusals of updates.
 
 ghost use Rattle.std.specs.Prelude.{◌≡◌, Some, option_map, pos, IfOk, IfErr};
 ghost use Rattle.zk_model.specs.declared.reply.Body.TheVariants as body;
@@ -22,23 +22,23 @@ use zk_plain::{
 };
 use zx_base::{Memory, Text};
 
-/// An update is answered by its refusal; one that succeeds is answered by what it commits.
+/// The refusal of an update; one that succeeds is not answered here, but by what it commits.
 fn refusal_of(alloc: Global, watches: &Watches, outcome: Outcome) -> Result<Option<Told>, Memory>
     ensures { IfOk result (λ o. (t : Nodes) → option_map told_of o ≡ refusal_of watches.now (outcome_of t outcome)) }
 {
     match outcome {
-        Outcome::Refused(code) => Ok(Some(refused(alloc, watches.copy(alloc)?, code))),
+        Outcome::Refused(code) => Ok(Some(refused(alloc, watches.copy()?, code))),
         Outcome::Done { .. } => Ok(None),
     }
 }
 
-/// A check by itself is a read.
+/// The answer to a check, which by itself is a read.
 fn checked(alloc: Global, watches: &Watches, outcome: Outcome) -> Result<Told, Memory>
     ensures { IfOk result (λ t. (nodes : Nodes) → Some (told_of t) ≡ checked watches.now (outcome_of nodes outcome)) }
 {
     match outcome {
-        Outcome::Refused(code) => Ok(refused(alloc, watches.copy(alloc)?, code)),
-        Outcome::Done { .. } => Ok(good(alloc, watches.copy(alloc)?, Body::Empty)),
+        Outcome::Refused(code) => Ok(refused(alloc, watches.copy()?, code)),
+        Outcome::Done { .. } => Ok(good(alloc, watches.copy()?, Body::Empty)),
     }
 }
 
@@ -50,8 +50,8 @@ fn refusal_of_several(
     ensures { IfOk result (λ o. (t : Nodes) → option_map told_of o ≡ refusal_of_several watches.now (several_as t transaction)) }
 {
     match transaction {
-        Transaction::Denied(code) => Ok(Some(refused(alloc, watches.copy(alloc)?, code))),
-        Transaction::Codes(row) => Ok(Some(good(alloc, watches.copy(alloc)?, Body::Parts(row)))),
+        Transaction::Denied(code) => Ok(Some(refused(alloc, watches.copy()?, code))),
+        Transaction::Codes(row) => Ok(Some(good(alloc, watches.copy()?, Body::Parts(row)))),
         Transaction::All { .. } => Ok(None),
     }
 }
@@ -60,7 +60,7 @@ fn sync(alloc: Global, watches: &Watches, path: &Text) -> Result<Told, Memory>
     ensures { IfOk result (λ t. Some (told_of t) ≡ told watches.now (reply.Good (body.Path path.now))) }
 {
     let path = Text::copy_of(alloc, path.as_slice())?;
-    Ok(good(alloc, watches.copy(alloc)?, Body::Path(path)))
+    Ok(good(alloc, watches.copy()?, Body::Path(path)))
 }
 
 /// The reply to a setWatches.
@@ -74,7 +74,7 @@ fn rearmed(seen: Seen) -> Told
     }
 }
 
-/// The turn of a request that is only looked at: whether it is refused does not depend on zxid and moment.
+/// The turn of an update of which only a refusal is asked: that depends on neither its zxid nor its time.
 fn looking(limit: usize, session: i64) -> Turn
     ensures { (result.limit ≡ limit) × (result.session ≡ session) × (result.zxid ≡ pos 0) × (result.moment ≡ 0) }
 {
@@ -86,8 +86,8 @@ fn looking(limit: usize, session: i64) -> Turn
     }
 }
 
-/// The answer as the tree shows it to a session that may own so many nodes: to a read, to a setWatches, and to an update
-/// that is refused. An update that succeeds has none here.
+/// The tree's answer to a session that may own `limit` ephemeral nodes: to a read, to a setWatches, and to an update that is
+/// refused. One that succeeds has no answer here, and neither has a request that needs no tree.
 #[tactic(auto, unfolding(zk_transcript::specs::Answers::tree_reply))]
 pub fn tree_reply(
     alloc: Global,

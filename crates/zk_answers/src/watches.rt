@@ -11,13 +11,16 @@ use std::marker::Model;
 use zk_model::{Notice, Path, Trigger};
 use zx_base::{Memory, Seq, Text};
 
-/// The kinds of notices (`Watcher.Event.EventType`).
+/// The kind of a notice that a node was created (`NodeCreated` of `Watcher.Event.EventType`).
 pub const CREATED: u8 = 1;
 
+/// The kind of a notice that a node was deleted (`NodeDeleted`).
 pub const DELETED: u8 = 2;
 
+/// The kind of a notice that a node's data changed (`NodeDataChanged`).
 pub const CHANGED: u8 = 3;
 
+/// The kind of a notice that a node's children changed (`NodeChildrenChanged`).
 pub const CHILDREN: u8 = 4;
 
 /// The data watches and the child watches of a connection.
@@ -38,14 +41,14 @@ impl Model for Watches {
     ghost view = { λ w. record { on_data = w.on_data; on_children = w.on_children } };
 }
 
-/// What is armed, and the notices that were given before.
+/// What is armed, and the notices that were given so far.
 #[derive(Debug, Drop)]
 pub struct Seen {
     pub watches: Watches,
     pub notices: Seq<Notice>,
 }
 
-/// One notice, or none.
+/// One notice where a watch was hit, and none otherwise.
 fn note(alloc: Global, is_hit: bool, kind: u8, path: &[u8]) -> Result<Seq<Notice>, Memory>
     ensures { IfOk result (λ notices. notices ≡ note is_hit kind path.now) }
 {
@@ -60,7 +63,7 @@ fn note(alloc: Global, is_hit: bool, kind: u8, path: &[u8]) -> Result<Seq<Notice
 }
 
 impl Watches {
-    /// Nothing is armed.
+    /// No watches.
     pub fn new(alloc: Global) -> Watches
         ensures { result ≡ no_watches }
     {
@@ -70,7 +73,8 @@ impl Watches {
         }
     }
 
-    pub fn copy(&self, _alloc: Global) -> Result<Watches, Memory>
+    /// A copy, which takes a step for each watch.
+    pub fn copy(&self) -> Result<Watches, Memory>
         ensures { IfOk result (λ w. w ≡ self.now) }
     {
         Ok(Watches {
@@ -86,7 +90,7 @@ impl Watches {
         self.on_data.is_empty() && self.on_children.is_empty()
     }
 
-    /// With a data watch on this path.
+    /// The watches with a data watch on this path.
     pub fn arm_data(self, alloc: Global, path: &[u8]) -> Result<Watches, Memory>
         ensures { IfOk result (λ w. w ≡ arm_data self path.now) }
     {
@@ -98,7 +102,7 @@ impl Watches {
         })
     }
 
-    /// With a child watch on this path.
+    /// The watches with a child watch on this path.
     pub fn arm_children(self, alloc: Global, path: &[u8]) -> Result<Watches, Memory>
         ensures { IfOk result (λ w. w ≡ arm_children self path.now) }
     {
@@ -140,7 +144,7 @@ impl Watches {
         })
     }
 
-    /// Both watches of the path fire, with one notice.
+    /// Both watches of the path fire, where there are any, with one notice.
     fn fire_both(self, alloc: Global, path: &Path) -> Result<Seen, Memory>
         ensures { IfOk result (λ s. fired_of s ≡ (fired_children (fired_data self path.now) path.now, note (contains_key self.on_data path.now || contains_key self.on_children path.now) 2 path.now)) }
     {
@@ -169,7 +173,7 @@ impl Watches {
         }
     }
 
-    /// The same of several changes in turn.
+    /// What several changes leave armed, one after the other, and their notices.
     pub fn fire_all(self, alloc: Global, triggers: &[Trigger]) -> Result<Seen, Memory>
         ensures { IfOk result (λ s. fired_of s ≡ fire_all self triggers.now) }
     {

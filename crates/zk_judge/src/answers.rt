@@ -165,7 +165,7 @@ fn told_of_own(
             told: Told {
                 reply: Reply::Good(response),
                 notices: Seq::new(alloc),
-                watches: watches.copy(alloc)?,
+                watches: watches.copy()?,
             },
             is_over: closes_session(update.kind),
         })),

@@ -72,7 +72,7 @@ pub fn fire_above(
     ensures { IfOk result (λ f. fired_of f ≡ fired_above_of past.now walker.now.zxid walker.now.watches) }
 {
     let mut fired = Fired {
-        watches: walker.watches.copy(alloc)?,
+        watches: walker.watches.copy()?,
         due: Vec::new(alloc),
     };
     let mut at = walker.since;

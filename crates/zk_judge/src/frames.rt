@@ -67,7 +67,7 @@ pub fn refused(alloc: Global, watches: &Watches, code: i32) -> Result<Told, Memo
     Ok(Told {
         reply: Reply::Refused(code),
         notices: Seq::new(alloc),
-        watches: watches.copy(alloc)?,
+        watches: watches.copy()?,
     })
 }
 
