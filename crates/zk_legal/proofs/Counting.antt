@@ -1,4 +1,4 @@
--- Tables of the lines before, as a line more changes them.
+-- How one more line changes the tables of the lines before it.
 use Rattle.std.proofs.Common.{◌≡◌, ℕ, ◌+◌, ◌≤◌, Bool, true, false, List, [], ◌∷◌, ◌++◌, length, Ok, Err, refl, sym, ap, ◌∙◌, inl, inr, eqb-true, arith}
 use Rattle.std.specs.Prelude.{Some, None, Result, if◌then◌else◌, ◌==◌}
 use Rattle.std.specs.Result.{IfOk}

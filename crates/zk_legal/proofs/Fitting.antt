@@ -70,7 +70,7 @@ start-run = record { faultless = refl; reached = refl }
 pub no-lines-run : (s : State) → s ≡ nothing_yet → IsRunTo [] s
 no-lines-run s new = subst (λ (s : State). IsRunTo [] s) (sym new) start-run
 
--- a line more that a run can have written
+-- one more line that a run can have written
 pub run-more : (before : List TranscriptLine) (s t : State) (l : TranscriptLine) → IsRunTo before s → is_history_line before s l ≡ true → t ≡ change before s l → IsRunTo (before ++ l ∷ []) t
 unfolding after
 run-more before s t l run holds changes = record {
@@ -208,7 +208,7 @@ all-fit lines none before l rest split = line-fits before (after before) l (run-
 
 -- ---- frames
 
--- a frame within the limit, whose index some line has
+-- a frame no longer than it may be, whose index is below `most`
 pub record IsFitFrame (i : ℕ) (bytes : List ℕ) (most : ℕ) : Type 0 where
   pub small : length bytes ≤ max_frame
   pub index : i < most

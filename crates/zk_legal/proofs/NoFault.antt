@@ -17,7 +17,7 @@ after_begin-line : (before : List TranscriptLine) (s : State) (l : TranscriptLin
 unfolding is_history_line
 after_begin-line before s l holds = grind (arith, common_steps)
 
--- a first line without a fault, and those behind it
+-- where lines have no fault, the first has none, and neither have those after it
 pub first : (before : List TranscriptLine) (s : State) (l : TranscriptLine) (ls : List TranscriptLine) → history_fault_from before s (l ∷ ls) ≡ None →
     (is_history_line before s l ≡ true) × (history_fault_from (before ++ l ∷ []) (change before s l) ls ≡ None)
 first before s l ls none = elim (cases_Bool (is_history_line before s l)) [

@@ -1,4 +1,4 @@
--- The paths that an update shows are valid, so they are short: those of its triggers, and those in its response.
+-- The paths that an update shows are valid, so they are short: those of its triggers, and those in the reply to its request.
 use Rattle.std.proofs.Common.{◌≡◌, ℕ, zero, suc, ℤ, pos, ◌-◌, ◌<◌, ◌≤◌, Bool, true, false, not, length, List, [], ◌∷◌, Option, Some, None, refl, ap, arith}
 use Rattle.std.specs.Prelude.{⊤, nat_abs, nat_lt, if◌then◌else◌, ◌==◌, replicate}
 use Rattle.std.specs.List.{AllByRecursion}
@@ -34,12 +34,12 @@ abbrev Gives : Outcome → Type 0
 Gives (Refused code) = ⊤
 Gives (Done r t g) = IsShortResult r × AreShort g
 
--- so many results are left, or the place that was refused is below that number
+-- the parts give n results, or the place of the one that was refused is below n
 abbrev PartsGive : ℕ → Parts → Type 0
 PartsGive n (Stopped place code) = place < n
 PartsGive n (Passed results t gs touched) = AllByRecursion IsShortResult results × AreShort gs × (length results ≡ n)
 
--- of so many parts
+-- what several requests give, of which there are n
 abbrev pub SeveralGives : ℕ → Several → Type 0
 SeveralGives n (Denied code) = ⊤
 SeveralGives n (Codes row) = AllByRecursion IsShortResult row × (length row ≤ n)

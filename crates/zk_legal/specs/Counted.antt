@@ -1,4 +1,4 @@
--- What the tables of the program have.
+-- What the tables of the program hold.
 use Rattle.std.specs.Prelude.{◌≡◌, ℕ, Bool, true, false, max, List, Option, Some, None}
 use Rattle.std.specs.List.{list_all}
 use Rattle.zk_transcript.specs.declared.transcript.UpdateKind.{UpdateKind}
@@ -20,7 +20,7 @@ sender _ = None
 abbrev pub count_in : Counts → ℕ → ℕ
 count_in m c = or_nothing 0 (tree.get nat_cmp m.frames c)
 
--- the numbers of frames among these lines
+-- m has for each connection the number of its frames among these lines
 abbrev pub AreCounts : List TranscriptLine → Counts → Type 0
 AreCounts lines m = (c : ℕ) → count_in m c ≡ frames_of c lines
 
@@ -38,12 +38,12 @@ carried _ = None
 abbrev pub last_in : Lasts → ℕ → Option ℕ
 last_in m c = tree.get nat_cmp m.indices c
 
--- the greater of an index and the last one, where it is of the connection
+-- where the request is the connection's: its index, or the last one, if that is greater
 abbrev pub later : Bool → ℕ → Option ℕ → Option ℕ
 later false i o = o
 later true i None = Some i
 later true i (Some j) = Some (max i j)
 
--- what comes behind all that these lines carry out for a connection is what comes behind the last
+-- a request comes after all that these lines carry out for a connection exactly where it comes after the one that m has
 abbrev pub AreLasts : List TranscriptLine → Lasts → Type 0
 AreLasts lines m = (c i : ℕ) → list_all (λ l. is_below i (index_shown c l)) lines ≡ is_below i (last_in m c)

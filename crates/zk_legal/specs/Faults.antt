@@ -15,21 +15,22 @@ is_moment (Begin now) = nat_le now max_moment
 is_moment (Asked c i now) = nat_le now max_moment
 is_moment _ = true
 
--- Begin is the first of the updates and lapses
+-- no lapse, and no update but Begin, comes before the first update
 abbrev pub comes_after_begin : State → TranscriptLine → Bool
 comes_after_begin s (line.Update u) = has_begun s || is_begin u.kind
 comes_after_begin s (line.Lapse revision id) = has_begun s
 comes_after_begin s _ = true
 
--- no zxid is below 0, and moments are those of the clock
+-- the zxid of an update is not below 0, and its time is one that the clock can show
 abbrev pub is_in_range : TranscriptLine → Bool
 is_in_range (line.Update u) = int_le (pos 0) u.zxid && is_moment u.kind
 is_in_range _ = true
 
--- a line that stands behind these, in the state that they lead to
+-- a run can have written this line after the lines `before`, which lead to the state s
 unfoldable pub is_history_line : List TranscriptLine → State → TranscriptLine → Bool
 is_history_line before s l = is_formed_line before s l && comes_after_begin s l && is_in_range l && is_legal_line before s l
 
+-- the number of the first line that no run can have written there, where the lines `before` come first
 abbrev pub history_fault_from : List TranscriptLine → State → List TranscriptLine → Option ℕ
 history_fault_from before s [] = None
 history_fault_from before s (l ∷ ls) = if is_history_line before s l then history_fault_from (before ++ l ∷ []) (change before s l) ls else Some (length before + 1)
@@ -48,12 +49,12 @@ abbrev pub has_event : List TranscriptLine → Bool
 has_event [] = false
 has_event (l ∷ ls) = is_event l || has_event ls
 
--- a transcript without an update or a lapse fails behind its last line
+-- where a transcript has no fault, and neither an update nor a lapse, it fails at the number after its last line's
 abbrev pub or_empty : List TranscriptLine → Option ℕ → Option ℕ
 or_empty lines (Some n) = Some n
 or_empty lines None = if has_event lines then None else Some (length lines + 1)
 
--- the number of the first such line, from 1
+-- the number of the first line, counted from 1, that no run can have written there
 unfoldable pub history_fault : List TranscriptLine → Option ℕ
 history_fault lines = or_empty lines (history_fault_from [] nothing_yet lines)
 
@@ -61,6 +62,6 @@ abbrev pub order_fault_from : List TranscriptLine → List TranscriptLine → Op
 order_fault_from before [] = None
 order_fault_from before (l ∷ ls) = if is_in_order before l then order_fault_from (before ++ l ∷ []) ls else Some (length before + 1)
 
--- the number of the first line that carries out a request out of its connection's order
+-- the number of the first line, counted from 1, that carries out a request out of its connection's order
 unfoldable pub order_fault : List TranscriptLine → Option ℕ
 order_fault lines = order_fault_from [] lines

@@ -1,4 +1,4 @@
--- Formed transcripts: each line stands where a run of the service can have written it, whatever the tree.
+-- Formed lines: each stands where a run of the service can have written it, whatever the tree.
 use Rattle.std.specs.Prelude.{ℕ, ◌+◌, Bool, true, false, not, ◌&&◌, List, [], ◌∷◌, length, nat_le, ◌==◌, is_some, if◌then◌else◌}
 use Rattle.std.specs.Ordering.{int_eq}
 use Rattle.zk_transcript.specs.declared.transcript.UpdateKind.{UpdateKind}
@@ -28,7 +28,7 @@ frames_of c (l ∷ ls) = if is_frame_of c l then frames_of c ls + 1 else frames_
 abbrev pub has_begun : State → Bool
 has_begun s = not (s.updates == 0)
 
--- the connection of an update is open; what was on its way may be carried out behind the close
+-- the connection of an update was opened; what it asked may be carried out after its close
 abbrev pub is_kind_formed : List TranscriptLine → UpdateKind → Bool
 is_kind_formed before (NewSession id c) = is_opened before c
 is_kind_formed before (Attach id c) = is_opened before c
@@ -36,9 +36,9 @@ is_kind_formed before (Asked c i now) = is_opened before c
 is_kind_formed before (Closed id c i) = is_opened before c
 is_kind_formed before _ = true
 
--- Each number is opened once, and what it receives and is sent stands between its open and its close, of which there is one; a
--- close without an open is a reaper's. Frames are numbered from 0 by one, have at most 1,048,575 bytes, and show the zxid of
--- the last update.
+-- Each number is opened at most once and closed at most once, and its frames and packets stand between. A close without an open is
+-- a reaper's. Frames come after the first update, are numbered 0, 1, 2 and so on, have at most 1,048,575 bytes, and show the zxid
+-- of the last update.
 unfoldable pub is_formed_line : List TranscriptLine → State → TranscriptLine → Bool
 is_formed_line before s (line.Open c proxy id passwd) = not (is_opened before c)
 is_formed_line before s (line.Frame c i zxid bytes) =

@@ -3,6 +3,6 @@ use Rattle.std.specs.Prelude.{◌≡◌, ℕ, ℤ, List, length, Some}
 use Rattle.zk_transcript.specs.declared.transcript.TranscriptLine.{TranscriptLine}
 use Rattle.zk_transcript.specs.History.{opening}
 
--- each has 16 bytes
+-- each password that a connection offers has 16 bytes
 abbrev pub OfferPasswords : List TranscriptLine → Type 0
 OfferPasswords lines = (c : ℕ) (o : ℤ × List ℕ) → opening c lines ≡ Some o → length o.1 ≡ 16

@@ -1,4 +1,4 @@
--- What an update shows is short: each path has at most 1,024 bytes, and a response at most the results of one transaction.
+-- What an update shows is short: each path has at most 1,024 bytes, and the reply to a multi at most 24 results.
 use Rattle.std.specs.Prelude.{◌≤◌, ⊤, List, length}
 use Rattle.std.specs.List.{AllByRecursion}
 use Rattle.zk_model.specs.Limits.{max_parts, max_path}
@@ -16,7 +16,7 @@ abbrev pub IsShortResult : PartResult → Type 0
 IsShortResult (result.Created p) = length p ≤ max_path
 IsShortResult _ = ⊤
 
--- the body of the reply to a request that was carried out
+-- the body of the reply to a create, delete, setData or multi that was carried out is short
 abbrev pub IsShortBody : Body → Type 0
 IsShortBody (body.Path p) = length p ≤ max_path
 IsShortBody (body.Parts results) = AllByRecursion IsShortResult results × (length results ≤ max_parts)

@@ -1,4 +1,4 @@
-//! How many frames of each connection stand among lines.
+//! How many frames of each connection stand among some lines.
 
 ghost use Rattle.std.specs.Prelude.{◌≡◌, ◌==◌, if◌then◌else◌, ◌<◌, ◌++◌, ◌∷◌, [], ℕ, List, length, IfOk};
 ghost use Rattle.zk_transcript.specs.declared.transcript.TranscriptLine.{TranscriptLine as AnyLine};
@@ -9,13 +9,13 @@ use std::collections::BTreeMap;
 use zk_transcript::TranscriptLine;
 use zx_base::Memory;
 
-/// The numbers of frames by their connections.
+/// How many frames each connection sent.
 #[derive(Debug, Drop)]
 pub struct Counts {
     frames: BTreeMap<u32, u64>,
 }
 
-/// The connection that sent the frame of a line.
+/// The connection that sent the frame, where the line is one.
 fn sender(line: &TranscriptLine) -> Option<u32>
     ensures { result ≡ sender_of line.now }
 {
@@ -26,7 +26,7 @@ fn sender(line: &TranscriptLine) -> Option<u32>
 }
 
 impl Counts {
-    /// No frames.
+    /// The counts of no lines.
     pub fn new(alloc: Global) -> Counts
         ensures { AreCounts [] result }
     {
@@ -35,6 +35,7 @@ impl Counts {
         }
     }
 
+    /// How many frames a connection sent.
     pub fn frames(&self, connection: u32) -> u64
         ensures { result ≡ count_in self.now connection }
     {
@@ -44,7 +45,7 @@ impl Counts {
         }
     }
 
-    /// One frame more.
+    /// The counts with this one for a connection.
     fn counted(self, connection: u32, count: u64) -> Result<Counts, Memory>
         ensures { IfOk result (λ m. (c : ℕ) → count_in m c ≡ (if connection == c then count else count_in self c)) }
     {
@@ -53,7 +54,7 @@ impl Counts {
         Ok(Counts { frames })
     }
 
-    /// One line more, behind these.
+    /// The counts of one more line, after the others.
     pub fn noted(self, line: &TranscriptLine) -> Result<Counts, Memory>
         ensures { IfOk result (λ m. (before : List AnyLine) → length before < 18446744073709551615 → AreCounts before self → AreCounts (before ++ line.now ∷ []) m) }
     {

@@ -1,4 +1,4 @@
-//! Lines that stand where a run can have written them.
+//! Whether a line stands where a run can have written it, whatever the tree.
 
 ghost use Rattle.std.specs.Prelude.{◌≡◌};
 ghost use Rattle.zk_history.specs.Pasts.{lines_of};
@@ -24,7 +24,7 @@ fn is_closed(before: &Past, connection: u32) -> bool
     before.is_closed(connection)
 }
 
-/// Whether there was an update.
+/// Whether there was an update before this state.
 pub fn has_begun(state: &State) -> bool
     ensures { result ≡ has_begun_of state.now }
 {
@@ -44,7 +44,7 @@ fn is_kind_formed(before: &Past, kind: UpdateKind) -> bool
     }
 }
 
-/// Whether a run can have written this line behind these, which led to this state.
+/// Whether a run can have written this line after the lines `before`, which lead to `state`, whatever the tree.
 #[tactic(auto, unfolding(crate::specs::Formed::is_formed_line))]
 pub fn is_formed_line(before: &Past, counts: &Counts, state: &State, line: &TranscriptLine) -> bool
     requires { AreCounts (lines_of before.now) counts.now }

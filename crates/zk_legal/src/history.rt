@@ -27,7 +27,7 @@ fn is_moment(kind: UpdateKind) -> bool
     }
 }
 
-/// Whether no zxid is below 0, and a moment is one of the clock.
+/// Whether an update's zxid is not below 0, and its time is one that the clock can show.
 fn is_in_range(line: &TranscriptLine) -> bool
     ensures { result ≡ is_in_range_of line.now }
 {
@@ -56,7 +56,7 @@ fn comes_after_begin(state: &State, line: &TranscriptLine) -> bool
     }
 }
 
-/// Whether a run can have written this line behind these, which led to this state.
+/// Whether a run can have written this line after the lines `before`, which lead to `state`.
 #[tactic(auto, unfolding(crate::specs::Faults::is_history_line))]
 fn is_history_line(
     alloc: Global,
@@ -118,7 +118,7 @@ fn changed(
     }
 }
 
-/// The number of the first line, from 1, that no run can have written there.
+/// The number of the first line, counted from 1, that no run can have written there.
 fn first_fault(alloc: Global, lines: &[TranscriptLine]) -> Result<Option<u64>, Memory>
     ensures { IfOk result (λ n. n ≡ history_fault_from [] nothing_yet lines.now) }
 {
@@ -136,8 +136,8 @@ fn first_fault(alloc: Global, lines: &[TranscriptLine]) -> Result<Option<u64>, M
     Ok(None)
 }
 
-/// The number of the first line, from 1, at which the transcript is not formed or its update could not be made; behind the last
-/// line, where there is neither an update nor a lapse.
+/// The number of the first line, counted from 1, that no run of the service can have written there. Where there is neither an
+/// update nor a lapse, it is the number of the lines and one more.
 #[tactic(auto, unfolding(crate::specs::Faults::history_fault))]
 pub fn history_fault(alloc: Global, lines: &[TranscriptLine]) -> Result<Option<u64>, Memory>
     ensures { IfOk result (λ n. n ≡ history_fault_of lines.now) }

@@ -9,7 +9,7 @@ use std::collections::BTreeMap;
 use zk_transcript::{TranscriptLine, UpdateKind};
 use zx_base::Memory;
 
-/// The greatest indices that were carried out, by their connections.
+/// The greatest index of a request that was carried out for each connection.
 #[derive(Debug, Drop)]
 pub struct Lasts {
     indices: BTreeMap<u32, u64>,
@@ -47,6 +47,7 @@ impl Lasts {
         }
     }
 
+    /// The greatest index of a request that was carried out for a connection.
     pub fn last(&self, connection: u32) -> Option<u64>
         ensures { result ≡ last_in self.now connection }
     {
@@ -68,7 +69,7 @@ impl Lasts {
         Ok(Lasts { indices })
     }
 
-    /// One line more, behind these.
+    /// The indices with one more line, after the others.
     pub fn noted(self, line: &TranscriptLine) -> Result<Lasts, Memory>
         ensures { IfOk result (λ m. (before : List AnyLine) → AreLasts before self → AreLasts (before ++ line.now ∷ []) m) }
     {

@@ -33,22 +33,22 @@ pub fn frames_without_fault_are_fresh()
     ensures { (lines : List TranscriptLine) → history_fault lines ≡ None → IsShownFresh lines }
 {}
 
-/// Without a fault of the history no connection is sent anything that was not opened.
+/// Without a fault of the history nothing is sent to a connection that was never opened.
 pub fn unopened_connections_are_silent()
     ensures { (lines : List TranscriptLine) (c : ℕ) → history_fault lines ≡ None → IsSilentUnopened lines c }
 {}
 
-/// Without a fault of the history no number is beyond its field: a count of the tree, a moment, or the size of a request.
+/// Without a fault of the history each number is within its field: the counts of the tree, the times, and the sizes of requests.
 pub fn numbers_without_fault_fit()
     ensures { (lines : List TranscriptLine) → history_fault lines ≡ None → AllFit lines }
 {}
 
-/// Without a fault of the history each open session has a password of 16 bytes, where each connection offers one.
+/// Without a fault of the history each open session has a password of 16 bytes, where each password offered has 16.
 pub fn sessions_without_fault_have_passwords()
     ensures { (lines : List TranscriptLine) (moment : ℕ) (id : ℤ) (x : Session) → history_fault lines ≡ None → OfferPasswords lines → session_at id (state_at lines moment) ≡ Some x → length x.passwd ≡ 16 }
 {}
 
-/// Without a fault of the history what an update shows is short: the paths that watches see, and the response to its request.
+/// Without a fault of the history what an update shows is short: the paths that watches see, and the reply to its request.
 pub fn updates_without_fault_are_short()
     ensures triggers { (lines : List TranscriptLine) (k : ℕ) (u : UpdateRec) → history_fault lines ≡ None → slice_get lines k ≡ Some (Update u) → AreShort (state_at lines (k + 1)).triggers }
     ensures response { (lines : List TranscriptLine) (k c i now : ℕ) (u : UpdateRec) (x : Commit) → history_fault lines ≡ None → slice_get lines k ≡ Some (Update u) → u.kind ≡ Asked c i now → asked_commit (take k lines) (state_at lines k) u.zxid c i now ≡ Some x → IsShortBody x.response }

@@ -16,7 +16,7 @@ use zk_model::{ConnectRequest, Request};
 use zk_transcript::{TranscriptLine, UpdateKind};
 use zx_base::Memory;
 
-/// Whether a frame is there, within the limit.
+/// Whether a frame is there, and is no longer than a frame may be.
 fn is_small_frame(before: &Past, connection: u32, index: u64) -> bool
     ensures { result ≡ is_small_frame_of (frame_of connection index (lines_of before.now)) }
 {
@@ -26,7 +26,8 @@ fn is_small_frame(before: &Past, connection: u32, index: u64) -> bool
     }
 }
 
-/// Whether a connection has no own line yet, and its connect has seen less than this zxid.
+/// Whether a connection has no own line yet, its connect is no longer than a frame may be, and its client has seen only zxids below
+/// this one.
 fn may_attach(before: &Past, connection: u32, zxid: i64, asked: &Option<ConnectRequest>) -> bool
     ensures { result ≡ may_attach_of (lines_of before.now) connection zxid asked.now }
 {
@@ -58,14 +59,14 @@ fn asks_anew(asked: &Option<ConnectRequest>) -> bool
     }
 }
 
-/// Whether a number is one that sessions have.
+/// Whether a session may have this number.
 fn is_id(id: i64) -> bool
     ensures { result ≡ is_id_of id }
 {
     0 < id
 }
 
-/// Whether the session of this number is open, has not lapsed, and the connect names it with its password.
+/// Whether the session of this number is open and has not lapsed, and the connect names it and shows its password.
 fn is_resumed_by(id: i64, asked: &Option<ConnectRequest>, state: &State) -> bool
     ensures { result ≡ is_resumed_by_of id asked.now (session_at id state.now) }
 {
@@ -80,7 +81,7 @@ fn is_resumed_by(id: i64, asked: &Option<ConnectRequest>, state: &State) -> bool
     }
 }
 
-/// Whether a live session is attached to the connection.
+/// Whether a session is attached to the connection and has not lapsed.
 fn is_live(connection: u32, state: &State) -> bool
     ensures { result ≡ is_live_of (attached_session connection state.now) }
 {
@@ -90,7 +91,7 @@ fn is_live(connection: u32, state: &State) -> bool
     }
 }
 
-/// Whether this session is attached to the connection and live.
+/// Whether this session is attached to the connection and has not lapsed.
 fn is_live_as(id: i64, connection: u32, state: &State) -> bool
     ensures { result ≡ is_live_as_of id (attached_session connection state.now) }
 {
@@ -139,7 +140,7 @@ fn may_attach_anew(
     asks_anew(asked) && may_attach(before, connection, zxid, asked)
 }
 
-/// Whether a number is free, and the one that a connection offers.
+/// Whether a session may have this number, no open one has it, and the connection offers it.
 fn is_offered(before: &Past, state: &State, id: i64, connection: u32) -> bool
     ensures { result ≡ (is_none (session_at id state.now) && is_id_of id && offers_of id (opening_of connection (lines_of before.now))) }
 {
@@ -181,7 +182,7 @@ fn may_attach_session(
     Ok(is_resumed_by(id, &asked, state) && may_attach(before, connection, zxid, &asked))
 }
 
-/// Whether a request does something.
+/// Whether the request of a frame is a create, delete, setData or multi that is not refused.
 fn is_committed(
     alloc: Global,
     before: &Past,
@@ -202,7 +203,7 @@ fn is_committed(
     }
 }
 
-/// Whether a request may be carried out.
+/// Whether the request of a frame may be carried out, other than a closeSession.
 #[tactic(auto, unfolding(zk_transcript::specs::Legal::may_update))]
 fn may_ask(
     alloc: Global,
@@ -229,7 +230,7 @@ fn may_ask(
     }
 }
 
-/// Whether a session may be closed.
+/// Whether the request of a frame may close this session.
 #[tactic(auto, unfolding(zk_transcript::specs::Legal::may_update))]
 fn may_close(
     alloc: Global,
@@ -287,14 +288,15 @@ fn may_update(
     }
 }
 
-/// Whether a zxid is above that of the last update.
+/// Whether a zxid is above that of the last update, if there was one.
 fn is_next_zxid(state: &State, zxid: i64) -> bool
     ensures { result ≡ is_next_zxid_of state.now zxid }
 {
     state.updates() == 0 || state.zxid() < zxid
 }
 
-/// Whether the service could make the update of this line behind these, which led to this state.
+/// Whether the service could make the update of this line after the lines `before`, which lead to `state`; a line that is no update
+/// passes.
 pub fn is_legal_line(
     alloc: Global,
     before: &Past,

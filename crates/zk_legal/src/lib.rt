@@ -2,7 +2,7 @@
 //!
 //! [`history_fault`] names the first line that no run can have written there, by its form or by what it does to the state, and
 //! [`order_fault`] the first that carries out a request out of its connection's order. Their contracts are the definitions of
-//! those names in `specs/Faults.antt`, which are made of `zk_transcript`'s. Each goes over the lines once; what a line needs of
+//! those names in `specs/Faults.antt`, which cite those of `zk_transcript`. Each goes over the lines once; what a line needs of
 //! the lines before it is looked up in tables.
 #![tactic(auto)]
 

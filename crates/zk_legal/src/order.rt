@@ -20,7 +20,7 @@ fn is_below(index: u64, earlier: Option<u64>) -> bool
     }
 }
 
-/// Whether a request comes after all that were carried out for its connection.
+/// Whether the request that a line carries out, if it does, comes after all that were carried out for its connection.
 fn is_in_order(lasts: &Lasts, line: &TranscriptLine) -> bool
     ensures { (before : List AnyLine) → AreLasts before lasts.now → result ≡ is_in_order_of before line.now }
 {
@@ -30,8 +30,8 @@ fn is_in_order(lasts: &Lasts, line: &TranscriptLine) -> bool
     }
 }
 
-/// The number of the first line, from 1, that carries out a request which is not behind all that were carried out for its
-/// connection.
+/// The number of the first line, counted from 1, that carries out a request which does not come after all those that were carried
+/// out before for its connection.
 #[tactic(auto, unfolding(crate::specs::Faults::order_fault))]
 pub fn order_fault(alloc: Global, lines: &[TranscriptLine]) -> Result<Option<u64>, Memory>
     ensures { IfOk result (λ n. n ≡ order_fault_of lines.now) }
