@@ -1,4 +1,5 @@
--- What a list of choices makes of the packets ahead: told updates alone, a reply that repeats the place, or one as of a moment.
+-- What a list of choices makes of the packets ahead: told updates alone, a reply that repeats the walker's zxid, or one as of a
+-- moment.
 use Rattle.std.proofs.Common.{◌≡◌, ℕ, ◌+◌, ◌<◌, List, [], ◌∷◌, ◌++◌, length, take, refl, sym, ap, ◌∙◌, subst, arith, Bool, true, false, ℤ, pos, inl, inr}
 use Rattle.std.specs.Prelude.{Option, Some, None, option_map, ◌&&◌, ◌⊎◌, ◌<ℤ◌, ◌≤ℤ◌, nat_le, int_lt, bytes_eq, if◌then◌else◌}
 use Rattle.std.proofs.lemmas.Slice.Eq.{bytes_eq-Decides}
@@ -78,7 +79,7 @@ good-first lines c id w ps x xs g = by (move lines c id w x) refl g.lawful
     by None e h = absurd (cc)
     by (Some u) e h = on u e (walk lines c id u.0 xs) refl h
 
--- ---- the range of places
+-- ---- the range of the walker's zxid
 
 abbrev pub InRange : Walker → Type 0
 InRange w = (pos 0 <ℤ w.zxid) × (w.zxid ≤ℤ max_long)
@@ -98,7 +99,7 @@ told-range lines w u legal least r t =
       subst (λ (p : Walker × List Due). are_notices p.1 ≡ true) t.gives (due-notices (t.place + 1) _),
     )
 
--- ---- a reply that repeats the place
+-- ---- a reply that repeats the walker's zxid
 
 pub record IsPlainly (lines : List TranscriptLine) (c : ℕ) (w : Walker) (u : Walker × List Due) : Type 0 where
   pub place : ℕ
@@ -217,7 +218,7 @@ pub data Ahead (lines : List TranscriptLine) (c : ℕ) (id : ℤ) (w : Walker) (
 first-after : (lines : List TranscriptLine) (c : ℕ) (id : ℤ) (w : Walker) (ps : List Due) (x : Choice) (xs : List Choice) → IsFirstOf lines c id w ps x xs → IsAfter lines c id w ps (length (x ∷ xs)) x
 first-after lines c id w ps x xs f = record { made = f.made; rest = f.rest; later = xs; moved = f.moved; there = f.there; fresh = f.fresh; good = f.good; shorter = omega arith }
 
--- notices don't hide the next reply
+-- notices do not hide the next reply
 pub next-behind : (ds ps rest : List Due) → are_notices ds ≡ true → behind ds ps ≡ Some rest → next_reply ps ≡ next_reply rest
 next-behind [] ps rest a h = (let e : ps ≡ rest = cc in ap next_reply e)
 next-behind (d ∷ ds) [] rest a h = absurd (cc)

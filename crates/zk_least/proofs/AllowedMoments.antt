@@ -72,7 +72,7 @@ allowed-up lines c id w ps m z up a at =
     let reach : w.zxid ≤ℤ (state_at lines m).zxid = grind (arith, nat_tests, ints) in
     omega (arith, ints, up, reach, at)
 
--- the next update doesn't stand before the moment
+-- the next update does not stand before the moment
 not-past : (lines : List TranscriptLine) (m : ℕ) (z : ℤ) (x : ℕ × ℤ) → is_legal lines ≡ true → (state_at lines m).zxid ≡ z → next_update z lines ≡ Some x → m ≤ x.0
 not-past lines m z x legal at h = by (nat_le m x.0) refl
   where

@@ -1,4 +1,4 @@
--- What an answer as of a moment is made of, and what the packets show of it: notices, and behind them its reply.
+-- What an answer as of a moment is made of, and what the packets show of it: notices, and after them its reply.
 use Rattle.std.proofs.Common.{◌≡◌, ℕ, ◌+◌, ◌≤◌, List, [], ◌∷◌, ◌++◌, length, take, refl, sym, ap, ◌∙◌, arith, Bool, true, false, ℤ, negsuc}
 use Rattle.std.specs.Prelude.{Option, Some, None, ◌&&◌, nat_le, bytes_eq, if◌then◌else◌}
 use Rattle.std.specs.List.{list_all}

@@ -1,4 +1,4 @@
--- In a legal history a request that was carried out is none that is answered without the tree.
+-- In a legal history a request that was carried out is not one that is answered without the tree.
 use Rattle.std.proofs.Common.{◌≡◌, ℕ, List, length, take, drop, take-append-drop, refl, sym, ap, ◌∙◌, subst, arith, Bool, true, false, ℤ}
 use Rattle.std.specs.Prelude.{Option, Some, None, ◌&&◌, is_some, option_and_then, nat_le, nat_lt, ◌==◌, if◌then◌else◌}
 use Rattle.std.proofs.lemmas.Bool.{and_parts}
@@ -26,7 +26,7 @@ use Rattle.zk_transcript.proofs.Placed.{is_legal-at, first_place-shown}
 use Rattle.zk_least.proofs.FirstPlaces.{first_place-at}
 use Rattle.zk_least.proofs.Ahead.{CarriedByTree}
 
--- ---- what is carried out isn't refused without the tree
+-- ---- what is carried out is not refused without the tree
 
 formed : (t : Tree) (limit : ℕ) (session : ℤ) (p : Part) (z : ℤ) (now : ℕ) (w : Watches) → is_some (commit_single (single t limit session p z now)) ≡ true → told_refusal w (form_refusal p) ≡ None
 unfolding single
@@ -64,7 +64,7 @@ committed-plain t limit session (req.Auth k s a) z now h w = absurd (cc)
 committed-plain t limit session (req.SetWatches s e d c) z now h w = absurd (cc)
 committed-plain t limit session req.Close z now h w = absurd (cc)
 
--- the request of a frame is none that is answered without the tree
+-- the request of a frame is not one that is answered without the tree
 record ByTree (before : List TranscriptLine) (c i : ℕ) : Type 0 where
   pub asked : Request
   pub there : request c i before ≡ Some asked

@@ -1,4 +1,5 @@
--- How many choices there are at most: each tells one update above the place, or takes one packet at least. So the least walk doesn't depend on its count.
+-- How many choices there are at most: each tells an update above the walker's zxid, or takes a packet. So the least walk does not
+-- depend on its count.
 use Rattle.std.proofs.Common.{◌≡◌, ℕ, zero, suc, ◌+◌, ◌≤◌, ◌<◌, List, [], ◌∷◌, ◌++◌, length, take, refl, ap, ◌∙◌, subst, arith, Bool, true, false, ℤ}
 use Rattle.std.specs.Prelude.{Option, Some, None, option_map, is_some, ◌&&◌, ◌<ℤ◌, ◌≤ℤ◌, slice_get, int_lt, nat_le, bytes_eq, if◌then◌else◌}
 use Rattle.std.proofs.lemmas.Bool.{and_parts}
@@ -102,7 +103,7 @@ answer-sends lines c id w m y mk =
     let up : w.zxid ≤ℤ z = grind (arith, nat_tests, ints) in
     subst (λ (p : Walker × List Due). (1 ≤ length p.1) × (w.zxid ≤ℤ p.0.zxid)) mk.gives (ends-with ((fired_above (take m lines) w.zxid w.watches).1 ++ due_notices (after_update z (take m lines)) mk.what.1.notices) (later_of (length (take m lines)) (mk.place + 1), reply_packet (xid_of (read_request mk.bytes)) z mk.what.1.reply), up)
 
--- what a choice takes of the updates above the place and of the packets
+-- what a choice takes of the updates above the walker's zxid and of the packets
 choice-less : (lines : List TranscriptLine) (c : ℕ) (id : ℤ) (w : Walker) (x : Choice) (u : Walker × List Due) → move lines c id w x ≡ Some u → above u.0.zxid lines < above w.zxid lines + length u.1
 choice-less lines c id w Tell u h = omega (arith, told-less lines w u (told-by lines c id w u h))
 choice-less lines c id w Plain u h = let s = plain-sends lines c w u (plainly-by lines c id w u h) in omega (arith, s.0, above-falls w.zxid u.0.zxid lines s.1)
@@ -121,7 +122,7 @@ given-less lines c id w ps x y g =
     let u = given-is ps (move lines c id w x) y g in
     omega (arith, choice-less lines c id w x u.0 u.1, behind-length u.0.1 ps y.1 u.3, ap (λ (v : Walker). above v.zxid lines) u.2)
 
--- a count that is enough gives what any other gives
+-- any two counts that are great enough give the same
 enough : (n m : ℕ) (lines : List TranscriptLine) (c : ℕ) (id : ℤ) (w : Walker) (ps : List Due) → above w.zxid lines + length ps ≤ n → above w.zxid lines + length ps ≤ m → least_from n lines c id w ps ≡ least_from m lines c id w ps
 unfolding least_from
 enough zero zero lines c id w ps a b = refl

@@ -114,7 +114,7 @@ step lines c id w p ps n legal least r (Asof bytes e f m a) =
     asof-step lines c id w (p ∷ ps) n m legal least r
     (λ k g. ap (choice_for lines c id w (p ∷ ps)) e ∙ ap (λ b. if b then Some (plain_choice w (zxid_in bytes)) else option_map (λ m. Answer m) (least_moment lines c id w (p ∷ ps))) f ∙ ap (option_map (λ m. Answer m)) g) a
 
--- ---- places stay in range
+-- ---- the walker's zxid stays in range
 
 answered-range : (lines : List TranscriptLine) (c : ℕ) (id : ℤ) (w : Walker) (m : ℕ) (y : Walker × List Due) → is_legal lines ≡ true → HasZxids lines → InRange w → IsMade lines c id w m y → InRange y.0
 answered-range lines c id w m y legal least r mk =

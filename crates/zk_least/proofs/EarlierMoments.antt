@@ -12,7 +12,7 @@ use Rattle.zk_transcript.specs.Walks.{Walker, Choice, Tell, Plain, Answer, Due, 
 use Rattle.std.proofs.lemmas.Bool.{and_from, and_parts}
 use Rattle.zk_transcript.proofs.Longer.{then_due-next}
 
--- v is w with a moment that isn't greater
+-- v is w with a moment that is not greater
 pub record IsEarlier (v w : Walker) : Type 0 where
   pub zxid : v.zxid ≡ w.zxid
   pub since : v.since ≡ w.since

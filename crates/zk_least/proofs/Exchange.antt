@@ -21,7 +21,7 @@ use Rattle.zk_least.proofs.Firing.{IsFirst, first-fires, fired-within}
 use Rattle.zk_least.proofs.SameZxid.{get-take}
 use Rattle.zk_least.proofs.Answering.{IsMade, made, answer-move}
 
--- ---- the first update above a place
+-- ---- the first update above a zxid
 
 pub record IsAbove (p : ℤ) (ls : List TranscriptLine) (e : ℕ) (z : ℤ) : Type 0 where
   pub update : UpdateRec

@@ -42,7 +42,7 @@ from-more full p k (l ∷ ls) w ds =
     ∙ ap (λ l. (r.0, l)) (append_assoc ds y.1 r.1)
     ∙ ap (λ (q : Watches × List Due). (q.0, ds ++ q.1)) (sym (from-more full p (k + 1) ls y.0 y.1))
 
--- the line at i is the first above p; those behind it are above q just where they are above p, and none up to it is above q
+-- the line at i is the first above p; those after it are above q just where they are above p, and none up to it is above q
 pub record IsFirst (p q : ℤ) (i : ℕ) (ls : List TranscriptLine) : Type 0 where
   pub line : TranscriptLine
   pub there : slice_get ls i ≡ Some line
@@ -188,7 +188,7 @@ after-line lines k u h at =
     let own : int_eq u.zxid u.zxid ≡ true = grind (arith, nat_tests, ints) in
     ap after_place (first-at (update_shown u.zxid) 0 k lines (Update u) u.zxid at (ap (λ b. when b u.zxid) own) (λ j x lt e. other-zxid lines k j u x h at lt e)) ∙ omega arith
 
--- the same, looked for among the lines up to the update's own
+-- the moment right after an update, looked for among the lines up to the update's own
 pub since-line : (lines : List TranscriptLine) (k : ℕ) (u : UpdateRec) → is_legal lines ≡ true → slice_get lines k ≡ Some (Update u) → after_update u.zxid (take (k + 1) lines) ≡ k + 1
 since-line lines k u h at =
     let own : int_eq u.zxid u.zxid ≡ true = grind (arith, nat_tests, ints) in

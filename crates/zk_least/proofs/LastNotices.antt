@@ -1,4 +1,4 @@
--- Behind the last reply the packets are a front of the queue, up to the last notice of an update.
+-- After the last reply the packets are a front of the queue, which ends with the last notice of an update.
 use Rattle.std.proofs.Common.{◌≡◌, ℕ, zero, suc, ◌+◌, ◌≤◌, ◌<◌, List, [], ◌∷◌, ◌++◌, length, take, take_all, refl, sym, ap, ◌∙◌, arith, Bool, true, false, ℤ}
 use Rattle.std.specs.Prelude.{Option, Some, None, option_map, not, ◌&&◌, ◌==◌, slice_get, nat_le, nat_lt, int_lt, bytes_eq, if◌then◌else◌}
 use Rattle.std.specs.List.{list_all}
@@ -22,7 +22,7 @@ use Rattle.zk_least.proofs.ChoiceCounts.{above, told-less, least-step-law}
 use Rattle.zk_least.proofs.Queues.{before-end, unarmed-fires, none-fires, behind-first}
 use Rattle.zk_least.proofs.RepeatedPlaces.{told_first, tell-unarmed, tell-last, tell-next}
 
--- ---- notices behind a place
+-- ---- notices after a place
 
 abbrev are_later : ℕ → List Due → Bool
 are_later n ds = list_all (λ (d : Due). nat_lt n d.0) ds
@@ -48,7 +48,7 @@ from-later full p n k (l ∷ ls) x a h =
     (then-later full n k (is_above p l) x a (λ b. let lt = h 0 l refl b in omega (arith, lt)))
     (λ j m e b. let lt = h (suc j) m e b in omega (arith, lt))
 
--- what the updates behind a place fire stands behind it
+-- what the updates after a place fire stands after it
 fired-later : (lines : List TranscriptLine) (p : ℤ) (e : ℕ) (y : ℤ) (w : Watches) → is_legal lines ≡ true → IsAbove p lines e y → are_later (e + 1) (fired_above lines y w).1 ≡ true
 unfolding fired_above
 fired-later lines p e y w legal a = from-later lines y (e + 1) 0 lines (w, []) refl (λ j l at b. by j l at b (nat_le j e) refl)

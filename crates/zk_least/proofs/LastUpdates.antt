@@ -53,7 +53,7 @@ last-update lines (suc m) legal up =
     by None at was up = last-zxid lines m (ap (λ (s : State). s.zxid) (state_at-end lines m at)) was up
     by (Some l) at was up = last-line lines m l legal at was up
 
--- a moment stands behind the update of its zxid, and so does each moment between them
+-- a moment stands after the update of its zxid, and so does each moment between them
 pub record IsPastUpdate (lines : List TranscriptLine) (z : ℤ) (k : ℕ) : Type 0 where
   pub from : after_update z lines ≤ k
   pub some : 0 < (state_at lines (after_update z lines)).updates

@@ -108,11 +108,11 @@ lapse-is id (Close a b) x h = absurd (cc)
 own-lapse : (id r : ℤ) → lapse_shown id (Lapse r id) ≡ Some id
 own-lapse id r = ap (λ b. when b id) ((Decides-int_eq id id).1 refl)
 
--- right behind its lapse a session is gone
+-- right after its lapse a session is gone
 gone-behind : (lines : List TranscriptLine) (e : ℕ) (id r : ℤ) → slice_get lines e ≡ Some (Lapse r id) → IsGone (session_at id (state_at lines (e + 1)))
 gone-behind lines e id r at = subst (λ (s : State). IsGone (session_at id s)) (sym (state_at-line lines e (Lapse r id) at)) (lapse-gone (state_at lines e) id (session_at id (state_at lines e)) refl)
 
--- no lapse stands between two moments where none stands from an earlier one on, up to a place
+-- no lapse stands between two moments, where none stands from an earlier moment up to a place after them
 still-between : (lines : List TranscriptLine) (n a b top : ℕ) (id : ℤ) → n ≤ a → b ≤ n + top → ((j : ℕ) (l : TranscriptLine) → j < top → slice_get (drop n lines) j ≡ Some l → lapse_shown id l ≡ None) → NoLapses id (between a b lines)
 still-between lines n a b top id from to none j r e =
     let q = get-between lines a b j (Lapse r id) e in
@@ -192,7 +192,7 @@ module _ (lines : List TranscriptLine) (c : ℕ) (id : ℤ) (w : Walker) (ps : L
         | inr q ↦ inr (expired-code lines c id w ps k bytes legal least next own t.allowed q)
       ]
 
-  -- where the first lapse behind the update has this place, the moment right behind it is the only other one that may be the least
+  -- where the first lapse after the update has this place, the moment right after it is the only other one that may be the least
   behind_lapse : (k : ℕ) → is_allowed lines c id w ps k ≡ true → (x : ℕ × ℤ) → IsFirstAt (lapse_shown id) (after_update (zxid_in bytes) lines) (drop (after_update (zxid_in bytes) lines) lines) x
       → (is_allowed lines c id w ps (first_moment lines w frame.0 (zxid_in bytes)) ≡ true) ⊎ ((is_allowed lines c id w ps (later_of (first_moment lines w frame.0 (zxid_in bytes)) (x.0 + 1)) ≡ true) × (later_of (first_moment lines w frame.0 (zxid_in bytes)) (x.0 + 1) ≤ k))
   behind_lapse k h x f = by (nat_le k (n + f.place)) refl
@@ -209,7 +209,7 @@ module _ (lines : List TranscriptLine) (c : ℕ) (id : ℤ) (w : Walker) (ps : L
       from_update : n ≤ m
       from_update = later-right (later_of w.moment (frame.0 + 1)) n
 
-      -- the lapse stands behind k
+      -- the lapse stands after k
       ahead : k ≤ n + f.place → is_allowed lines c id w ps m ≡ true
       ahead le =
           let here = has-zxid lines m k (zxid_in bytes) legal t.zxid t.past_update from_update t.from in

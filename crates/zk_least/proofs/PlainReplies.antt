@@ -1,4 +1,4 @@
--- An answer without the tree doesn't depend on what is armed, arms nothing and has no notices.
+-- An answer without the tree does not depend on what is armed, arms nothing and has no notices.
 use Rattle.std.proofs.Common.{◌≡◌, refl, Bool, true, false, ℤ}
 use Rattle.std.specs.Prelude.{Option, Some, None, option_map, length, nat_lt, if◌then◌else◌}
 use Rattle.zx_base.specs.Maps.{Bytes}

@@ -1,4 +1,4 @@
--- What is queued grows line by line, and what is above an update's zxid comes behind what the update fires.
+-- What is queued grows line by line, and what is above an update's zxid comes after what the update fires.
 use Rattle.std.proofs.Common.{◌≡◌, ℕ, zero, suc, ◌+◌, ◌<◌, List, [], ◌∷◌, ◌++◌, length, take, length-take-le, refl, sym, ap, ◌∙◌, arith, Bool, true, false, ℤ}
 use Rattle.std.specs.Prelude.{Some, ◌==◌, slice_get}
 use Rattle.std.specs.FinMap.{empty, len, empty_of_len}
@@ -74,7 +74,7 @@ none-fires past p w h = from-none past p 0 past (w, []) h
 pub before-first : (lines : List TranscriptLine) (p : ℤ) (e : ℕ) (z : ℤ) (w : Watches) → IsAbove p lines e z → fired_above (take e lines) p w ≡ (w, [])
 before-first lines p e z w a = none-fires (take e lines) p w (λ j l h. let q = get-take e j lines l h in not-above p l (λ u s. a.before j u q.0 (q.1 ∙ ap Some s)))
 
--- before a moment behind the first update above, its notices come first, and then the rest
+-- before a moment after the first update above, its notices come first, and then the rest
 pub behind-first : (lines : List TranscriptLine) (m : ℕ) (p : ℤ) (e : ℕ) (z : ℤ) (w : Watches) → is_legal lines ≡ true → IsAbove p lines e z → e < m
     → fired_above (take m lines) p w ≡ ((fired_above (take m lines) z (fired_at lines e w).0).0, (fired_at lines e w).1 ++ (fired_above (take m lines) z (fired_at lines e w).0).1)
 behind-first lines m p e z w legal a lt =
@@ -82,7 +82,7 @@ behind-first lines m p e z w legal a lt =
     first-fires past p z e w (first-above lines m p e z legal a lt)
     ∙ ap (λ (h : Watches × List Due). ((fired_above past z h.0).0, h.1 ++ (fired_above past z h.0).1)) (fired-within lines m e w lt)
 
--- right behind the first update above, its notices are all
+-- right after the first update above, its notices are all
 pub at-first : (lines : List TranscriptLine) (p : ℤ) (e : ℕ) (z : ℤ) (w : Watches) → IsAbove p lines e z → fired_above (take (e + 1) lines) p w ≡ fired_at lines e w
 at-first lines p e z w a =
     queue-law lines p w e (Update a.update) a.there

@@ -1,4 +1,4 @@
--- A reply that repeats the place, in one step: its queue is told whole, and then it is answered.
+-- A reply that repeats the walker's zxid, in one step: the whole queue is told, and then the frame is answered.
 use Rattle.std.proofs.Common.{◌≡◌, ℕ, zero, suc, ◌+◌, ◌≤◌, ◌<◌, List, [], ◌∷◌, ◌++◌, take, append-nil, refl, sym, ap, ◌∙◌, subst, arith, Bool, true, false, ℤ, inl, inr}
 use Rattle.std.specs.Prelude.{Option, Some, None, option_map, ◌&&◌, ◌⊎◌, ◌<ℤ◌, slice_get, nat_le, nat_lt, int_lt, bytes_eq, if◌then◌else◌}
 use Rattle.std.specs.Ordering.{int_eq}
@@ -28,7 +28,7 @@ use Rattle.zk_least.proofs.Ahead.{plainly-by, next-behind}
 use Rattle.zk_least.proofs.ChoiceCounts.{above, told-less, least-step-law}
 use Rattle.zk_least.proofs.Queues.{unarmed-fires, before-first, behind-first, at-first}
 
--- ---- the update of a zxid, and the first above a place
+-- ---- the update of a zxid, and the first above the walker's
 
 record IsUpdateOf (lines : List TranscriptLine) (z : ℤ) (u : ℕ × ℤ) : Type 0 where
   pub update : UpdateRec
@@ -59,7 +59,7 @@ update-of lines z u h =
     let place : f.place ≡ u.0 = omega (arith, at) in
     record { update = s.0; there = ap (slice_get lines) (sym place) ∙ f.there ∙ ap Some s.1; same = s.2; told = s.3 }
 
--- the update of a zxid above the place is the first above the place, or stands behind that one
+-- the update of a zxid above the walker's is the first above the walker's, or stands after that one
 placed-above : (lines : List TranscriptLine) (p : ℤ) (e : ℕ) (y z : ℤ) (u : ℕ × ℤ) → is_legal lines ≡ true → IsAbove p lines e y → IsUpdateOf lines z u → p <ℤ z → ((e ≡ u.0) × (y ≡ z)) ⊎ ((e < u.0) × (y <ℤ z))
 placed-above lines p e y z u legal a o up = by (nat_lt u.0 e) (nat_lt e u.0) refl refl
   where
@@ -105,7 +105,7 @@ given-none : (ds ps : List Due) (o : Option (Walker × List Due)) → behind ds 
 given-none ds ps None h = refl
 given-none ds ps (Some y) h = ap (option_map (λ rest. (y.0, rest))) (behind-none ds y.1 ps h)
 
--- ---- the walker right behind the first update above its place
+-- ---- the walker right after the first update above its zxid
 
 abbrev pub told_first : List TranscriptLine → Walker → ℕ → ℤ → Walker
 told_first lines w e y = record w { zxid = y; since = e + 1; watches = (fired_at lines e w.watches).0 }
@@ -153,7 +153,7 @@ through-later lines w e y u legal a lt =
 
 -- ---- told through the first update above, and then the rest
 
--- the first update above the place isn't above the zxid: it is told, and then the rest
+-- the first update above the walker's zxid is not above the reply's: it is told, and then the rest
 through-rest : (lines : List TranscriptLine) (w : Walker) (e : ℕ) (y z : ℤ) → is_legal lines ≡ true → IsAbove w.zxid lines e y → is_unarmed w.watches ≡ false → w.zxid <ℤ z → int_lt z y ≡ false
     → told_through lines w (first_place (update_shown z) 0 lines) ≡ then_due (fired_at lines e w.watches).1 (told_up_to lines (told_first lines w e y) z)
 through-rest lines w e y z legal a armed up low = by (first_place (update_shown z) 0 lines) refl (int_lt y z) refl
@@ -193,7 +193,7 @@ through-rest lines w e y z legal a armed up low = by (first_place (update_shown 
             let pair : ◌≡◌ {A = ℕ × ℤ} u (e, y) = λ i. (sym p i, sym q i) in
             ap (λ x. told_through lines w (Some x)) pair ∙ through-first lines w e y a armed ∙ ap (λ l. Some (v, l)) (sym (append-nil f))
 
--- the first update above the place is above the zxid, which is then no update's
+-- the first update above the walker's zxid is above the reply's, which is then no update's
 through-none : (lines : List TranscriptLine) (w : Walker) (e : ℕ) (y z : ℤ) → is_legal lines ≡ true → IsAbove w.zxid lines e y → w.zxid <ℤ z → int_lt z y ≡ true → told_through lines w (first_place (update_shown z) 0 lines) ≡ None
 through-none lines w e y z legal a up low = by (first_place (update_shown z) 0 lines) refl
   where
@@ -206,7 +206,7 @@ through-none lines w e y z legal a up low = by (first_place (update_shown z) 0 l
           | inr q ↦ let s = q.1 in omega (arith, ints, s, less)
         ])
 
--- no update is above the place, so there is none to be told
+-- no update is above the walker's zxid, so there is none to be told
 through-last : (lines : List TranscriptLine) (w : Walker) (z : ℤ) → next_update w.zxid lines ≡ None → w.zxid <ℤ z → told_through lines w (first_place (update_shown z) 0 lines) ≡ None
 through-last lines w z none up = by (first_place (update_shown z) 0 lines) refl
   where

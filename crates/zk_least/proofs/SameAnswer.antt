@@ -1,4 +1,4 @@
--- After each reply that has a moment the place, the watches and the index depend on the frames, the packets and the history
+-- After each reply that has a moment the walker's zxid, watches and index depend on the frames, the packets and the history
 -- alone: whichever moment was taken, the walkers differ by the moment alone.
 use Rattle.std.proofs.Common.{◌≡◌, ℕ, ◌+◌, ◌≤◌, List, [], ◌∷◌, ◌++◌, length, take, length-take-le, refl, sym, ap, ◌∙◌, subst, arith, Bool, true, false, ℤ, pos, inl, inr}
 use Rattle.std.specs.Prelude.{Option, Some, None, ◌&&◌, ◌⊎◌, ◌<ℤ◌, option_and_then, nat_le, int_le, ◌==◌, not, bytes_eq, if◌then◌else◌}
@@ -68,7 +68,7 @@ end-fine : (o : Option Told) (u : Bool × Told) → fine_told o ≡ true → wit
 end-fine None u h e = absurd (cc)
 end-fine (Some t) u h e = let s : ◌≡◌ {A = Bool × Told} (false, t) u = cc in ap (λ (p : Bool × Told). is_fine (code_of p.1.reply)) (sym s) ∙ h
 
--- what isn't the session test's refusal has another code
+-- what is not the session test's refusal has another code
 seen-fine : (s : State) (limit : ℕ) (id : ℤ) (x : Frame) (w : Watches) (u : Bool × Told) → seen_told s limit id x w None ≡ Some u → is_fine (code_of u.1.reply) ≡ true
 seen-fine s limit id x w u h = end-fine (looked s limit id w x (plain_reply w x)) u (looked-fine s limit id w x (plain_reply w x)) h
 
@@ -139,7 +139,7 @@ own-place past k o t h = go (length past == k + 1) refl h
     go true e f = grind (arith, nat_tests)
     go false e f = absurd (cc)
 
--- the same packet is told the same
+-- where two moments give one packet, the same is told as of both
 told-same : (lines : List TranscriptLine) (c : ℕ) (id xid z : ℤ) (x : Frame) (w : Watches) (k m : ℕ) (own : Option (ℕ × UpdateRec)) (u v : Bool × Told)
     → k ≤ length lines → m ≤ length lines → IsLag (state_at lines k) (state_at lines m)
     → told_as_of (take k lines) c id x w own ≡ Some u → told_as_of (take m lines) c id x w own ≡ Some v

@@ -79,7 +79,7 @@ get-drop zero j xs = let e : j ≡ 0 + j = omega arith in ap (slice_get xs) e
 get-drop (suc k) j [] = refl
 get-drop (suc k) j (x ∷ xs) = let e : suc (k + j) ≡ suc k + j = omega arith in get-drop k j xs ∙ ap (slice_get (x ∷ xs)) e
 
--- a line between two moments stands behind the one and before the other
+-- a line between two moments stands after the one and before the other
 pub get-between : (lines : List TranscriptLine) (k m j : ℕ) (l : TranscriptLine) → slice_get (between k m lines) j ≡ Some l → (k + j < m) × (slice_get lines (k + j) ≡ Some l)
 get-between lines k m j l e = get-take m (k + j) lines l (sym (get-drop k j (take m lines)) ∙ e)
 

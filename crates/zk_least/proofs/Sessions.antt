@@ -33,7 +33,7 @@ lapse-leaves s id d o = elim (either_id id d) [
   | inr far ↦ inl (lapse-other s id d o far)
 ]
 
--- ---- a session that isn't there, or has lapsed, stays what it is
+-- ---- a session that is not open, or has lapsed, stays what it is
 
 abbrev pub IsGone : Option Session → Type 0
 IsGone o = (o ≡ None) ⊎ IsLapsed o

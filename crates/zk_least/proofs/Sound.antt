@@ -7,7 +7,7 @@ use Rattle.zk_least.specs.LeastWalk.{behind, given, is_allowed, first_passing, l
 use Rattle.std.proofs.lemmas.Bool.{and_from, and_parts}
 use Rattle.zk_transcript.proofs.Longer.{move-index}
 
--- ---- packets that are due, and those behind them
+-- ---- packets that are due, and those after them
 
 pub behind-sent : (ds es ps rest : List Due) → behind ds ps ≡ Some rest → are_sent es rest ≡ true → are_sent (ds ++ es) ps ≡ true
 behind-sent [] es ps rest h s = let e : ps ≡ rest = cc in subst (λ l. are_sent es l ≡ true) (sym e) s
@@ -81,7 +81,7 @@ unfolding walk all_choices
 good-empty lines c id w [] e = record { lawful = refl; fresh = refl }
 good-empty lines c id w (x ∷ xs) e = absurd (cc)
 
--- a choice that gives the next packets stands before a good walk over the rest
+-- a choice that gives the next packets, and a good walk over the rest, are a good walk
 pub good-more : (lines : List TranscriptLine) (c : ℕ) (id : ℤ) (w : Walker) (ps : List Due) (x : Choice) (xs : List Choice) (y : Walker × List Due)
     → IsFresh lines c w.next x → given ps (move lines c id w x) ≡ Some y → IsGood lines c id y.0 y.1 xs → IsGood lines c id w ps (x ∷ xs)
 unfolding walk all_choices

@@ -1,5 +1,5 @@
--- Where the least moment of a reply is found without a search: there is one moment to try where the request has a line of its own,
--- and else the first that is late enough and, for a reply that the session has expired, the one right behind its lapse.
+-- Where the least moment of a reply is found without a search. Where the request has an update of its own, there is one moment to
+-- try. Otherwise it is the first that is late enough and, for a reply that the session has expired, the one right after its lapse.
 use Rattle.std.specs.Prelude.{◌≡◌, ℕ, ℤ, pos, ◌+◌, ◌<◌, ◌≤◌, ◌<ℤ◌, Bool, List, [], ◌∷◌, length, take, drop, if◌then◌else◌, Option, Some, None, IsTrue}
 use Rattle.std.specs.Int.{from_be_bytes, cast_signed, w32}
 use Rattle.std.specs.Ordering.{int_eq}
@@ -11,26 +11,26 @@ use Rattle.zk_transcript.specs.Legal.{is_legal, lapses_session}
 use Rattle.zk_transcript.specs.Walks.{Walker, Due, next_update, placed_frame, own_update, after_place, after_update, later_of}
 use Rattle.zk_least.specs.LeastWalk.{zxid_in, next_reply, is_allowed, least_moment, HasZxids}
 
--- the code in a reply's header, behind its zxid (zookeeper.jute, `ReplyHeader`)
+-- the code in a reply's header, after its zxid (zookeeper.jute, `ReplyHeader`)
 unfoldable pub code_in : List ℕ → ℤ
 code_in bytes = cast_signed w32 (from_be_bytes w32 (take 4 (drop 16 bytes)))
 
 abbrev pub lapse_shown : ℤ → TranscriptLine → Option ℤ
 lapse_shown id l = when (lapses_session id l) id
 
--- the moment right behind the first lapse of a session from a moment on, or 0 where there is none
+-- the moment right after the first lapse of a session from a moment on, or 0 where there is none
 abbrev pub lapsed_from : ℤ → ℕ → List TranscriptLine → ℕ
 lapsed_from id m lines = after_place (first_place (lapse_shown id) m (drop m lines))
 
--- the first moment that isn't before the last reply's, and is behind the frame's line and the update of the reply's zxid
+-- the first moment that is not before the last reply's, and is after the frame's line and the update of the reply's zxid
 abbrev pub first_moment : List TranscriptLine → Walker → ℕ → ℤ → ℕ
 first_moment lines w place zxid = later_of (later_of w.moment (place + 1)) (after_update zxid lines)
 
--- the same, and behind the session's first lapse since that update
+-- the first moment that is besides after the session's first lapse since the update of the reply's zxid, if there is one
 abbrev pub moment_behind_lapse : List TranscriptLine → ℤ → Walker → ℕ → ℤ → ℕ
 moment_behind_lapse lines id w place zxid = later_of (first_moment lines w place zxid) (lapsed_from id (after_update zxid lines) lines)
 
--- the moments to try for a reply to the frame at a place
+-- the moments to try for a reply to the frame at a place: u is the request's own update
 abbrev pub moments_to_try : List TranscriptLine → ℤ → Walker → ℕ → List ℕ → Option (ℕ × UpdateRec) → List ℕ
 moments_to_try lines id w place bytes (Some u) = (u.0 + 1) ∷ []
 moments_to_try lines id w place bytes None =
@@ -41,7 +41,7 @@ abbrev pub moments_for : List TranscriptLine → ℕ → ℤ → Walker → List
 moments_for lines c id w bytes None = []
 moments_for lines c id w bytes (Some f) = moments_to_try lines id w f.0 bytes (own_update c w.next lines)
 
--- the first of some moments that passes
+-- the first of some moments that passes a test
 abbrev pub first_of : (ℕ → Bool) → List ℕ → Option ℕ
 first_of test [] = None
 first_of test (m ∷ ms) = if test m then Some m else first_of test ms
@@ -52,7 +52,8 @@ LeastMomentLaw = (lines : List TranscriptLine) (c : ℕ) (id : ℤ) (w : Walker)
     → IsTrue (is_legal lines) → HasZxids lines → pos 0 <ℤ w.zxid → next_reply ps ≡ Some bytes
     → least_moment lines c id w ps ≡ first_of (is_allowed lines c id w ps) (moments_for lines c id w bytes (placed_frame c w.next lines))
 
--- what holds of each moment that is allowed: it stands behind the update of the reply's zxid and before the next update
+-- what holds of each moment that is allowed: it is not before the last reply's, is after the frame's line, is after the update of
+-- the reply's zxid and before the next one, and is right after the request's own update, if it has one
 pub record IsAllowedMoment (lines : List TranscriptLine) (c : ℕ) (w : Walker) (bytes : List ℕ) (m : ℕ) : Type 0 where
   pub within : m ≤ length lines
   pub not_back : w.moment ≤ m

@@ -1,4 +1,4 @@
--- The least walk, one reply after the other: the loop of a judge that goes through the lines once.
+-- The least walk, one reply after the other: the loop of the judge, which goes through the lines once.
 use Rattle.std.specs.Prelude.{◌≡◌, ℕ, ℤ, pos, ◌<ℤ◌, Bool, true, false, List, Option, Some, None, IsTrue}
 use Rattle.zk_transcript.specs.declared.transcript.TranscriptLine.{TranscriptLine}
 use Rattle.zk_transcript.specs.Legal.{is_legal}
@@ -13,7 +13,7 @@ abbrev pub given_at : List TranscriptLine → ℕ → ℤ → Walker → List Du
 given_at lines c id w ps None = None
 given_at lines c id w ps (Some m) = given ps (move lines c id w (Answer m))
 
--- the next reply, with its queue: one that repeats the place, or one as of a moment
+-- the next reply, with its queue: one that repeats the walker's zxid, or one as of a moment
 abbrev pub reply_given : List TranscriptLine → ℕ → ℤ → Walker → List Due → List ℕ → Bool → Option (Walker × List Due)
 reply_given lines c id w ps bytes true = then_plainly lines c id (given ps (told_up_to lines w (zxid_in bytes)))
 reply_given lines c id w ps bytes false = given_at lines c id w ps (first_of (is_allowed lines c id w ps) (moments_for lines c id w bytes (placed_frame c w.next lines)))

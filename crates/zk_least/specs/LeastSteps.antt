@@ -13,6 +13,7 @@ least_step lines c id w ps = elim (least_choice lines c id w ps) [ None ↦ None
 abbrev pub is_least : List TranscriptLine → ℕ → ℤ → Walker → List Due → Bool
 is_least lines c id w ps = is_some (least_from (length lines + length ps) lines c id w ps)
 
+-- the least walk from the walker that was reached, if one was, gives the packets that are left
 abbrev pub is_least_behind : List TranscriptLine → ℕ → ℤ → Option (Walker × List Due) → Bool
 is_least_behind lines c id None = false
 is_least_behind lines c id (Some y) = is_least lines c id y.0 y.1
@@ -28,6 +29,6 @@ LeastStepLaw = (lines : List TranscriptLine) (c : ℕ) (id : ℤ) (w : Walker) �
 abbrev pub AttachedAboveZero : Type 0
 AttachedAboveZero = (lines : List TranscriptLine) (c : ℕ) (a : ℕ × Attachment) → IsTrue (is_legal lines) → HasZxids lines → attach_of c lines ≡ Some a → pos 0 <ℤ a.1.zxid
 
--- no choice takes the place back
+-- no choice lowers the walker's zxid
 abbrev pub PlacesRise : Type 0
 PlacesRise = (lines : List TranscriptLine) (c : ℕ) (id : ℤ) (w : Walker) (x : Choice) (y : Walker × List Due) → move lines c id w x ≡ Some y → w.zxid ≤ℤ y.0.zxid

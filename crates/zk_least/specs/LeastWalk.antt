@@ -1,6 +1,6 @@
--- The least walk: a connection's walk with no choice left, read off from its packets. Before a reply that repeats the place
--- updates are told until the place is the reply's zxid. Any other reply is given as of the least moment that allows it, and the
--- updates up to its zxid are told with it. Behind the last reply updates are told until no packet is left.
+-- The least walk: a connection's walk with no choice left, read off its packets. A reply that the frame gets without the tree
+-- repeats the walker's zxid: before it updates are told until that is the reply's. Any other reply is given as of the least moment
+-- that allows it, and the updates up to its zxid are told with it. After the last reply updates are told until no packet is left.
 use Rattle.std.specs.Prelude.{◌≡◌, ℕ, zero, suc, ℤ, pos, negsuc, ◌+◌, ◌≤ℤ◌, Bool, false, ◌&&◌, List, [], ◌∷◌, length, take, drop, nat_le, int_lt, if◌then◌else◌, Option, Some, None, is_some, option_map, bytes_eq, slice_get, IsTrue}
 use Rattle.std.specs.Int.{from_be_bytes, cast_signed, w64}
 use Rattle.std.specs.Ordering.{int_eq}
@@ -17,11 +17,11 @@ use Rattle.zk_transcript.specs.Conversations.{IsInConnection, later_packets, IsL
 
 -- ---- packets
 
--- the zxid in a packet's header, behind its length and its xid (zookeeper.jute, `ReplyHeader`)
+-- the zxid in a packet's header, after its length and its xid (zookeeper.jute, `ReplyHeader`)
 unfoldable pub zxid_in : List ℕ → ℤ
 zxid_in bytes = cast_signed w64 (from_be_bytes w64 (take 8 (drop 8 bytes)))
 
--- a notice's is -1, which is no update's
+-- the packet is a notice: its zxid is -1, which no update has
 abbrev pub is_notice : List ℕ → Bool
 is_notice bytes = int_eq (zxid_in bytes) (negsuc 0)
 
@@ -30,7 +30,7 @@ abbrev pub next_reply : List Due → Option (List ℕ)
 next_reply [] = None
 next_reply (p ∷ ps) = if is_notice p.1 then next_reply ps else Some p.1
 
--- the packets behind those that are due, where these come first, each not before its place
+-- the packets that are left after those that are due, where these come first and none stands before the first place where it may
 abbrev pub behind : List Due → List Due → Option (List Due)
 behind [] ps = Some ps
 behind (d ∷ ds) [] = None
@@ -38,7 +38,7 @@ behind (d ∷ ds) (p ∷ ps) = if nat_le d.0 p.0 && bytes_eq d.1 p.1 then behind
 
 -- ---- the next choice
 
--- a choice that gives the next packets, with what it leaves of them
+-- the walker after a choice and the packets that are left, where the choice gives the next packets
 abbrev pub given : List Due → Option (Walker × List Due) → Option (Walker × List Due)
 given ps None = None
 given ps (Some y) = option_map (λ rest. (y.0, rest)) (behind y.1 ps)
@@ -47,7 +47,7 @@ given ps (Some y) = option_map (λ rest. (y.0, rest)) (behind y.1 ps)
 abbrev pub is_allowed : List TranscriptLine → ℕ → ℤ → Walker → List Due → ℕ → Bool
 is_allowed lines c id w ps m = is_fresh lines c w.next (Answer m) && is_some (given ps (move lines c id w (Answer m)))
 
--- the first number that passes, from m on, of n + 1
+-- of the n + 1 numbers from m on, the first that passes the test
 abbrev pub first_passing : (ℕ → Bool) → ℕ → ℕ → Option ℕ
 first_passing test m zero = if test m then Some m else None
 first_passing test m (suc n) = if test m then Some m else first_passing test (m + 1) n
@@ -55,7 +55,7 @@ first_passing test m (suc n) = if test m then Some m else first_passing test (m 
 abbrev pub least_moment : List TranscriptLine → ℕ → ℤ → Walker → List Due → Option ℕ
 least_moment lines c id w ps = first_passing (is_allowed lines c id w ps) 0 (length lines)
 
--- the reply is the frame's answer without the tree, which doesn't depend on what is armed
+-- the packet is the frame's answer without the tree, with whatever zxid; that answer does not depend on what is armed
 abbrev pub is_plain : Frame → Option Told → List ℕ → Bool
 is_plain x None bytes = false
 is_plain x (Some t) bytes = bytes_eq bytes (reply_packet (xid_of x) (zxid_in bytes) t.reply)
@@ -64,7 +64,7 @@ abbrev pub repeats : Option (ℕ × List ℕ) → List ℕ → Bool
 repeats None bytes = false
 repeats (Some f) bytes = is_plain (read_request f.1) (plain_reply no_watches (read_request f.1)) bytes
 
--- told up to the reply's zxid, and then answered
+-- the next update is told where the walker's zxid is below the reply's, and otherwise the frame is answered
 abbrev pub plain_choice : Walker → ℤ → Choice
 plain_choice w z = if int_lt w.zxid z then Tell else Plain
 
@@ -88,11 +88,11 @@ least_from (suc n) lines c id w (p ∷ ps) =
       | Some x ↦ elim (given (p ∷ ps) (move lines c id w x)) [ None ↦ None | Some y ↦ option_map (λ xs. x ∷ xs) (least_from n lines c id y.0 y.1) ]
     ]
 
--- each choice tells one update or takes one packet at least
+-- the least walk from an attachment. Each choice tells an update or takes a packet, so there are no more than these
 abbrev pub least_walk : List TranscriptLine → ℕ → ℤ → ℤ → ℕ → List Due → Option (List Choice)
 least_walk lines c id zxid since ps = least_from (length lines + length ps) lines c id (at_start zxid since) ps
 
--- no zxid is below 0: a reply of zxid -1 would look like a notice
+-- no update has a zxid below 0: a reply of zxid -1 would look like a notice
 abbrev pub HasZxids : List TranscriptLine → Type 0
 HasZxids lines = (k : ℕ) (u : UpdateRec) → slice_get lines k ≡ Some (Update u) → pos 0 ≤ℤ u.zxid
 
@@ -109,7 +109,8 @@ LeastWalkLaw = (lines : List TranscriptLine) (c : ℕ) (a : ℕ × Attachment) (
 
 -- ---- whole conversations
 
--- where c has an attachment, the least walk from there gives the packets behind the welcome
+-- what is asked besides the walk holds, and where c has an attachment, the least walk from there gives the packets after the
+-- welcome
 pub record IsLeastLawful (lines : List TranscriptLine) (c : ℕ) : Type 0 where
   pub within : IsInConnection lines c
   pub walks : (a : ℕ × Attachment) → attach_of c lines ≡ Some a → IsTrue (is_some (least_walk lines c a.1.session a.1.zxid (a.0 + 1) (later_packets c lines)))

@@ -11,12 +11,12 @@ pub fn least_walk_decides()
     ensures { LeastWalkLaw }
 {}
 
-/// A conversation is lawful and fresh exactly where what stands outside the walk holds and the least walk gives the packets.
+/// A conversation is lawful and fresh exactly where what is asked besides the walk holds and the least walk gives the packets.
 pub fn least_walk_judges()
     ensures { ConversationLaw }
 {}
 
-/// The least walk gives the next packets where its least choice gives the first of them and it gives the rest from there.
+/// The least walk gives some packets exactly where its least choice gives the first of them and it gives the rest from there.
 pub fn least_walk_goes_step_by_step()
     ensures { LeastStepLaw }
 {}
@@ -26,18 +26,18 @@ pub fn walks_begin_above_zero()
     ensures { AttachedAboveZero }
 {}
 
-/// No choice takes the place of a walk back.
+/// No choice lowers the zxid up to which the client has been told.
 pub fn places_do_not_fall()
     ensures { PlacesRise }
 {}
 
-/// The least moment of a reply is the first that is allowed of at most two moments.
+/// The least moment of a reply is the first that is allowed among at most two.
 pub fn least_moment_is_tried()
     ensures { LeastMomentLaw }
 {}
 
-/// An allowed moment isn't before the last reply's, is behind the frame's line, and stands between the update of the reply's
-/// zxid and the next one; where the request has a line of its own, it is right behind that line.
+/// An allowed moment is not before the last reply's, is after the frame's line, and is after the update of the reply's zxid and
+/// before the next one; where the request has an update of its own, it is right after that one's line.
 pub fn allowed_moments_are_bounded()
     ensures { AllowedMomentLaw }
 {}
@@ -47,22 +47,23 @@ pub fn queues_grow_line_by_line()
     ensures { QueueLaw }
 {}
 
-/// The moment right behind the last update goes line by line.
+/// The moment right after the last update is found line by line: only the line of an update moves it.
 pub fn last_updates_go_line_by_line()
     ensures { LastUpdateLaw }
 {}
 
-/// Before a reply that repeats the place its whole queue is told, and something is armed before the last update of it.
+/// Before a reply without a moment, the whole queue up to the reply's zxid is told, and something is armed before its last update.
 pub fn queues_are_told_before_plain_replies()
     ensures { PlainReplyLaw }
 {}
 
-/// Behind the last reply the packets are a front of the queue, up to the last notice of an update.
+/// After the last reply the packets are a front of the queue, which ends with the last notice of an update.
 pub fn last_notices_are_a_front_of_the_queue()
     ensures { LastNoticesLaw }
 {}
 
-/// The least walk gives the next packets where its next reply with its queue is the first of them, and it gives the rest from there.
+/// The least walk gives some packets exactly where its next reply and the queue before it come first, and it gives the rest from
+/// there.
 pub fn least_walk_goes_reply_by_reply()
     ensures { LeastRepliesLaw }
 {}

@@ -1,9 +1,9 @@
 //! The least walk of a connection: what decides whether its packets are lawful and fresh, without a search.
 //!
 //! `specs/LeastWalk` defines it and states its law: some walk that is lawful and fresh gives the packets exactly where the least
-//! walk does. A judge of transcripts that goes through the lines once follows `specs/LeastReplies`, its loop, which stands on
-//! `specs/LeastSteps` (one choice), `specs/LeastMoments` (which moments to try for a reply, at most two) and `specs/LeastQueues`
-//! (which notices stand before a reply, and behind the last).
+//! walk does. The judge goes through the lines once. Its loop is `specs/LeastReplies`, which stands on `specs/LeastSteps` (one
+//! choice), `specs/LeastMoments` (which moments to try for a reply, at most two) and `specs/LeastQueues` (which notices come before
+//! a reply, and after the last).
 #![tactic(auto)]
 
 mod laws;

@@ -39,7 +39,7 @@ abbrev PartsGive : ℕ → Parts → Type 0
 PartsGive n (Stopped place code) = place < n
 PartsGive n (Passed results t gs touched) = AllByRecursion IsShortResult results × AreShort gs × (length results ≡ n)
 
--- what several requests give, of which there are n
+-- what a transaction of n parts gives is short
 abbrev pub SeveralGives : ℕ → Several → Type 0
 SeveralGives n (Denied code) = ⊤
 SeveralGives n (Codes row) = AllByRecursion IsShortResult row × (length row ≤ n)
