@@ -8,13 +8,13 @@ either-none : (b : Bool) (o : Option (List Due)) → o ≡ None → (if b then o
 either-none true o none = none
 either-none false o none = refl
 
--- there are fewer of them than are due
+-- fewer packets are left than are due
 pub behind-short : (ds ps : List Due) → length ps < length ds → behind ds ps ≡ None
 behind-short [] ps less = absurd (omega arith)
 behind-short (d ∷ ds) [] less = refl
 behind-short (d ∷ ds) (p ∷ ps) less = either-none (nat_le d.0 p.0 && bytes_eq d.1 p.1) (behind ds ps) (behind-short ds ps (omega arith))
 
--- what is left of the packets
+-- how many packets are left after those that were due
 pub behind-length : (ds ps rest : List Due) → behind ds ps ≡ Some rest → length ds + length rest ≡ length ps
 behind-length [] ps rest h = (let e : ps ≡ rest = cc in omega (arith, ap (λ (l : List Due). length l) e))
 behind-length (d ∷ ds) [] rest h = absurd (cc)

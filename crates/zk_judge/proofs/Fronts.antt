@@ -76,7 +76,7 @@ fired-over past p w a b le none =
 pub fired-end : (past : List TranscriptLine) (p : ℤ) (w : Watches) (a : ℕ) → a ≤ length past → NoUpdateBetween past a (length past) → fired_above (take a past) p w ≡ fired_above past p w
 fired-end past p w a le none = sym (fired-over past p w a (length past) le none) ∙ ap (λ (ls : List TranscriptLine). fired_above ls p w) (take-length past)
 
--- an update is reached, behind lines without one
+-- an update is reached, after lines without one
 pub fired-next : (past lines : List TranscriptLine) (p : ℤ) (w : Watches) (a b : ℕ) (l : TranscriptLine) (x y : Watches × List Due) → IsFront past lines → a ≤ b → b < length past → NoUpdateBetween past a b
     → slice_get past b ≡ Some l → x ≡ fired_above (take a past) p w → y ≡ then_fired lines b (is_above p l) x → y ≡ fired_above (take (b + 1) past) p w
 fired-next past lines p w a b l x y front le within none at first then =

@@ -1,4 +1,4 @@
--- The least connection that fails, one opening more.
+-- The least connection that fails, after one more opening.
 use Rattle.std.proofs.Common.{◌≡◌, ℕ, Bool, true, false, ◌==◌, List, [], ◌∷◌, ◌++◌, Option, Some, None, inl, inr, refl, ap, sym, subst, ◌∙◌, eqb-true}
 use Rattle.std.specs.Prelude.{is_some, ◌⊎◌, ℤ}
 use Rattle.zk_transcript.specs.declared.transcript.TranscriptLine.{TranscriptLine}

@@ -1,4 +1,4 @@
--- The places of the packets that were sent to a connection, and notices that are due, one more.
+-- The places of the packets that were sent to a connection, and the notices that are due, with one more.
 use Rattle.std.proofs.Common.{◌≡◌, ℕ, ◌+◌, ◌<◌, true, false, ◌==◌, List, [], ◌∷◌, ◌++◌, length, drop, get_or, refl, ap, sym, ◌∙◌, append_assoc}
 use Rattle.std.specs.Prelude.{if◌then◌else◌, map}
 use Rattle.std.proofs.lemmas.List.{drop_more, map-append}

@@ -16,7 +16,7 @@ use Rattle.zk_judge.specs.Staged.{AreOpened, IsLeastOf, connections, lesser_of, 
 use Rattle.zk_judge.specs.declared.conversations.Conversation.{Conversation}
 use Rattle.zk_judge.proofs.LeastFaults.{least-fault, opened-by}
 
--- ---- one line more
+-- ---- one more line
 
 skips : (d : ℕ) (before : List TranscriptLine) (l : TranscriptLine) → open_shown d l ≡ None → is_some (opening d (before ++ l ∷ [])) ≡ true → is_some (opening d before) ≡ true
 skips d before l none opened = ap is_some (sym (first_shown-skip (open_shown d) before l none)) ∙ opened

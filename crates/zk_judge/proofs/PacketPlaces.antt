@@ -73,7 +73,7 @@ place-within lines c places i are less =
     let all = All-map (λ (k : ℕ). k < length lines) (λ (p : Due). p.0) (packets c lines) (All-weaker (IsPacketAt c 0 lines) (λ (p : Due). p.0 < length lines) within (packets c lines) (packets-at c 0 lines)) in
     All-get_or (λ (k : ℕ). k < length lines) places i 0 less (subst (λ (ks : List ℕ). All (λ (k : ℕ). k < length lines) ks) (sym are) all)
 
--- one packet more
+-- one more packet
 pub packets-next : (lines : List TranscriptLine) (c : ℕ) (places : List ℕ) (i : ℕ) (l : TranscriptLine) → places ≡ sent_from c 0 lines → i < length places → l ≡ get_or lines (get_or places i 0) l
     → take i (packets c lines) ++ packets_from c (get_or places i 0) (l ∷ []) ≡ take (i + 1) (packets c lines)
 packets-next lines c places i l are less line =

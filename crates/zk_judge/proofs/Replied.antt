@@ -119,7 +119,7 @@ at-moments lines c id w ps bytes run above next apart =
 
 -- ---- how far a reply brings the walker
 
--- it went on from another: no earlier moment is open to it, its place is above 0, and fewer packets are left
+-- v went on from w: no earlier moment is open to it, its zxid is above 0, and fewer packets are left
 pub record GoesOn (lines : List TranscriptLine) (w v : Walker) (ps qs : List Due) : Type 0 where
   pub above : pos 0 <ℤ v.zxid
   pub earliest : (from : ℕ) → IsEarliest lines w from → IsEarliest lines v from
@@ -145,7 +145,7 @@ front-told lines v m legal same most k l at =
     let q = get-take v.since k lines l at in
     not-above v.zxid l (λ u is. let low = below-state lines k m u legal (q.1 ∙ ap Some is) (omega (arith, q.0, most)) in omega (arith, ints, low, same))
 
--- what a walker was told of, with the same place
+-- a walker with the zxid of one that was told of the updates up to it was told of them too
 same-told : (lines : List TranscriptLine) (w v : Walker) → v.zxid ≡ w.zxid → v.since ≡ w.since → IsTold lines w → IsTold lines v
 same-told lines w v zxid since told k l at = rw zxid (told k l (rw (← since) at))
 
@@ -212,7 +212,7 @@ plain-on lines c id w ps z y run above told h = by (given ps (told_up_to lines w
 some-more : (ds : List Due) (d : Due) → 0 < length (ds ++ d ∷ [])
 some-more ds d = omega (arith, length-append ds (d ∷ []))
 
--- an answer as of a moment, behind which none is given as of an earlier one
+-- an answer as of a moment, after which none is given as of an earlier one
 pub record IsAnswered (lines : List TranscriptLine) (m : ℕ) (v : Walker) (ps qs : List Due) : Type 0 where
   pub above : pos 0 <ℤ v.zxid
   pub earliest : IsEarliest lines v m
@@ -248,7 +248,7 @@ answer-on lines c id w ps m y run above h = by (is_allowed lines c id w ps m) h
           fewer = omega (arith, some, behind-length a.0.1 ps y.1 a.3);
         }
 
--- ---- a reply that repeats the place
+-- ---- a reply that repeats the walker's zxid
 
 pub plain-some : (lines : List TranscriptLine) (c : ℕ) (id : ℤ) (w : Walker) (ps : List Due) (bytes : List ℕ) (y : Walker × List Due) → IsRunning lines → pos 0 <ℤ w.zxid → next_reply ps ≡ Some bytes
     → repeats (placed_frame c w.next lines) bytes ≡ true → Some y ≡ then_plainly lines c id (given ps (told_up_to lines w (zxid_in bytes))) → is_least lines c id y.0 y.1 ≡ is_least lines c id w ps

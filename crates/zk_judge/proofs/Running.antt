@@ -1,4 +1,4 @@
--- What a transcript shows whose history has no fault: frames within the limit, and trees whose numbers fit.
+-- What a transcript shows whose history has no fault: frames no longer than they may be, and trees whose numbers fit.
 use Rattle.std.proofs.Common.{◌≡◌, ℕ, ℤ, pos, ◌<◌, ◌≤◌, Bool, true, false, ◌&&◌, ◌==◌, List, [], ◌∷◌, ◌++◌, length, drop, take-append-drop, Option, Some, None, refl, sym, ap, ◌∙◌, subst, eqb-true, arith}
 use Rattle.std.specs.Prelude.{IfSome, option_map, slice_get}
 use Rattle.std.specs.List.{AllByRecursion}
@@ -78,7 +78,7 @@ request-looks t limit session (req.SetData path content version) whole small = (
 request-looks t limit session (req.Multi parts) whole small = (whole.within, parts-within limit session (pos 0) 0 t parts whole (parts-short parts small))
 request-looks t limit session r whole small = whole.within
 
--- a request that is read of a frame within the limit
+-- a request that is read from a frame no longer than it may be
 pub asked-looks : (t : Tree) (limit : ℕ) (session xid : ℤ) (r : Request) → IsWhole t → IsShortFrame (Asks xid r) → FitsRequest t limit session r (pos 0) 0
 asked-looks t limit session xid r whole frame = request-looks t limit session r whole (asked-short frame.bytes xid r frame.short frame.reads)
 
@@ -91,7 +91,7 @@ offered-one l c proxy id passwd is long d o shown = by_test (d == c) (sym (ap (o
     by_test false e = absurd (cc)
     by_test true e = ap (λ (y : ℤ × List ℕ). length y.1) (sym (some_is e)) ∙ long
 
--- a line more, which offers a password of 16 bytes if any
+-- one more line, which offers a password of 16 bytes or none
 pub offered-more : (before : List TranscriptLine) (l : TranscriptLine) → ((c : ℕ) (o : ℤ × List ℕ) → open_shown c l ≡ Some o → length o.1 ≡ 16) → OfferPasswords before → OfferPasswords (before ++ l ∷ [])
 offered-more before l one offered c o is = by_opening (opening c before) refl
   where

@@ -1,4 +1,4 @@
--- Conversations by the answer to their connect and by what is walked behind it.
+-- Conversations by the answer to their connect and by the walk after it.
 use Rattle.std.proofs.Common.{◌≡◌, ℕ, ℤ, pos, ◌+◌, ◌<◌, ◌≤◌, Bool, true, false, List, [], ◌∷◌, length, take, drop, Option, Some, None, inl, inr, refl, ap, sym, ◌∙◌, subst, arith}
 use Rattle.std.specs.Prelude.{◌↔◌, ◌<ℤ◌, ◌≤ℤ◌, ◌&&◌, ◌==◌, if◌then◌else◌, int_le, int_lt, is_some, nat_le, slice_get, IsTrue}
 use Rattle.std.specs.List.{list_all}
@@ -47,7 +47,7 @@ packets-within c k (FrameLine d i z bytes ∷ ls) p ps h = omega (arith, packets
 packets-within c k (Lapse r id ∷ ls) p ps h = omega (arith, packets-within c (k + 1) ls p ps h)
 packets-within c k (Close d e ∷ ls) p ps h = omega (arith, packets-within c (k + 1) ls p ps h)
 
--- ---- packets of a connection that isn't closed
+-- ---- packets of a connection that is not closed
 
 all-before : (ps : List Due) → true ≡ list_all (λ (p : Due). is_before p.0 None) ps
 all-before [] = refl
@@ -121,7 +121,7 @@ unwelcome-unlawful lines c place zxid id p ps at sent not = (
   λ lawful. not (subst (λ (o : Option (ℕ × Attachment)). IsConnectAnswered lines c (p ∷ ps) o) at.line (subst (λ (xs : List Due). IsConnectAnswered lines c xs (attach_of c lines)) sent (judged-when lines c at.run lawful).connected)),
 )
 
--- behind a welcome the least walk decides
+-- after a welcome the least walk decides
 pub welcome-lawful : (lines : List TranscriptLine) (c place : ℕ) (zxid id : ℤ) (p : Due) (ps : List Due) → IsAttached lines c place zxid id → are_before_close lines c ≡ true → packets c lines ≡ p ∷ ps → Answers lines c place id p
     → IsTrue (is_least lines c id (at_start zxid (place + 1)) (drop 1 (packets c lines))) ↔ IsLawfulAndFresh lines c
 welcome-lawful lines c place zxid id p ps at in_time sent welcome = (
@@ -206,7 +206,7 @@ start-told lines c place zxid id at =
 pub start-above : (lines : List TranscriptLine) (c place : ℕ) (zxid id : ℤ) → IsAttached lines c place zxid id → pos 0 <ℤ zxid
 start-above lines c place zxid id at = attached-above-zero lines c (place, record { zxid = zxid; session = id }) (legal-when lines at.run) (zxids-when lines at.run) at.line
 
--- ---- behind the last moment nothing is left to be found out
+-- ---- after the last moment nothing is left to be found out
 
 pub attached-within : (lines : List TranscriptLine) (c place : ℕ) (a : Attachment) → attach_of c lines ≡ Some (place, a) → place < length lines
 attached-within lines c place a at = omega (arith, first_place-bound (attach_shown c) 0 lines (place, a) at)

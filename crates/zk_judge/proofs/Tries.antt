@@ -66,7 +66,7 @@ first-fails lines c id w ps m ms is = by (is_allowed lines c id w ps m) refl is
     by true e none = absurd (no-both (is_fresh lines c w.next (Answer m)) (is_some (given ps (move lines c id w (Answer m)))) (given ps (move lines c id w (Answer m))) refl e none)
     by false e none = refl
 
--- of a request that has no line of its own
+-- the moments to try for a request that has no update of its own
 pub open-moments : (lines : List TranscriptLine) (id : ℤ) (w : Walker) (place : ℕ) (bytes : List ℕ) (m u a : ℕ) (ms : List ℕ)
     → u ≡ after_update (zxid_in bytes) lines → m ≡ later_of w.moment (place + 1) → a ≡ later_of m u
     → ms ≡ (if int_eq (code_in bytes) session_expired then later_of a (lapsed_from id u lines) ∷ [] else []) → (a ∷ ms) ≡ moments_to_try lines id w place bytes None

@@ -1,4 +1,4 @@
--- The conversations by the moments that they wait for.
+-- The conversations, by the moments that they wait for.
 use Rattle.std.specs.Prelude.{◌≡◌, ◌⊎◌, ℕ, ◌+◌, ◌-◌, List, Some, length, slice_get}
 use Rattle.std.specs.Global.{Vec}
 use Rattle.std.specs.List.{All, Contains}
@@ -7,11 +7,11 @@ use Rattle.zk_judge.specs.Staged.{IsStanding, connections}
 use Rattle.zk_judge.specs.declared.agenda.Agenda.{Agenda}
 use Rattle.zk_judge.specs.declared.conversations.Conversation.{Conversation}
 
--- the list at place j has conversations that wait for the moment which comes j before the last one
+-- the conversations in the list at place j wait for no moment before the one that is j before the last
 abbrev pub AreWaiting : List TranscriptLine → List (Vec Conversation) → Type 0
 AreWaiting lines lists = (j : ℕ) (xs : Vec Conversation) → slice_get lists j ≡ Some xs → All (IsStanding lines (length lines - j)) xs.items
 
--- once every moment was looked at
+-- conversations that wait for no moment up to the last
 abbrev pub AreJudged : List TranscriptLine → List Conversation → Type 0
 AreJudged lines xs = All (IsStanding lines (length lines + 1)) xs
 

@@ -22,7 +22,7 @@ frame_as (read.Unreadable xid place) = Unreadable xid place
 frame_as (read.Unknown xid kind) = Unknown xid kind
 frame_as (read.Asks xid r) = Asks xid r
 
--- the bytes of a frame within the limit are read as this
+-- some bytes, no longer than a frame may be, are read as this
 pub record IsShortFrame (f : Frame) : Type 0 where
   pub bytes : List ℕ
   pub short : length bytes ≤ max_frame
@@ -38,18 +38,18 @@ step_of s = (walker_of s.walker, s.due.items)
 abbrev pub fired_of : Fired → Watches × List Due
 fired_of f = (f.watches, f.due.items)
 
--- whether no request is answered behind what is told, and that
+-- whether no request is answered after what is told, and what is told
 abbrev pub ending_of : Ending → Bool × Told
 ending_of e = (e.is_over, told_of e.told)
 
--- a step with the packets that it leaves
+-- how far a step brings the connection, and the packets that it leaves
 abbrev pub left_by : List Due → Step → Walker × List Due
 left_by ps s = (walker_of s.walker, drop (length s.due.items) ps)
 
--- the same, by how many packets it took
+-- how far a reply brings the connection, and the packets that it leaves
 abbrev pub taken_by : List Due → Taken → Walker × List Due
 taken_by ps t = (walker_of t.walker, drop t.count ps)
 
--- the answer to a frame at a place that may be answered as of the moment behind these lines
+-- the answer to a frame at place k that may be answered as of the moment after these lines
 abbrev pub answer_behind : List TranscriptLine → ℕ → ℤ → Walker → Option (ℕ × UpdateRec) → ℕ → Frame → Option (Walker × List Due)
 answer_behind past c id w own k x = let g = fired_above past w.zxid w.watches in reply_step_if past w k (xid_of x) g.1 (told_as_of past c id x g.0 own)

@@ -1,4 +1,4 @@
--- What a client is told can be sent: the length of each packet fits its int.
+-- What a client is told can be sent: the length of each packet fits an `int`.
 use Rattle.std.specs.List.{All}
 use Rattle.zk_jute.specs.Packets.{CanBeSent, NoticeCanBeSent}
 use Rattle.zk_transcript.specs.Answers.{Told}

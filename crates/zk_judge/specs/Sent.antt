@@ -7,7 +7,7 @@ use Rattle.zk_transcript.specs.declared.transcript.TranscriptLine.{TranscriptLin
 use Rattle.zk_transcript.specs.Walks.{Due, packets_from}
 use Rattle.zk_judge.specs.declared.sent.Sent.{Sent}
 
--- of lines of which the first one stands at place k
+-- the places of the packets to a connection among these lines, of which the first stands at place k
 abbrev pub sent_from : ℕ → ℕ → List TranscriptLine → List ℕ
 sent_from c k lines = map (λ (p : Due). p.0) (packets_from c k lines)
 
@@ -18,6 +18,6 @@ places_of (Some places) = places.items
 abbrev pub places_in : Sent → ℕ → List ℕ
 places_in s c = places_of (tree.get nat_cmp s.places c)
 
--- the places of all packets of these lines
+-- s has for each connection the places of its packets among these lines
 abbrev pub AreSent : List TranscriptLine → Sent → Type 0
 AreSent lines s = (c : ℕ) → places_in s c ≡ sent_from c 0 lines

@@ -1,4 +1,4 @@
--- What is known of a conversation at a moment, before its state is looked at.
+-- What is known of a conversation at a moment, before the state then is looked at.
 use Rattle.std.specs.Prelude.{◌≡◌, ℕ, ◌+◌, ◌≤◌, ◌↔◌, true, List, Option, None, Some, if◌then◌else◌, is_some, length, map, nat_le, IsTrue}
 use Rattle.std.specs.List.{Contains}
 use Rattle.zk_model.specs.declared.connect.ConnectRequest.{ConnectRequest}
@@ -15,16 +15,17 @@ use Rattle.zk_judge.specs.declared.conversations.Stage.TheVariants as stage
 use Rattle.zk_judge.specs.declared.waits.Walked.{Walked}
 use Rattle.zk_judge.specs.declared.waits.Walked.TheVariants as walk
 
--- some moment between two lets the connect be refused
+-- the state at some moment from `first` to `last` lets the connect be refused
 abbrev pub MayBeRefused : List TranscriptLine → ℕ → ℕ → ConnectRequest → Type 0
 MayBeRefused lines first last r = (m : ℕ) × (first ≤ m) × (m ≤ last) × IsTrue (may_refuse r (state_at lines m))
 
--- what is found out at moments that are still to come decides this
+-- the stage decides P, and waits for no moment before `from`; a stage that waits for an attachment is none of these
 abbrev pub IsDeciding : List TranscriptLine → ℕ → Type 0 → Stage → Type 0
 IsDeciding lines from P (stage.Attached place zxid session) = ⊥
 IsDeciding lines from P (stage.Refused first last r) = (MayBeRefused lines first last r ↔ P) × (from ≤ first) × (first ≤ last) × (last ≤ length lines)
 IsDeciding lines from P (stage.Walks w) = (IsTrue (is_walked lines w) ↔ P) × IsWaiting lines from w
 
+-- the stage stands for the conversation of c, and waits for no moment before `from`
 abbrev pub IsStaged : List TranscriptLine → ℕ → ℕ → Stage → Type 0
 IsStaged lines from c (stage.Attached place zxid session) = (attach_of c lines ≡ Some (place, record { zxid = zxid; session = session })) × (from ≤ place + 1)
 IsStaged lines from c (stage.Refused first last r) = IsDeciding lines from (IsLawfulAndFresh lines c) (stage.Refused first last r)
@@ -51,7 +52,7 @@ abbrev pub opened_by : TranscriptLine → Option ℕ
 opened_by (Open c proxy id passwd) = Some c
 opened_by _ = None
 
--- each connection that these lines open is one of those
+-- each connection that these lines open is there
 abbrev pub AreOpened : List TranscriptLine → (ℕ → Type 0) → Type 0
 AreOpened lines IsThere = (d : ℕ) → is_some (opening d lines) ≡ true → IsThere d
 
@@ -59,7 +60,7 @@ abbrev pub lesser_of : Option ℕ → ℕ → Option ℕ
 lesser_of None c = Some c
 lesser_of (Some n) c = if nat_le n c then Some n else Some c
 
--- no number of a list fails, or this is the least of it that does
+-- None where no number of a list fails P, or one that fails, below which none of the list does
 pub record IsLeastOf (P : ℕ → Type 0) (cs : List ℕ) (found : Option ℕ) : Type 0 where
   pub fails : IsFault P found
   pub passes : (d : ℕ) → Contains cs d → IsBelow d found → P d

@@ -12,7 +12,7 @@ use Rattle.zk_judge.specs.declared.waits.Wait.{Wait}
 use Rattle.zk_judge.specs.declared.waits.Walked.{Walked}
 use Rattle.zk_judge.specs.declared.waits.Walked.TheVariants as walk
 
--- the moments to try, where there are any
+-- a first moment to try, if there is one, and a second
 abbrev pub tries_of : Option (ℕ × Option ℕ) → List ℕ
 tries_of None = []
 tries_of (Some t) = t.0 ∷ option_to_list t.1
@@ -25,7 +25,7 @@ tried lines c id w ps m = if is_allowed lines c id w ps m then given ps (move li
 unfoldable pub goes_on : List TranscriptLine → ℕ → ℤ → Walker → List Due → List ℕ → Bool
 goes_on lines c id w ps ms = is_least_behind lines c id (given_at lines c id w ps (first_of (is_allowed lines c id w ps) ms))
 
--- whether the least walk gives the packets
+-- whether the least walk gives the packets: it is known, or it depends on the moments to try
 abbrev pub is_walked : List TranscriptLine → Walked → Bool
 is_walked lines (walk.Ends b) = b
 is_walked lines (walk.Waits x) = goes_on lines x.party.connection x.party.session (walker_of x.walker) (drop x.taken x.packets.items) (x.first ∷ option_to_list x.second)
@@ -38,7 +38,7 @@ abbrev pub IsNotBefore : ℕ → Option ℕ → Type 0
 IsNotBefore m None = ⊤
 IsNotBefore m (Some n) = m ≤ n
 
--- it waits for a moment that is still to come
+-- a conversation waits for a moment from `from` on
 pub record IsWait (lines : List TranscriptLine) (from : ℕ) (x : Wait) : Type 0 where
   pub first : from ≤ x.first
   pub last : x.first ≤ length lines

@@ -1,4 +1,4 @@
-//! The conversations of a transcript by the moments that they wait for.
+//! The conversations of a transcript, by the moments that they wait for.
 
 ghost use Rattle.std.specs.Prelude.{◌≡◌, ◌≢◌, ◌⊎◌, ◌+◌, ◌^◌, ◌<◌, ◌≤◌, ◌++◌, ◌∷◌, [], ℕ, List, Some, length, option_map, slice_get, IfOk, OnOk};
 ghost use Rattle.std.specs.List.{All, Contains};
@@ -11,7 +11,8 @@ use crate::index::Index;
 use std::alloc::Global;
 use zx_base::Memory;
 
-/// The conversations that are judged, and the others, each in the list of the moment that it waits for.
+/// The conversations that are judged, and the others, each in the list of the moment that it waits for. A moment is a place between
+/// two lines.
 #[derive(Drop)]
 pub struct Agenda {
     /// The next moment.
@@ -36,7 +37,7 @@ fn push_at(
     Ok(())
 }
 
-/// An empty list for each moment of so many lines.
+/// An empty list for each moment of a transcript with so many lines.
 fn empty_lists(alloc: Global, lines: usize) -> Result<Vec<Vec<Conversation>>, Memory>
     requires { lines + 1 < 2 ^ 64 }
     ensures size { IfOk result (λ v. length v.items ≡ lines + 1) }
@@ -50,7 +51,7 @@ fn empty_lists(alloc: Global, lines: usize) -> Result<Vec<Vec<Conversation>>, Me
 }
 
 impl Agenda {
-    /// No conversation, before the first moment.
+    /// The agenda without conversations, before the first moment.
     pub fn new(alloc: Global, index: &Index) -> Result<Agenda, Memory>
         ensures agenda { IfOk result (λ a. IsAgenda index.now.lines.now a) }
         ensures next { IfOk result (λ a. a.next ≡ 0) }
@@ -62,7 +63,7 @@ impl Agenda {
         })
     }
 
-    /// With a conversation in the list of the moment that it waits for.
+    /// The agenda with a conversation in the list of the moment that it waits for.
     fn with_waiting(
         self,
         index: &Index,
@@ -86,7 +87,7 @@ impl Agenda {
         })
     }
 
-    /// With a conversation that is judged.
+    /// The agenda with a conversation that is judged.
     fn with_judged(self, conversation: Conversation) -> Result<Agenda, Memory>
         ensures agenda { IfOk result (λ a. (lines : List AnyLine) → IsAgenda lines self → IsStanding lines (length lines + 1) conversation → IsAgenda lines a) }
         ensures next { IfOk result (λ a. a.next ≡ self.next) }
@@ -102,7 +103,7 @@ impl Agenda {
         })
     }
 
-    /// With a conversation of which nothing is found out before the next moment.
+    /// The agenda with one more conversation, of which nothing more is found out before the next moment.
     pub fn with(self, index: &Index, conversation: Conversation) -> Result<Agenda, Memory>
         requires agenda { IsAgenda index.now.lines.now self }
         requires stands { IsStanding index.now.lines.now self.next conversation }
@@ -117,7 +118,7 @@ impl Agenda {
         }
     }
 
-    /// The conversations that wait for the next moment, and the others before the moment behind it.
+    /// The conversations that wait for the next moment, and the agenda of the others, before the moment after it.
     pub fn due(self) -> (Vec<Conversation>, Agenda)
         requires left { 0 < length self.waiting.items }
         requires room { self.next + 1 < 2 ^ 64 }
@@ -140,7 +141,7 @@ impl Agenda {
         }
     }
 
-    /// The conversations that are judged; these are all once no moment is left.
+    /// The conversations that are judged. Once no moment is left, these are all.
     pub fn into_judged(self) -> Vec<Conversation>
         ensures judged { (lines : List AnyLine) → IsAgenda lines self → AreJudged lines result.items }
         ensures all { (lines : List AnyLine) (c : ℕ) → IsAgenda lines self → self.next ≡ length lines + 1 → HasConversation self c → Contains (connections result.items) c }

@@ -25,14 +25,14 @@ use zk_model::{Body, Reply};
 use zk_transcript::{TranscriptLine, UpdateKind, UpdateRec};
 use zx_base::{Memory, Seq};
 
-/// What is told, and whether no request is answered behind it.
+/// What is told, and whether no request is answered after it.
 #[derive(Drop)]
 pub struct Ending {
     pub told: Told,
     pub is_over: bool,
 }
 
-/// The refusal of the session test.
+/// The code with which the session test refuses: the session is not open or has lapsed, or is attached to another connection.
 fn session_refusal(party: Party, state: &State) -> Option<i32>
     ensures { option_map reply.Refused result ≡ session_refusal_of party.connection (session_at party.session state.now) }
 {
@@ -50,7 +50,7 @@ fn session_refusal(party: Party, state: &State) -> Option<i32>
     }
 }
 
-/// The tree's answer, where none without it stands.
+/// The tree's answer to a frame that is not answered without it.
 fn looked(
     alloc: Global,
     state: &State,
@@ -84,7 +84,7 @@ fn looked(
     }
 }
 
-/// The refusal of the session test, which ends the conversation; or else the tree's answer.
+/// The refusal of the session test, after which no request is answered, or else the tree's answer.
 fn told_by_state(
     alloc: Global,
     state: &State,
@@ -111,7 +111,7 @@ fn told_by_state(
     }
 }
 
-/// The response to a request that an update carried out, by what that did.
+/// The body of the reply to the request that the update at a place carried out.
 fn response_at(
     alloc: Global,
     index: &Index,
@@ -141,7 +141,7 @@ fn closes_session(kind: UpdateKind) -> bool
     }
 }
 
-/// What is told of an update that is the last line.
+/// What is told of a request that the update at this place carried out, where that is the last of these lines.
 #[tactic(auto, unfolding(zk_transcript::specs::Walks::told_as_of))]
 fn told_of_own(
     alloc: Global,
@@ -173,7 +173,7 @@ fn told_of_own(
     }
 }
 
-/// What is told as of the moment behind these lines, which lead to this state.
+/// What is told as of the moment after the lines `past`, which lead to `state`.
 #[tactic(auto, unfolding(zk_transcript::specs::Walks::told_as_of))]
 pub fn told_as_of(
     alloc: Global,

@@ -38,6 +38,7 @@ fn copy_of_results(alloc: Global, parts: &[PartResult]) -> Result<Seq<PartResult
     Ok(Seq::from_vec(copied))
 }
 
+/// A copy of a body.
 pub fn copy_of_body(alloc: Global, body: &Body) -> Result<Body, Memory>
     ensures { IfOk result (λ copied. copied ≡ body.now) }
 {

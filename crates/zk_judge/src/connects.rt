@@ -22,7 +22,7 @@ fn answered_read_only(request: &ConnectRequest) -> Option<bool>
     }
 }
 
-/// A password as an array.
+/// A password of 16 bytes as an array.
 fn password(bytes: &[u8]) -> [u8; 16]
     requires { length bytes.now ≡ 16 }
     ensures { result ≡ bytes.now }
@@ -73,7 +73,8 @@ fn is_other_session(request: &ConnectRequest, session: Option<&Session>) -> bool
     }
 }
 
-/// Whether a state lets this resume be refused.
+/// Whether a state lets this connect be refused: it names a session, its client has seen no zxid above the state's, and the session
+/// is not open, has lapsed or has another password.
 pub fn may_refuse(request: &ConnectRequest, state: &State) -> bool
     ensures { result ≡ may_refuse_of request.now state.now }
 {
@@ -82,7 +83,7 @@ pub fn may_refuse(request: &ConnectRequest, state: &State) -> bool
         && is_other_session(request, state.session(request.session))
 }
 
-/// Whether the first packet is the welcome to the session, behind the line at this place, which attached it.
+/// Whether the first packet is the welcome to the session, and stands after the line at `place`, which attached it.
 pub fn is_welcomed(
     alloc: Global,
     index: &Index,

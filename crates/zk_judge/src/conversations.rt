@@ -23,18 +23,19 @@ use zx_base::Memory;
 /// What is still to be found out about a conversation.
 #[derive(Drop)]
 pub enum Stage {
-    /// The update at this place attached a session to the connection; its welcome is judged by the state behind it.
+    /// The update at this place attaches a session to the connection; its welcome is judged by the state right after it.
     Attached {
         place: usize,
         zxid: i64,
         session: i64,
     },
-    /// The packet is the refusal of the connect, where a state between two moments lets it be refused.
+    /// The only packet is the refusal of the connect; the state at some moment from `first` to `last` must let it be refused.
     Refused {
         first: usize,
         last: usize,
         request: ConnectRequest,
     },
+    /// What is known of the walk after the welcome, or that the conversation is lawful or not without one.
     Walks(Walked),
 }
 
@@ -45,7 +46,7 @@ pub struct Conversation {
     pub stage: Stage,
 }
 
-/// Whether no packet stands behind the connection's close.
+/// Whether no packet stands after the connection's close.
 fn are_before_close(index: &Index, connection: u32, packets: &[Due]) -> bool
     requires { packets.now ≡ packets_to connection index.now.lines.now }
     ensures { result ≡ are_before_close_of index.now.lines.now connection }
@@ -63,7 +64,8 @@ fn are_before_close(index: &Index, connection: u32, packets: &[Due]) -> bool
     }
 }
 
-/// A packet at a place, to a connection that no session was attached to: whether it is the refusal of the connect.
+/// The stage of a connection that no session was attached to, and that was sent this packet alone: it must be the refusal of the
+/// connect.
 fn refusal(
     alloc: Global,
     index: &Index,
@@ -92,7 +94,7 @@ fn refusal(
     }
 }
 
-/// A connection that no session was attached to. It is sent the refusal of its connect at most.
+/// The stage of a connection that no session was attached to, which is sent at most the refusal of its connect.
 fn unattached(alloc: Global, index: &Index, connection: u32) -> Result<Stage, Memory>
     requires run { history_fault index.now.lines.now ≡ None }
     requires unattached { attach_of_of connection index.now.lines.now ≡ None }
@@ -111,8 +113,8 @@ fn unattached(alloc: Global, index: &Index, connection: u32) -> Result<Stage, Me
     refusal(alloc, index, connection, place, bytes)
 }
 
-/// A connection to which the update at this place attached its session, whose state this is: by its welcome, and the replies
-/// that need no state.
+/// Judges the welcome of a connection to which the update at `place` attached its session, and the replies that need no state;
+/// `state` is the one right after that update.
 fn welcomed(
     alloc: Global,
     index: &Index,
@@ -141,7 +143,8 @@ fn welcomed(
     settle(alloc, index, place + 1, party, walker, packets, 1)
 }
 
-/// A connection to which the update at this place attached its session, as of a moment that is not behind that update's.
+/// The stage after this moment of a connection to which the update at `place` attaches its session; the moment is no later than
+/// the one right after that update.
 fn attached(
     alloc: Global,
     index: &Index,
@@ -168,7 +171,7 @@ fn attached(
     Ok(Stage::Walks(walk_on(alloc, index, state, moment, walked)?))
 }
 
-/// A refusal, by the state at a moment.
+/// The stage after this moment of a connection that was sent a refusal, which some state from `first` to `last` must allow.
 fn refused(
     state: &State,
     moment: usize,
@@ -201,7 +204,7 @@ fn refused(
     }
 }
 
-/// A stage of a connection's conversation, with what the state at a moment shows.
+/// The stage of a connection's conversation after this moment, by what the state then shows.
 fn staged(
     alloc: Global,
     index: &Index,
@@ -241,7 +244,7 @@ fn staged(
     }
 }
 
-/// The moment behind a line.
+/// The moment right after a line.
 fn behind(index: &Index, place: usize) -> usize
     requires { place < length index.now.lines.now }
     ensures { result ≡ place + 1 }
@@ -250,7 +253,7 @@ fn behind(index: &Index, place: usize) -> usize
     place + 1
 }
 
-/// Whether the least walk gave the packets, once every moment was looked at.
+/// Whether the least walk gives the packets, once every moment was looked at.
 fn is_least(walked: &Walked) -> bool
     ensures { (lines : List AnyLine) → IsWaiting lines (length lines + 1) walked.now → result ≡ is_walked lines walked.now }
 {
@@ -278,7 +281,7 @@ impl Conversation {
         Ok(Conversation { connection, stage })
     }
 
-    /// The conversation with what the state at a moment shows.
+    /// The conversation after this moment, by what the state then shows.
     pub fn advanced(
         self,
         alloc: Global,

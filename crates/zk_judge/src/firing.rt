@@ -15,7 +15,7 @@ use std::alloc::Global;
 use zk_transcript::TranscriptLine;
 use zx_base::Memory;
 
-/// The update at a place fires its triggers.
+/// What is armed and what is due after the update at a place fires its triggers.
 fn fire_at(alloc: Global, index: &Index, place: usize, fired: Fired) -> Result<Fired, Memory>
     requires within { place < length index.now.lines.now }
     requires update { (u : Updated) × (slice_get index.now.lines.now place ≡ Some (Update u)) }
@@ -40,7 +40,7 @@ fn is_above(line: &TranscriptLine, zxid: i64) -> bool
     }
 }
 
-/// A line that is an update above the place of a walker fires its triggers.
+/// What is armed and what is due after the line at a place, which fires where it is an update above the walker's zxid.
 fn then_fire(
     alloc: Global,
     index: &Index,
@@ -58,9 +58,8 @@ fn then_fire(
     }
 }
 
-/// The updates among these first lines that stand above the place of a walker fire in order. Those before its last update are
-/// passed over, and so are lines without an update, and all lines
-/// once nothing is armed.
+/// What is armed and what is due after the updates among these first lines that are above the walker's zxid fire in order. Lines up
+/// to the walker's last update and lines without an update are passed over, and all lines once nothing is armed.
 pub fn fire_above(
     alloc: Global,
     index: &Index,

@@ -15,17 +15,20 @@ use zk_model::{Reply, Request};
 use zk_wire::{WireFault, read_request};
 use zx_base::{Memory, Seq};
 
-/// What a frame is.
+/// What a frame is read as.
 #[derive(Debug, Drop)]
 pub enum FrameRead {
+    /// It is too short for a header (`RequestHeader`).
     NoHeader,
-    /// The place of the first byte that is to blame is an offset in the frame.
+    /// Its request cannot be read; `place` is the offset in the frame of the first byte to blame.
     Unreadable { xid: i32, place: u64 },
+    /// The type of its request is not served.
     Unknown { xid: i32, kind: i32 },
+    /// It asks for `request`.
     Asks { xid: i32, request: Request },
 }
 
-/// What the bytes of a frame are.
+/// What the bytes of a frame are read as.
 pub fn frame_of(alloc: Global, bytes: &[u8]) -> Result<FrameRead, Memory>
     ensures { IfOk result (λ f. frame_as f ≡ read_request_of bytes.now) }
 {
@@ -38,6 +41,7 @@ pub fn frame_of(alloc: Global, bytes: &[u8]) -> Result<FrameRead, Memory>
     }
 }
 
+/// The xid of a frame, or 0 where it has no header.
 pub fn xid_of(frame: &FrameRead) -> i32
     ensures { result ≡ xid_of_of (frame_as frame.now) }
 {
@@ -49,6 +53,7 @@ pub fn xid_of(frame: &FrameRead) -> i32
     }
 }
 
+/// Whether a frame has a header; one without is never answered.
 pub fn has_header(frame: &FrameRead) -> bool
     ensures { result ≡ has_header_of (frame_as frame.now) }
 {
@@ -60,7 +65,7 @@ pub fn has_header(frame: &FrameRead) -> bool
     }
 }
 
-/// A refusal, which leaves what is armed.
+/// A refusal, which leaves the watches as they are.
 pub fn refused(alloc: Global, watches: &Watches, code: i32) -> Result<Told, Memory>
     ensures { IfOk result (λ t. told_of t ≡ only watches.now (reply.Refused code)) }
 {

@@ -23,7 +23,7 @@ use zk_model::{Body, ConnectRequest, Trigger};
 use zk_transcript::{TranscriptLine, UpdateRec};
 use zx_base::Memory;
 
-/// Proof only: an array tells its length.
+/// Proof only: an array of 16 bytes has 16 bytes.
 fn see_bytes(passwd: &[u8; 16])
     ensures { length passwd.now ≡ 16 }
 {
@@ -92,7 +92,7 @@ impl<'a> Index<'a> {
         self.past.placed_frame(connection, index)
     }
 
-    /// The connect request of a connection, where it is readable.
+    /// The connect request of a connection, where it can be read.
     pub fn connect(&self, alloc: Global, connection: u32) -> Result<Option<ConnectRequest>, Memory>
         ensures { IfOk result (λ r. r ≡ connect_of connection self.now.lines.now) }
     {
@@ -106,7 +106,7 @@ impl<'a> Index<'a> {
         self.sent.packets_of(alloc, self.lines, connection)
     }
 
-    /// The line that carries out a request of a connection.
+    /// The line that carries out a request of a connection: its place, and the update.
     pub fn own_update(&self, connection: u32, index: u64) -> Option<(usize, UpdateRec)>
         ensures shown { result ≡ own_update_of connection index self.now.lines.now }
         ensures within { IfSome result (λ x. x.0 < length self.now.lines.now) }
@@ -115,7 +115,7 @@ impl<'a> Index<'a> {
         self.past.own_update(connection, index)
     }
 
-    /// The place of the update of a zxid.
+    /// The place of the update with a zxid.
     pub fn update_place(&self, zxid: i64) -> Option<usize>
         ensures placed { option_map (λ k. (k, zxid)) result ≡ first_place (update_shown_of zxid) 0 self.now.lines.now }
         ensures within { IfSome result (λ k. k < length self.now.lines.now) }
@@ -123,7 +123,7 @@ impl<'a> Index<'a> {
         self.past.update_place(zxid)
     }
 
-    /// The moment right behind the update of a zxid, or 0.
+    /// The moment right after the update with a zxid, or 0 where there is none.
     pub fn after_update(&self, zxid: i64) -> usize
         ensures { result ≡ after_update_of zxid self.now.lines.now }
     {
@@ -165,7 +165,7 @@ impl<'a> Index<'a> {
         self.effects.triggers(place)
     }
 
-    /// The body of the reply to the request that the update at a place carried out.
+    /// The body of the reply to the create, delete, setData or multi that the update at a place carried out.
     pub fn response(&self, place: usize) -> Option<&Body>
         requires { place < length self.now.lines.now }
         ensures { (u : Updated) → slice_get self.now.lines.now place ≡ Some (Update u) → option_map (λ b. b.now) result ≡ response_in (take place self.now.lines.now) (state_at self.now.lines.now place) u.zxid u.kind }

@@ -31,7 +31,7 @@ fn opened_by(line: &TranscriptLine) -> Option<u32>
     }
 }
 
-/// With the conversation of the connection that a line opens.
+/// The agenda with the conversation of the connection that a line opens, if it opens one.
 fn with_opened(
     alloc: Global,
     index: &Index,
@@ -65,7 +65,7 @@ fn opened(alloc: Global, index: &Index) -> Result<Agenda, Memory>
     Ok(agenda)
 }
 
-/// The conversations with what the state at the next moment shows.
+/// The conversations after the next moment, by what the state then shows.
 fn advanced(alloc: Global, index: &Index, state: &State, agenda: Agenda) -> Result<Agenda, Memory>
     requires run { history_fault_of index.now.lines.now ≡ None }
     requires agenda { IsAgenda index.now.lines.now agenda }
@@ -84,7 +84,7 @@ fn advanced(alloc: Global, index: &Index, state: &State, agenda: Agenda) -> Resu
     Ok(later)
 }
 
-/// The moment behind the next line.
+/// The moment after the next line.
 fn moved_on<'a>(alloc: Global, cursor: Cursor<'a>) -> Result<Cursor<'a>, Memory>
     requires run { history_fault_of cursor.past.all.now ≡ None }
     requires within { cursor.past.len < length cursor.past.all.now }
@@ -98,7 +98,7 @@ fn moved_on<'a>(alloc: Global, cursor: Cursor<'a>) -> Result<Cursor<'a>, Memory>
     }
 }
 
-/// The conversations of all connections that are opened, each with what the moments that it waited for showed.
+/// The conversations of all connections that are opened, after the last moment.
 fn judged(alloc: Global, index: &Index) -> Result<Vec<Conversation>, Memory>
     requires run { history_fault_of index.now.lines.now ≡ None }
     ensures stand { IfOk result (λ v. AreJudged index.now.lines.now v.items) }
@@ -129,7 +129,7 @@ fn lesser(found: Option<u32>, connection: u32) -> Option<u32>
     }
 }
 
-/// The least connection found so far, with a conversation more.
+/// The least connection found so far whose conversation is not lawful and fresh, with one more conversation looked at.
 fn with_verdict(found: Option<u32>, conversation: &Conversation) -> Option<u32>
     ensures { (lines : List AnyLine) (cs : List ℕ) → IsStanding lines (length lines + 1) conversation.now → IsLeastOf (IsLawfulAndFresh lines) cs found → IsLeastOf (IsLawfulAndFresh lines) (cs ++ conversation.now.connection ∷ []) result }
 {
@@ -161,7 +161,7 @@ fn conversation_fault(alloc: Global, lines: &[TranscriptLine]) -> Result<Option<
     Ok(least_unlawful(&conversations))
 }
 
-/// The verdict on a transcript. Without memory there is none.
+/// The verdict on a transcript. The only error is want of memory, and then there is no verdict.
 pub fn judge(alloc: Global, lines: &[TranscriptLine]) -> Result<Verdict, Memory>
     ensures { IfOk result (λ v. IsVerdict lines.now v) }
 {

@@ -13,7 +13,8 @@ pub fn one_verdict()
     ensures { (lines : List TranscriptLine) (a b : SomeVerdict) → IsVerdict lines a → IsVerdict lines b → a ≡ b }
 {}
 
-/// The lines of a lawful transcript are a run of the service: a legal history in order, with lawful and fresh conversations.
+/// The lines of a lawful transcript are a run of the service: a legal history, each connection's requests carried out in order, and
+/// lawful and fresh conversations.
 pub fn lawful_transcripts_are_runs()
     ensures { (lines : List TranscriptLine) → IsVerdict lines Lawful → (is_legal lines ≡ true) × (is_ordered lines ≡ true) × ((c : ℕ) → IsLawfulAndFresh lines c) }
 {}

@@ -1,13 +1,13 @@
-//! The verdict on a transcript: whether the service could have made it, and else the first thing that tells.
+//! The verdict on a transcript: lawful, or the first thing that shows that the service could not have made it.
 //!
 //! `specs/Verdicts.antt` defines it. The crate `zk_legal` finds the faults of the history and of the order; [`judge`] goes on
-//! with the conversations. Each is judged by its least walk, reply by reply: one that repeats its place needs no state, and any
-//! other is tried as of two moments at most.
+//! with the conversations. Each is judged by its least walk, reply by reply. A reply that a frame gets without the tree needs no
+//! state, and any other is tried as of two moments at most.
 //!
 //! The states are gone through once: each conversation stands in the list of the moment that its next reply waits for, and at a
 //! moment only those of its list are looked at. Look-ups are by tables, and what each update did is kept. So the time is that of
 //! the lines, the packets and the notices, however many connections there are, but for the cost of the tree and for watches: a
-//! connection that has some armed goes through the updates up to each of its replies by itself, and each reply copies them.
+//! connection that has watches goes by itself through the updates up to each of its replies, and each reply copies its watches.
 #![tactic(auto)]
 
 mod agenda;

@@ -16,7 +16,7 @@ use zk_transcript::TranscriptLine;
 use zk_wire::{write_notice, write_reply};
 use zx_base::{Bytes, Memory};
 
-/// A packet, and the first place where its line may stand.
+/// A packet that is due, and the first place where its line may stand; or a packet that was sent, and the place of its line.
 pub type Due = (usize, Bytes);
 
 /// Adds the packet of a line, where it is sent to a connection.
@@ -52,7 +52,7 @@ pub fn first_packet(packets: &[Due]) -> Option<(usize, &[u8])>
     Some((*place, bytes.as_slice()))
 }
 
-/// The packets behind the first ones, of which there are so many.
+/// The packets after the first ones, of which there are `taken`.
 pub fn packets_behind(packets: &Vec<Due>, taken: usize) -> &[Due]
     requires { taken ≤ length packets.now.items }
     ensures { result.now ≡ drop taken packets.now.items }
@@ -92,7 +92,7 @@ pub fn add_notices(
     Ok(())
 }
 
-/// The byte at a place of a packet, or 0 behind its end.
+/// The byte at a place of a packet, or 0 after its end.
 fn byte_at(packet: &[u8], place: usize) -> u8
     ensures { result ≡ slice_index packet.now place }
 {
@@ -103,7 +103,7 @@ fn byte_at(packet: &[u8], place: usize) -> u8
     }
 }
 
-/// The eight bytes behind a packet's length and its xid.
+/// The eight bytes after a packet's length and its xid.
 fn zxid_bytes(packet: &[u8]) -> [u8; 8]
     ensures { from_be_bytes w64 result ≡ from_be_bytes w64 (take 8 (drop 8 packet.now)) }
 {
@@ -119,7 +119,7 @@ fn zxid_bytes(packet: &[u8]) -> [u8; 8]
     ]
 }
 
-/// The zxid in a packet's header, behind its length and its xid.
+/// The zxid in a packet's header, after its length and its xid (`ReplyHeader`); a notice's is -1.
 #[tactic(auto, unfolding(zk_least::specs::LeastWalk::zxid_in))]
 pub fn zxid_in(packet: &[u8]) -> i64
     ensures { result ≡ zxid_in_of packet.now }
@@ -127,7 +127,7 @@ pub fn zxid_in(packet: &[u8]) -> i64
     u64::from_be_bytes(zxid_bytes(packet)).cast_signed()
 }
 
-/// The four bytes behind a reply's zxid.
+/// The four bytes after a reply's zxid.
 fn code_bytes(packet: &[u8]) -> [u8; 4]
     ensures { from_be_bytes w32 result ≡ from_be_bytes w32 (take 4 (drop 16 packet.now)) }
 {
@@ -139,7 +139,7 @@ fn code_bytes(packet: &[u8]) -> [u8; 4]
     ]
 }
 
-/// The code in a reply's header, behind its zxid.
+/// The code in a reply's header, after its zxid (`ReplyHeader`).
 #[tactic(auto, unfolding(zk_least::specs::LeastMoments::code_in))]
 pub fn code_in(packet: &[u8]) -> i32
     ensures { result ≡ code_in_of packet.now }
@@ -159,7 +159,7 @@ pub fn next_reply(packets: &[Due]) -> Option<&[u8]>
     None
 }
 
-/// Whether a packet is the one that is due, and does not stand before its place.
+/// Whether a packet is the one that is due, and does not stand before the first place where it may.
 fn is_given(due: &Due, packet: &Due) -> bool
     ensures { result ≡ (nat_le due.now.0 packet.now.0 && bytes_eq due.now.1 packet.now.1) }
 {
@@ -168,7 +168,7 @@ fn is_given(due: &Due, packet: &Due) -> bool
     *first <= *place && wanted.is(found.as_slice())
 }
 
-/// Whether these packets come next, each not before its place.
+/// Whether the packets that are due come next, none before the first place where it may stand.
 pub fn come_first(due: &[Due], packets: &[Due]) -> bool
     ensures within { IsTrue result → length due.now ≤ length packets.now }
     ensures rest { behind due.now packets.now ≡ (if result then Some (drop (length due.now) packets.now) else None) }
@@ -184,7 +184,7 @@ pub fn come_first(due: &[Due], packets: &[Due]) -> bool
     true
 }
 
-/// Whether the next notice is another update's.
+/// Whether the next notice, if there is one, is another update's.
 fn is_apart(place: usize, later: &[Due]) -> bool
     ensures { (bytes : List ℕ) → result ≡ is_apart_of (place, bytes) later.now }
 {
@@ -194,7 +194,7 @@ fn is_apart(place: usize, later: &[Due]) -> bool
     }
 }
 
-/// Whether the packets are the front of a queue, up to the last notice of an update.
+/// Whether the packets are the front of a queue, which ends with the last notice of an update.
 pub fn is_front(packets: &[Due], queue: &[Due]) -> bool
     ensures { result ≡ is_front_of packets.now queue.now }
 {

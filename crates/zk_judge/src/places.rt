@@ -15,7 +15,7 @@ fn is_lapse_of(line: &TranscriptLine, session: i64) -> bool
     }
 }
 
-/// The moment right behind the first lapse of a session from a moment on, or 0.
+/// The moment right after the first lapse of a session from a moment on, or 0 where there is none.
 pub fn lapsed_from(lines: &[TranscriptLine], session: i64, moment: usize) -> usize
     ensures { result ≡ lapsed_from_of session moment lines.now }
 {

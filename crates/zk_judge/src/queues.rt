@@ -1,4 +1,4 @@
-//! The updates that a client is told of before a reply that repeats its place.
+//! The updates that a client is told of before a reply that its frame gets without the tree.
 
 ghost use Rattle.std.specs.Prelude.{◌≡◌, ◌<◌, ◌≤◌, Some, drop, length, option_map, IfOk, IfSome};
 ghost use Rattle.zk_least.specs.LeastQueues.{told_through as told_through_of, told_up_to as told_up_to_of, then_plainly};
@@ -16,7 +16,7 @@ use crate::walks::given;
 use std::alloc::Global;
 use zx_base::Memory;
 
-/// A client that is told up to an update, where something is armed before it.
+/// The step that tells a client all updates up to the one at `place`, where something is still armed before that one.
 fn told_through(
     alloc: Global,
     index: &Index,
@@ -48,7 +48,7 @@ fn told_through(
     }))
 }
 
-/// A client that is told up to the zxid of a reply, unless its place is not below it.
+/// The step that tells a client all updates up to the zxid of a reply; one without packets, where it has been told of that zxid.
 fn told_up_to(
     alloc: Global,
     index: &Index,
@@ -94,7 +94,7 @@ fn told_given(
     Ok(given(told, packets))
 }
 
-/// The next frame's answer without the tree, where it comes next behind what a client was told.
+/// The next frame's answer without the tree, where it comes next after what the client was told.
 fn answered_plainly(
     alloc: Global,
     index: &Index,
@@ -117,7 +117,7 @@ fn answered_plainly(
     }
 }
 
-/// The next reply, which repeats its place, behind what is told before it.
+/// The next reply, which its frame gets without the tree, after what is told before it.
 pub fn plain_reply_given(
     alloc: Global,
     index: &Index,

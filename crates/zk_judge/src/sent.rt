@@ -10,7 +10,7 @@ use std::collections::BTreeMap;
 use zk_transcript::TranscriptLine;
 use zx_base::Memory;
 
-/// The places of the packets of a transcript, in order, by the connections that they were sent to.
+/// For each connection the places of the packets that it was sent, in order.
 #[derive(Debug, Drop)]
 pub struct Sent {
     places: BTreeMap<u32, Vec<usize>>,
@@ -50,7 +50,7 @@ impl Sent {
         }
     }
 
-    /// One packet more, at a place behind the others.
+    /// The table with one more packet, at a place after the others.
     fn noted(self, alloc: Global, connection: u32, place: usize) -> Result<Sent, Memory>
         ensures { IfOk result (λ s. (c : ℕ) → places_in s c ≡ (if connection == c then places_in self c ++ place ∷ [] else places_in self c)) }
     {
@@ -62,7 +62,7 @@ impl Sent {
         Ok(Sent { places })
     }
 
-    /// One line more, at a place behind the others.
+    /// The table with one more line, at a place after the others.
     fn with_line(self, alloc: Global, place: usize, line: &TranscriptLine) -> Result<Sent, Memory>
         ensures { IfOk result (λ s. (c : ℕ) → places_in s c ≡ places_in self c ++ sent_from c place (line.now ∷ [])) }
     {
@@ -83,7 +83,7 @@ impl Sent {
         Ok(sent)
     }
 
-    /// The packets of a connection with their places, in order. These are the lines that the table was made of.
+    /// The packets of a connection with their places, in order; `lines` are the lines that the table was made of.
     pub fn packets_of(
         &self,
         alloc: Global,

@@ -36,6 +36,7 @@ fn is_auth_refusal(answer: &Reply) -> bool
     }
 }
 
+/// The later of two places or moments.
 pub fn later_of(first: usize, second: usize) -> usize
     ensures { result ≡ later_of_of first second }
 {
@@ -75,7 +76,7 @@ fn plain_answer(
     })
 }
 
-/// A frame is answered without the tree.
+/// The step that answers a frame without the tree.
 fn answer_frame_plainly(
     alloc: Global,
     walker: &Walker,
@@ -96,7 +97,7 @@ fn answer_frame_plainly(
     }
 }
 
-/// The next frame is answered without the tree, which repeats the place.
+/// The step that answers the next frame without the tree; the reply repeats the walker's zxid.
 pub fn answer_plainly(
     alloc: Global,
     index: &Index,
@@ -114,8 +115,8 @@ pub fn answer_plainly(
     }
 }
 
-/// What is due with an answer as of the moment behind these lines: the notices, from right behind the last update on, and the
-/// reply, which stands neither before its moment nor before its frame.
+/// What is due with an answer as of a moment: what fired, the notices of the answer from place `since` on, and the reply from place
+/// `first` on.
 fn reply_due(
     alloc: Global,
     fired: Vec<Due>,
@@ -133,7 +134,7 @@ fn reply_due(
     Ok(due)
 }
 
-/// The moment right behind the update of a zxid among these first lines, or 0.
+/// The moment right after the update with a zxid among these first lines, or 0 where there is none.
 fn since_of(index: &Index, past: &[TranscriptLine], zxid: i64) -> usize
     requires { IsFront past.now index.now.lines.now }
     ensures { result ≡ after_update_of zxid past.now }
@@ -144,7 +145,7 @@ fn since_of(index: &Index, past: &[TranscriptLine], zxid: i64) -> usize
     }
 }
 
-/// An answer as of the moment behind these lines, which lead to a state with this zxid.
+/// The step that answers a frame as of the moment after the lines `past`, which lead to a state with this zxid.
 fn reply_step(
     alloc: Global,
     index: &Index,
@@ -186,7 +187,7 @@ fn reply_step(
     })
 }
 
-/// Whether a frame may be answered as of the moment behind these lines, which lead to this state.
+/// Whether a frame may be answered as of the moment after the lines `past`, which lead to `state`.
 fn may_answer(past: &[TranscriptLine], state: &State, walker: &Walker, frame: &FrameRead) -> bool
     requires { state.now ≡ after past.now }
     ensures { result ≡ (may_answer_at past.now (walker_of walker.now) && has_header_of (frame_as frame.now)) }
@@ -194,7 +195,7 @@ fn may_answer(past: &[TranscriptLine], state: &State, walker: &Walker, frame: &F
     walker.moment <= past.len() && walker.zxid <= state.zxid() && has_header(frame)
 }
 
-/// The answer, where something is told.
+/// The step that answers a frame as of the moment after the lines `past`, where something is told.
 fn reply_step_if(
     alloc: Global,
     index: &Index,
@@ -221,7 +222,8 @@ fn reply_step_if(
     }
 }
 
-/// A frame that may be answered as of the moment behind these lines, which lead to this state, is answered after what fired.
+/// The step that answers a frame after what fired, as of the moment after the lines `past`, which lead to `state`. The frame may
+/// be answered then.
 fn answer_fired(
     alloc: Global,
     index: &Index,
@@ -257,7 +259,8 @@ fn answer_fired(
     )
 }
 
-/// The same, behind what the updates above the place fire.
+/// The step that answers a frame after what the updates above the walker's zxid fire, as of the moment after the lines `past`,
+/// which lead to `state`. The frame may be answered then.
 fn answer_behind(
     alloc: Global,
     index: &Index,
@@ -284,7 +287,7 @@ fn answer_behind(
     )
 }
 
-/// A frame is answered as of the moment behind these lines, which lead to this state.
+/// The step that answers a frame as of the moment after the lines `past`, which lead to `state`, where it may be answered then.
 fn answer_frame_as_of(
     alloc: Global,
     index: &Index,
@@ -312,7 +315,7 @@ fn answer_frame_as_of(
     answer_behind(alloc, index, past, state, party, walker, own, place, &frame)
 }
 
-/// The next frame is answered as of a moment, whose state this is.
+/// The step that answers the next frame as of a moment; `state` is the state at that moment.
 pub fn answer_as_of(
     alloc: Global,
     index: &Index,

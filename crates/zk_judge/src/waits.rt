@@ -1,4 +1,4 @@
-//! A conversation as far as it is judged: the replies that need no state are behind it, and the next one waits for a moment.
+//! A conversation as far as it is judged: the replies that need no state were gone over, and the next one waits for a moment.
 
 ghost use Rattle.std.specs.Prelude.{◌≡◌, ◌⊎◌, ◌+◌, ◌-◌, ◌<◌, ◌≤◌, ◌<ℤ◌, ◌∷◌, pos, None, drop, length, option_to_list, IfOk, IfSome};
 ghost use Rattle.zk_transcript.specs.History.{state_at};
@@ -25,9 +25,10 @@ use zx_base::Memory;
 pub struct Wait {
     pub party: Party,
     pub walker: Walker,
-    /// What it was sent behind the welcome, and how many of these packets it has taken.
+    /// What it was sent, the welcome included, and how many of these packets have been accounted for.
     pub packets: Vec<Due>,
     pub taken: usize,
+    /// The moment that is tried next, and the one that is tried after it.
     pub first: usize,
     pub second: Option<usize>,
 }
@@ -35,7 +36,9 @@ pub struct Wait {
 /// Whether the least walk gives the packets, or what has to be tried for it.
 #[derive(Drop)]
 pub enum Walked {
+    /// The least walk gives the packets, or it does not.
     Ends(bool),
+    /// A reply has to be tried.
     Waits(Wait),
 }
 
@@ -51,7 +54,7 @@ impl Walked {
     }
 }
 
-/// Waits for the first of two moments that is allowed by its number.
+/// Waits for the first of two moments that is neither before `from` nor after the last line.
 fn wait_between(
     index: &Index,
     from: usize,
@@ -94,7 +97,7 @@ fn wait_between(
     }
 }
 
-/// Waits for the moments to try for the next reply, which does not repeat the place.
+/// Waits for the moments to try for the next reply, which its frame does not get without the tree.
 fn wait_for_tries(
     index: &Index,
     from: usize,
@@ -121,8 +124,8 @@ fn wait_for_tries(
     }
 }
 
-/// Goes on over the replies that repeat their place, up to one that needs a state. No reply is answered as of a moment before
-/// `from`.
+/// Goes on over the replies that frames get without the tree, up to one that needs a state. No reply may be answered as of a
+/// moment before `from`.
 pub fn settle(
     alloc: Global,
     index: &Index,
@@ -184,7 +187,7 @@ fn retry(index: &Index, wait: Wait) -> Walked
     }
 }
 
-/// Tries the next reply as of its first moment, whose state this is.
+/// Tries the next reply as of its first moment; `state` is the state then.
 fn try_first(alloc: Global, index: &Index, state: &State, wait: Wait) -> Result<Walked, Memory>
     requires run { history_fault index.now.lines.now ≡ None }
     requires stands { IsWait index.now.lines.now wait.first wait }
@@ -217,7 +220,7 @@ fn try_first(alloc: Global, index: &Index, state: &State, wait: Wait) -> Result<
     }
 }
 
-/// Answers the replies of a moment, whose state this is.
+/// Answers the replies that are answered as of a moment; `state` is the state then.
 fn answer_all(
     alloc: Global,
     index: &Index,
@@ -246,7 +249,7 @@ fn answer_all(
     }
 }
 
-/// Answers the replies of a moment, whose state this is, where the next one waits for it.
+/// Answers the replies that are answered as of a moment, if the next one waits for it; `state` is the state then.
 pub fn walk_on(
     alloc: Global,
     index: &Index,

@@ -8,7 +8,7 @@ use crate::packets::Due;
 use std::alloc::Global;
 use zk_answers::Watches;
 
-/// The connection whose conversation is judged: its number and its session.
+/// The connection whose conversation is judged: its number, and the session that its own line attached to it.
 #[derive(Clone, Copy)]
 pub struct Party {
     pub connection: u32,
@@ -18,7 +18,7 @@ pub struct Party {
 /// How far a connection has come.
 #[derive(Drop)]
 pub struct Walker {
-    /// The zxid up to which the client has been told, and the moment right behind that update.
+    /// The zxid up to which the client has been told, and the moment right after that update.
     pub zxid: i64,
     pub since: usize,
     pub watches: Watches,
@@ -26,7 +26,7 @@ pub struct Walker {
     pub next: u64,
     /// The moment of the last reply that had one.
     pub moment: usize,
-    /// No request is answered any more.
+    /// No further request is answered.
     pub is_over: bool,
 }
 
@@ -46,7 +46,7 @@ impl Walker {
     }
 }
 
-/// A step: how far the connection has come with it, and the packets that are due with it.
+/// A step of a walk: how far it brings the connection, and the packets that are due with it.
 #[derive(Drop)]
 pub struct Step {
     pub walker: Walker,

@@ -1,4 +1,4 @@
-//! The replies of a connection: those that repeat its place, and the moments of the others.
+//! The replies of a connection: those that frames get without the tree, and the moments to try for the others.
 
 ghost use Rattle.std.specs.Prelude.{◌≡◌, ◌<◌, ◌≤◌, ◌∷◌, [], Some, None, if◌then◌else◌, length, option_map, option_to_list, IfOk, IfSome};
 ghost use Rattle.std.specs.Ordering.{int_eq};
@@ -23,7 +23,7 @@ use zk_history::State;
 use zk_model::code::SESSION_EXPIRED;
 use zx_base::Memory;
 
-/// Whether a reply is a frame's answer without the tree.
+/// Whether a reply is a frame's answer without the tree, with whatever zxid.
 fn is_plain(alloc: Global, bytes: &[u8], reply: &[u8]) -> Result<bool, Memory>
     ensures { IfOk result (λ b. b ≡ repeats_of (Some (0, bytes.now)) reply.now) }
 {
@@ -37,7 +37,7 @@ fn is_plain(alloc: Global, bytes: &[u8], reply: &[u8]) -> Result<bool, Memory>
     }
 }
 
-/// Whether a reply is the next frame's answer without the tree.
+/// Whether a reply is the next frame's answer without the tree, with whatever zxid.
 pub fn repeats(
     alloc: Global,
     index: &Index,
@@ -53,7 +53,7 @@ pub fn repeats(
     }
 }
 
-/// A step, where the packets that are due with it come next.
+/// The step, where the packets that are due with it come next.
 pub fn given(step: Option<Step>, packets: &[Due]) -> Option<Step>
     ensures within { IfSome result (λ s. length s.due.items ≤ length packets.now) }
     ensures step { option_map (left_by packets.now) result ≡ given_of packets.now (option_map step_of step) }
@@ -70,7 +70,8 @@ pub fn given(step: Option<Step>, packets: &[Due]) -> Option<Step>
     }
 }
 
-/// The answer to the next frame as of a moment, whose state this is, where it is fresh and its packets come next.
+/// The step that answers the next frame as of a moment, where the moment is after the frame's line and the packets come next;
+/// `state` is the state at that moment.
 pub fn allowed(
     alloc: Global,
     index: &Index,
@@ -98,7 +99,7 @@ pub fn allowed(
     }
 }
 
-/// The second moment to try for a reply: right behind a lapse, where it says that the session has expired.
+/// The second moment to try for a reply, where it says that the session has expired: right after the session's lapse.
 fn second_moment(
     index: &Index,
     party: Party,
@@ -116,7 +117,7 @@ fn second_moment(
     }
 }
 
-/// The moments to try for a reply to a frame at a place whose request has no line of its own.
+/// The first moment to try for a reply to the frame at a place, and the second, where its request has no update of its own.
 fn open_moments(
     index: &Index,
     party: Party,
