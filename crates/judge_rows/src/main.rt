@@ -1,12 +1,13 @@
 //! Judges transcripts, and compares each verdict with the one that stands beside it.
 //!
 //! `transcripts/NAME.transcript` is a transcript, and `transcripts/NAME.verdict` its verdict, in the words of the command `judge`.
-//! Each is spelled from the records of zookeeper.jute and the rules of the Programmer's Guide, without this project's code; a
-//! name that has another in front is that transcript with one thing spoiled. Where `transcripts/NAME.script` stands beside, it is a
-//! script of which the transcript tells; nearly all of these scripts are examples of `replay` too, which runs them. `count` says how
+//! Each is spelled from the records of zookeeper.jute and the rules of the Programmer's Guide, without this project's code. A name
+//! that begins with another name is that one's transcript with one thing spoiled. Where there is a `transcripts/NAME.script`, the
+//! transcript tells of that script; nearly all of these scripts are examples of `replay` too, which runs them. `count` says how
 //! many transcripts there are, so that none gets lost.
 //!
-//! Nothing is written to standard output. What differs is told on standard error, and the status is then 1.
+//! Nothing is written to standard output. What differs is told on standard error. The status is 1 where a verdict differs, or where
+//! the number of transcripts is not that of `count`.
 #![tactic(auto)]
 
 use anyhow::{Context, Result, bail};
@@ -19,7 +20,7 @@ use zk_lines::{TranscriptFault, read_transcript};
 use zk_transcript::TranscriptLine;
 use zx_base::Memory;
 
-/// Looks in the folder that its first argument names, and without one in the present one.
+/// Looks in the folder that the first argument names, or in the present one without one.
 fn main(rt: HostRuntime) -> Result<ExitCode> {
     let given = env::args(&rt)?.nth(1);
     let root = match &given {
@@ -80,7 +81,7 @@ fn text_of<R: Files + AllocGlobal>(rt: &R, path: &str) -> Result<String> {
     Ok(text)
 }
 
-/// The verdict on a transcript, where it isn't the one beside it.
+/// The verdict on a transcript, where it is not the one that stands beside it.
 fn problem_of<R: Files + AllocGlobal>(rt: &R, path: &str) -> Result<Option<String>> {
     let alloc = rt.alloc();
     let transcript = text_of(rt, format!(in alloc; "{path}.transcript")?.as_str())?;
@@ -96,7 +97,7 @@ fn problem_of<R: Files + AllocGlobal>(rt: &R, path: &str) -> Result<Option<Strin
     })
 }
 
-/// The verdict on a transcript's text.
+/// The verdict on a transcript's text, in the words of the command `judge`.
 fn verdict_on(alloc: Global, text: &[u8]) -> Result<String, Memory> {
     match read_transcript(alloc, text) {
         Ok(lines) => verdict_of(alloc, lines.as_slice()),

@@ -4,14 +4,14 @@
 //! takes; the right side says what comes of each step. Begin is at zxid 2. A step with a number in front is at this zxid:
 //!
 //! - `Z create PATH DATA FLAGS`, `Z delete PATH VERSION`, `Z set PATH DATA VERSION`, `Z check PATH VERSION`, `Z multi PART + PART ..`,
-//!   `Z exists PATH`, `Z data PATH`, `Z children PATH` and `Z children2 PATH`, with ` watch` behind them to arm a watch,
-//!   `Z watches RELATIVE DATAS EXISTS CHILDREN` with commas between paths, `Z ping`: the reply and, behind `told`, the notices
+//!   `Z exists PATH`, `Z data PATH`, `Z children PATH` and `Z children2 PATH`, each with ` watch` at its end to arm a watch,
+//!   `Z watches RELATIVE DATAS EXISTS CHILDREN` with commas between paths, `Z ping`: the reply and, after `told`, the notices
 //!   before it. A word is `-` for nothing, and `ab*3` for `abbb`.
 //! - `Z begins ID CONNECTION TIMEOUT`, `Z attach ID CONNECTION`, `Z closed ID`, `Z reaped ID`, `lapse ID`: what becomes of a session.
-//! - `as ID`, `limit N`: whose requests follow, and how many ephemeral nodes a session may own.
+//! - `as ID`, `limit N`: the session that asks from here on, and how many ephemeral nodes a session may own from here on.
 //! - `node PATH`: czxid, mzxid, pzxid, version, creates and children, or `none`. `session ID`: timeout, connection, zxid of the
 //!   attachment, and `live` or `lapsed`, or `none`. `count`: the last zxid and the number of updates. `seen`: what watches see of
-//!   the last update. `begin MOMENT`: whether a service can begin at this moment, `begun` or `beyond`.
+//!   the last update. `begin NOW`: whether a service can begin at this time, in milliseconds: `begun` or `beyond`.
 #![tactic(auto)]
 
 mod requests;
@@ -26,7 +26,7 @@ use std::env;
 use std::process::ExitCode;
 use zx_base::Memory;
 
-/// Looks in the file that its first argument names, and without one in `machine`.
+/// Reads the file that the first argument names, or `machine` without one. The status is 0 where no row differs.
 fn main(rt: HostRuntime) -> Result<ExitCode> {
     let given = env::args(&rt)?.nth(1);
     let file = match &given {
@@ -51,7 +51,7 @@ impl Rows for Machine {
     }
 }
 
-/// What comes of the steps of a row; None where a step is of no form.
+/// What comes of the steps of a row, or `None` where a step has no known form.
 fn found_in(alloc: Global, left: &str) -> Result<Option<String>, Memory> {
     let mut service = Service::new(alloc)?;
     let mut found = String::new(alloc);

@@ -24,7 +24,7 @@ fn open_acl(alloc: Global) -> Result<Seq<Acl>, Memory> {
     Ok(entries)
 }
 
-/// The bytes of a word: none for `-`, and for `ab*3` the bytes of `abbb`.
+/// The bytes of a word: no bytes for `-`, and for `ab*3` those of `abbb`.
 fn bytes_of(alloc: Global, word: &str) -> Result<Option<Bytes>, Memory> {
     if word == "-" {
         return Ok(Some(Bytes::new(alloc)));
@@ -171,7 +171,7 @@ fn rearming(alloc: Global, rest: Words) -> Result<Option<Request>, Memory> {
     }))
 }
 
-/// `exists PATH`, `data PATH`, `children PATH` or `children2 PATH`, with ` watch` behind it where a watch is armed.
+/// `exists PATH`, `data PATH`, `children PATH` or `children2 PATH`, with ` watch` at its end where a watch is armed.
 fn read_of(alloc: Global, kind: &str, rest: Words) -> Result<Option<Request>, Memory> {
     let mut words = rest;
     let Some(path) = text(alloc, &mut words)? else {
@@ -187,7 +187,7 @@ fn read_of(alloc: Global, kind: &str, rest: Words) -> Result<Option<Request>, Me
     })
 }
 
-/// The request that a row spells; None where it is of no form.
+/// The request that a row spells, or `None` where it has no known form.
 pub fn request_of(alloc: Global, row: &str) -> Result<Option<Request>, Memory> {
     let mut words = Words::new(row);
     match words.word() {

@@ -27,9 +27,10 @@ pub struct Stepped {
     pub said: String,
 }
 
+/// The time of each create, delete, setData and multi, in milliseconds.
 const MOMENT: u64 = 1000;
 
-/// Where a number is beyond its field no row goes on.
+/// The value, or `None` where a number does not fit its field: the row does not go on then.
 fn or_stop<T: Drop>(outcome: Result<T, Fault>) -> Result<Option<T>, Memory> {
     match outcome {
         Ok(value) => Ok(Some(value)),
@@ -45,7 +46,7 @@ fn after_step(alloc: Global, service: Service, word: &str) -> Result<Option<Step
     }))
 }
 
-/// What is told: the reply, and behind `told` the notices that stand before it.
+/// What is told: the reply, and after `told` the notices that come before it.
 fn told_text(alloc: Global, told: &Told) -> Result<String, Memory> {
     let mut text = reply_text(alloc, &told.reply)?;
     if told.notices.len() != 0 {
@@ -72,7 +73,7 @@ impl Service {
         })
     }
 
-    /// One step; None where it is of no form.
+    /// The service after a step, or `None` where the step has no known form.
     pub fn taken(self, alloc: Global, step: &str) -> Result<Option<Stepped>, Memory> {
         let Some((word, rest)) = step.split_once(' ') else {
             return self.shown(alloc, step, "");
@@ -83,7 +84,7 @@ impl Service {
         }
     }
 
-    /// What is shown of the service, and what has no zxid.
+    /// A step without a zxid: one that shows something of the service, `as`, `limit`, `lapse` or `begin`.
     fn shown(self, alloc: Global, word: &str, rest: &str) -> Result<Option<Stepped>, Memory> {
         let mut service = self;
         let said = match word {
@@ -165,7 +166,7 @@ impl Service {
         self.line(alloc, &TranscriptLine::Update(UpdateRec { zxid, kind }))
     }
 
-    /// A line that needs none of the lines before it.
+    /// A step that is a line of a transcript, for which no earlier line is looked up.
     fn line(self, alloc: Global, line: &TranscriptLine) -> Result<Option<Stepped>, Memory> {
         let past = Past::new(alloc, &[]);
         let Some(Applied { state, .. }) = or_stop(apply(alloc, &past, self.state, line))? else {
@@ -245,7 +246,7 @@ impl Service {
         }))
     }
 
-    /// An update is carried out; its own notices stand before its reply.
+    /// A create, delete, setData or multi is carried out; the notices that it gives come before its reply.
     fn committed(
         self,
         alloc: Global,
@@ -283,7 +284,7 @@ impl Service {
     }
 }
 
-/// Whether a service can begin at a moment; the service of the row stays as it is.
+/// Whether a service can begin at a time, in milliseconds; the service of the row stays as it is.
 fn begun(alloc: Global, service: Service, rest: &str) -> Result<Option<Stepped>, Memory> {
     let Ok(now) = rest.parse::<u64>() else {
         return Ok(None);

@@ -70,7 +70,7 @@ fn body_text(alloc: Global, body: &Body) -> Result<String, Memory> {
     }
 }
 
-/// A refusal's code, or what the body says.
+/// A reply: a refusal's code, or what the body shows.
 pub fn reply_text(alloc: Global, reply: &Reply) -> Result<String, Memory> {
     match reply {
         Reply::Refused(code) => Ok(format!(in alloc; "{code}")?),
@@ -102,7 +102,7 @@ fn trigger_text(alloc: Global, trigger: &Trigger) -> Result<String, Memory> {
     Ok(format!(in alloc; "{word} {path}")?)
 }
 
-/// What watches see, `none` where they see nothing.
+/// What watches see, or `none`.
 pub fn trigger_texts(alloc: Global, triggers: &[Trigger]) -> Result<String, Memory> {
     if triggers.is_empty() {
         return Ok(String::from_str(alloc, "none")?);
@@ -127,7 +127,8 @@ pub fn node_text(alloc: Global, tree: &Tree, path: &[u8]) -> Result<String, Memo
     Ok(format!(in alloc; "{czxid} {mzxid} {pzxid} {version} {creates} {children}")?)
 }
 
-/// A session: its timeout, its connection, the zxid of its attachment, and whether it lives, or has another password.
+/// A session: its timeout in milliseconds, its connection, the zxid of its attachment, and `live` or `lapsed`, or `strange` where
+/// its password is not the one that rows give it.
 pub fn session_text(alloc: Global, session: Option<&Session>) -> Result<String, Memory> {
     let Some(session) = session else {
         return Ok(String::from_str(alloc, "none")?);

@@ -21,8 +21,8 @@ pub record IsLeastOpened (P : ℕ → Type 0) (lines : List TranscriptLine) (fou
   pub fails : IsFault P found
   pub passes : (d : ℕ) → is_some (opening d lines) ≡ true → IsBelow d found → P d
 
--- `least` is `found` after c was looked at too: it fails if `found` does, c passes where it is below it, and each number below it is
--- below `found`
+-- `least` is `found` after c was looked at too: it fails if `found` does, c passes where it is below it, and each number below it
+-- is below `found`
 pub record IsLesser (P : ℕ → Type 0) (c : ℕ) (found least : Option ℕ) : Type 0 where
   pub fails : IsFault P found → IsFault P least
   pub passes : IsBelow c least → P c

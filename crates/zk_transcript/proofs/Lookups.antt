@@ -6,7 +6,7 @@ use Rattle.zk_transcript.specs.History.{first_place, first_shown}
 
 -- ---- the first line that shows something
 
--- a line that doesn't show it changes nothing
+-- a line that does not show it changes nothing
 pub first_place-skip : {A : Type 0} (show : TranscriptLine → Option A) (k : ℕ) (ls : List TranscriptLine) (l : TranscriptLine)
     → show l ≡ None → first_place show k (ls ++ l ∷ []) ≡ first_place show k ls
 first_place-skip show k [] l h = rw h

@@ -86,7 +86,7 @@ less Less h = refl
 less Equal h = absurd (cc)
 less Greater h = absurd (cc)
 
--- a number below all those of the entries isn't among them
+-- a number below all those of the entries is not among them
 below_none : (id : ℤ) (es : List (ℤ × Session)) → below_all int_cmp id es ≡ true → find int_cmp id es ≡ None
 below_none id [] h = refl
 below_none id (e ∷ es) h =

@@ -35,7 +35,7 @@ lapsed-zxid : (s : State) (id : ℤ) (o : Option Session) → (lapsed_in s id o)
 lapsed-zxid s id None = refl
 lapsed-zxid s id (Some x) = refl
 
--- the state's zxid doesn't fall
+-- the state's zxid does not fall
 change-zxid : (before : List TranscriptLine) (s : State) (l : TranscriptLine) → 1 ≤ s.updates → is_legal_line before s l ≡ true → s.zxid ≤ℤ (change before s l).zxid
 change-zxid before s (Update u) some h =
     let both = and_parts (may_update before s u.zxid u.kind) (is_next_zxid s u.zxid) h in
