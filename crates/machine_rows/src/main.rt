@@ -3,15 +3,17 @@
 //! A row is LEFT = RIGHT. The left side has steps, with `; ` between them, that a service with one connection of session 17
 //! takes; the right side says what comes of each step. Begin is at zxid 2. A step with a number in front is at this zxid:
 //!
-//! - `Z create PATH DATA FLAGS`, `Z delete PATH VERSION`, `Z set PATH DATA VERSION`, `Z check PATH VERSION`, `Z multi PART + PART ..`,
-//!   `Z exists PATH`, `Z data PATH`, `Z children PATH` and `Z children2 PATH`, each with ` watch` at its end to arm a watch,
-//!   `Z watches RELATIVE DATAS EXISTS CHILDREN` with commas between paths, `Z ping`: the reply and, after `told`, the notices
-//!   before it. A word is `-` for nothing, and `ab*3` for `abbb`.
-//! - `Z begins ID CONNECTION TIMEOUT`, `Z attach ID CONNECTION`, `Z closed ID`, `Z reaped ID`, `lapse ID`: what becomes of a session.
+//! - `Z create PATH DATA FLAGS`, `Z delete PATH VERSION`, `Z set PATH DATA VERSION`, `Z check PATH VERSION`,
+//!   `Z multi PART + PART ..`, `Z exists PATH`, `Z data PATH`, `Z children PATH` and `Z children2 PATH`, each of these four with
+//!   ` watch` at its end to arm a watch, `Z watches RELATIVE DATAS EXISTS CHILDREN` with commas between paths, `Z ping`: the reply
+//!   and, after `told`, the notices before it. A word is `-` for nothing, and `ab*3` for `abbb`.
+//! - `Z begins ID CONNECTION TIMEOUT`, `Z attach ID CONNECTION`, `Z closed ID`, `Z reaped ID`, `lapse ID`: what becomes of a
+//!   session.
 //! - `as ID`, `limit N`: the session that asks from here on, and how many ephemeral nodes a session may own from here on.
 //! - `node PATH`: czxid, mzxid, pzxid, version, creates and children, or `none`. `session ID`: timeout, connection, zxid of the
-//!   attachment, and `live` or `lapsed`, or `none`. `count`: the last zxid and the number of updates. `seen`: what watches see of
-//!   the last update. `begin NOW`: whether a service can begin at this time, in milliseconds: `begun` or `beyond`.
+//!   attachment, and `live` or `lapsed`, or `strange` where its password is another; `none` where it is not open. `count`: the last
+//!   zxid and the number of updates. `seen`: what watches see of the last update. `begin NOW`: whether a service can begin at this
+//!   time, in milliseconds: `begun` or `beyond`.
 #![tactic(auto)]
 
 mod requests;

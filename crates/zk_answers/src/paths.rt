@@ -37,6 +37,7 @@ impl PathSet {
         }
     }
 
+    /// A copy, which takes a step for each path.
     pub fn copy(&self) -> Result<PathSet, Memory>
         ensures { IfOk result (λ s. s ≡ self.now) }
     {

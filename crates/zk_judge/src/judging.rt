@@ -1,4 +1,5 @@
-//! The verdict on a transcript, in two passes over its lines.
+//! The verdict on a transcript. Its states are gone through three times: for a fault of the history, for what each update did, and
+//! for the conversations.
 
 ghost use Rattle.std.specs.Prelude.{◌≡◌, ◌+◌, ◌<◌, ◌≤◌, ◌++◌, ◌∷◌, [], ℕ, List, None, length, IfOk};
 ghost use Rattle.std.specs.List.{All, Contains};

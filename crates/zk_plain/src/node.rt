@@ -6,6 +6,7 @@ use std::alloc::Global;
 use zk_model::{Node, Path};
 use zx_base::{Bytes, Memory};
 
+/// A copy of a node, its data included.
 pub fn copy_node(alloc: Global, node: &Node) -> Result<Node, Memory>
     ensures { IfOk result (λ n. n ≡ node.now) }
 {

@@ -36,6 +36,7 @@ impl<V> Model for PathMap<V> {
 }
 
 impl<V: Drop> PathMap<V> {
+    /// The empty map.
     pub fn new(alloc: Global) -> PathMap<V>
         ensures { result ≡ empty }
     {
@@ -74,6 +75,7 @@ impl<V: Drop> PathMap<V> {
         }
     }
 
+    /// How many paths there are.
     pub fn len(&self) -> usize
         ensures len { result ≡ len self.now }
         ensures small { result < 2 ^ 63 }

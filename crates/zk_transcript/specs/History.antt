@@ -178,7 +178,7 @@ abbrev pub committed : State → ℤ → Option Commit → State
 committed s zxid None = s
 committed s zxid (Some x) = advanced s zxid x.tree x.triggers s.sessions
 
--- the nodes of a session are removed one by one, at one zxid
+-- the tree after these nodes are removed one by one, at one zxid
 abbrev pub removed_all : Tree → List (List ℕ) → ℤ → Tree
 removed_all t ps zxid = fold (λ u p. removed u p zxid) t ps
 

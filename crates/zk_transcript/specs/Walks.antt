@@ -183,8 +183,8 @@ told_as_of past c id x w None = told_by_state (after past) c id x w
 
 -- ---- an answer as of a moment
 
--- the walker and the packets, once it is known what is told. The notices of the updates that the client was not told of come
--- first; the reply stands neither before its moment nor before the line of its frame, at place k
+-- the walker and the packets, once it is known what is told. First come the notices of the updates that the client was not told
+-- of, then those of the answer, and then the reply, which stands neither before its moment nor before the line of its frame, at k
 abbrev pub reply_step : List TranscriptLine → Walker → ℕ → ℤ → List Due → Bool × Told → Walker × List Due
 reply_step past w k xid fired t =
     let z = (after past).zxid in
