@@ -5,9 +5,9 @@
 //! state, and any other is tried as of two moments at most.
 //!
 //! All conversations are judged in one pass over the states: each stands in the list of the moment that its next reply waits for,
-//! and at a moment only those of its list are looked at. Look-ups are by tables, and what each update did is kept. So the time is that of
-//! the lines, the packets and the notices, however many connections there are, but for the cost of the tree and for watches: a
-//! connection that has watches goes by itself through the updates up to each of its replies, and each reply copies its watches.
+//! and at a moment only those of its list are looked at. Look-ups are by tables, and what each update did is kept. So the time is
+//! that of the lines, the packets and the notices, however many connections there are, but for the cost of the tree and for watches:
+//! a connection that has watches goes by itself through the updates up to each of its replies, and each reply copies its watches.
 #![tactic(auto)]
 
 mod agenda;

@@ -1,4 +1,5 @@
--- What fires above a zxid: the first update, and then the rest; and lines without an update change neither what fires nor where an update stands.
+-- What fires above a zxid: the first update, and then the rest. Lines without an update change neither what fires nor where an
+-- update stands.
 use Rattle.std.proofs.Common.{◌≡◌, ℕ, zero, suc, ◌+◌, ◌≤◌, ◌<◌, List, [], ◌∷◌, ◌++◌, length, take, take-take, refl, sym, ap, ◌∙◌, arith, append_assoc, append-nil, Bool, true, false, ℤ}
 use Rattle.std.specs.Prelude.{Option, Some, None, slice_get}
 use Rattle.std.specs.Ordering.{int_eq}

@@ -22,7 +22,7 @@ use Rattle.zk_least.proofs.ChoiceCounts.{above, told-less, least-step-law}
 use Rattle.zk_least.proofs.Queues.{before-end, unarmed-fires, none-fires, behind-first}
 use Rattle.zk_least.proofs.RepeatedPlaces.{told_first, tell-unarmed, tell-last, tell-next}
 
--- ---- notices after a place
+-- ---- notices that are due later than at a place
 
 abbrev are_later : ℕ → List Due → Bool
 are_later n ds = list_all (λ (d : Due). nat_lt n d.0) ds
@@ -48,7 +48,7 @@ from-later full p n k (l ∷ ls) x a h =
     (then-later full n k (is_above p l) x a (λ b. let lt = h 0 l refl b in omega (arith, lt)))
     (λ j m e b. let lt = h (suc j) m e b in omega (arith, lt))
 
--- what the updates after a place fire stands after it
+-- what the updates above a zxid fire is due later than the notices of the update with that zxid
 fired-later : (lines : List TranscriptLine) (p : ℤ) (e : ℕ) (y : ℤ) (w : Watches) → is_legal lines ≡ true → IsAbove p lines e y → are_later (e + 1) (fired_above lines y w).1 ≡ true
 unfolding fired_above
 fired-later lines p e y w legal a = from-later lines y (e + 1) 0 lines (w, []) refl (λ j l at b. by j l at b (nat_le j e) refl)

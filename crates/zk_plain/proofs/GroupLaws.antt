@@ -94,7 +94,7 @@ no_child path p none = ap (λ o. is_at_path o p) none
 pub none_below : (t : Tree) (p q : Bytes) → is_child p q ≡ false → get (below t p) q ≡ None
 none_below t p q h = get-retain t (is_child p) q ∙ ap (λ b. cond b (get t q) None) h
 
--- a put of no child of p leaves p's children as they were
+-- a put at a path that is no child of p leaves the children of p as they were
 children-put_other : (t : Tree) (p q : Bytes) (n : Node) → is_child p q ≡ false → children (insert t q n) p ≡ children t p
 children-put_other t p q n h = ap (λ (x : Tree). keys x) (retain-insert_out t (is_child p) q n h)
 

@@ -1,4 +1,5 @@
--- What a request makes of a sound tree is sound: a create in each mode, a delete, a setData, several of them, and the removal of many nodes.
+-- What a request makes of a sound tree is sound: a create in each mode, a delete, a setData, several of them, and the removal of
+-- many nodes.
 use Rattle.std.proofs.Common.{◌≡◌, ◌≢◌, ℕ, ℤ, pos, ◌+◌, ◌<◌, ◌≤◌, Bool, true, false, not, ◌&&◌, ◌||◌, length, List, [], ◌∷◌, ◌++◌, Option, Some, None, refl, sym, ◌∙◌, inl, inr, arith, ◌+ℤ◌}
 use Rattle.std.specs.Prelude.{◌≤ℤ◌, IsTrue, ⊤, nat_le, nat_lt, nat_abs, if◌then◌else◌, ◌==◌}
 use Rattle.std.specs.List.{AllByRecursion, flat_map}

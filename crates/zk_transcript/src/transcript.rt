@@ -58,9 +58,9 @@ pub enum Cause {
     ReadFault,
     /// The client's stream could not be written.
     WriteFault,
-    /// A length out of range stands at this place.
+    /// Byte `place` of the stream begins a length that is out of range.
     BadLength { place: u64, length: i32 },
-    /// A frame too short for a header, or an unreadable connect, stands at this place.
+    /// Byte `place` of the stream begins a frame of fewer than 8 bytes, or a first frame that is no connect.
     NoHeader { place: u64 },
     /// The client sent an `auth` with a scheme that is not served.
     AuthRefused,
