@@ -1,8 +1,8 @@
 //! The state of the service after the lines of a transcript.
 //!
-//! [`after`] goes over the lines and [`change`] takes one of them, in place; their contracts are the definitions of those names
-//! in `zk_transcript`. What a line needs of the lines before it is looked up in the tables of [`Past`]. The judge of transcripts
-//! stands on this crate, the service does not.
+//! [`change`] takes one line, in place, and a [`Cursor`] goes over them; their contracts are the definitions in `zk_transcript`.
+//! What a line needs of the lines before it is looked up in the tables of [`Past`]. The judge of transcripts stands on this
+//! crate, the service does not.
 #![tactic(auto)]
 
 mod attachments;
@@ -11,7 +11,6 @@ mod effects;
 mod ended;
 mod firsts;
 mod lines;
-mod moments;
 mod outcome;
 mod past;
 mod requests;
@@ -24,11 +23,9 @@ mod zxids;
 pub use cursor::Cursor;
 pub use effects::Effects;
 pub use lines::{Applied, apply, change, planned_commit};
-pub use moments::{after, state_at};
 pub use outcome::{Change, Commit};
 pub use past::Past;
 pub use requests::commit;
 pub use session::Session;
-pub use shown::{connect, frame, frame_shown};
 pub use state::State;
 pub use zk_plain::Fault;

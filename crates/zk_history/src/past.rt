@@ -171,13 +171,6 @@ impl<'a> Past<'a> {
         Ok(past)
     }
 
-    /// The lines before the place.
-    pub fn lines(&self) -> &'a [TranscriptLine]
-        ensures { result.now ≡ lines_of self.now }
-    {
-        &self.all[..self.len]
-    }
-
     /// The bytes of a frame; frame 0 is the connect.
     pub fn frame(&self, connection: u32, index: u64) -> Option<&'a [u8]>
         ensures { option_map (λ b. b.now) result ≡ frame connection index (lines_of self.now) }

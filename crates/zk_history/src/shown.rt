@@ -1,7 +1,7 @@
 //! What a line of a transcript shows of a connection, and the first line that shows it.
 
 ghost use Rattle.std.specs.Prelude.{◌≡◌, option_map, IfOk};
-ghost use Rattle.zk_transcript.specs.History.{open_shown, frame_shown, frame, connect, request, asked_in};
+ghost use Rattle.zk_transcript.specs.History.{open_shown, frame_shown, connect, request, asked_in};
 ghost use Rattle.zk_transcript.specs.Conversations.{close_shown};
 ghost use Rattle.zk_transcript.specs.Legal.{attach_in, attach_shown};
 ghost use Rattle.zk_transcript.specs.Walks.{own_update_shown};
@@ -108,18 +108,6 @@ pub fn own_update_shown(line: &TranscriptLine, connection: u32, index: u64) -> O
     }
 }
 
-/// The bytes of a connection's frame; frame 0 is the connect. Goes over the lines.
-pub fn frame(lines: &[TranscriptLine], connection: u32, index: u64) -> Option<&[u8]>
-    ensures { option_map (λ b. b.now) result ≡ frame connection index lines.now }
-{
-    for line in lines {
-        if let Some(bytes) = frame_shown(line, connection, index) {
-            return Some(bytes);
-        }
-    }
-    None
-}
-
 /// The connect request that a frame's bytes spell, if they spell one.
 fn connect_of(alloc: Global, bytes: &[u8]) -> Result<Option<ConnectRequest>, Memory>
     ensures { IfOk result (λ r. r ≡ read_connect bytes.now) }
@@ -128,20 +116,6 @@ fn connect_of(alloc: Global, bytes: &[u8]) -> Result<Option<ConnectRequest>, Mem
         Ok(request) => Ok(Some(request)),
         Err(WireFault::Memory) => Err(Memory),
         Err(_) => Ok(None),
-    }
-}
-
-/// The connect request of a connection, where it can be read. Goes over the lines.
-pub fn connect(
-    alloc: Global,
-    lines: &[TranscriptLine],
-    connection: u32,
-) -> Result<Option<ConnectRequest>, Memory>
-    ensures { IfOk result (λ r. r ≡ connect connection lines.now) }
-{
-    match frame(lines, connection, 0) {
-        Some(bytes) => connect_of(alloc, bytes),
-        None => Ok(None),
     }
 }
 
