@@ -23,7 +23,7 @@ present-grown s [] = refl
 present-grown s (c ∷ cs) =
     present-is (grown s (c ∷ cs)) ∙ keys_more s.revisions (c ∷ cs) ∙ ap (λ (m : Keys). after_changes (revision s +ℤ pos 1) m (c ∷ cs)) (sym (present-is s))
 
--- and those that it had at the revisions before
+-- a store that grew has the keys of each earlier revision as they were
 pub earlier-grown : (s : Store) (cs : List Change) (r : ℕ) → r ≤ length s.revisions → store_at (grown s cs) r ≡ store_at s r
 unfolding store_at
 earlier-grown s [] r le = refl

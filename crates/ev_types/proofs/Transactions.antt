@@ -55,7 +55,7 @@ reads_from : (s : Store) (r : ℤ) (m : Keys) (qs : List RangeReq) → acts_from
 reads_from s r m [] = refl
 reads_from s r m (q ∷ qs) = ap (then_done (one_act s m (act.Range q))) (reads_from s r m qs)
 
--- they change nothing, and each answers what it finds
+-- operations that only read change nothing, and each answers what it finds
 pub worked-reads : (s : Store) (qs : List RangeReq) → worked s (map act.Range qs) ≡ record { changes = []; parts = map (λ (q : RangeReq). part.Range (found q (looked_at s (present s) q.revision))) qs }
 unfolding worked
 worked-reads s qs = reads_from s (revision s +ℤ pos 1) (present s) qs

@@ -1,5 +1,6 @@
 -- What an etcd denies, each with its cause (etcd's server: `ErrLeaseExists`, `ErrLeaseNotFound`, `ErrFutureRev`,
--- `ErrCompacted`, `ErrTooManyOps`, `ErrDuplicateKey`); a full store is this project's. A denied ask changes nothing.
+-- `ErrCompacted`, `ErrTooManyOps`, `ErrDuplicateKey`); a full store is this project's. A denied ask changes nothing. Denials for
+-- a quota, for the bytes of a request or for the seconds of a lease are left out.
 use Rattle.std.specs.Prelude.{ℕ, ℤ, pos, Bool, false, not, ◌&&◌, ◌||◌, List, [], ◌∷◌, length, nat_lt, int_lt, if◌then◌else◌, Option, Some, None, is_some}
 use Rattle.std.specs.List.{list_any}
 use Rattle.std.specs.Ordering.{int_eq}
@@ -20,15 +21,15 @@ is_lease id = int_lt (pos 0) id
 abbrev pub has_lease : Store → ℤ → Bool
 has_lease s id = is_lease id && is_some (get s.leases id)
 
--- what a put names is neither 0 nor a lease that is there
+-- the number is neither 0 nor that of a lease that is there
 abbrev pub lacks_lease : Store → ℤ → Bool
 lacks_lease s lease = not (int_eq lease (pos 0)) && not (has_lease s lease)
 
--- a range names a revision above the store's
+-- the revision is above the store's
 abbrev pub is_future : Store → ℤ → Bool
 is_future s r = int_lt (revision s) r
 
--- or one below the floor, which is at least 0; 0 names the present
+-- the revision is below the floor, and is not 0, which names the present
 abbrev pub is_compacted : Store → ℤ → Bool
 is_compacted s r = not (int_eq r (pos 0)) && int_lt r s.floor
 
@@ -38,11 +39,13 @@ names_missing s (act.Put k v lease) = lacks_lease s lease
 names_missing s (act.Delete k) = false
 names_missing s (act.Range q) = is_future s q.revision || is_compacted s q.revision
 
+-- whether an operation puts or deletes the key
 abbrev pub writes : Bytes → Act → Bool
 writes k (act.Put q v lease) = same k q
 writes k (act.Delete q) = same k q
 writes k (act.Range q) = false
 
+-- whether an operation puts the key
 abbrev pub puts : Bytes → Act → Bool
 puts k (act.Put q v lease) = same k q
 puts k (act.Delete q) = false
@@ -65,7 +68,7 @@ is_long xs = nat_lt max_operations (length xs)
 abbrev pub has_long_list : TxnReq → Bool
 has_long_list t = is_long t.guards || is_long t.success || is_long t.failure
 
--- a change at the last revision
+-- something would change, and the store stands at the last revision
 abbrev pub is_full : Store → List Change → Bool
 is_full s [] = false
 is_full s (c ∷ cs) = not (int_lt (revision s) last_revision)

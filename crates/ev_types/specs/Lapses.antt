@@ -1,4 +1,4 @@
--- What changes a store beside its clients' asks: a lease that lapses, and a put of another user (etcd API reference,
+-- What changes a store besides its clients' asks: a lease that lapses, and a put of another user (etcd API reference,
 -- "Lease": a lease's keys are deleted when it expires).
 use Rattle.std.specs.Prelude.{ℤ, pos, Bool, false, not, ◌&&◌, ◌||◌, List, [], ◌∷◌, map, if◌then◌else◌, Option, Some, None}
 use Rattle.std.specs.Ordering.{int_eq}
@@ -20,7 +20,7 @@ leased_keys s id = keys (retain_keys (present s) (λ k. is_leased id (get (prese
 abbrev pub removals : List Bytes → List Change
 removals ks = map Removes ks
 
--- the lease goes, and all its keys at one revision; None where it isn't there, or where that revision can't be
+-- the lease goes, and all its keys at one revision; None where the lease isn't there, or has keys and no revision is to come
 unfoldable pub lapse : Store → ℤ → Option Store
 lapse s id =
     if not (has_lease s id) || is_full s (removals (leased_keys s id)) then None

@@ -12,15 +12,16 @@ use Rattle.zx_base.specs.Maps.{Bytes, Map, same}
 abbrev pub Keys : Type 0
 Keys = Map Kv
 
--- one byte string stands before another
+-- whether a comes before b in the order of bytes
 abbrev pub comes_before : Bytes → Bytes → Bool
 comes_before a b = is_lt (slice_cmp nat_cmp a b)
 
--- an end of the one byte 0 is no end
+-- whether a key is below an end; the one byte 0 is no end
 abbrev pub is_below : Bytes → Bytes → Bool
 is_below end k = same end (0 ∷ []) || comes_before k end
 
--- whether a key is in a range: it is the key where the end is empty, and else it isn't before the key and is below the end
+-- whether a key is in a range: it is the first key where the end is empty, and otherwise it isn't before the first key and is
+-- below the end
 unfoldable pub is_within : Bytes → Bytes → Bytes → Bool
 is_within from end k = if same end [] then same k from else not (comes_before k from) && is_below end k
 
@@ -28,13 +29,15 @@ is_within from end k = if same end [] then same k from else not (comes_before k 
 unfoldable pub in_range : RangeReq → Keys → List Kv
 in_range r m = values (retain_keys m (is_within r.key r.end))
 
+-- a key as it is given: without its value where only keys are asked for
 abbrev pub shown : Bool → Kv → Kv
 shown keys_only kv = if keys_only then record kv { value = [] } else kv
 
--- the first so many; a limit that isn't above 0 is none
+-- the first so many; a limit that isn't above 0 is no limit
 abbrev pub limited : ℤ → List Kv → List Kv
 limited limit kvs = if int_lt (pos 0) limit then take (nat_abs limit) kvs else kvs
 
+-- what a range answers that has these keys: the first of them, whether some were left out, and how many there are in all
 abbrev pub found_among : RangeReq → List Kv → RangeAns
 found_among r all = record {
   kvs = map (shown r.keys_only) (limited r.limit all);

@@ -9,19 +9,19 @@ use Rattle.ev_types.specs.declared.ask.Act.TheVariants as act
 use Rattle.ev_types.specs.declared.ask.RangeReq.{RangeReq}
 use Rattle.zx_base.specs.Maps.{Bytes}
 
--- one key, as it is then
+-- the range of one key, at present
 abbrev pub key_range : Bytes → RangeReq
 key_range k = record { key = k; end = []; revision = pos 0; limit = pos 0; keys_only = false }
 
 abbrev pub read_key : Bytes → Act
 read_key k = act.Range (key_range k)
 
--- what it finds, by what the key has
+-- what the range of one key finds, by what the key has
 abbrev pub one_found : Option Kv → RangeAns
 one_found None = record { kvs = []; more = false; count = pos 0 }
 one_found (Some kv) = record { kvs = kv ∷ []; more = false; count = pos 1 }
 
--- a range that names no revision
+-- the operation is a range at the present
 abbrev pub is_present_read : Act → Bool
 is_present_read (act.Range q) = int_eq q.revision (pos 0)
 is_present_read (act.Put k v lease) = false

@@ -37,6 +37,7 @@ pub record Store : Type 0 where
 abbrev pub new_store : Store
 new_store = record { revisions = [] ∷ []; leases = empty; floor = pos 0 }
 
+-- the present revision
 abbrev pub revision : Store → ℤ
 revision s = pos (length s.revisions)
 
@@ -85,9 +86,11 @@ abbrev pub mod_of : Option Kv → ℤ
 mod_of None = pos 0
 mod_of (Some kv) = kv.mod_revision
 
+-- the guard's key was put last at the guard's revision, or is absent where that is 0
 abbrev pub holds : Keys → Guard → Bool
 holds m g = int_eq (mod_of (get m g.key)) g.mod_revision
 
+-- all guards hold on the present keys
 abbrev pub succeeds : Store → TxnReq → Bool
 succeeds s t = list_all (holds (present s)) t.guards
 
@@ -121,7 +124,7 @@ acts_from s r m (a ∷ acts) =
 unfoldable pub worked : Store → List Act → Done
 worked s acts = acts_from s (revision s +ℤ pos 1) (present s) acts
 
--- one revision more, unless nothing changed
+-- the store with one revision more, unless nothing changed
 abbrev pub grown : Store → List Change → Store
 grown s [] = s
 grown s (c ∷ cs) = record s { revisions = s.revisions ++ (c ∷ cs) ∷ [] }
@@ -134,11 +137,12 @@ txn_done s t = txn_answer s (succeeds s t) (worked s (chosen (succeeds s t) t))
 
 -- ---- one ask that isn't denied
 
+-- the seconds of a lease, 0 where it isn't there
 abbrev pub seconds : Option ℤ → ℤ
 seconds None = pos 0
 seconds (Some ttl) = ttl
 
--- the next store and the answer
+-- the store after the ask, and the answer
 unfoldable pub carried_out : Store → Ask → Store × Answer
 carried_out s (ask.Txn t) = txn_done s t
 carried_out s (ask.Range q) = (s, answer.Range (revision s) (found q (looked_at s (present s) q.revision)))

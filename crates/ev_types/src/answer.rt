@@ -1,4 +1,4 @@
-//! Answers.
+//! What etcd answers (etcd API reference, "KV", "Lease").
 
 ghost use Rattle.std.specs.Prelude.{◌≡◌};
 ghost use Rattle.ev_types.specs.Answers.{revision_in};
@@ -10,23 +10,24 @@ use zx_base::{Bytes, Seq};
 pub struct Kv {
     pub key: Bytes,
     pub value: Bytes,
-    /// The revision at which the key was made last.
+    /// The revision at which the key was last created.
     pub create_revision: i64,
     /// The revision of its last put.
     pub mod_revision: i64,
-    /// How often it was put since it was made: 1 after that.
+    /// How often the key was put since it was last created, that put included: at least 1.
     pub version: i64,
-    /// Its lease, or 0.
+    /// The number of its lease, 0 for none.
     pub lease: i64,
 }
 
-/// The keys found (`RangeResponse`).
+/// What a range found (`RangeResponse`).
 #[derive(Debug, Drop)]
 pub struct RangeAns {
+    /// In the order of the keys' bytes, at most as many as the limit.
     pub kvs: Seq<Kv>,
     /// Whether the limit left some out.
     pub more: bool,
-    /// How many keys the whole range has.
+    /// How many keys the whole range has, whatever the limit.
     pub count: i64,
 }
 
@@ -34,14 +35,15 @@ pub struct RangeAns {
 #[derive(Debug, Drop)]
 pub enum ActAns {
     Put,
-    /// How many keys the delete removed.
+    /// How many keys were deleted: 0 or 1, since a delete names one key.
     Deleted(i64),
     Range(RangeAns),
 }
 
-/// Each answer has the store's revision after it.
+/// The answer to an ask of the same name. Each has the store's revision after the ask (`ResponseHeader`).
 #[derive(Debug, Drop)]
 pub enum Answer {
+    /// Whether all guards held, and one part for each operation of the list that was then carried out.
     Txn {
         revision: i64,
         succeeded: bool,
@@ -56,7 +58,7 @@ pub enum Answer {
         id: i64,
         ttl: i64,
     },
-    /// The seconds that the lease has left, 0 where it is not there.
+    /// The seconds of the lease, which start anew; 0 where it is not there.
     Alive {
         revision: i64,
         id: i64,

@@ -1,4 +1,4 @@
-//! Asks.
+//! What etcd is asked (etcd API reference, "KV", "Lease").
 
 use zx_base::{Bytes, Seq};
 
@@ -27,19 +27,21 @@ pub struct Guard {
 /// An operation of a transaction (`RequestOp`).
 #[derive(Debug, Drop)]
 pub enum Act {
-    /// Lease 0: the key has no lease.
+    /// `lease` is the number of the lease that the key then has, 0 for none.
     Put {
         key: Bytes,
         value: Bytes,
         lease: i64,
     },
+    /// Deletes one key, if it is there.
     Delete {
         key: Bytes,
     },
     Range(RangeReq),
 }
 
-/// A transaction: where all guards hold the success list is carried out, otherwise the failure list (`TxnRequest`).
+/// A transaction: where all guards hold the success list is carried out, otherwise the failure list (`TxnRequest`). Each of the
+/// three has at most 128 members, or the transaction is denied.
 #[derive(Debug, Drop)]
 pub struct TxnReq {
     pub guards: Seq<Guard>,
@@ -47,12 +49,13 @@ pub struct TxnReq {
     pub failure: Seq<Act>,
 }
 
+/// One request to etcd.
 #[derive(Debug, Drop)]
 pub enum Ask {
     Txn(TxnReq),
     Range(RangeReq),
-    /// A lease of this number and so many seconds (`LeaseGrantRequest`).
+    /// Grants a lease with this number, which is at least 1, for `ttl` seconds (`LeaseGrantRequest`).
     Grant { id: i64, ttl: i64 },
-    /// A keepalive of a lease (`LeaseKeepAliveRequest`).
+    /// Starts the seconds of a lease anew (`LeaseKeepAliveRequest`).
     Alive { id: i64 },
 }

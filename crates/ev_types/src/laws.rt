@@ -26,8 +26,8 @@ pub fn lapse_takes_its_keys()
     ensures earlier { (s new : Store) (id : ℤ) (r : ℕ) → lapse s id ≡ Some new → r ≤ length s.revisions → store_at new r ≡ store_at s r }
 {}
 
-/// A put of another user puts that one key without a lease, at one revision more. It is possible while there is a
-/// revision to come, and only then.
+/// A put of another user puts that one key without a lease, and makes one revision. It is possible while there is a revision to
+/// come, and only then.
 pub fn foreign_puts_one_key()
     ensures puts { (s : Store) (k v : Bytes) → revision s <ℤ last_revision → (new : Store) × (foreign s k v ≡ Some new) }
     ensures full { (s : Store) (k v : Bytes) → last_revision ≤ℤ revision s → foreign s k v ≡ None }
@@ -37,13 +37,14 @@ pub fn foreign_puts_one_key()
     ensures earlier { (s new : Store) (k v : Bytes) (r : ℕ) → foreign s k v ≡ Some new → r ≤ length s.revisions → store_at new r ≡ store_at s r }
 {}
 
-/// A transaction that only reads is denied for its length alone, and changes nothing.
+/// A transaction of at most 128 reads of the present, with no guards and no failure list, is not denied. Reads of the present
+/// change nothing.
 pub fn reads_change_nothing()
     ensures allowed { (s : Store) (acts : List SomeAct) → length acts ≤ max_operations → are_present_reads acts ≡ true → is_denied s (ask.Txn (record { guards = []; success = acts; failure = [] })) ≡ false }
     ensures unchanged { (s : Store) (acts : List SomeAct) → are_present_reads acts ≡ true → (worked s acts).changes ≡ [] }
 {}
 
-/// A range of one key finds what is there.
+/// A range of one key finds what the key has, or nothing.
 pub fn one_key_is_found()
     ensures { (key : Bytes) (keys : Keys) → found (key_range key) keys ≡ one_found (get keys key) }
 {}

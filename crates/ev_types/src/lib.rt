@@ -1,7 +1,8 @@
 //! What etcd is asked, and what it answers: the messages of the v3 API as far as this workspace uses them (etcd API
 //! reference, "KV", "Lease"). `specs/Store.antt` says what an etcd does with an ask.
 //!
-//! Numbers of etcd (revisions, versions, lease ids, seconds) are `i64` as in its protobuf messages, and never negative.
+//! Numbers of etcd (revisions, versions, counts, limits, lease numbers, seconds) are `i64`, as in its protobuf messages. None is
+//! meant to be negative; the types do not forbid it.
 #![tactic(auto)]
 
 mod answer;

@@ -3,7 +3,7 @@
 use std::cmp::Ordering;
 use std::marker::Model;
 
-/// A key's bytes, borrowed. Its order is the one that a range has.
+/// A key's bytes, borrowed. Names are ordered as a range orders keys: byte by byte.
 #[derive(Drop)]
 pub struct Name<'a> {
     pub bytes: &'a [u8],
