@@ -31,7 +31,7 @@ use Rattle.ev_store.proofs.Places.{all-take}
 use Rattle.ev_store.proofs.Revisions.{after_changes-from, put_by}
 use Rattle.ev_store.proofs.Working.{act_keys, after_changes-append, distinct-acts, distinct-front, keys_step}
 
--- ---- a key of a store's
+-- ---- the keys of a store
 
 -- each key of these maps is one that a store at revision n can have
 abbrev ArePutBy : ℕ → Keys → Type 0
@@ -73,7 +73,7 @@ store-put s a kept q kv e =
     bounded-put (length s.revisions) kv (subst (λ (r : ℤ). pos 1 ≤ℤ r) (sym p.put) (omega (arith, ints))) (subst (λ (r : ℤ). r ≤ℤ pos (length s.revisions)) (sym p.put) (omega (arith, ints)))
     (subst (IsBounded (length s.revisions)) e (store-bounded s a q kept))
 
--- ---- and while a transaction changes it
+-- ---- the keys while a transaction changes them
 
 abbrev so_far : Store → List Change → Keys
 so_far s cs = after_changes (revision s +ℤ pos 1) (present s) cs
@@ -99,7 +99,7 @@ grown-length s (c ∷ cs) = omega (arith, length-append s.revisions ((c ∷ cs) 
 grown-one : (s : Store) (total cs : List Change) (c : Change) → total ≡ c ∷ cs → length (grown s total).revisions ≡ length s.revisions + 1
 grown-one s total cs c is = ap (λ (t : List Change). length (grown s t).revisions) is ∙ length-append s.revisions ((c ∷ cs) ∷ [])
 
--- the keys after the first changes of all that it makes
+-- after the first of a transaction's changes, each key is one that the store after it can have
 so_far-put : (s : Store) (cs total rest : List Change) → IsKept s → total ≡ cs ++ rest → puts_once cs ≡ true → ArePutBy (length (grown s total).revisions) (so_far s cs)
 so_far-put s [] total rest kept is once q kv e = put_more (length s.revisions) _ kv (grown-length s total) (store-put s (length s.revisions) kept q kv e)
 so_far-put s (c ∷ cs) total rest kept is once q kv e =

@@ -32,7 +32,7 @@ done_more s r m cs ps a acts =
     λ i. record { changes = sym (append_assoc cs here.changes later.changes) i; parts = sym (append_assoc ps here.parts later.parts) i } in
     regrouped ∙ ap (λ n. then_done (record { changes = cs ++ here.changes; parts = ps ++ here.parts }) (acts_from s r n acts)) (sym (after_changes-append r m cs here.changes))
 
--- a step of the loop
+-- a step of the loop over the operations
 pub done_step : (s : Store) (r : ℤ) (m : Keys) (total : Done) (cs cs' : List Change) (ps ps' : List ActAns) (a : Act) (part : ActAns) (all acts : List Act) →
     all ≡ a ∷ acts → cs' ≡ cs ++ (one_act s (after_changes r m cs) a).changes → (one_act s (after_changes r m cs) a).parts ≡ part ∷ [] → ps' ≡ ps ++ part ∷ [] →
     done_with s r m cs ps all ≡ total → done_with s r m cs' ps' acts ≡ total
@@ -84,7 +84,7 @@ act_keys-cons (Put k v lease) acts = refl
 act_keys-cons (Delete k) acts = refl
 act_keys-cons (Range q) acts = refl
 
--- the keys put so far and those that will be put are no others after a step
+-- where no key is put twice, so far and by the operations that are left, a step of the loop keeps that so
 pub keys_step : (s : Store) (m : Keys) (cs cs' : List Change) (a : Act) (all acts : List Act) → all ≡ a ∷ acts → cs' ≡ cs ++ (one_act s m a).changes →
     are_distinct (put_keys cs ++ act_keys all) ≡ true → are_distinct (put_keys cs' ++ act_keys acts) ≡ true
 keys_step s m cs cs' a all acts front changes h =

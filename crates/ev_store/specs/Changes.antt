@@ -34,6 +34,6 @@ leased_among id es = filter (λ e. is_leased id (Some e.1)) es
 abbrev pub puts_once : List Change → Bool
 puts_once cs = are_distinct (put_keys cs)
 
--- and one that changes no key twice
+-- a list of changes writes no key twice, by puts and removals
 abbrev pub writes_once : List Change → Bool
 writes_once cs = are_distinct (map key_of cs)

@@ -1,4 +1,4 @@
--- How a proof tells two stores apart: by the parts of their records.
+-- Proof only: a store and a change as their parts, so that two that differ can be told apart.
 use Rattle.std.specs.Prelude.{◌≡◌, ℤ, List, Option, Some, None, refl}
 use Rattle.std.specs.Coded.{Coded, code_by, coded×, coded_ℕ, coded_ℤ, coded_list, coded_option}
 use Rattle.std.specs.FinMap as map

@@ -6,22 +6,22 @@ use Rattle.ev_types.specs.declared.answer.Kv.{Kv}
 use Rattle.ev_types.specs.Ranges.{Keys}
 use Rattle.ev_types.specs.Store.{Store, Change, Puts, Removes, put_over, changed, after_changes, store_at}
 
--- those of revision r, over the keys before them
+-- the puts of revision r, over the keys before it
 abbrev pub puts_in : ℤ → Keys → List Change → List Kv
 puts_in r m [] = []
 puts_in r m (Puts k v lease ∷ cs) = put_over r k v lease (get m k) ∷ puts_in r (changed r m (Puts k v lease)) cs
 puts_in r m (Removes k ∷ cs) = puts_in r (changed r m (Removes k)) cs
 
--- those of further revisions, of which the first has number r
+-- the puts of further revisions, of which the first has number r, over the keys before them
 abbrev pub puts_from : ℕ → Keys → List (List Change) → List Kv
 puts_from r m [] = []
 puts_from r m (cs ∷ css) = puts_in (pos r) m cs ++ puts_from (r + 1) (after_changes (pos r) m cs) css
 
--- those of all revisions above r, in order
+-- the puts of all revisions above r, in order
 unfoldable pub puts_above : Store → ℕ → List Kv
 puts_above s r = puts_from (r + 1) (store_at s r) (drop r s.revisions)
 
--- ---- what a put is of a revision's changes
+-- ---- the change that a put was
 
 abbrev pub is_put : Change → Bool
 is_put (Puts k v lease) = true

@@ -23,12 +23,14 @@ use Rattle.zx_base.specs.Maps.{Bytes}
 abbrev pub too_many : ℕ → Option Denied
 too_many count = if nat_lt max_operations count then Some (denied.TooMany count) else None
 
--- the operation's key, where a later one of its list may not write it too: a put allows no other write, a delete no put
+-- the operation's key, where a later one of its list writes it and may not: a put allows no other write of its key, and a delete
+-- allows no put of it
 abbrev pub written_again : Act → List Act → Option Bytes
 written_again (act.Put k v lease) later = if list_any (writes k) later then Some k else None
 written_again (act.Delete k) later = if list_any (puts k) later then Some k else None
 written_again (act.Range q) later = None
 
+-- the key of the first operation whose key a later one writes and may not
 abbrev pub first_again : List Act → Option Bytes
 first_again [] = None
 first_again (a ∷ later) = option_or (written_again a later) (first_again later)
@@ -70,11 +72,12 @@ grant_denial s id = if has_lease s id then Some (denied.LeaseExists id) else Non
 abbrev pub long_list : TxnReq → Option Denied
 long_list t = option_or (too_many (length t.guards)) (option_or (too_many (length t.success)) (too_many (length t.failure)))
 
--- what can be said of a transaction by itself: a list that is too long, and a key that a list writes twice
+-- what the transaction alone shows, whatever the store: a list that is too long; then a key that a list writes twice
 abbrev pub form_denial : TxnReq → Option Denied
 form_denial t = option_or (long_list t) (option_or (twice t.success) (twice t.failure))
 
--- that first; then what the operations of the chosen list name, one after the other; last, that the store is full
+-- first what the transaction alone shows; then what the operations of the chosen list name, one after the other; last, that the
+-- store is full
 abbrev pub txn_denial : Store → TxnReq → Option Denied
 txn_denial s t = option_or (form_denial t) (option_or (acts_denial s (chosen_acts s t)) (full s (worked s (chosen_acts s t)).changes))
 
@@ -84,7 +87,7 @@ first_denial s (ask.Range q) = range_denial s q
 first_denial s (ask.Grant id ttl) = grant_denial s id
 first_denial s (ask.Alive id) = None
 
--- ---- of the calls beside an ask
+-- ---- of the other calls
 
 -- a lapse: the lease isn't there; then, that the store is full
 unfoldable pub lapse_denial : Store → ℤ → Option Denied
@@ -94,7 +97,7 @@ lapse_denial s id = if has_lease s id then full s (removals (leased_keys s id)) 
 abbrev pub foreign_denial : Store → Bytes → Bytes → Option Denied
 foreign_denial s k v = full s (Puts k v (pos 0) ∷ [])
 
--- the events above a revision: it is below the floor, 0 too
+-- the events above a revision: it is below the floor, as 0 can be too
 abbrev pub events_denial : Store → ℤ → Option Denied
 events_denial s r = if int_lt r s.floor then Some (denied.Compacted r s.floor) else None
 

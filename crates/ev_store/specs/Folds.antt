@@ -1,5 +1,5 @@
--- What one key has after changes, without the other keys, as the store's look-ups compute it: a version stands still at
--- the greatest i64. No public contract names these words; `proofs/Folding.antt` ties them to the store's keys.
+-- What one key has after changes, apart from all other keys, as the code looks it up: a version that has reached the greatest i64
+-- stays there. No public contract names these words; `proofs/Folding.antt` ties them to the store's keys.
 use Rattle.std.specs.Prelude.{ℕ, ◌+◌, ℤ, pos, ◌+ℤ◌, List, [], ◌∷◌, ◌++◌, if◌then◌else◌, Option, Some, None}
 use Rattle.std.specs.Option.{option_to_list}
 use Rattle.std.specs.Int.{saturate_signed, w64}
@@ -28,7 +28,7 @@ abbrev pub key_after_revisions : ℕ → Bytes → Option Kv → List (List Chan
 key_after_revisions r q old [] = old
 key_after_revisions r q old (cs ∷ css) = key_after_revisions (r + 1) q (key_after_changes (pos r) q old cs) css
 
--- ---- the same for the keys of a range alone: another key stays as it was
+-- ---- what a key of a range has after changes; a key outside the range stays as it was
 
 abbrev pub within_change : RangeReq → ℤ → Bytes → Option Kv → Change → Option Kv
 within_change range r q old c = if is_within range.key range.end q then key_after_change r q old c else old

@@ -16,12 +16,13 @@ pub record IsPutBy (r : ℤ) (kv : Kv) : Type 0 where
   pub least : pos 0 ≤ℤ kv.version
   pub most : kv.version ≤ℤ r
 
--- what one operation of a transaction at revision r shows
+-- each key that one operation of a transaction shows is one that a store can have at revision r
 abbrev pub ShowsPuts : ℤ → ActAns → Type 0
 ShowsPuts r (part.Range found) = All (IsPutBy r) found.kvs
 ShowsPuts r part.Put = Unit {0}
 ShowsPuts r (part.Deleted count) = Unit {0}
 
+-- each key that an answer shows is one that a store can have at the answer's revision
 abbrev pub AnswersPuts : Answer → Type 0
 AnswersPuts (answer.Txn r succeeded parts) = All (ShowsPuts r) parts
 AnswersPuts (answer.Range r found) = All (IsPutBy r) found.kvs

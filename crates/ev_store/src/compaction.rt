@@ -10,8 +10,8 @@ use crate::fault::{Denied, StoreFault};
 use crate::store::Store;
 
 impl Store {
-    /// Makes a revision the least that can be named, where it is above those compacted before. Future where it is above
-    /// the store's. Takes no memory.
+    /// Makes `rev` the least revision that can be named, unless that is already a greater one. Denied as `Future` where it is
+    /// above the store's. Frees nothing, and needs no memory.
     #[tactic(auto, unfolding(crate::specs::Compaction::compact))]
     pub fn compact(&mut self, rev: i64) -> Result<(), StoreFault>
         ensures compacts { OnOk result (compact self.old rev ≡ Some self.new) }

@@ -26,8 +26,8 @@ use std::alloc::Global;
 use zx_base::{Memory, Seq};
 
 impl Store {
-    /// The first n puts of the revisions above a given one, in order, each with its key as it is after it. Compacted where
-    /// the given revision is below the greatest one that was compacted. Reads all revisions up to the last put given.
+    /// The first `n` puts of the revisions above `rev`, in order, each with its key as it is after that put. Denied as
+    /// `Compacted` where `rev` is below the greatest revision that was compacted. Reads all revisions up to the last put given.
     pub fn events_since(&self, rev: i64, n: usize) -> Result<Seq<Kv>, StoreFault>
         ensures events { IfOk result (λ kvs. kvs ≡ take n (puts_above self.now (nat_abs rev))) }
         ensures kept { OnOk result (events_denial self.now rev ≡ None) }
@@ -59,7 +59,7 @@ impl Store {
     }
 }
 
-/// The first puts of the later revisions.
+/// The first `most` puts of the later revisions.
 fn puts(
     alloc: Global,
     before: &[Seq<Change>],
@@ -78,7 +78,7 @@ fn puts(
     Ok(puts)
 }
 
-/// Adds the first puts of these revisions, before which there are so many.
+/// Adds the puts of these revisions, up to `most` in all. `before` is the number of revisions before them.
 fn push_puts_of_all<'a>(
     alloc: Global,
     puts: &mut Seq<Kv>,
@@ -103,7 +103,7 @@ fn push_puts_of_all<'a>(
     Ok(())
 }
 
-/// Adds the first puts of the changes of one revision.
+/// Adds the puts of one revision, up to `most` in all, and takes its changes into what is held.
 fn push_puts<'a>(
     alloc: Global,
     puts: &mut Seq<Kv>,
@@ -126,7 +126,7 @@ fn push_puts<'a>(
     Ok(())
 }
 
-/// What a change of this revision puts.
+/// The key as a change of this revision puts it; `None` for a removal.
 fn put_by<'a>(revision: i64, held: &Held<'a>, change: &'a Change) -> Option<Found<'a>>
     ensures { result ≡ put_after revision (tree.get (slice_cmp nat_cmp) held.now (key_of change.now)) change.now }
 {

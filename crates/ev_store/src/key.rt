@@ -11,7 +11,7 @@ use std::alloc::Global;
 use std::marker::Model;
 use zx_base::{Bytes, Memory, Seq};
 
-/// A key that is there, with its bytes still in the change that put it.
+/// A key that is there. Its bytes are borrowed from the change that put it.
 #[derive(Drop)]
 pub struct Found<'a> {
     key: &'a Bytes,

@@ -1,4 +1,4 @@
-//! What changes the store beside its clients' asks: a lease that lapses, and a put of another user.
+//! What changes the store besides its clients' asks: a lease that lapses, and a put of another user.
 
 ghost use Rattle.std.specs.Prelude.{◌≡◌, ◌++◌, ◌∷◌, [], true, IfOk, IfErr, OnOk, OnErr};
 ghost use Rattle.std.specs.BTreeMap as tree;
@@ -22,8 +22,8 @@ use std::alloc::Global;
 use zx_base::{Memory, Seq};
 
 impl Store {
-    /// Takes a lease with all its keys, at one revision, or at none where it has no key; gives the revision after it.
-    /// NoLease where it is not there, and Full where it has a key and this is the last revision.
+    /// Takes a lease away with all its keys, at one revision, or at none where it has no keys. Gives the store's revision after
+    /// that. Denied as `NoLease` where it is not there, and as `Full` where it has keys and no revision is left.
     pub fn lapse(&mut self, id: i64) -> Result<i64, StoreFault>
         ensures lapses { OnOk result (lapses.lapse self.old id ≡ Some self.new) }
         ensures revision { IfOk result (λ r. r ≡ etcd.revision self.new) }
@@ -62,8 +62,8 @@ impl Store {
         removals(alloc, &held, id)
     }
 
-    /// Puts a key without a lease, as another user of the etcd does; gives the revision after it. Full where this is the
-    /// last revision.
+    /// Puts a key without a lease, as another user of the etcd might. Gives the store's revision after that. Denied as `Full`
+    /// where no revision is left.
     pub fn foreign(&mut self, key: &[u8], value: &[u8]) -> Result<i64, StoreFault>
         ensures puts { OnOk result (lapses.foreign self.old key.now value.now ≡ Some self.new) }
         ensures revision { IfOk result (λ r. r ≡ etcd.revision self.new) }

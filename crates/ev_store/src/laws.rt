@@ -32,8 +32,8 @@ pub fn a_denial_is_named()
     ensures compactions { (s : etcd.Store) (r : ℤ) → is_some (compact_denial s r) ≡ is_none (compact s r) }
 {}
 
-/// Within one store's history a key that was put last at the same revision is the same: it is there with one value, version
-/// and lease, or absent at both.
+/// Where a key's last put has the same revision at two points of a store's history, the key is the same at both: it is there with
+/// one value, version and lease, or it is absent.
 pub fn a_revision_has_one_value()
     ensures { (s : etcd.Store) (a b : ℕ) (k : Bytes) → mod_of (get (store_at s a) k) ≡ mod_of (get (store_at s b) k) → get (store_at s a) k ≡ get (store_at s b) k }
 {}
@@ -54,8 +54,8 @@ pub fn reads_fold_the_revisions()
     ensures named { (s : etcd.Store) (q : RangeReq) (r : ℕ) → 1 ≤ r → q.revision ≡ pos r → is_denied s (ask.Range q) ≡ false → carry s (ask.Range q) ≡ Some (s, answer.Range (etcd.revision s) (found q (store_at s r))) }
 {}
 
-/// The puts above a revision are those of the next one and then those above it: each put of its changes, in their order,
-/// with that revision, and as the store then has the key where no key is changed twice.
+/// The puts above a revision are those of the next one, and then those above that. The puts of a revision are the puts among its
+/// changes, in their order, each with that revision; where no key is changed twice, each is the key as the store then has it.
 pub fn puts_follow_the_revisions()
     ensures next { (s : etcd.Store) (r : ℕ) (cs : List etcd.Change) → slice_get s.revisions r ≡ Some cs → puts_above s r ≡ puts_in (pos (r + 1)) (store_at s r) cs ++ puts_above s (r + 1) }
     ensures last { (s : etcd.Store) (r : ℕ) → length s.revisions ≤ r → puts_above s r ≡ [] }
@@ -64,8 +64,8 @@ pub fn puts_follow_the_revisions()
     ensures shown { (s : etcd.Store) (r : ℕ) (cs : List etcd.Change) → slice_get s.revisions r ≡ Some cs → writes_once cs ≡ true → All (λ kv. get (store_at s (r + 1)) kv.key ≡ Some kv) (puts_in (pos (r + 1)) (store_at s r) cs) }
 {}
 
-/// A compaction raises the floor and changes nothing else: the floor is the revision or above it, and a range that names no
-/// compacted revision answers as before.
+/// A compaction changes the floor alone, which never falls and is then at the revision or above it. A range that names no compacted
+/// revision is answered as before.
 pub fn compaction_keeps_reads()
     ensures floor { (s new : etcd.Store) (r : ℤ) → compact s r ≡ Some new → new ≡ record s { floor = int_max r s.floor } }
     ensures least { (s new : etcd.Store) (r : ℤ) → compact s r ≡ Some new → r ≤ℤ new.floor }

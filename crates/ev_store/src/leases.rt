@@ -36,14 +36,14 @@ impl Leases {
         }
     }
 
-    /// The seconds of a lease that is there.
+    /// The seconds of a lease; `None` where it is not there.
     pub fn get(&self, id: i64) -> Option<i64>
         ensures { result ≡ get self.now id }
     {
         self.seconds.get(&id).copied()
     }
 
-    /// A further lease. Without memory nothing changes.
+    /// Adds a lease, or replaces its seconds. Where memory runs out, nothing changes.
     pub fn grant(&mut self, id: i64, seconds: i64) -> Result<(), Memory>
         ensures ok { OnOk result (self.new ≡ insert self.old id seconds) }
         ensures err { OnErr result (self.new ≡ self.old) }
@@ -52,7 +52,7 @@ impl Leases {
         Ok(())
     }
 
-    /// The lease is no longer there.
+    /// Takes a lease away, if it is there.
     pub fn remove(&mut self, id: i64)
         ensures { self.new ≡ remove self.old id }
     {

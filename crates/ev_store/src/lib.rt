@@ -1,12 +1,14 @@
 //! An etcd in memory, in its plainest form: the list of its revisions with what each changed, folded at each ask.
 //!
-//! `ev_types/specs/Store.antt` says what an etcd answers, `Denials.antt` what it denies, and here [`Store::carry_out`]
-//! is proved to be that; likewise [`Store::lapse`] and [`Store::foreign`] are what `Lapses.antt` says. Here,
+//! In `ev_types`, `specs/Store.antt` says what an etcd answers and `specs/Denials.antt` what it denies: [`Store::carry_out`] is
+//! proved to do that, and [`Store::lapse`] and [`Store::foreign`] to do what `specs/Lapses.antt` says. In this crate,
 //! `specs/Events.antt` says what [`Store::events_since`] gives, `specs/Compaction.antt` what [`Store::compact`] does, and
 //! `specs/FirstDenial.antt` which denial is named.
 //!
-//! A look-up of one key reads every change that there was; a range of keys, a lapse and the events read them once and sort
-//! the keys that they meet. Nothing is kept beside the list, so a script of n asks costs n * n.
+//! # Cost
+//!
+//! Looking up one key reads every change ever made. A range of keys, a lapse and the events each read all changes once, and sort
+//! the keys that they meet. There is no index, so a script of n asks takes time in proportion to n * n.
 #![tactic(auto)]
 
 mod change;

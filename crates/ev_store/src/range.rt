@@ -20,7 +20,7 @@ use std::alloc::Global;
 use std::collections::BTreeMap;
 use zx_base::{Bytes, Memory, Seq};
 
-/// The keys of a range that are there.
+/// The keys that are there and lie in a range.
 pub type Held<'a> = BTreeMap<Name<'a>, Found<'a>>;
 
 /// Whether a key is below the end of a range; the one byte 0 is no end.
@@ -115,7 +115,7 @@ pub fn held_after<'a>(
     Ok(held)
 }
 
-/// How many of so many keys are shown.
+/// How many of `all` keys are shown under this limit.
 fn shown_count(limit: i64, all: usize) -> usize
     ensures first { (kvs : List Kv) → length kvs ≡ all → take result kvs ≡ limited limit kvs }
     ensures most { result ≤ all }
@@ -152,7 +152,7 @@ fn copies(alloc: Global, held: &Held<'_>, most: usize, keys_only: bool) -> Resul
     Ok(kvs)
 }
 
-/// What a range answers over all that it has.
+/// What a range answers that has these keys.
 fn answer(alloc: Global, held: &Held<'_>, range: &RangeReq) -> Result<RangeAns, Memory>
     ensures found { IfOk result (λ a. a ≡ found_among range.now (tree.values held.now)) }
     ensures in_order { tree.IsOrdered (slice_cmp nat_cmp) held.now }

@@ -1,4 +1,4 @@
-//! What the store refuses of an ask, before anything of it is done, in the order of `specs/FirstDenial`.
+//! The tests that deny an ask before any of it is carried out, in the order of `specs/FirstDenial`.
 
 ghost use Rattle.std.specs.Prelude.{◌≡◌, length, IfErr, OnOk, None};
 ghost use Rattle.std.specs.Option.{option_copied};
@@ -17,7 +17,7 @@ use zx_base::{Bytes, Memory};
 pub(crate) const MAX_OPERATIONS: usize = 128;
 
 impl Store {
-    /// The range names a revision that the store has.
+    /// Denies a range that names a revision which the store does not have, or which was compacted.
     pub(crate) fn check_range(&self, range: &RangeReq) -> Result<(), Denied>
         ensures { result_err result ≡ range_denial self.now range.now }
     {
@@ -33,7 +33,7 @@ impl Store {
         Ok(())
     }
 
-    /// The put names no lease, or one that is there.
+    /// Denies a put that names a lease which is not there.
     fn check_lease(&self, id: i64) -> Result<(), Denied>
         ensures { result_err result ≡ lease_denial self.now id }
     {
@@ -53,7 +53,7 @@ impl Store {
         }
     }
 
-    /// Each operation of the chosen list names leases and revisions that the store has.
+    /// Denies a list with an operation that names a lease or a revision which the store does not have.
     pub(crate) fn check_acts(&self, acts: &[Act]) -> Result<(), Denied>
         ensures { result_err result ≡ acts_denial self.now acts.now }
     {
@@ -64,7 +64,7 @@ impl Store {
     }
 }
 
-/// A list of so many is not longer than an etcd takes.
+/// Denies more compares, or operations of a list, than an etcd takes.
 fn check_count(count: usize) -> Result<(), Denied>
     ensures { result_err result ≡ too_many count }
 {
@@ -76,7 +76,7 @@ fn check_count(count: usize) -> Result<(), Denied>
     Ok(())
 }
 
-/// No list of the transaction is longer than an etcd takes.
+/// Denies a transaction with a list that is longer than an etcd takes.
 fn check_counts(txn: &TxnReq) -> Result<(), Denied>
     ensures { result_err result ≡ long_list txn.now }
 {
@@ -144,7 +144,7 @@ fn first_again(acts: &[Act]) -> Option<&Bytes>
     None
 }
 
-/// The list puts no key twice, and none that it deletes.
+/// Denies a list that puts a key twice, or both puts and deletes it.
 fn check_once(alloc: Global, acts: &[Act]) -> Result<(), StoreFault>
     ensures once { OnOk result (twice acts.now ≡ None) }
     ensures named { IfErr result (Names (twice acts.now)) }
@@ -157,7 +157,7 @@ fn check_once(alloc: Global, acts: &[Act]) -> Result<(), StoreFault>
     }
 }
 
-/// No list of the transaction is too long, or writes a key twice.
+/// Denies a transaction with a list that is too long, or that writes a key twice.
 pub(crate) fn check_txn(alloc: Global, txn: &TxnReq) -> Result<(), StoreFault>
     ensures none { OnOk result (form_denial txn.now ≡ None) }
     ensures named { IfErr result (Names (form_denial txn.now)) }

@@ -23,7 +23,7 @@ use zx_base::{Memory, Seq};
 /// The last revision that there can be.
 pub(crate) const MAX_REVISION: i64 = 4_611_686_018_427_387_903;
 
-/// An etcd in memory.
+/// An etcd in memory, with every revision that it ever had: a compaction only says which of them may be named.
 #[derive(Drop)]
 pub struct Store {
     /// The changes of each revision, from revision 1 on.
@@ -55,7 +55,7 @@ impl Model for Store {
 }
 
 impl Store {
-    /// A store at revision 1 that has no keys.
+    /// A store at revision 1 with no keys and no leases.
     pub fn new(alloc: Global) -> Result<Store, Memory>
         ensures { IfOk result (λ s. s ≡ etcd.new_store) }
     {
@@ -101,7 +101,7 @@ impl Store {
         id > 0 && self.leases.get(id).is_some()
     }
 
-    /// One revision more with these changes, unless there are none.
+    /// Adds one revision with these changes, unless there are none.
     pub(crate) fn add(&mut self, changes: Seq<Change>) -> Result<(), StoreFault>
         requires { puts_once changes ≡ true }
         ensures grown { OnOk result (self.new ≡ etcd.grown self.old changes) }
@@ -120,14 +120,14 @@ impl Store {
         Ok(())
     }
 
-    /// A lease is no longer there; its keys are as they were.
+    /// Takes a lease away, and leaves its keys.
     pub(crate) fn drop_lease(&mut self, id: i64)
         ensures { self.new ≡ record self.old { leases = remove self.old.leases id } }
     {
         self.leases.remove(id);
     }
 
-    /// The floor rises to a revision above it.
+    /// Raises the floor to this revision; a floor above it stays.
     pub(crate) fn raise_floor(&mut self, revision: i64)
         ensures { self.new ≡ record self.old { floor = int_max revision self.old.floor } }
     {
@@ -178,9 +178,9 @@ impl Store {
         }
     }
 
-    /// Carries out one ask. Where several causes deny it the first is named, in this order: a list that is too long, a
-    /// key that a list writes twice, what the operations of the chosen list name, one after the other, a full store. A
-    /// grant's number is at least 1, and its seconds are from 0 to below 2^62.
+    /// Carries out one ask. Where several causes deny it, the first is named, in this order: a list that is too long; a key that
+    /// a list writes twice; what the operations of the chosen list name, one after the other; a full store. A grant's number is
+    /// to be at least 1, and its seconds from 0 to below 2^62.
     pub fn carry_out(&mut self, ask: &Ask) -> Result<Answer, StoreFault>
         requires { IsGrantable ask.now }
         ensures carried { IfOk result (λ a. carry self.old ask.now ≡ Some (self.new, a)) }
@@ -189,6 +189,7 @@ impl Store {
         ensures numbers { IfOk result HasNumbers }
         ensures stays { OnErr result (self.new ≡ self.old) }
     {
+        // Proof only: the history is short, and no revision of it puts a key twice.
         self.history();
         self.answer_to(ask)
     }
