@@ -122,7 +122,7 @@ pub lease_in-back : (f : Field) (d : Data) (n : ℤ) → member_of f d ≡ unles
 unfolding lease_in
 lease_in-back f d n e h = ap (known_or f (pos 0) lease_of) e ∙ or_default f (pos 0) n lease_of (int_eq n (pos 0)) (in_digits n) (Decides-int_eq n (pos 0)).0 (lease_back n h)
 
--- the same, where the number is always written
+-- a number that is always written
 pub count_in-written : (f : Field) (d : Data) (n : ℤ) → member_of f d ≡ Some (in_digits n) → IsCount n → count_in f d ≡ Ok n
 unfolding count_in
 count_in-written f d n e h = ap (known_or f (pos 0) count_of) e ∙ ap (known f) (count_back n h)

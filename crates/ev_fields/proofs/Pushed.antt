@@ -1,4 +1,4 @@
--- One token more of a text that was printed.
+-- A text that was printed, and one more token.
 use Rattle.std.proofs.Common.{◌≡◌, ℕ, Bool, true, false, cond, List, [], ◌∷◌, ◌++◌, refl, sym, ap, ◌∙◌, append_assoc, string_bytes}
 use Rattle.std.specs.Prelude.{◌&&◌}
 use Rattle.json.specs.Token.{Token, key, string}

@@ -38,7 +38,7 @@ abbrev pub pieces : List (Field × Option Data) → List (List ℕ × Data)
 pieces [] = []
 pieces (p ∷ ps) = piece p.0 p.1 ++ pieces ps
 
--- the same, grouped as messages are written
+-- members that may be left out, grouped as messages are written
 abbrev pub gathered : List (List ℕ × Data) → List (Field × Option Data) → List (List ℕ × Data)
 gathered fs [] = fs
 gathered fs (p ∷ ps) = gathered (fs ++ piece p.0 p.1) ps

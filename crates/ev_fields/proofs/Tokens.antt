@@ -44,7 +44,7 @@ fields_tokens-given name d = ap (λ (ts : List Token). key (snake name) ∷ ts) 
 
 pub ruleset writing_steps = (fields_tokens-append, data_tokens-object, data_tokens-array, fields_tokens-given, append_assoc)
 
--- ---- the same behind what was written before, grouped as a writer's steps are
+-- ---- the tokens of members after what was written before, grouped as a writer's steps are
 
 pub after-append : (x : List Token) (a b : List (List ℕ × Data)) → x ++ fields_tokens (a ++ b) ≡ (x ++ fields_tokens a) ++ fields_tokens b
 after-append x a b = ap (λ (ts : List Token). x ++ ts) (fields_tokens-append a b) ∙ sym (append_assoc x (fields_tokens a) (fields_tokens b))

@@ -24,21 +24,21 @@ abbrev pub or_else : Option Data → Option Data → Option Data
 or_else None y = y
 or_else (Some x) y = Some x
 
--- the member under its snake case name, and else under its camel case name
+-- the member under its snake case name, otherwise the one under its camel case name
 unfoldable pub member_of : Field → Data → Option Data
 member_of f d = or_else (get (snake f) d) (get (camel f) d)
 
--- whether there is such a member
+-- whether the member is there, under either name
 abbrev pub has : Field → Data → Bool
 has f d = is_some (member_of f d)
 
 -- ---- kinds
 
--- digits alone, at least one
+-- the number that a text of one or more digits gives
 abbrev pub digits : List ℕ → Option ℕ
 digits s = if nat_lt 0 (length s) && list_all is_ascii_digit s then Some (digits_value 10 s) else None
 
--- the same below 2 ^ 64
+-- a number below 2 ^ 64
 abbrev pub fits64 : Option ℕ → Option ℕ
 fits64 None = None
 fits64 (Some n) = if nat_lt n (2 ^ 64) then Some n else None
@@ -46,11 +46,12 @@ fits64 (Some n) = if nat_lt n (2 ^ 64) then Some n else None
 unfoldable pub digits64 : List ℕ → Option ℕ
 digits64 s = fits64 (digits s)
 
+-- a number below the top
 abbrev pub below : ℕ → Option ℕ → Option ℤ
 below top None = None
 below top (Some n) = if nat_lt n top then Some (pos n) else None
 
--- a text of digits, or else a JSON integer
+-- where the value is a text, the number that its digits give; otherwise the value as a JSON integer
 abbrev pub from_text_or : Option (List ℕ) → Option Num → Option ℕ
 from_text_or (Some s) n = digits64 s
 from_text_or None n = option_and_then as_u64 n
@@ -58,7 +59,7 @@ from_text_or None n = option_and_then as_u64 n
 unfoldable pub number_of : ℕ → Data → Option ℤ
 number_of top d = below top (from_text_or (as_str d) (as_number d))
 
--- revisions, versions, counts and seconds
+-- revisions, versions, counts, limits and seconds
 unfoldable pub count_of : Data → Option ℤ
 count_of = number_of (2 ^ 62)
 
@@ -66,6 +67,7 @@ count_of = number_of (2 ^ 62)
 unfoldable pub lease_of : Data → Option ℤ
 lease_of = number_of (2 ^ 63)
 
+-- a number that is at least 1
 abbrev pub from_one : Option ℤ → Option ℤ
 from_one None = None
 from_one (Some n) = if int_lt (pos 0) n then Some n else None
@@ -74,6 +76,7 @@ from_one (Some n) = if int_lt (pos 0) n then Some n else None
 unfoldable pub bytes_of : Data → Option (List ℕ)
 bytes_of d = option_and_then (λ s. result_ok (decode_of standard s)) (as_str d)
 
+-- bytes, of which there is at least one
 abbrev pub some_byte : Option (List ℕ) → Option (List ℕ)
 some_byte None = None
 some_byte (Some bs) = if length bs == 0 then None else Some bs
@@ -99,11 +102,12 @@ message_of d = if is_object d then Some d else None
 
 -- ---- members by whether they must be there
 
+-- a value, or the fault that names the member
 abbrev pub known : {A : Type 0} → Field → Option A → Result A Field
 known f None = Err f
 known f (Some x) = Ok x
 
--- where it is absent it has its default
+-- the default where the member is absent, otherwise its value as this kind
 abbrev pub known_or : {A : Type 0} → Field → A → (Data → Option A) → Option Data → Result A Field
 known_or f default kind None = Ok default
 known_or f default kind (Some v) = known f (kind v)
@@ -140,13 +144,15 @@ positive_count f d = needed f (λ v. from_one (count_of v)) d
 unfoldable pub positive_lease : Field → Data → Result ℤ Field
 positive_lease f d = needed f (λ v. from_one (lease_of v)) d
 
--- the key of an ask has a byte
+-- the key of an ask, which must be there and have at least one byte
 unfoldable pub key_in : Data → Result (List ℕ) Field
 key_in d = needed field.Key (λ v. some_byte (bytes_of v)) d
 
+-- a member that must be this text
 unfoldable pub word_in : Field → List ℕ → Data → Result Bool Field
 word_in f word d = needed f (word_of word) d
 
+-- a member that is this text or is absent
 unfoldable pub word_or_none : Field → List ℕ → Data → Result Bool Field
 word_or_none f word d = optional f true (word_of word) d
 
@@ -160,7 +166,7 @@ without f d = if has f d then Err f else Ok true
 
 -- ---- lists
 
--- each item of a list, from the first on
+-- each item of a list is read, from the first on, up to the first fault
 unfoldable pub each : {A : Type 0} → (Data → Result A Field) → Items → Result (List A) Field
 each reading no_items = Ok []
 each reading (item d ds) = do
@@ -168,8 +174,10 @@ each reading (item d ds) = do
   others ← each reading ds
   Ok (first ∷ others)
 
+-- the items of a list, none where it is absent
 unfoldable pub items_in : Field → Data → Result Items Field
 items_in f d = optional f no_items as_array d
 
+-- the items of a list, each read; none where the list is absent
 unfoldable pub list_in : {A : Type 0} → (Data → Result A Field) → Field → Data → Result (List A) Field
 list_in reading f d = items_in f d >>= each reading

@@ -1,4 +1,4 @@
--- Members of JSON objects that are written, as lists of names and values. Numbers of 64 bits are texts of decimal digits and
+-- Members of JSON objects as they are written: lists of names and values. Numbers of 64 bits are strings of decimal digits and
 -- bytes are base64 with padding, as protobuf's JSON mapping has them.
 use Rattle.std.specs.Prelude.{ℕ, ℤ, pos, List, [], ◌∷◌, length, Bool, if◌then◌else◌, ◌==◌, codes}
 use Rattle.std.specs.Fmt.{signed_decimal}
@@ -26,7 +26,7 @@ none = []
 unfoldable pub given : Field → Data → List (List ℕ × Data)
 given name d = (snake name, d) ∷ []
 
--- a number, in digits
+-- a number, as a string of decimal digits
 unfoldable pub number : Field → ℤ → List (List ℕ × Data)
 number name n = given name (string (signed_decimal n))
 
@@ -34,7 +34,7 @@ number name n = given name (string (signed_decimal n))
 unfoldable pub number_if : Field → ℤ → List (List ℕ × Data)
 number_if name n = if int_eq n (pos 0) then [] else number name n
 
--- bytes, in base64
+-- bytes, as a string of base64
 unfoldable pub bytes : Field → List ℕ → List (List ℕ × Data)
 bytes name bs = given name (string (encode_of standard bs))
 
@@ -46,6 +46,7 @@ bytes_if name bs = if length bs == 0 then [] else bytes name bs
 unfoldable pub true_if : Field → Bool → List (List ℕ × Data)
 true_if name b = if b then given name (boolean b) else []
 
+-- a string
 unfoldable pub text : Field → List ℕ → List (List ℕ × Data)
 text name s = given name (string s)
 
@@ -54,6 +55,6 @@ unfoldable pub list_if : Field → List Data → List (List ℕ × Data)
 list_if name [] = []
 list_if name (d ∷ ds) = given name (array (items_of (d ∷ ds)))
 
--- the key and value of an event
+-- the member `kv` of an event: a key with its value
 unfoldable pub kv_member : Data → List (List ℕ × Data)
 kv_member d = (codes "kv", d) ∷ []

@@ -1,4 +1,4 @@
--- The names of members: snake case as in etcd's protobuf messages, and camel case as protobuf's JSON mapping has it.
+-- The names of members: in snake case as etcd's protobuf messages have them, and in camel case as protobuf's JSON mapping does.
 use Rattle.std.specs.Prelude.{ℕ, ◌-◌, ◌==◌, List, [], ◌∷◌, codes, if◌then◌else◌}
 use Rattle.ev_fields.specs.declared.field.Field.{Field}
 use Rattle.ev_fields.specs.declared.field.Field.TheVariants.{Header, Revision, Succeeded, Responses, ResponsePut, ResponseDeleteRange, ResponseRange, Deleted, Kvs, Key, Value, CreateRevision, ModRevision, Version, Lease, Count, More, Id, Ttl, Result, Events, Kind, CompactRevision, Canceled, Created, Compare, Success, Failure, Target, RequestPut, RequestDeleteRange, RequestRange, RangeEnd, Limit, KeysOnly, CreateRequest, StartRevision}
@@ -42,7 +42,7 @@ snake KeysOnly = codes "keys_only"
 snake CreateRequest = codes "create_request"
 snake StartRevision = codes "start_revision"
 
--- each letter behind an underscore becomes a capital, and the underscore goes
+-- each small letter after an underscore becomes a capital, and the underscore goes
 abbrev pub without_underscores : List ℕ → List ℕ
 without_underscores [] = []
 without_underscores (a ∷ []) = a ∷ []

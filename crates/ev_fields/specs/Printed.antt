@@ -1,4 +1,4 @@
--- What a text keeps: its text is the print of some tokens.
+-- What a text that is being written keeps: its bytes are the print of some tokens, and it knows whether a value has just ended.
 use Rattle.std.specs.Prelude.{◌≡◌, List, string_bytes}
 use Rattle.json.specs.Token.{Token}
 use Rattle.json.specs.Print.{print, ends_value, ArePrintable}

@@ -6,11 +6,13 @@ ghost use Rattle.ev_fields.specs.declared.fault.JsonFault.TheVariants.{Memory};
 use crate::field::Field;
 use std::alloc::{AllocError, AllocFailed};
 
+/// Why a body could not be read.
 #[derive(Clone, Copy, Debug, PartialEq, Eq)]
 pub enum JsonFault {
-    /// The body is no JSON, or nests deeper than 127.
+    /// The body is not UTF-8, is not JSON, or nests deeper than 127.
     NotJson,
-    /// This member is missing, of another kind, out of range, or of another shape than the ask's.
+    /// This member is missing, of the wrong kind, out of range, or there where it must not be; or it is the list of responses, and
+    /// does not have one for each operation.
     Unreadable { field: Field },
     /// The allocator refused memory.
     Memory,

@@ -4,14 +4,14 @@
 //!
 //! # Writing
 //!
-//! A [`text::Text`] goes from call to call by value, and each call writes one member behind those before. Its clauses say
-//! which members the open object has then, as `specs/Members` defines them: numbers of 64 bits are texts of digits, bytes are
+//! A [`text::Text`] goes from call to call by value, and each call writes one more member at its end. The clauses say which
+//! members the open object then has, as `specs/Members` defines them: numbers of 64 bits are strings of digits, and bytes are
 //! base64 with padding.
 //!
 //! # Reading
 //!
-//! Each call of [`members`] looks one member up, in snake case and else in camel case, and gives its value or the
-//! [`fault::JsonFault`] that names it. `specs/Kinds` defines each kind and its range.
+//! Each function of [`members`] looks up one member, by its snake case name and otherwise by its camel case name, and gives its
+//! value or the [`fault::JsonFault`] that names it. `specs/Kinds` defines each kind and its range.
 #![tactic(auto)]
 
 pub mod fault;

@@ -1,4 +1,4 @@
-//! Members of a JSON object that is read, by their kinds.
+//! Reads members of a JSON object, by their kinds. Each fault names the member, unless it is want of memory.
 
 ghost use Rattle.std.specs.Prelude.{◌≡◌, ◌≤◌, ◌^◌, List, Option, Some, None, option_map};
 ghost use Rattle.std.specs.List.{list_all};
@@ -15,13 +15,14 @@ use serde_json::Value;
 use std::alloc::Global;
 use zx_base::Bytes;
 
+/// The fault that names this member.
 pub fn broken(field: Field) -> JsonFault
     ensures { result ≡ JsonFault.Unreadable field }
 {
     JsonFault::Unreadable { field }
 }
 
-/// The member under either name.
+/// The member under its snake case name, otherwise the one under its camel case name.
 #[tactic(auto, unfolding(crate::specs::Kinds::member_of))]
 pub fn member(value: &Value, name: Field) -> Option<&Value>
     ensures { option_map (λ v. view v.now) result ≡ member_of name (view value.now) }
@@ -32,14 +33,14 @@ pub fn member(value: &Value, name: Field) -> Option<&Value>
     }
 }
 
-/// Whether there is such a member.
+/// Whether the member is there, under either name.
 pub fn has(value: &Value, name: Field) -> bool
     ensures { result ≡ has name (view value.now) }
 {
     member(value, name).is_some()
 }
 
-/// A member that must not be there.
+/// A fault where this member is there; otherwise true.
 #[tactic(auto, unfolding(crate::specs::Kinds::without))]
 pub fn without(value: &Value, name: Field) -> Result<bool, JsonFault>
     ensures { Gives result (without name (view value.now)) }
@@ -50,7 +51,7 @@ pub fn without(value: &Value, name: Field) -> Result<bool, JsonFault>
     Ok(true)
 }
 
-/// A flag; false where it is absent.
+/// A flag; false where the member is absent.
 #[tactic(auto, unfolding(crate::specs::Kinds::flag_in))]
 pub fn flag(value: &Value, name: Field) -> Result<bool, JsonFault>
     ensures { Gives result (flag_in name (view value.now)) }
@@ -64,7 +65,7 @@ pub fn flag(value: &Value, name: Field) -> Result<bool, JsonFault>
     }
 }
 
-/// The bytes that a text in base64 stands for: one copy.
+/// The bytes that a string of base64 stands for, copied once.
 #[tactic(auto, unfolding(crate::specs::Kinds::bytes_of))]
 fn bytes_of(alloc: Global, value: &Value, name: Field) -> Result<Bytes, JsonFault>
     ensures { Gives result (known name (bytes_of (view value.now))) }
@@ -79,6 +80,7 @@ fn bytes_of(alloc: Global, value: &Value, name: Field) -> Result<Bytes, JsonFaul
     }
 }
 
+/// Bytes, in base64 with padding; none where the member is absent.
 #[tactic(auto, unfolding(crate::specs::Kinds::bytes_in))]
 pub fn bytes(alloc: Global, value: &Value, name: Field) -> Result<Bytes, JsonFault>
     ensures { Gives result (bytes_in name (view value.now)) }
@@ -89,6 +91,7 @@ pub fn bytes(alloc: Global, value: &Value, name: Field) -> Result<Bytes, JsonFau
     }
 }
 
+/// Bytes, in base64 with padding, of a member that must be there. They may be none.
 #[tactic(auto, unfolding(crate::specs::Kinds::needed_bytes))]
 pub fn needed_bytes(alloc: Global, value: &Value, name: Field) -> Result<Bytes, JsonFault>
     ensures { Gives result (needed_bytes name (view value.now)) }
@@ -105,7 +108,7 @@ fn are_digits(text: &[u8]) -> bool
     text.iter().all(|b| b.is_ascii_digit())
 }
 
-/// Digits alone, at least one, as a number of 64 bits.
+/// The number that a text of digits gives; `None` for any other text, and for a number of 2^64 or above.
 #[tactic(auto, using(crate::proofs::Digits::read_digits))]
 fn digits_of(text: &str) -> Option<u64>
     ensures { result ≡ digits64 text.now }
@@ -122,6 +125,7 @@ fn digits_of(text: &str) -> Option<u64>
     }
 }
 
+/// A number from 0 to below `top`: digits in a string, or a JSON integer.
 #[tactic(auto, unfolding(crate::specs::Kinds::number_of))]
 fn number_of(top: u64, value: &Value) -> Option<i64>
     requires { top ≤ 2 ^ 63 }
@@ -156,7 +160,7 @@ fn lease_of(value: &Value) -> Option<i64>
     number_of(MAX_LEASES, value)
 }
 
-/// A revision, a version or a count; 0 where it is absent.
+/// A revision, a version, a count, a limit or seconds, from 0 to below 2^62; 0 where the member is absent.
 #[tactic(auto, unfolding(crate::specs::Kinds::count_in))]
 pub fn count(value: &Value, name: Field) -> Result<i64, JsonFault>
     ensures { Gives result (count_in name (view value.now)) }
@@ -170,6 +174,7 @@ pub fn count(value: &Value, name: Field) -> Result<i64, JsonFault>
     }
 }
 
+/// A number from 0 to below 2^62 that must be there.
 #[tactic(auto, unfolding(crate::specs::Kinds::needed_count))]
 pub fn needed_count(value: &Value, name: Field) -> Result<i64, JsonFault>
     ensures { Gives result (needed_count name (view value.now)) }
@@ -192,7 +197,7 @@ fn from_one(number: Option<i64>) -> Option<i64>
     }
 }
 
-/// A count that must be there and be at least 1.
+/// A number from 1 to below 2^62 that must be there.
 #[tactic(auto, unfolding(crate::specs::Kinds::positive_count))]
 pub fn positive_count(value: &Value, name: Field) -> Result<i64, JsonFault>
     ensures { Gives result (positive_count name (view value.now)) }
@@ -206,7 +211,7 @@ pub fn positive_count(value: &Value, name: Field) -> Result<i64, JsonFault>
     }
 }
 
-/// A lease's number that must be there and be at least 1.
+/// A lease's number, from 1 to below 2^63, that must be there.
 #[tactic(auto, unfolding(crate::specs::Kinds::positive_lease))]
 pub fn positive_lease(value: &Value, name: Field) -> Result<i64, JsonFault>
     ensures { Gives result (positive_lease name (view value.now)) }
@@ -220,7 +225,7 @@ pub fn positive_lease(value: &Value, name: Field) -> Result<i64, JsonFault>
     }
 }
 
-/// The key of an ask, which has a byte.
+/// The key of an ask, which must be there and have at least one byte.
 #[tactic(auto, unfolding(crate::specs::Kinds::key_in))]
 pub fn key(alloc: Global, value: &Value) -> Result<Bytes, JsonFault>
     ensures { Gives result (key_in (view value.now)) }
@@ -246,7 +251,7 @@ fn word_of(value: &Value, word: &str) -> Option<bool>
     None
 }
 
-/// A member that must be this text.
+/// True where the member is this text; otherwise a fault, also where it is absent.
 #[tactic(auto, unfolding(crate::specs::Kinds::word_in))]
 pub fn word(value: &Value, name: Field, word: &str) -> Result<bool, JsonFault>
     ensures { Gives result (word_in name word.now (view value.now)) }
@@ -260,7 +265,7 @@ pub fn word(value: &Value, name: Field, word: &str) -> Result<bool, JsonFault>
     }
 }
 
-/// A member that is this text, where it is there.
+/// True where the member is this text or is absent; otherwise a fault.
 #[tactic(auto, unfolding(crate::specs::Kinds::word_or_none))]
 pub fn word_or_none(value: &Value, name: Field, word: &str) -> Result<bool, JsonFault>
     ensures { Gives result (word_or_none name word.now (view value.now)) }
@@ -274,7 +279,7 @@ pub fn word_or_none(value: &Value, name: Field, word: &str) -> Result<bool, Json
     }
 }
 
-/// A lease's number; 0 where it is absent.
+/// A lease's number, from 0 to below 2^63; 0 where the member is absent.
 #[tactic(auto, unfolding(crate::specs::Kinds::lease_in))]
 pub fn lease(value: &Value, name: Field) -> Result<i64, JsonFault>
     ensures { Gives result (lease_in name (view value.now)) }
@@ -288,7 +293,7 @@ pub fn lease(value: &Value, name: Field) -> Result<i64, JsonFault>
     }
 }
 
-/// A member that must be there, whose value is an object.
+/// The object that is the value of a member, which must be there.
 #[tactic(auto, unfolding(crate::specs::Kinds::message_in))]
 pub fn message(value: &Value, name: Field) -> Result<&Value, JsonFault>
     ensures { GivesAs (λ v. view v.now) result (message_in name (view value.now)) }
@@ -302,7 +307,7 @@ pub fn message(value: &Value, name: Field) -> Result<&Value, JsonFault>
     Ok(found)
 }
 
-/// The items of a list; none where it is absent.
+/// The items of a list; none where the member is absent.
 #[tactic(auto, unfolding(crate::specs::Kinds::items_in))]
 pub fn items(value: &Value, name: Field) -> Result<&[Value], JsonFault>
     ensures { GivesAs (λ v. items_view v.now) result (items_in name (view value.now)) }

@@ -12,6 +12,7 @@ use base64::engine::general_purpose::STANDARD;
 use json::{Token, Writer};
 use std::alloc::AllocError;
 
+/// Whether the token wants a comma in front where a value has just ended.
 #[inline(always)]
 pub fn begins(token: Token<'_>) -> bool
     ensures { result ≡ begins (token_of token.entry) }
@@ -19,6 +20,7 @@ pub fn begins(token: Token<'_>) -> bool
     !matches!(token, Token::EndObject | Token::EndArray)
 }
 
+/// Whether a value ends with the token.
 #[inline(always)]
 pub fn ends(token: Token<'_>) -> bool
     ensures { result ≡ ends (token_of token.entry) }
@@ -29,7 +31,7 @@ pub fn ends(token: Token<'_>) -> bool
     )
 }
 
-/// One piece more.
+/// The text with one more piece.
 #[inline(always)]
 pub fn with(mut text: String, more: &str) -> Result<String, AllocError>
     ensures { IfOk result (λ s. string_bytes s ≡ string_bytes text ++ more.now) }
@@ -95,7 +97,7 @@ fn put_quoted(text: String, content: &str) -> Result<String, AllocError>
     Ok(text)
 }
 
-/// The same where some of its bytes are escaped.
+/// A string between quotes, of which some bytes are escaped.
 fn put_escaped(text: String, content: &str) -> Result<String, AllocError>
     ensures { IfOk result (λ s. string_bytes s ≡ string_bytes text ++ quoted content.now) }
 {

@@ -1,5 +1,5 @@
-//! A text that is being written: it goes from call to call by value, and its tokens grow at the end. Base64 is written in
-//! place, so a text has one allocation where its room was enough.
+//! A text that is being written. It goes from call to call by value, and each call adds tokens at its end. Base64 is written
+//! straight into it, so a text takes one allocation where its room was enough.
 
 ghost use Rattle.std.specs.Prelude.{◌≡◌, ◌++◌, ◌∷◌, [], IfOk, IsUtf8, codes};
 ghost use Rattle.base64.specs.Engines.{standard};
@@ -41,7 +41,7 @@ impl Model for Text {
 }
 
 impl Text {
-    /// An empty text, with room for so many bytes.
+    /// An empty text, with room for `room` bytes.
     pub fn with_room(alloc: Global, room: usize) -> Result<Text, AllocError>
         ensures { IfOk result (λ p. p ≡ []) }
     {
@@ -51,6 +51,7 @@ impl Text {
         })
     }
 
+    /// The bytes of the text, without a copy.
     pub fn into_bytes(self) -> Vec<u8>
         ensures text { result.items ≡ print self }
         ensures utf8 { IsUtf8 (print self) }
@@ -59,7 +60,7 @@ impl Text {
         text.into_bytes()
     }
 
-    /// One token more.
+    /// Writes one token, after a comma where one is due.
     #[inline(always)]
     fn token(self, token: Token<'_>) -> Result<Text, AllocError>
         requires { IsPrintable (token_of token) }
@@ -74,7 +75,7 @@ impl Text {
         })
     }
 
-    /// A string that is these bytes in base64.
+    /// Writes a string that is these bytes in base64, with padding.
     fn coded(self, bytes: &[u8]) -> Result<Text, AllocError>
         ensures { IfOk result (λ p. p ≡ self ++ string (encode_of standard bytes.now) ∷ []) }
     {
@@ -87,6 +88,7 @@ impl Text {
         })
     }
 
+    /// Opens an object, which has no members yet.
     #[tactic(auto, using(crate::proofs::Tokens::opened))]
     pub fn begin(self) -> Result<Text, AllocError>
         ensures { IfOk result (λ t. IsOpen self none t) }
@@ -95,6 +97,7 @@ impl Text {
         Ok(text)
     }
 
+    /// Closes the object that was opened last.
     #[tactic(auto, using(crate::proofs::Tokens::opened))]
     pub fn end(self) -> Result<Text, AllocError>
         ensures { IfOk result (λ t. Closes self t) }
@@ -103,7 +106,7 @@ impl Text {
         Ok(text)
     }
 
-    /// The name of a member, whose value comes next.
+    /// Writes the name of a member, whose value comes next.
     pub fn name(self, name: Field) -> Result<Text, AllocError>
         ensures { IfOk result (λ t. t ≡ self ++ key (snake name) ∷ []) }
     {
@@ -119,6 +122,7 @@ impl Text {
         })
     }
 
+    /// Writes a number as a string of decimal digits, with its sign where it is negative.
     #[tactic(auto, using(crate::proofs::Tokens::opened), unfolding(crate::specs::Open::fields_tokens, crate::specs::Open::data_tokens, crate::specs::Members::given, crate::specs::Members::number))]
     pub fn number(self, name: Field, n: i64) -> Result<Text, AllocError>
         ensures { IfOk result (λ t. Adds (number name n) self t) }
@@ -129,6 +133,7 @@ impl Text {
         Ok(text)
     }
 
+    /// Writes a number as [`Text::number`] does, and nothing where it is 0.
     #[tactic(auto, using(crate::proofs::Tokens::opened), unfolding(crate::specs::Open::fields_tokens, crate::specs::Members::number_if))]
     pub fn number_if(self, name: Field, n: i64) -> Result<Text, AllocError>
         ensures { IfOk result (λ t. Adds (number_if name n) self t) }
@@ -139,6 +144,7 @@ impl Text {
         self.number(name, n)
     }
 
+    /// Writes a string, with escapes where JSON wants them.
     #[tactic(auto, using(crate::proofs::Tokens::opened), unfolding(crate::specs::Open::fields_tokens, crate::specs::Open::data_tokens, crate::specs::Members::given, crate::specs::Members::text))]
     pub fn text(self, name: Field, value: &str) -> Result<Text, AllocError>
         ensures { IfOk result (λ t. Adds (text name value.now) self t) }
@@ -148,6 +154,7 @@ impl Text {
         Ok(text)
     }
 
+    /// Writes bytes as a string of base64, with padding (RFC 4648, section 4).
     #[tactic(auto, using(crate::proofs::Tokens::opened), unfolding(crate::specs::Open::fields_tokens, crate::specs::Open::data_tokens, crate::specs::Members::given, crate::specs::Members::bytes))]
     pub fn bytes(self, name: Field, value: &[u8]) -> Result<Text, AllocError>
         ensures { IfOk result (λ t. Adds (bytes name value.now) self t) }
@@ -157,6 +164,7 @@ impl Text {
         Ok(text)
     }
 
+    /// Writes bytes as [`Text::bytes`] does, and nothing where there are none.
     #[tactic(auto, using(crate::proofs::Tokens::opened), unfolding(crate::specs::Open::fields_tokens, crate::specs::Members::bytes_if))]
     pub fn bytes_if(self, name: Field, value: &[u8]) -> Result<Text, AllocError>
         ensures { IfOk result (λ t. Adds (bytes_if name value.now) self t) }
@@ -167,6 +175,7 @@ impl Text {
         self.bytes(name, value)
     }
 
+    /// Writes the flag `true`, and nothing where it is false.
     #[tactic(auto, using(crate::proofs::Tokens::opened), unfolding(crate::specs::Open::fields_tokens, crate::specs::Open::data_tokens, crate::specs::Members::given, crate::specs::Members::true_if))]
     pub fn true_if(self, name: Field, value: bool) -> Result<Text, AllocError>
         ensures { IfOk result (λ t. Adds (true_if name value) self t) }
@@ -179,7 +188,7 @@ impl Text {
         Ok(text)
     }
 
-    /// The name `kv` of an event's key and value, which come next.
+    /// Writes the name `kv`, the member of an event whose value comes next: a key with its value.
     pub fn kv_name(self) -> Result<Text, AllocError>
         ensures { IfOk result (λ t. t ≡ self ++ key (codes "kv") ∷ []) }
     {
@@ -187,7 +196,7 @@ impl Text {
         Ok(text)
     }
 
-    /// A member whose value is a list, which is open now.
+    /// Writes the name of a member and opens the list that is its value.
     pub fn begin_list(self, name: Field) -> Result<Text, AllocError>
         ensures { IfOk result (λ t. t ≡ (self ++ key (snake name) ∷ []) ++ begin_array ∷ []) }
     {
@@ -196,6 +205,7 @@ impl Text {
         Ok(text)
     }
 
+    /// Closes the list that was opened last.
     pub fn end_list(self) -> Result<Text, AllocError>
         ensures { IfOk result (λ t. t ≡ self ++ end_array ∷ []) }
     {
