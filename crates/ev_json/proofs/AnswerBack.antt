@@ -1,4 +1,4 @@
--- Answers come back.
+-- Each answer that was written reads back.
 use Rattle.std.proofs.Common.{◌≡◌, ℕ, suc, Bool, true, List, [], ◌∷◌, map, Option, Some, Ok, refl, ap, ◌∙◌}
 use Rattle.std.specs.Prelude.{ℤ, if◌then◌else◌}
 use Rattle.serde_json.specs.Data.{Data}

@@ -1,4 +1,4 @@
--- Asks come back.
+-- Each ask that was written reads back.
 use Rattle.std.proofs.Common.{◌≡◌, ℕ, suc, List, [], ◌∷◌, map, Option, Some, Ok, refl, ap, ◌∙◌}
 use Rattle.std.specs.Prelude.{ℤ, codes}
 use Rattle.serde_json.specs.Data.{Data, string}

@@ -26,7 +26,7 @@ step : {A B : Type 0} {P Q : Type 0} (r : Result A Field) (k : A → Result B Fi
 step (Ok x) k f e here later = inr (later x refl e)
 step (Err g) k f e here later = let same : g ≡ f = cc in inl (here (ap (λ (x : Field). Err x) same))
 
--- a last step, behind which nothing fails
+-- a last step, after which nothing fails
 last : {A B : Type 0} (r : Result A Field) (k : A → B) (f : Field) → (r >>= λ x. Ok (k x)) ≡ Err f → r ≡ Err f
 last (Ok x) k f e = absurd cc
 last (Err g) k f e = let same : g ≡ f = cc in ap (λ (x : Field). Err x) same

@@ -1,4 +1,4 @@
--- A key and its value come back.
+-- Each key with its value that was written reads back.
 use Rattle.std.proofs.Common.{◌≡◌, ℕ, suc, List, [], ◌∷◌, Option, Some, Ok, refl, ap, ◌∙◌}
 use Rattle.serde_json.specs.Data.{Data}
 use Rattle.ev_types.specs.declared.answer.Kv.{Kv}

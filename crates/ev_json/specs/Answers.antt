@@ -114,7 +114,7 @@ kept_in d = do
   revision ← revision_in d
   Ok (answer.Alive revision id ttl)
 
--- a message of a stream stands as its `result`, or is the whole text
+-- a line of a stream has its message as its `result`, or is the message itself
 unfoldable pub result_in : Data → Result Data Field
 result_in d = known_or field.Result d message_of (member_of field.Result d)
 
@@ -132,6 +132,7 @@ answer_in (ask.Alive id) d = kept_alive_in d
 
 -- ---- the lines of a watch
 
+-- whether the type of an event, which is to be DELETE or PUT, is that of a deletion
 abbrev pub kind_named : Option (List ℕ) → Result Bool Field
 kind_named None = Err field.Kind
 kind_named (Some s) = if bytes_eq s (codes "DELETE") then Ok true else if bytes_eq s (codes "PUT") then Ok false else Err field.Kind
@@ -144,29 +145,32 @@ kind_or_put (Some v) = kind_named (as_str v)
 unfoldable pub deletion_in : Data → Result Bool Field
 deletion_in d = kind_or_put (member_of field.Kind d)
 
+-- the `kv` of an event must be there; where it isn't, the fault names the key
 abbrev pub kv_needed : Option Data → Result Kv Field
 kv_needed None = Err field.Key
 kv_needed (Some v) = kv_in v
 
--- the head of the tree is never deleted
+-- a put gives its key, and a deletion gives none; a deletion of the tree's head is a fault of the event's type
 abbrev pub unless_head : Bool → Kv → Result Event Field
 unless_head false kv = Ok (record { kv = Some kv })
 unless_head true kv = if bytes_eq kv.key (codes "zk/head") then Err field.Kind else Ok (record { kv = None })
 
--- an event has a key and its value, which are passed over where it is a deletion
+-- an event has a type and a `kv`, which is read in a deletion too
 unfoldable pub event_in : Data → Result Event Field
 event_in d = do
   deletion ← deletion_in d
   kv ← kv_needed (get (codes "kv") d)
   unless_head deletion kv
 
+-- the puts among the events
 abbrev pub puts_of : List Event → List Kv
 puts_of events = flat_map (λ (e : Event). option_to_list e.kv) events
 
--- a canceled watch, with the revision that was compacted, if any
+-- a canceled watch: where the number is above 0, the revisions below it were compacted
 abbrev pub canceled_line : ℤ → Line
 canceled_line rev = if int_lt (pos 0) rev then line.Compacted rev else line.Ended
 
+-- a line of a watch that goes on: it says that the watch was created, or gives the puts of its events
 unfoldable pub news_in : Data → Result Line Field
 news_in d = do
   revision ← revision_in d
@@ -181,6 +185,6 @@ change_in d = do
   rev ← count_in field.CompactRevision d
   if canceled then Ok (canceled_line rev) else news_in d
 
--- a line whose top member is `error` ends the watch
+-- a line with a member `error` ends the watch
 unfoldable pub line_in : Data → Result Line Field
 line_in d = if is_some (get (codes "error") d) then Ok line.Ended else (result_in d >>= change_in)

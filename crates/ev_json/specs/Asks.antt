@@ -59,7 +59,7 @@ range_act_in d = do
 unfoldable pub act_in : Data → Result Act Field
 act_in d = if has field.RequestPut d then put_in d else if has field.RequestDeleteRange d then delete_in d else range_act_in d
 
--- a body that is no object has no success list
+-- where the body is not an object, the fault names its success list
 unfoldable pub txn_in : Data → Result TxnReq Field
 txn_in d = do
   object ← known field.Success (message_of d)
@@ -97,7 +97,7 @@ ask_in route.Grant d = grant_in d
 ask_in route.Alive d = alive_in d
 ask_in route.Watch d = Err field.CreateRequest
 
--- a request to watch a key from a revision on
+-- a request to watch one key: the revision to start at, and the key
 unfoldable pub watch_in : Data → Result (ℤ × List ℕ) Field
 watch_in d = do
   request ← message_in field.CreateRequest d

@@ -1,4 +1,4 @@
--- What a body reads as, and when it does not.
+-- What a body reads as, and what a fault says of a body that cannot be read.
 use Rattle.std.specs.Prelude.{◌≡◌, ℕ, ℤ, ◌==◌, List, [], ◌∷◌, Some, None, Result, Ok, Err, if◌then◌else◌, IsUtf8, true, not, ⊤}
 use Rattle.std.specs.List.{list_all}
 use Rattle.serde_json.specs.Data.{Data}
@@ -14,11 +14,12 @@ use Rattle.ev_json.specs.declared.line.Line.{Line}
 use Rattle.ev_json.specs.Asks.{ask_in, watch_in}
 use Rattle.ev_json.specs.Answers.{answer_in, line_in}
 
--- the body is UTF-8 and JSON (RFC 8259, nested at most 127 deep), whose value reads as that
+-- the body is UTF-8 and JSON (RFC 8259, nested at most 127 deep), and its value reads as x
 unfoldable pub ReadsAs : {A : Type 0} → (Data → Result A Field) → List ℕ → A → Type 0
 ReadsAs reading body x = IsUtf8 body × (d : Data) × (read body ≡ Some d) × (reading d ≡ Ok x)
 
--- when each fault comes: no JSON; JSON whose value has this unreadable member
+-- what each fault says: that memory ran out; that the body is not UTF-8 or not JSON; that it is both, and the reading of its value
+-- names this member
 unfoldable pub FaultOf : {A : Type 0} → (Data → Result A Field) → List ℕ → JsonFault → Type 0
 FaultOf reading body fault.Memory = ⊤
 FaultOf reading body fault.NotJson = IsUtf8 body → read body ≡ None
@@ -51,13 +52,13 @@ message_body (ask.Range r) body = body
 message_body (ask.Grant id ttl) body = body
 message_body (ask.Alive id) body = first_line body
 
--- the body answers the ask by that
+-- the body reads as this answer to the ask
 abbrev pub reads : Ask → List ℕ → Answer → Type 0
 reads asked body answered = ReadsAs (answer_in asked) (message_body asked body) answered
 
--- ---- for private clauses
+-- ---- for clauses of private functions
 
--- the body was not parsed
+-- what a fault of the parser says: that memory ran out, or that the body is not UTF-8 or not JSON
 abbrev pub IsUnparsed : List ℕ → JsonFault → Type 0
 IsUnparsed body fault.Memory = ⊤
 IsUnparsed body fault.NotJson = IsUtf8 body → read body ≡ None

@@ -28,15 +28,16 @@ Lacks kind g f d = (f ≡ g) × (option_and_then kind (member_of g d) ≡ None)
 abbrev pub Excess : Field → Field → Data → Type 0
 Excess g f d = (f ≡ g) × (has g d ≡ true)
 
+-- one of the items is broken
 abbrev pub AnyItem : (Data → Type 0) → Items → Type 0
 AnyItem broken no_items = ⊥
 AnyItem broken (item d ds) = broken d ⊎ AnyItem broken ds
 
--- the member g is no list, or one of its items breaks its rules
+-- the member g is there and is no list, or is a list with an item that breaks its rules
 abbrev pub InList : (Field → Data → Type 0) → Field → Field → Data → Type 0
 InList breaks g f d = Wrong as_array g f d ⊎ ((v : Data) × (ds : Items) × (member_of g d ≡ Some v) × (as_array v ≡ Some ds) × AnyItem (breaks f) ds)
 
--- the member g is no message, or its message breaks its rules
+-- the member g is missing or no object, or the message that it is breaks its rules
 abbrev pub InMessage : (Field → Data → Type 0) → Field → Field → Data → Type 0
 InMessage breaks g f d = Lacks message_of g f d ⊎ ((v : Data) × (member_of g d ≡ Some v) × breaks f v)
 
@@ -54,7 +55,7 @@ RangeBreaks f d = KeyBreaks f d ⊎ (Wrong as_bool field.KeysOnly f d ⊎ (Wrong
 unfoldable pub PutBreaks : Field → Data → Type 0
 PutBreaks f d = KeyBreaks f d ⊎ (Wrong lease_of field.Lease f d ⊎ Wrong bytes_of field.Value f d)
 
--- both members are there, where only one may be
+-- both members are there, where only one may be; the second is named
 abbrev pub Beside : Field → Field → Field → Data → Type 0
 Beside h g f d = (f ≡ g) × (has h d ≡ true) × (has g d ≡ true)
 
@@ -62,7 +63,7 @@ Beside h g f d = (f ≡ g) × (has h d ≡ true) × (has g d ≡ true)
 abbrev pub InGiven : (Field → Data → Type 0) → Field → Field → Data → Type 0
 InGiven breaks g f d = (has g d ≡ true) × InMessage breaks g f d
 
--- an operation has none of its three members
+-- an operation has none of its three members; the range is named
 abbrev pub NoneOfThree : Field → Data → Type 0
 NoneOfThree f d = (f ≡ field.RequestRange) × (has field.RequestPut d ≡ false) × (has field.RequestDeleteRange d ≡ false) × (has field.RequestRange d ≡ false)
 
@@ -74,7 +75,7 @@ TwoOfThree f d = Beside field.RequestPut field.RequestDeleteRange f d ⊎ (Besid
 unfoldable pub ActBreaks : Field → Data → Type 0
 ActBreaks f d = InGiven PutBreaks field.RequestPut f d ⊎ (InGiven KeyBreaks field.RequestDeleteRange f d ⊎ (InGiven RangeBreaks field.RequestRange f d ⊎ (NoneOfThree f d ⊎ TwoOfThree f d)))
 
--- a body that is no object has no success list
+-- the body is no object, for which its success list is named; or one of the three lists breaks its rules
 unfoldable pub TxnBreaks : Field → Data → Type 0
 TxnBreaks f d = ((f ≡ field.Success) × (message_of d ≡ None)) ⊎ (InList GuardBreaks field.Compare f d ⊎ (InList ActBreaks field.Failure f d ⊎ InList ActBreaks field.Success f d))
 
@@ -107,7 +108,7 @@ KvBreaks f d =
 unfoldable pub FoundBreaks : Field → Data → Type 0
 FoundBreaks f d = Wrong count_of field.Count f d ⊎ (InList KvBreaks field.Kvs f d ⊎ Wrong as_bool field.More f d)
 
--- the answer to an operation: not the operation's member, or another beside it
+-- in the answer to an operation, the operation's own member is missing or breaks its rules, or another one is there too
 unfoldable pub PartBreaks : Act → Field → Data → Type 0
 PartBreaks (act.Put key value lease) f d = Lacks message_of field.ResponsePut f d ⊎ (Excess field.ResponseDeleteRange f d ⊎ Excess field.ResponseRange f d)
 PartBreaks (act.Delete key) f d = InMessage (Wrong count_of field.Deleted) field.ResponseDeleteRange f d ⊎ (Excess field.ResponsePut f d ⊎ Excess field.ResponseRange f d)
@@ -120,7 +121,7 @@ PartsBreak [] f (item d ds) = f ≡ field.Responses
 PartsBreak (a ∷ acts) f no_items = f ≡ field.Responses
 PartsBreak (a ∷ acts) f (item d ds) = PartBreaks a f d ⊎ PartsBreak acts f ds
 
--- the answers to the list that was applied, which an absent member leaves empty
+-- the responses are no list, or their items do not answer the list that was applied; an absent list has no items
 abbrev pub ResponsesBreak : TxnReq → Field → Data → Type 0
 ResponsesBreak t f d = Wrong as_array field.Responses f d ⊎ ((succeeded : Bool) × (ds : Items) × (flag_in field.Succeeded d ≡ Ok succeeded) × (items_in field.Responses d ≡ Ok ds) × PartsBreak (if succeeded then t.success else t.failure) f ds)
 
@@ -130,7 +131,7 @@ TxnAnswerBreaks t f d = HeaderBreaks f d ⊎ (Wrong as_bool field.Succeeded f d 
 unfoldable pub LeaseAnswerBreaks : Field → Data → Type 0
 LeaseAnswerBreaks f d = Wrong lease_of field.Id f d ⊎ (Wrong count_of field.Ttl f d ⊎ HeaderBreaks f d)
 
--- a message of a stream, which stands as its `result` or is the whole text
+-- the `result` of a line is no object; or the message, which is the `result` or the whole line, breaks its rules
 abbrev pub InResult : (Field → Data → Type 0) → Field → Data → Type 0
 InResult breaks f d = Wrong message_of field.Result f d ⊎ ((v : Data) × (result_in d ≡ Ok v) × breaks f v)
 
@@ -146,15 +147,15 @@ AnswerBreaks (ask.Alive id) f d = InResult LeaseAnswerBreaks f d
 abbrev pub KindBreaks : Field → Data → Type 0
 KindBreaks f d = (f ≡ field.Kind) × (deletion_in d ≡ Err field.Kind ⊎ ((v : Data) × (kv : Kv) × (deletion_in d ≡ Ok true) × (get (codes "kv") d ≡ Some v) × (kv_in v ≡ Ok kv) × (bytes_eq kv.key (codes "zk/head") ≡ true)))
 
--- an event has a key and its value
+-- the type breaks its rules; or `kv` is missing, for which the key is named; or `kv` breaks its rules
 unfoldable pub EventBreaks : Field → Data → Type 0
 EventBreaks f d = KindBreaks f d ⊎ (((f ≡ field.Key) × (get (codes "kv") d ≡ None)) ⊎ ((v : Data) × (get (codes "kv") d ≡ Some v) × KvBreaks f v))
 
--- a canceled watch is not asked for its header
+-- the header, `created` and the events of a canceled watch are not looked at
 unfoldable pub ChangeBreaks : Field → Data → Type 0
 ChangeBreaks f d = Wrong as_bool field.Canceled f d ⊎ (Wrong count_of field.CompactRevision f d
     ⊎ ((flag_in field.Canceled d ≡ Ok false) × (HeaderBreaks f d ⊎ (Wrong as_bool field.Created f d ⊎ InList EventBreaks field.Events f d))))
 
--- a line that etcd ends by an error breaks no rule
+-- a line with a member `error` breaks no rule
 unfoldable pub LineBreaks : Field → Data → Type 0
 LineBreaks f d = (get (codes "error") d ≡ None) × InResult ChangeBreaks f d

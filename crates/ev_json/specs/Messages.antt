@@ -152,14 +152,14 @@ create_data from key = object_of (none
 unfoldable pub watch_data : ℤ → List ℕ → Data
 watch_data from key = object_of (none ++ given field.CreateRequest (create_data from key))
 
--- the one text of a request to watch a key from a revision on
+-- the one text of a request to watch one key from a revision on
 unfoldable pub watch_text : ℤ → List ℕ → List ℕ
 watch_text from key = compact_text (watch_data from key)
 
 unfoldable pub event_data : Kv → Data
 event_data kv = object_of (none ++ kv_member (kv_data kv))
 
--- a line without events is the one that says that the watch stands
+-- a line without puts is the one that says that the watch was created
 unfoldable pub change_data : List Kv → ℤ → Data
 change_data events revision = object_of (none
     ++ true_if field.Created (length events == 0)

@@ -1,5 +1,5 @@
--- The ranges within which a message that was written reads back as itself. They are etcd's, but for the upper ends, which
--- are this project's.
+-- The ranges within which a message that was written reads back as itself. Their lower ends are etcd's, and their upper ends are
+-- this project's.
 use Rattle.std.specs.Prelude.{ℤ, List, [], ◌∷◌, if◌then◌else◌, ⊤}
 use Rattle.std.specs.List.{AllByRecursion}
 use Rattle.base64.specs.GeneralPurpose.{IsBytes}
@@ -50,7 +50,7 @@ KvFits kv = IsBytes kv.key × IsBytes kv.value × IsCount kv.create_revision × 
 abbrev pub FoundFits : RangeAns → Type 0
 FoundFits found = AllByRecursion KvFits found.kvs × IsCount found.count
 
--- the answer to an operation is of its kind
+-- the answer is of the operation's kind, and its numbers are in range
 abbrev pub PartFits : Act → ActAns → Type 0
 PartFits (act.Put key value lease) part.Put = ⊤
 PartFits (act.Put key value lease) (part.Deleted n) = ⊥
@@ -62,7 +62,7 @@ PartFits (act.Range r) part.Put = ⊥
 PartFits (act.Range r) (part.Deleted n) = ⊥
 PartFits (act.Range r) (part.Range found) = FoundFits found
 
--- one answer for each operation
+-- one answer for each operation, which fits it
 abbrev pub PartsFit : List Act → List ActAns → Type 0
 PartsFit [] [] = ⊤
 PartsFit [] (p ∷ ps) = ⊥
@@ -90,7 +90,7 @@ AnswerFits (ask.Alive id) (answer.Alive revision kept left) = IsCount revision �
 
 -- ---- lines
 
--- what a line says that was written for these puts: with none that the watch stands
+-- what a line says that was written for these puts: that the watch was created, where there are none
 abbrev pub line_of : List Kv → ℤ → Line
 line_of [] revision = line.Created
 line_of (kv ∷ kvs) revision = line.Events revision (kv ∷ kvs)

@@ -13,7 +13,7 @@ use ev_fields::text::Text;
 use ev_types::{ActAns, Answer, Kv, RangeAns};
 use std::alloc::AllocError;
 
-/// An object that is open, with the first members of a key and its value.
+/// Opens the object of a key with its value, and writes its first members.
 fn begin_kv(out: Text, kv: &Kv) -> Result<Text, AllocError>
     ensures { IfOk result (λ t. IsOpen out (none ++ number_if CreateRevision kv.now.create_revision ++ bytes Key kv.now.key ++ number_if Lease kv.now.lease) t) }
 {
@@ -43,7 +43,7 @@ impl Message for Kv {
     }
 }
 
-/// What stands at the head of each answer.
+/// The header of an answer, or of a watch's line.
 #[derive(Drop)]
 pub struct Header {
     pub revision: i64,
@@ -97,7 +97,7 @@ impl Message for PutDone {
     }
 }
 
-/// What a delete answers.
+/// What a delete answers: how many keys were deleted.
 #[derive(Drop)]
 struct Deleted {
     keys: i64,

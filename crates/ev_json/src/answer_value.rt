@@ -171,7 +171,7 @@ fn kept(value: &Value) -> Result<Answer, JsonFault>
     Ok(Answer::Alive { revision, id, ttl })
 }
 
-/// The message of a stream: its result, or all of it.
+/// The message in a line of a stream: its `result`, or the whole value where it has none.
 #[tactic(auto, unfolding(crate::specs::Answers::result_in))]
 pub fn result_of(value: &Value) -> Result<&Value, JsonFault>
     ensures { GivesAs (λ v. view v.now) result (result_in (view value.now)) }

@@ -50,7 +50,7 @@ impl Message for RangeReq {
     }
 }
 
-/// What a put asks.
+/// The `request_put` of an operation.
 #[derive(Drop)]
 struct Put<'a> {
     key: &'a [u8],
@@ -77,7 +77,7 @@ impl Message for Put<'_> {
     }
 }
 
-/// What a delete asks.
+/// The `request_delete_range` of an operation, which names one key.
 #[derive(Drop)]
 struct Delete<'a> {
     key: &'a [u8],
@@ -189,7 +189,7 @@ impl Message for Ask {
     }
 }
 
-/// What a watch asks.
+/// The `create_request` of a request to watch.
 #[derive(Drop)]
 struct Create<'a> {
     from: i64,
@@ -214,7 +214,7 @@ impl Message for Create<'_> {
     }
 }
 
-/// A request to watch a key from a revision on.
+/// A request to watch one key from the revision `from` on.
 #[derive(Drop)]
 pub struct Watch<'a> {
     pub from: i64,

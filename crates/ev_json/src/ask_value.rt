@@ -153,7 +153,7 @@ fn alive(value: &Value) -> Result<Ask, JsonFault>
     Ok(Ask::Alive { id })
 }
 
-/// An ask that was posted there.
+/// The ask in the value of a body that was posted to the path of this route.
 #[tactic(auto, unfolding(crate::specs::Asks::ask_in))]
 pub fn ask(alloc: Global, route: Route, value: &Value) -> Result<Ask, JsonFault>
     ensures { Gives result (ask_in route (view value.now)) }
@@ -167,7 +167,7 @@ pub fn ask(alloc: Global, route: Route, value: &Value) -> Result<Ask, JsonFault>
     }
 }
 
-/// A request to watch a key from a revision on.
+/// A request to watch one key: the revision to start at, and the key.
 #[tactic(auto, unfolding(crate::specs::Asks::watch_in))]
 pub fn watch(alloc: Global, value: &Value) -> Result<(i64, Bytes), JsonFault>
     ensures { Gives result (watch_in (view value.now)) }

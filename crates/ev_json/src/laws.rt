@@ -17,7 +17,7 @@ ghost use Rattle.ev_fields.specs.Ranges.{IsCount, IsKey, IsPositiveCount};
 ghost use Rattle.ev_json.specs.Ranges.{KvFits, AskFits, AnswerFits, line_of};
 ghost use Rattle.ev_fields.specs.declared.field.Field.{Field};
 
-/// Each written text is JSON, and its value has the members that were written: their names rise, and none stands twice.
+/// Each written text is JSON, and its value has exactly the members that were written.
 pub fn texts_are_json()
     ensures asks { (a : Ask) → read (ask_text a) ≡ Some (ask_data a) }
     ensures answers { (a : Answer) → read (answer_text a) ≡ Some (answer_data a) }
@@ -25,7 +25,7 @@ pub fn texts_are_json()
     ensures lines { (kvs : List Kv) (revision : ℤ) → read (line_text kvs revision) ≡ Some (line_data kvs revision) }
 {}
 
-/// Within the ranges each message reads as itself.
+/// Within the ranges of `specs/Ranges` the value of each written message reads as that message.
 pub fn messages_come_back()
     ensures asks { (a : Ask) → AskFits a → ask_in (route_of a) (ask_data a) ≡ Ok a }
     ensures answers { (asked : Ask) (a : Answer) → AnswerFits asked a → answer_in asked (answer_data a) ≡ Ok a }
@@ -33,7 +33,7 @@ pub fn messages_come_back()
     ensures lines { (kvs : List Kv) (revision : ℤ) → AllByRecursion KvFits kvs → IsCount revision → line_in (line_data kvs revision) ≡ Ok (line_of kvs revision) }
 {}
 
-/// The texts of a stream have no line feed, so the line feed behind one ends it, whatever follows.
+/// The texts of a stream have no line feed, so a line feed after one ends it, whatever follows.
 pub fn texts_are_lines()
     ensures answers { (a : Answer) → IsOneLine (answer_text a) }
     ensures lines { (kvs : List Kv) (revision : ℤ) → IsOneLine (line_text kvs revision) }

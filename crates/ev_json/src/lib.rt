@@ -1,28 +1,30 @@
 //! The messages of etcd's JSON gateway as texts, both ways (etcd API reference, "gRPC gateway"; RFC 8259, RFC 4648).
 //!
-//! A client writes asks by [`write_ask`] and [`write_watch`], and reads what comes back by [`read_answer`] and
-//! [`read_line`]; a gateway reads asks by [`read_ask`] and [`read_watch`], and answers by [`write_answer`] and
-//! [`write_line`]. The bodies of HTTP messages, and the lines of streams, are the caller's.
+//! A client writes asks with [`write_ask`] and [`write_watch`], and reads what comes back with [`read_answer`] and
+//! [`read_line`]. A gateway reads asks with [`read_ask`] and [`read_watch`], and answers with [`write_answer`] and
+//! [`write_line`]. Cutting HTTP messages into bodies, and streams into lines, is left to the caller.
 //!
 //! # Writing
 //!
-//! Each message has one text, that of `specs/Messages`: compact, members sorted by name, numbers of 64 bits as texts of
-//! digits, bytes in base64 with padding, and a member left out where it is empty, 0 or false. It has no line feed, so a
-//! stream can end each with one. Within the ranges of `specs/Ranges` it reads back as the message.
+//! Each message has one text, that of `specs/Messages`: compact, members sorted by name, numbers of 64 bits as strings of
+//! digits, bytes in base64 with padding. Lists are left out where they are empty, flags where they are false, and most other
+//! members where they are empty or 0; `specs/Messages` says which. No text has a line feed, so a stream can end each with one.
+//! Within the ranges of `specs/Ranges` a text reads back as the message.
 //!
 //! # Reading
 //!
 //! `specs/Asks` and `specs/Answers` say what is read, a line for each member, in the words of `ev_fields`: whether it must be
-//! there, its kind, and its range. Unknown members are passed over; of two of one name the last stands; each name is taken in snake
-//! case and else in camel case; a number may be digits in a text or a JSON integer. What is not read is a [`JsonFault`]: the
-//! body is no JSON, or a member is at fault and named. A canceled watch, and one that etcd gave up, need no header.
+//! there, its kind, and its range. Unknown members are passed over, and of two members with one name the last counts. A name is
+//! looked up in snake case, and otherwise in camel case. A number may be a string of digits or a JSON integer. What cannot be
+//! read gives a [`JsonFault`]: the body is not JSON, or a member is at fault and named. The line of a watch that was canceled,
+//! or that etcd ended with an error, needs no header.
 //!
 //! # Cost
 //!
-//! Writing takes the text's room once, estimated from the lengths of keys and values, and writes each member straight into
-//! it: a name as one literal, a key or a value in base64, 1,024 bytes at a time. Reading parses the body into a tree of
-//! values, in time in proportion to its bytes, and decodes each key and value once from there. The tree is the larger part:
-//! an honest answer of 8 MB takes some 140 MB, a hostile one of many small objects up to 100 bytes a byte.
+//! Writing allocates the text once, with room estimated from the lengths of keys and values, and writes each member straight
+//! into it: a name as one literal, a key or a value in base64, 1,024 bytes at a time. Reading parses the body into a tree of
+//! values, in time in proportion to its bytes, and decodes each key and value once from there. The tree takes most of the memory:
+//! some 140 MB for an honest answer of 8 MB, and up to 100 bytes for each byte of a hostile one with many small objects.
 #![tactic(auto)]
 
 mod answer_text;

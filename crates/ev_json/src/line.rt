@@ -6,16 +6,17 @@ use zx_base::Seq;
 /// One line of a watch's stream (etcd API reference, `WatchResponse`).
 #[derive(Debug, Drop)]
 pub enum Line {
-    /// The watch stands.
+    /// The watch was created. Events in such a line are passed over.
     Created,
-    /// Keys that were put, in order; deletions are left out.
+    /// The keys that were put, in order; deletions are left out. `revision` is the header's, and may be above those of the puts.
     Events { revision: i64, kvs: Seq<Kv> },
-    /// The watch asked for revisions below this one, which are gone.
+    /// The watch was canceled: it asked for a revision below `rev`, and those were compacted.
     Compacted { rev: i64 },
+    /// The watch was canceled for another reason, or etcd ended it with an error.
     Ended,
 }
 
-/// One event: a put's key and value, or nothing of a deletion.
+/// One event: the key as a put left it, or `None` for a deletion.
 #[derive(Debug, Drop)]
 pub struct Event {
     pub kv: Option<Kv>,

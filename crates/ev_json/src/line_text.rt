@@ -54,7 +54,7 @@ fn events_if(out: Text, kvs: &[Kv]) -> Result<Text, AllocError>
     events(out, kvs)
 }
 
-/// What a line says of its watch.
+/// The `result` of a line: these puts, or that the watch was created where there are none.
 #[derive(Drop)]
 struct Change<'a> {
     kvs: &'a [Kv],
@@ -80,7 +80,7 @@ impl Message for Change<'_> {
     }
 }
 
-/// One line of a watch: that it stands, where there are no events.
+/// One line of a watch: these puts, or that the watch was created where there are none.
 #[derive(Drop)]
 pub struct LineOf<'a> {
     pub kvs: &'a [Kv],

@@ -62,7 +62,7 @@ impl Read for Event {
     }
 }
 
-/// The keys that were put, in order.
+/// The puts among the events, in order.
 fn puts(alloc: Global, events: Vec<Event>) -> Result<Vec<Kv>, AllocError>
     ensures { IfOk result (λ v. v.items ≡ puts_of events.items) }
 {

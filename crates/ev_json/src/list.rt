@@ -22,7 +22,7 @@ pub trait Read: Sized + Drop {
         ensures { Gives result (reading (view value.now)) };
 }
 
-/// Each item of a list.
+/// Reads each item of a list, up to the first fault.
 fn each<T: Read>(alloc: Global, values: &[Value]) -> Result<Vec<T>, JsonFault>
     ensures { GivesAs (λ v. v.items) result (each T.reading (items_view values.now)) }
 {
@@ -33,7 +33,7 @@ fn each<T: Read>(alloc: Global, values: &[Value]) -> Result<Vec<T>, JsonFault>
     Ok(list)
 }
 
-/// A list of messages; none where it is absent.
+/// Reads a list of messages; none where it is absent.
 #[tactic(auto, unfolding(ev_fields::specs::Kinds::list_in))]
 pub fn list<T: Read>(alloc: Global, value: &Value, name: Field) -> Result<Seq<T>, JsonFault>
     ensures { Gives result (list_in T.reading name (view value.now)) }

@@ -15,10 +15,10 @@ use std::alloc::AllocError;
 pub trait Message {
     ghost shape: { Self → Data };
 
-    /// About how many bytes its text has; mostly fewer.
+    /// About how many bytes its text has, at most.
     fn room(&self) -> usize;
 
-    /// Writes the message behind what was written before.
+    /// Writes the message at the end of the text.
     fn write(&self, out: Text) -> Result<Text, AllocError>
         ensures { IfOk result (λ t. t ≡ out ++ data_tokens (shape self.now)) };
 }
@@ -33,7 +33,7 @@ pub fn submessage<M: Message>(out: Text, name: Field, value: &M) -> Result<Text,
     Ok(text)
 }
 
-/// The key and value of an event.
+/// The member `kv` of an event.
 #[tactic(auto, using(ev_fields::proofs::Tokens::nested))]
 pub fn kv<M: Message>(out: Text, value: &M) -> Result<Text, AllocError>
     ensures { IfOk result (λ t. Adds (kv_member (M.shape value.now)) out t) }
@@ -53,7 +53,7 @@ fn all_of<M: Message>(out: Text, items: &[M]) -> Result<Text, AllocError>
     Ok(text)
 }
 
-/// A list of messages.
+/// A member that is a list of messages.
 #[tactic(auto, using(ev_fields::proofs::Tokens::nested))]
 fn list<M: Message>(out: Text, name: Field, items: &[M]) -> Result<Text, AllocError>
     ensures { IfOk result (λ t. Adds (given name (array (items_of (map M.shape items.now)))) out t) }
@@ -64,7 +64,7 @@ fn list<M: Message>(out: Text, name: Field, items: &[M]) -> Result<Text, AllocEr
     Ok(text)
 }
 
-/// A list of messages, where it has any.
+/// A member that is a list of messages; nothing where there are none.
 pub fn list_if<M: Message>(out: Text, name: Field, items: &[M]) -> Result<Text, AllocError>
     ensures { IfOk result (λ t. Adds (list_if name (map M.shape items.now)) out t) }
 {

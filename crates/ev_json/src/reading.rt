@@ -1,4 +1,4 @@
-//! Bodies as messages. The text is parsed once into a tree of values, of which keys and values are decoded once.
+//! Reads messages from bodies. A body is parsed once into a tree of JSON values, and each key and value is decoded once from there.
 
 ghost use Rattle.std.specs.Prelude.{◌≡◌, ◌≢◌, Some, None, IfOk, IfErr, IsUtf8};
 ghost use Rattle.serde_json.specs.Read.{read};
@@ -33,7 +33,7 @@ fn parse(alloc: Global, body: &[u8]) -> Result<Value, JsonFault>
     }
 }
 
-/// The ask in a body that was posted there. A request to watch is read by [`read_watch`].
+/// Reads the ask in a body that was posted to the path of this route, which is not `Watch`: [`read_watch`] reads those.
 #[tactic(auto, using(crate::proofs::Faults::unparsed), unfolding(crate::specs::Bodies::ReadsAs, crate::specs::Bodies::FaultOf))]
 pub fn read_ask(alloc: Global, route: Route, body: &[u8]) -> Result<Ask, JsonFault>
     requires { route ≢ routes.Watch }
@@ -45,7 +45,7 @@ pub fn read_ask(alloc: Global, route: Route, body: &[u8]) -> Result<Ask, JsonFau
     Ok(ask)
 }
 
-/// The key that a body asks to watch, and the revision from which on.
+/// Reads a request to watch one key: the revision to start at, at least 1, and the key.
 #[tactic(auto, using(crate::proofs::Faults::unparsed), unfolding(crate::specs::Bodies::ReadsAs, crate::specs::Bodies::FaultOf))]
 pub fn read_watch(alloc: Global, body: &[u8]) -> Result<(i64, Bytes), JsonFault>
     ensures read { IfOk result (λ w. reads_watch body.now w.0 w.1) }
@@ -77,7 +77,7 @@ fn message_body<'a>(ask: &Ask, body: &'a [u8]) -> &'a [u8]
     }
 }
 
-/// The answer to an ask in the body of a response. The answer to a keepalive is the body's first line.
+/// Reads the answer to an ask from the body of a response. The response to a keepalive is a stream: its first line is read.
 #[tactic(auto, using(crate::proofs::Faults::unparsed), unfolding(crate::specs::Bodies::ReadsAs, crate::specs::Bodies::FaultOf))]
 pub fn read_answer(alloc: Global, ask: &Ask, body: &[u8]) -> Result<Answer, JsonFault>
     ensures read { IfOk result (λ a. reads ask.now body.now a) }
@@ -89,7 +89,7 @@ pub fn read_answer(alloc: Global, ask: &Ask, body: &[u8]) -> Result<Answer, Json
     Ok(answer)
 }
 
-/// One line of a watch.
+/// Reads one line of a watch's stream.
 #[tactic(auto, using(crate::proofs::Faults::unparsed), unfolding(crate::specs::Bodies::ReadsAs, crate::specs::Bodies::FaultOf))]
 pub fn read_line(alloc: Global, bytes: &[u8]) -> Result<Line, JsonFault>
     ensures read { IfOk result (λ l. reads_line bytes.now l) }

@@ -1,9 +1,8 @@
-//! How much room texts take. These are bounds from above by the longest numbers, which nothing but speed rests on: a text
-//! that were longer would grow.
+//! Estimates of how many bytes texts take, with each number as long as it can be. Only speed rests on them: a longer text grows.
 
 use crate::message::Message;
 
-/// So much room, and the bytes in base64.
+/// `room` bytes, and those that these bytes take in base64.
 pub fn about_bytes(room: usize, bytes: &[u8]) -> usize {
     (bytes.len() / 3)
         .saturating_add(1)
@@ -11,7 +10,7 @@ pub fn about_bytes(room: usize, bytes: &[u8]) -> usize {
         .saturating_add(room)
 }
 
-/// So much room, and each message with its comma.
+/// `room` bytes, and those of each message with its comma.
 pub fn about_list<M: Message>(room: usize, items: &[M]) -> usize {
     let mut sum = room;
     for item in items {

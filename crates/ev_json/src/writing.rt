@@ -1,4 +1,4 @@
-//! Messages as texts. Each member is written once, straight into the text, whose room is taken once.
+//! Writes messages as texts. Each member is written straight into the text, whose room is taken once.
 
 ghost use Rattle.std.specs.Prelude.{◌≡◌, IfOk, IsUtf8};
 ghost use Rattle.std.specs.List.{AllByRecursion};
@@ -39,7 +39,7 @@ fn route_of(ask: &Ask) -> Route
     }
 }
 
-/// Where an ask is posted to, and its text.
+/// The route whose path an ask is posted to, and the ask's text.
 #[tactic(auto, using(crate::proofs::Returns::returned), unfolding(crate::specs::Messages::ask_text))]
 pub fn write_ask(alloc: Global, ask: &Ask) -> Result<(Route, Vec<u8>), Memory>
     ensures route { IfOk result (λ r. r.0 ≡ route_of ask.now) }
@@ -50,7 +50,7 @@ pub fn write_ask(alloc: Global, ask: &Ask) -> Result<(Route, Vec<u8>), Memory>
     Ok((route_of(ask), text))
 }
 
-/// The text of an answer.
+/// The text of an answer, without a line feed.
 #[tactic(auto, using(crate::proofs::Returns::returned), unfolding(crate::specs::Messages::answer_text))]
 pub fn write_answer(alloc: Global, answer: &Answer) -> Result<Vec<u8>, Memory>
     ensures text { IfOk result (λ v. v.items ≡ answer_text answer.now) }
@@ -61,7 +61,7 @@ pub fn write_answer(alloc: Global, answer: &Answer) -> Result<Vec<u8>, Memory>
     Ok(text)
 }
 
-/// The text of a request to watch a key from a revision on.
+/// The text of a request to watch one key from the revision `from` on.
 #[tactic(auto, using(crate::proofs::Returns::returned), unfolding(crate::specs::Messages::watch_text))]
 pub fn write_watch(alloc: Global, from: i64, key: &[u8]) -> Result<Vec<u8>, Memory>
     ensures text { IfOk result (λ v. v.items ≡ watch_text from key.now) }
@@ -71,7 +71,7 @@ pub fn write_watch(alloc: Global, from: i64, key: &[u8]) -> Result<Vec<u8>, Memo
     Ok(text)
 }
 
-/// One line of a watch, without its line feed: the puts of one revision, or with none that the watch stands.
+/// One line of a watch, without its line feed: these puts, or that the watch was created where there are none.
 #[tactic(auto, using(crate::proofs::Returns::returned), unfolding(crate::specs::Messages::line_text))]
 pub fn write_line(alloc: Global, events: &[Kv], revision: i64) -> Result<Vec<u8>, Memory>
     ensures text { IfOk result (λ v. v.items ≡ line_text events.now revision) }
