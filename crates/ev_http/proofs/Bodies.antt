@@ -16,7 +16,7 @@ use Rattle.ev_http.specs.Body.{Chunk, print_chunks, contents, Behind, AtContent,
 nothing : (bytes added : List ℕ) → added ≡ [] → bytes ++ added ≡ bytes
 nothing bytes added e = ap (λ (x : List ℕ). bytes ++ x) e ∙ append-nil bytes
 
--- a piece behind a front of the body
+-- a piece after a front of the body
 pub takes_bytes-before : (r : Result (Option ℕ) HttpFault) (before old added new : List ℕ) (most : ℕ) (source : Told) (tally : Tally) → TakesBytes r old added new most source tally → TakesBytes r (before ++ old) added (before ++ new) most source tally
 takes_bytes-before (Ok (Some n)) before old added new most source tally got = (ap (λ (x : List ℕ). before ++ x) got.0 ∙ sym (append_assoc before old added), got.1, got.2, got.3)
 takes_bytes-before (Ok None) before old added new most source tally got = (got.0, ap (λ (x : List ℕ). before ++ x) got.1, got.2)

@@ -128,7 +128,7 @@ pub line_ends : (n : ℕ) (p : Part) (line added new body : List ℕ) (limit : �
     → Grows line added new limit → Ends source → n ≡ tally.taken → IsOpen p new → TakesPart (Err (fault.Ended n)) p line body added new body source tally
 line_ends n p line added new body limit source tally goes grows ends same more start f bytes came taken = (goes start f bytes came grows, more, ends, same)
 
--- ---- behind a chunk
+-- ---- after a chunk
 
 pub same_front : (a b x y : List ℕ) → length a ≡ length b → a ++ x ≡ b ++ y → x ≡ y
 same_front a b x y same e = sym (drop-append_seam a x) ∙ ap (λ n. drop n (a ++ x)) same ∙ ap (drop (length b)) e ∙ drop-append_seam b y
@@ -316,7 +316,7 @@ trailer_full place fields limit line added new body source tally grows long =
     let same : new ≡ at.text ++ (at.cut ++ added) = grows.grown ∙ ap (λ (x : List ℕ). x ++ added) at.line_is ∙ append_assoc at.text at.cut added in
     subst IsNoTrailer (sym same) (long_trailer at.text (at.cut ++ added) at.are_fields (no_feed-append at.cut added at.no_feed grows.no_feed) (subst (λ (x : List ℕ). 16386 ≤ length x) same long)))
 
--- the last line of a trailer, behind its field lines
+-- the last line of a trailer, after its field lines
 last_line : (start place fields : ℕ) (f : Framing) (line added new bytes body : List ℕ) → AtTrailer start place fields f line bytes body → new ≡ line ++ added → IsLine added
     → (text last : List ℕ) × AreFields text × (length text ≤ 16384) × IsLine last × (new ≡ text ++ last) × (fields ≡ length text) × (drop fields new ≡ last)
 last_line start place fields f line added new bytes body at grown is =

@@ -7,7 +7,7 @@ use Rattle.std.specs.Char.{is_ascii_hexdigit}
 use Rattle.ev_http.specs.Taking.{HasNoFeed, IsLine}
 use Rattle.ev_http.specs.Body.{IsSizeLine, IsNoChunk}
 
--- a line feed behind bytes without one ends the line
+-- a line feed after bytes without one ends the line
 pub line_once : (text front rest : List ℕ) → HasNoFeed text → text ++ 10 ∷ [] ≡ (front ++ 10 ∷ []) ++ rest → rest ≡ []
 line_once [] [] rest none e = cc
 line_once [] (c ∷ front) rest none e = absurd (omega (arith, ap length e, length-append (front ++ 10 ∷ []) rest, length-append front (10 ∷ [])))

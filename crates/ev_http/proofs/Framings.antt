@@ -17,7 +17,7 @@ use Rattle.ev_http.specs.declared.head.Kind.TheVariants as kind
 use Rattle.ev_http.specs.Framing.{later, count_of, after_field, framing_after, next_or, whole_framing}
 use Rattle.ev_http.specs.Taking.{counted}
 
--- the answer for fields behind so many others
+-- the answer for fields that follow so many others
 abbrev pub later_by : ℕ → Result Framing ℕ → Result Framing ℕ
 later_by n (Ok f) = Ok f
 later_by n (Err number) = Err (n + number)

@@ -61,7 +61,7 @@ refused_response r bytes left body rest all holds e bad =
     let same = same_response bad.h bytes left body rest all holds bad.whole e in
     judged bad.why bad.h holds.h holds.framed holds.head bytes same.0 holds.says bad.says
 
--- the body behind a head in front is the body
+-- the body after a head in front is the body
 pub same_framing : (h : ResponseHead) (f : Framing) (head after bytes left body rest all : List ℕ) → (holds : HoldsResponse body rest all) → IsWholeResponse h head → JudgesResponse (Ok f) h head → bytes ≡ head ++ after → all ≡ bytes ++ left
     → Framed f body holds.after × (holds.after ++ rest ≡ after ++ left) × LastsTo f rest
 same_framing h f head after bytes left body rest all holds whole says is e =

@@ -240,7 +240,7 @@ message_over n p line kept taken given scanned scanned' tally source at none sho
 
 -- ---- lines
 
--- a line feed behind bytes that have none
+-- a line feed after bytes that have none
 feed_at : (kept : List ℕ) (end : ℕ) → end < length kept → get_or kept end 0 ≡ 10 → kept ≡ take end kept ++ (10 ∷ drop (end + 1) kept)
 feed_at kept end lt is =
     sym (take-append-drop (end + 1) kept) ∙ ap (λ (x : List ℕ). x ++ drop (end + 1) kept) (take_more kept end 0 lt ∙ ap (λ (x : ℕ). take end kept ++ (x ∷ [])) is) ∙ append_assoc (take end kept) (10 ∷ []) (drop (end + 1) kept)

@@ -61,7 +61,7 @@ chunks_follow (c ∷ cs) (d ∷ ds) last x y a b is e =
       bytes_are = later.bytes_are;
     }
 
--- What stands behind the last line of a body in chunks, and then what is left.
+-- What follows the last line of a body in chunks, and then what is left.
 abbrev ending : (body after : List ℕ) → InChunks body after → List ℕ → List ℕ
 ending body after b rest = b.fields ++ (print_end b.end ++ rest)
 

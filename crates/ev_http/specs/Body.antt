@@ -65,7 +65,7 @@ pub record InChunks (body bytes : List ℕ) : Type 0 where
   pub body_is : body ≡ contents chunks
   pub bytes_are : bytes ≡ print_chunks chunks ++ (print_chunk_line last ++ (fields ++ print_end end))
 
--- The bytes behind a head carry this body. One that lasts to the source's end has nothing behind it.
+-- The bytes after a head carry this body.
 abbrev pub Framed : Framing → List ℕ → List ℕ → Type 0
 Framed (framing.Counted n) body bytes = (bytes ≡ body) × (length body ≡ n)
 Framed framing.ToEnd body bytes = bytes ≡ body
@@ -97,7 +97,7 @@ pub record AtContent (start place left : ℕ) (f : Framing) (line bytes body : L
   pub some : 0 < left
   pub empty : line ≡ []
 
--- Behind the content of a chunk.
+-- After the content of a chunk, before the end of its CR LF.
 pub record AtGap (start place : ℕ) (f : Framing) (line bytes body : List ℕ) : Type 0 where
   pub chunks : List Chunk
   pub size : ChunkLine
@@ -109,7 +109,7 @@ pub record AtGap (start place : ℕ) (f : Framing) (line bytes body : List ℕ) 
   pub some : 0 < chunk_size size
   pub no_feed : HasNoFeed line
 
--- In the trailer fields, behind whole lines of so many bytes.
+-- In the trailer fields, after whole lines of so many bytes.
 pub record AtTrailer (start place fields : ℕ) (f : Framing) (line bytes body : List ℕ) : Type 0 where
   pub chunks : List Chunk
   pub last : ChunkLine
@@ -127,7 +127,7 @@ pub record AtTrailer (start place fields : ℕ) (f : Framing) (line bytes body :
   pub place_is : place ≡ counted (start + length (print_chunks chunks ++ print_chunk_line last))
   pub body_is : body ≡ contents chunks
 
--- What came of a body behind a head of so many bytes, where this part comes next.
+-- What came of a body after a head of so many bytes, where this part comes next.
 abbrev pub Came : ℕ → Framing → Part → List ℕ → List ℕ → List ℕ → Type 0
 Came start f (part.Counted left) line bytes body = (f ≡ framing.Counted (length body + left)) × (bytes ≡ body)
 Came start f part.ToEnd line bytes body = (f ≡ framing.ToEnd) × (bytes ≡ body)
@@ -137,7 +137,7 @@ Came start f (part.Gap place) line bytes body = AtGap start place f line bytes b
 Came start f (part.Trailer place fields) line bytes body = AtTrailer start place fields f line bytes body
 Came start f part.Whole line bytes body = Framed f body bytes
 
--- However the bytes go on, no chunk and no last line begins so.
+-- However the bytes go on, they do not begin with a chunk or with a last line.
 pub record IsNoChunk (bytes : List ℕ) : Type 0 where
   pub no_chunk : (c : Chunk) (more rest : List ℕ) → IsChunk c → bytes ++ more ≡ print_chunk c ++ rest → ⊥
   pub no_last : (l : ChunkLine) (more rest : List ℕ) → IsLastLine l → bytes ++ more ≡ print_chunk_line l ++ rest → ⊥
@@ -146,20 +146,20 @@ pub record IsNoChunk (bytes : List ℕ) : Type 0 where
 abbrev pub IsNoTrailer : List ℕ → Type 0
 IsNoTrailer bytes = (fields : List ℕ) (end : LineEnd) (more rest : List ℕ) → AreFields fields → length fields ≤ 16384 → bytes ++ more ≡ fields ++ (print_end end ++ rest) → ⊥
 
--- The bytes behind a head break off at a place: no chunk begins there, or no trailer that is short enough.
+-- The bytes after a head break a rule at a place: no chunk and no last line begins there, or no trailer that is short enough.
 abbrev pub BreaksAt : ℕ → ℕ → Framing → List ℕ → Type 0
 BreaksAt start place f bytes =
     ((chunks : List Chunk) × (tail : List ℕ) × Behind start place f chunks tail bytes × IsNoChunk tail)
     ⊎ ((chunks : List Chunk) × (last : ChunkLine) × (tail : List ℕ) × (f ≡ framing.Chunked) × (All IsChunk chunks) × IsLastLine last
     × (bytes ≡ print_chunks chunks ++ (print_chunk_line last ++ tail)) × (place ≡ counted (start + length (print_chunks chunks ++ print_chunk_line last))) × IsNoTrailer tail)
 
--- The part that comes first behind a head of so many bytes.
+-- The part that comes first after a head of so many bytes.
 abbrev pub first_part : Framing → ℕ → Part
 first_part (framing.Counted n) head = part.Counted n
 first_part framing.ToEnd head = part.ToEnd
 first_part framing.Chunked head = part.Size head
 
--- The message is not whole where its source ends in this part, and what came of its line may go on to be one.
+-- A message whose source ends in this part is not whole, and what came of the part's line may still become one.
 abbrev pub IsOpen : Part → List ℕ → Type 0
 IsOpen part.Whole line = ⊥
 IsOpen part.ToEnd line = ⊥
@@ -174,7 +174,8 @@ abbrev pub after_content : ℕ → ℕ → Part
 after_content place zero = part.Gap place
 after_content place (suc left) = part.Content place (suc left)
 
--- How much is to be done in a part before another takes its place, and in all of a body of which so many bytes came.
+-- Proof only: a number that falls with each step of the reading, by the part that comes next alone (`rank`), and by the bytes of
+-- the body that came as well (`work`).
 abbrev pub rank : Part → ℕ
 rank part.Whole = 0
 rank (part.Counted left) = 1
@@ -192,7 +193,7 @@ abbrev pub HasSize : Option ℕ → List ℕ → Type 0
 HasSize (Some n) line = (l : ChunkLine) × IsChunkLine l × (line ≡ print_chunk_line l) × (chunk_size l ≡ n)
 HasSize None line = IsNoChunk line
 
--- What a whole line before a chunk says: the content or the trailer comes next, or the line is none.
+-- What a whole line before a chunk says: that the content or the trailer comes next, or that it is no such line.
 abbrev pub SizeAnswer : Option Part → ℕ → ℕ → List ℕ → Type 0
 SizeAnswer (Some (part.Content p left)) place next line = (l : ChunkLine) × IsChunkLine l × (line ≡ print_chunk_line l) × (chunk_size l ≡ left) × (0 < left) × (p ≡ place)
 SizeAnswer (Some (part.Trailer p fields)) place next line = (l : ChunkLine) × IsChunkLine l × (line ≡ print_chunk_line l) × (chunk_size l ≡ 0) × (fields ≡ 0) × (p ≡ next)
@@ -203,7 +204,7 @@ SizeAnswer (Some (part.Gap p)) place next line = ⊥
 SizeAnswer (Some part.Whole) place next line = ⊥
 SizeAnswer None place next line = IsNoChunk line
 
--- What the last line of these bytes says of a trailer: it is the empty one, or a field more, or one too many.
+-- What the last line of these bytes says of a trailer: that it has ended, or has one more field, or is too long.
 abbrev pub TrailerAnswer : Option Part → ℕ → ℕ → List ℕ → Type 0
 TrailerAnswer (Some part.Whole) place fields line = (end : LineEnd) × (drop fields line ≡ print_end end)
 TrailerAnswer (Some (part.Trailer p n)) place fields line = (p ≡ place) × (n ≡ length line) × (length line ≤ 16384) × (drop fields line ≢ 10 ∷ []) × (drop fields line ≢ 13 ∷ 10 ∷ [])
@@ -214,7 +215,7 @@ TrailerAnswer (Some (part.Content p left)) place fields line = ⊥
 TrailerAnswer (Some (part.Gap p)) place fields line = ⊥
 TrailerAnswer None place fields line = (16384 < length line) × (drop fields line ≢ 10 ∷ []) × (drop fields line ≢ 13 ∷ 10 ∷ [])
 
--- A body that lasts to the end of its source is whole there alone.
+-- A body that lasts to the end of its source is whole only there.
 abbrev pub EndsWhole : Framing → Part → Told → Type 0
 EndsWhole framing.ToEnd part.Whole source = Ends source
 EndsWhole framing.ToEnd part.ToEnd source = ⊤
@@ -240,7 +241,7 @@ PartAnswer (Err fault.Route) start f p line bytes body source tally = ⊥
 PartAnswer (Err (fault.TooLong n)) start f p line bytes body source tally = ⊥
 PartAnswer (Err fault.WriteFault) start f p line bytes body source tally = ⊥
 
--- What the taking of a piece came to, by its answer. Without memory the piece is lost.
+-- What the taking of a piece came to, by its answer. Without memory the piece may be lost.
 abbrev pub TakesBytes : Result (Option ℕ) HttpFault → List ℕ → List ℕ → List ℕ → ℕ → Told → Tally → Type 0
 TakesBytes (Ok (Some n)) old added new most source tally = (new ≡ old ++ added) × (n ≡ length added) × (0 < n) × (n ≤ most)
 TakesBytes (Ok None) old added new most source tally = (added ≡ []) × (new ≡ old) × Ends source
@@ -255,7 +256,7 @@ TakesBytes (Err (fault.TooLong n)) old added new most source tally = ⊥
 TakesBytes (Err (fault.Ended n)) old added new most source tally = ⊥
 TakesBytes (Err fault.WriteFault) old added new most source tally = ⊥
 
--- Without a piece the body stays as it was.
+-- Where no piece was taken, the body stays as it was.
 abbrev pub StaysAtEnd : Result (Option ℕ) HttpFault → List ℕ → List ℕ → Type 0
 StaysAtEnd (Ok (Some n)) old new = ⊤
 StaysAtEnd (Ok None) old new = new ≡ old
@@ -276,7 +277,7 @@ announced (part.Size place) = 0
 announced (part.Gap place) = 0
 announced (part.Trailer place fields) = 0
 
--- The bytes behind a head are the front of a body that has more than 8,388,608 bytes, with those that are announced.
+-- The bytes after a head are the front of a body that has more than 8,388,608 bytes, with those that are announced.
 pub record IsTooMuch (start : ℕ) (f : Framing) (bytes : List ℕ) : Type 0 where
   pub part : Part
   pub line : List ℕ
@@ -284,8 +285,8 @@ pub record IsTooMuch (start : ℕ) (f : Framing) (bytes : List ℕ) : Type 0 whe
   pub came : Came start f part line bytes body
   pub more : 8388608 < length body + announced part
 
--- The bytes behind a head are the front of a body that keeps its limit, with the bytes that are announced, and the
--- message is not whole.
+-- The bytes after a head are the front of a body that keeps its limit, with the bytes that are announced, and the message is not
+-- whole.
 pub record IsUnfinished (start : ℕ) (f : Framing) (bytes : List ℕ) : Type 0 where
   pub next : Part
   pub line : List ℕ
@@ -294,7 +295,8 @@ pub record IsUnfinished (start : ℕ) (f : Framing) (bytes : List ℕ) : Type 0 
   pub more : next ≢ part.Whole
   pub fits : length body + announced next ≤ 8388608
 
--- The same, where the source ended: more is to come.
+-- The bytes after a head are the front of a body that keeps its limit, with the bytes that are announced, and a message whose
+-- source ends there is not whole.
 pub record IsCut (start : ℕ) (f : Framing) (bytes : List ℕ) : Type 0 where
   pub part : Part
   pub line : List ℕ
@@ -303,7 +305,7 @@ pub record IsCut (start : ℕ) (f : Framing) (bytes : List ℕ) : Type 0 where
   pub more : IsOpen part line
   pub fits : length body + announced part ≤ 8388608
 
--- What the reading of a body behind a head of so many bytes came to, by its answer.
+-- What the reading of a body after a head of so many bytes came to, by its answer.
 abbrev pub BodyAnswer : Result (Vec ℕ) HttpFault → ℕ → Framing → List ℕ → Told → Tally → Type 0
 BodyAnswer (Ok body) start f bytes source tally = Framed f body.items bytes × EndsWhole f part.Whole source × (length body.items ≤ 8388608)
 BodyAnswer (Err (fault.Body place)) start f bytes source tally = BreaksAt start place f bytes
@@ -317,14 +319,14 @@ BodyAnswer (Err (fault.Status n)) start f bytes source tally = ⊥
 BodyAnswer (Err fault.Route) start f bytes source tally = ⊥
 BodyAnswer (Err fault.WriteFault) start f bytes source tally = ⊥
 
--- These bytes may stand behind a body: none behind one that lasts to the source's end.
+-- These bytes may follow a body: none may follow one that lasts to the source's end.
 abbrev pub LastsTo : Framing → List ℕ → Type 0
 LastsTo framing.ToEnd rest = rest ≡ []
 LastsTo (framing.Counted n) rest = ⊤
 LastsTo framing.Chunked rest = ⊤
 
--- The reading of a body that is there and keeps its limit: it is read, and the rest is left behind it. No fault is
--- named but those of the source and want of memory.
+-- The reading of a whole body within its limit: it is read, and the bytes after it are left in the source; or there is a fault of
+-- the source or want of memory.
 abbrev pub ReadsBody : Result (Vec ℕ) HttpFault → List ℕ → List ℕ → Option (List ℕ) → Type 0
 ReadsBody (Ok v) body rest left = (v.items ≡ body) × (left ≡ Some rest)
 ReadsBody (Err fault.Idle) body rest left = ⊤

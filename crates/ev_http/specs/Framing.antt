@@ -18,15 +18,15 @@ text_of word.ContentLength = codes "content-length"
 text_of word.TransferEncoding = codes "transfer-encoding"
 text_of word.Chunked = codes "chunked"
 
--- The bytes are the word, in either case.
+-- The bytes are the word, whatever the case of their letters.
 unfoldable pub is_word : Word → List ℕ → Bool
 is_word word bytes = bytes_eq (map to_ascii_lowercase bytes) (text_of word)
 
--- The number that a value of digits gives.
+-- The number that a value of digits gives, or 2 ^ 64 - 1 where it is greater; None for any other value.
 unfoldable pub count_of : List ℕ → Option ℕ
 count_of value = if nat_lt 0 (length value) && list_all is_ascii_digit value then Some (counted (digits_value 10 value)) else None
 
--- A content-length: the first one counts, and each later one is to be the same.
+-- A content-length must be a number and may not follow a transfer-encoding. The first one counts, and each later one must be equal.
 abbrev pub after_count : Framing → Option ℕ → Option Framing
 after_count framing.ToEnd (Some n) = Some (framing.Counted n)
 after_count (framing.Counted m) (Some n) = if m == n then Some (framing.Counted m) else None
@@ -35,7 +35,7 @@ after_count framing.ToEnd None = None
 after_count (framing.Counted m) None = None
 after_count framing.Chunked None = None
 
--- A transfer-encoding: a response may have the one coding `chunked`, and a request none.
+-- A transfer-encoding: a response may have one, which is `chunked` and does not follow a content-length; a request may have none.
 abbrev pub after_coding : Kind → Framing → Bool → Option Framing
 after_coding kind.Response framing.ToEnd true = Some framing.Chunked
 after_coding kind.Response framing.ToEnd false = None
@@ -43,7 +43,7 @@ after_coding kind.Response framing.Chunked coding = None
 after_coding kind.Response (framing.Counted m) coding = None
 after_coding kind.Request f coding = None
 
--- The framing after one field more, by its name and value; None where it breaks a rule.
+-- The framing after one more field, by its name and value; None where it breaks a rule.
 unfoldable pub after_field : Kind → Framing → List ℕ × List ℕ → Option Framing
 after_field kind f field =
     if is_word word.ContentLength field.0 then after_count f (count_of field.1)
@@ -62,7 +62,7 @@ abbrev pub framing_after : Kind → Framing → List (List ℕ × List ℕ) → 
 framing_after kind f [] = Ok f
 framing_after kind f (x ∷ xs) = next_or (after_field kind f x) (λ g. framing_after kind g xs)
 
--- A request is to have a content-length: without one, the empty line behind its fields is at fault.
+-- A request must have a content-length: without one, the empty line after its fields is at fault.
 abbrev pub whole_framing : Kind → ℕ → Result Framing ℕ → Result Framing ℕ
 whole_framing kind.Request count (Ok framing.ToEnd) = Err count
 whole_framing kind.Request count (Ok (framing.Counted n)) = Ok (framing.Counted n)
@@ -70,12 +70,12 @@ whole_framing kind.Request count (Ok framing.Chunked) = Err count
 whole_framing kind.Request count (Err number) = Err number
 whole_framing kind.Response count read = read
 
--- The framing of a body of so many bytes.
+-- A count of bytes as a framing, or the number of the line that is at fault.
 abbrev pub counted_framing : Result ℕ ℕ → Result Framing ℕ
 counted_framing (Ok n) = Ok (framing.Counted n)
 counted_framing (Err number) = Err number
 
--- How the body behind a head with these fields is framed, or the number of the line that is at fault.
+-- How the body after a head with these fields is framed, or the number of the line that is at fault.
 abbrev pub framing_of : Kind → List Field → Result Framing ℕ
 framing_of kind fields = whole_framing kind (length fields) (framing_after kind framing.ToEnd (map name_and_value fields))
 
@@ -83,6 +83,6 @@ framing_of kind fields = whole_framing kind (length fields) (framing_after kind 
 abbrev pub EndsInFeed : List ℕ → Type 0
 EndsInFeed bytes = (bytes ≡ []) ⊎ ((front : List ℕ) × (bytes ≡ front ++ 10 ∷ []))
 
--- The line of this number, among the field lines and the empty line behind them, begins at this place of the head.
+-- The line of this number, among the field lines and the empty line after them, begins at this place of the head.
 abbrev pub StandsAt : List Field → ℕ → ℕ → List ℕ → Type 0
 StandsAt fields number place head = (before : List ℕ) × (last : LineEnd) × (head ≡ before ++ print_section (drop number fields) last) × (place ≡ length before) × EndsInFeed before

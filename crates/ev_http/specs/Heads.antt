@@ -27,7 +27,7 @@ NeverFits kind bytes =
 abbrev pub BeginsWithHead : Kind → List ℕ → Type 0
 BeginsWithHead kind bytes = (fields : List Field) × (head : List ℕ) × (rest : List ℕ) × IsHead kind fields head × (length fields ≤ 64) × (bytes ≡ head ++ rest)
 
--- Bytes may follow that make these a head; in a request also while its target, which is to be UTF-8, has not ended.
+-- Bytes may follow that make these a head; or they end in the target of a request, of which only its end shows whether it is UTF-8.
 abbrev pub MayBecome : Kind → List ℕ → Type 0
 MayBecome kind.Request bytes = MayBecomeRequest bytes
 MayBecome kind.Response bytes = MayBecomeResponse bytes
@@ -38,7 +38,7 @@ pub record FitsHead (kind : Kind) (fields : List Field) (bytes : List ℕ) : Typ
   pub few : length fields ≤ 64
   pub short : length bytes ≤ 16384
 
--- The bytes are the front of a head that did not come whole.
+-- No front of the bytes is a head, and they are no more than a head may have.
 pub record IsOpenHead (kind : Kind) (bytes : List ℕ) : Type 0 where
   pub none : HasNoHead kind bytes
   pub short : length bytes ≤ 16384

@@ -32,6 +32,7 @@ abbrev pub Routed : Option Route → List ℕ → Type 0
 Routed (Some r) target = target ≡ path_of r
 Routed None target = (r : Route) → target ≢ path_of r
 
+-- Whether the method is POST.
 unfoldable pub is_post : List ℕ → Bool
 is_post method = bytes_eq method (codes "POST")
 
@@ -58,7 +59,8 @@ JudgesResponse (Err fault.ReadFault) h head = ⊥
 JudgesResponse (Err fault.WriteFault) h head = ⊥
 JudgesResponse (Err fault.Memory) h head = ⊥
 
--- What the head of a request says: its route and how many bytes its body has, or that it has no route, or the place of a line at fault.
+-- What the head of a request says: its route and how many bytes its body has; or that it is no POST to the path of a route; or the
+-- place of a line at fault.
 abbrev pub JudgesRequest : Result (Route × ℕ) HttpFault → RequestHead → List ℕ → Type 0
 JudgesRequest (Ok r) h head = (is_post h.method ≡ true) × (h.target ≡ path_of r.0) × (framing_of kind.Request h.fields ≡ Ok (framing.Counted r.1))
 JudgesRequest (Err fault.Route) h head = (is_post h.method ≡ false) ⊎ ((r : Route) → h.target ≢ path_of r)
@@ -85,7 +87,7 @@ pub record IsWholeRequest (h : RequestHead) (bytes : List ℕ) : Type 0 where
   pub few : length h.fields ≤ 64
   pub short : length bytes ≤ 16384
 
--- The reading of a response went on behind a head of status 200 that says how the body is framed.
+-- The reading of a response went on after a head of status 200 that says how the body is framed.
 pub record GoesOn (answer : Result (Vec ℕ) HttpFault) (bytes : List ℕ) (source : Told) (tally : Tally) : Type 0 where
   pub h : ResponseHead
   pub head : List ℕ
@@ -96,7 +98,7 @@ pub record GoesOn (answer : Result (Vec ℕ) HttpFault) (bytes : List ℕ) (sour
   pub bytes_are : bytes ≡ head ++ after
   pub body : BodyAnswer answer (length head) framed after source tally
 
--- The head of a response is at fault.
+-- The head of a response is whole, and has another status or is at fault. No byte after it was taken.
 pub record RefusesResponse (answer : Result (Vec ℕ) HttpFault) (bytes : List ℕ) : Type 0 where
   pub h : ResponseHead
   pub whole : IsWholeResponse h bytes
@@ -108,12 +110,12 @@ pub record RefusesResponse (answer : Result (Vec ℕ) HttpFault) (bytes : List �
 abbrev pub ResponseAnswer : Result (Vec ℕ) HttpFault → List ℕ → Told → Tally → Type 0
 ResponseAnswer answer bytes source tally = StopsInHead answer kind.Response bytes source tally ⊎ (RefusesResponse answer bytes ⊎ GoesOn answer bytes source tally)
 
--- A body, behind the route of its request.
+-- The route of a request and its body, once that was read.
 abbrev pub with_route : Route → Result (Vec ℕ) HttpFault → Result (Route × Vec ℕ) HttpFault
 with_route r (Ok body) = Ok (r, body)
 with_route r (Err why) = Err why
 
--- The reading of a request went on behind a head with a route and a count of bytes.
+-- The reading of a request went on after a head with a route and a count of bytes.
 pub record GoesOnRequest (answer : Result (Route × Vec ℕ) HttpFault) (bytes : List ℕ) (source : Told) (tally : Tally) : Type 0 where
   pub h : RequestHead
   pub head : List ℕ
@@ -127,7 +129,7 @@ pub record GoesOnRequest (answer : Result (Route × Vec ℕ) HttpFault) (bytes :
   pub answered : answer ≡ with_route goes read
   pub body : BodyAnswer read (length head) (framing.Counted count) after source tally
 
--- The head of a request is at fault.
+-- The head of a request is whole, and has no route or is at fault. No byte after it was taken.
 pub record RefusesRequest (answer : Result (Route × Vec ℕ) HttpFault) (bytes : List ℕ) : Type 0 where
   pub h : RequestHead
   pub whole : IsWholeRequest h bytes
@@ -159,7 +161,8 @@ pub record HoldsRequest (goes : Route) (body rest bytes : List ℕ) : Type 0 whe
   pub says : JudgesRequest (Ok (goes, length body)) h head
   pub bytes_are : bytes ≡ head ++ (body ++ rest)
 
--- The reading of a request that is there, whose body keeps its limit.
+-- The reading of a whole request whose body is within its limit: it is read, and the bytes after it are left in the source; or
+-- there is a fault of the source or want of memory.
 abbrev pub ReadsRequestBody : Result (Route × Vec ℕ) HttpFault → Route → List ℕ → List ℕ → Option (List ℕ) → Type 0
 ReadsRequestBody (Ok r) goes body rest left = (r.0 ≡ goes) × (r.1.items ≡ body) × (left ≡ Some rest)
 ReadsRequestBody (Err why) goes body rest left = ReadsBody (Err why) body rest left

@@ -1,4 +1,4 @@
--- The lines of a response's body, given as they come.
+-- The lines of a response's body, given as they come in.
 use Rattle.std.specs.Prelude.{◌≡◌, ◌≢◌, ℕ, ◌+◌, ◌<◌, ◌≤◌, ◌⊎◌, List, [], ◌∷◌, ◌++◌, length, take, drop, get_or, ⊤, Option, Some, None, Result, Ok, Err}
 use Rattle.ev_http.specs.declared.fault.HttpFault.{HttpFault}
 use Rattle.ev_http.specs.declared.fault.HttpFault.TheVariants as fault
@@ -36,17 +36,17 @@ Reached state.Head line kept scanned source taken given = IsOpenHead kind.Respon
 Reached (state.Body p) line kept scanned source taken given = InBody p line (given ++ kept) source taken × HasNoFeed (take scanned kept)
 Reached (state.Refused why) line kept scanned source taken given = ⊥
 
--- The lines stand at this place of a response, by what they hold.
+-- How far a response was read, by all that is kept of it, the count of its bytes included.
 pub record AtLine (state : State) (line kept : List ℕ) (scanned reads : ℕ) (source : Told) (taken given : List ℕ) : Type 0 where
   pub counts : reads ≡ counted (length taken)
   pub reached : Reached state line kept scanned source taken given
 
--- The lines stand there: these bytes of the response were taken of the source, and these of its body were given, each
--- line with its line feed.
+-- How far the lines came: these bytes of the response were taken from the source, and these of its body were given, each line
+-- with its line feed.
 abbrev pub IsAt : {S : Type 0} → Lines S → Told → List ℕ → List ℕ → Type 0
 IsAt lines source taken given = AtLine lines.state lines.line.items lines.kept.items lines.scanned lines.tally.taken source taken given
 
--- No line comes any more: the source ended in the message, or the message ended, and no whole line is left.
+-- No more lines come: the source ended in the message, or the message ended, and no whole line is left.
 abbrev pub IsOver : State → List ℕ → List ℕ → Told → Type 0
 IsOver state.Head line kept source = Ends source × MayBecome kind.Response line
 IsOver (state.Body p) line kept source = HasNoFeed kept × (length kept ≤ 8388608) × ((p ≡ part.Whole) ⊎ (IsOpen p line × Ends source))
@@ -84,12 +84,12 @@ AnswersLine (Err fault.Memory) state line kept scanned tally source taken given 
 AnswersLine (Err fault.Route) state line kept scanned tally source taken given = ⊥
 AnswersLine (Err fault.WriteFault) state line kept scanned tally source taken given = ⊥
 
+-- What a call of `next` came to, by its answer and by what the lines then keep.
 abbrev pub LineAnswer : {S : Type 0} → Result (List ℕ) HttpFault → Lines S → Told → List ℕ → List ℕ → Type 0
 LineAnswer result lines source taken given = AnswersLine result lines.state lines.line.items lines.kept.items lines.scanned lines.tally source taken given
 
--- The reading of a line of a response that is there, where these bytes of its body were given before: the line is the
--- next of the body, or no whole line is left, or the next is too long. No other fault is named but those of the source
--- and want of memory.
+-- The reading of a line of a whole response of which these bytes of the body were given before: the line is the next of the body;
+-- or no whole line is left; or the next is too long; or there is a fault of the source or want of memory.
 abbrev pub ReadsLine : Result (List ℕ) HttpFault → List ℕ → List ℕ → Type 0
 ReadsLine (Ok text) given body = (more : List ℕ) × (body ≡ given ++ (text ++ (10 ∷ more)))
 ReadsLine (Err (fault.Ended n)) given body = (more : List ℕ) × (body ≡ given ++ more) × HasNoFeed more
@@ -103,7 +103,7 @@ ReadsLine (Err fault.Route) given body = ⊥
 ReadsLine (Err (fault.Body place)) given body = ⊥
 ReadsLine (Err fault.WriteFault) given body = ⊥
 
--- The fault that a refusal is.
+-- A refusal as a fault.
 abbrev pub fault_of : Refusal → HttpFault
 fault_of refusal.Head = fault.Head
 fault_of (refusal.Status n) = fault.Status n
@@ -111,7 +111,7 @@ fault_of (refusal.Body place) = fault.Body place
 fault_of (refusal.TooLong n) = fault.TooLong n
 fault_of refusal.Memory = fault.Memory
 
--- The refusal in a fault, if the response cannot be read on after it.
+-- The refusal that a fault is, if the response cannot be read any further after it.
 abbrev pub refusal_in : HttpFault → Option Refusal
 refusal_in fault.Head = Some refusal.Head
 refusal_in (fault.Status n) = Some (refusal.Status n)
@@ -124,7 +124,7 @@ refusal_in fault.Idle = None
 refusal_in fault.ReadFault = None
 refusal_in fault.WriteFault = None
 
--- The response cannot be read on, for this reason.
+-- The response cannot be read any further, for this reason.
 abbrev pub IsRefused : {S : Type 0} → Lines S → HttpFault → Type 0
 IsRefused lines why = (r : Refusal) × (lines.state ≡ state.Refused r) × (why ≡ fault_of r)
 

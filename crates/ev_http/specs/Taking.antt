@@ -1,4 +1,4 @@
--- What the reading of a message makes of its source.
+-- What is taken from a source while a message is read.
 use Rattle.std.specs.Prelude.{◌≡◌, ◌≢◌, ℕ, ◌+◌, ◌-◌, ◌<◌, ◌≤◌, ◌^◌, min, max, Bool, true, false, cond, List, [], ◌∷◌, ◌++◌, length, take, All, ⊤, Option, Some, None, Result, Ok, Err}
 use Rattle.std.specs.Io.KnownBytes.{IsAtEnd}
 use Rattle.zx_outside.specs.Counts.{InputCounts, one_more}
@@ -24,11 +24,11 @@ told given left counts ended name source = record { given = given source; left =
 abbrev pub fresh : Tally
 fresh = record { turns = 0; taken = 0 }
 
--- A count of bytes. It stays at the end of its 64 bits once it is there.
+-- A count of bytes, as it is kept in 64 bits: at most 2 ^ 64 - 1.
 abbrev pub counted : ℕ → ℕ
 counted n = min n (2 ^ 64 - 1)
 
--- A count after n more, which stays at the end of its 64 bits.
+-- A count after n more, as it is kept in 64 bits: it does not rise above 2 ^ 64 - 1.
 abbrev pub risen : ℕ → ℕ → ℕ
 risen n count = max count (min (count + n) (2 ^ 64 - 1))
 
@@ -42,7 +42,7 @@ pub record Took (bytes : List ℕ) (faulty : Bool) (tally tally' : Tally) (sourc
   pub faults : source'.counts.faults ≡ cond faulty (one_more source.counts.faults) source.counts.faults
   pub named : source'.name ≡ source.name
 
--- It is the fault of a source.
+-- Whether a fault is one of the source.
 abbrev pub is_read_fault : HttpFault → Bool
 is_read_fault fault.ReadFault = true
 is_read_fault fault.Head = false
@@ -55,7 +55,7 @@ is_read_fault fault.Idle = false
 is_read_fault fault.WriteFault = false
 is_read_fault fault.Memory = false
 
--- The call met a fault of its source.
+-- Whether the call met a fault of its source.
 abbrev pub failed : {A : Type 0} → Result A HttpFault → Bool
 failed (Ok x) = false
 failed (Err e) = is_read_fault e

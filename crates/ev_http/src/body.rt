@@ -24,7 +24,8 @@ pub const MAX_TRAILER: usize = 16384;
 /// How many bytes of a body are read at once.
 pub const PIECE: usize = 4096;
 
-/// What comes next of a body. Each place is that of a chunk, or of the first trailer field.
+/// What comes next of a body. Each `place` is where a chunk or the first trailer field begins, counted in bytes from the first byte
+/// of the message.
 #[derive(Clone, Copy)]
 pub enum Part {
     /// So many bytes more.
@@ -35,15 +36,15 @@ pub enum Part {
     Size { place: u64 },
     /// So many bytes more of a chunk.
     Content { place: u64, left: u64 },
-    /// CR LF behind a chunk.
+    /// The CR LF after the content of a chunk.
     Gap { place: u64 },
-    /// Trailer fields, of which so many bytes came as whole lines, and the empty line behind them.
+    /// Trailer fields, of which so many bytes came as whole lines, and the empty line after them.
     Trailer { place: u64, fields: usize },
     /// Nothing: the message is whole.
     Whole,
 }
 
-/// What comes first behind a head of so many bytes.
+/// What comes first after a head of so many bytes.
 pub fn first_part(framing: Framing, head: u64) -> Part
     ensures { result ≡ first_part framing head }
 {
@@ -138,7 +139,7 @@ fn take_to_end<S: Source>(
     }
 }
 
-/// What comes next in or behind a chunk's content of which so many bytes are left.
+/// What comes next where so many bytes of a chunk's content are left.
 fn after_content(place: u64, left: u64) -> Part
     ensures { result ≡ after_content place left }
 {
@@ -178,7 +179,7 @@ fn take_content<S: Source>(
     }
 }
 
-/// The size that a whole line before a chunk says, or None where it is no such line.
+/// The size in a whole line before a chunk; `None` where the line is not of that form.
 fn read_size(line: &[u8]) -> Option<u64>
     ensures { IsLine line.now → HasSize result line.now }
 {
@@ -189,8 +190,7 @@ fn read_size(line: &[u8]) -> Option<u64>
     }
 }
 
-/// What comes behind a whole line before a chunk, or None where it is no such line. The bytes behind it begin at
-/// `next`.
+/// What comes after a whole line before a chunk; `None` where the line is not of that form. The bytes after it begin at `next`.
 fn after_size(line: &[u8], place: u64, next: u64) -> Option<Part>
     ensures on { IfSome result (λ later. rank later < rank (Part.Size place)) }
     ensures answer { IsLine line.now → SizeAnswer result place next line.now }
@@ -205,7 +205,7 @@ fn after_size(line: &[u8], place: u64, next: u64) -> Option<Part>
     }
 }
 
-/// Whether the bytes never become the line before a chunk.
+/// Whether no line before a chunk begins with these bytes.
 fn is_no_size(line: &[u8]) -> bool
     ensures yes { IsTrue result → NeverHasChunkLine line.now }
     ensures no { result ≡ false → NeverHasChunkLine line.now → ⊥ }
@@ -260,7 +260,7 @@ fn is_gap(line: &[u8]) -> bool
     line == b"\r\n".as_slice()
 }
 
-/// Whether CR LF begins with the bytes, of which no one is a line feed.
+/// Whether the bytes are none, or CR alone: then CR LF may still come.
 fn begins_gap(line: &[u8]) -> bool
     ensures yes { IsTrue result → (line.now ≡ []) ⊎ (line.now ≡ 13 ∷ []) }
     ensures no { result ≡ false → (line.now ≢ []) × (line.now ≢ 13 ∷ []) }
@@ -276,7 +276,7 @@ fn is_empty_line(line: &[u8]) -> bool
     line == b"\n".as_slice() || line == b"\r\n".as_slice()
 }
 
-/// Takes CR LF behind a chunk, or the rest of it.
+/// Takes the CR LF after a chunk, or the rest of it.
 fn take_gap<S: Source>(
     source: &mut S,
     tally: &mut Tally,
@@ -311,8 +311,8 @@ fn take_gap<S: Source>(
     }
 }
 
-/// What comes behind a line of a trailer, of which so many bytes are whole lines in front of it; None where its fields
-/// are too long.
+/// What comes after the last line of a trailer so far, where the lines before it have so many bytes; `None` where the fields are
+/// too long.
 fn after_trailer_line(line: &[u8], place: u64, fields: usize) -> Option<Part>
     ensures answer { fields < length line.now → TrailerAnswer result place fields line.now }
     ensures on { IfSome result (λ next. rank next < rank (Part.Trailer place fields)) }
@@ -361,9 +361,9 @@ fn take_trailer<S: Source>(
     }
 }
 
-/// Takes the next piece or line of a body onto its end; a front of the body may have been taken off. `line` holds what came of a
-/// chunk line, of the CR LF after a chunk or of the trailer fields. After an idle turn or a fault of the source the same part is
-/// still the next one.
+/// Takes the next piece or line of a body. Content goes to the end of `body`, whose front may have been taken away before. `line`
+/// holds what came of the line before a chunk, of the CR LF after it, or of the trailer fields. After `Idle`, `ReadFault` or
+/// `Ended` the same part still comes next.
 pub fn take_part<S: Source>(
     source: &mut S,
     tally: &mut Tally,
@@ -394,7 +394,7 @@ pub fn take_part<S: Source>(
     }
 }
 
-/// Whether nothing more of the message comes.
+/// Whether the message is whole.
 pub fn is_whole(part: Part) -> bool
     ensures yes { IsTrue result → part ≡ Part.Whole }
     ensures no { result ≡ false → part ≢ Part.Whole }
@@ -402,7 +402,7 @@ pub fn is_whole(part: Part) -> bool
     matches!(part, Part::Whole)
 }
 
-/// Whether a body would have more than its limit, with what its next line or chunk announces.
+/// Whether a body has more than its limit, with the bytes that its head or the line before a chunk announces.
 fn is_too_long(part: Part, held: usize) -> bool
     ensures yes { IsTrue result → 8388608 < held + announced part }
     ensures no { result ≡ false → held + announced part ≤ 8388608 }
@@ -415,7 +415,7 @@ fn is_too_long(part: Part, held: usize) -> bool
     announced.saturating_add(held as u64) > MAX_BODY
 }
 
-/// Takes a whole body, framed so.
+/// Takes a whole body with this framing.
 pub fn read_body<S: Source>(
     alloc: Global,
     source: &mut S,

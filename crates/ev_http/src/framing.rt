@@ -14,7 +14,7 @@ use httparse::spans::HeaderSpan;
 /// How a body is framed (RFC 9112, section 6).
 #[derive(Clone, Copy)]
 pub enum Framing {
-    /// It has so many bytes; a count above 64 bits stands as their end.
+    /// It has so many bytes; 2^64 - 1 stands for any greater count too.
     Counted(u64),
     /// It comes in chunks.
     Chunked,
@@ -22,7 +22,7 @@ pub enum Framing {
     ToEnd,
 }
 
-/// The words that decide.
+/// The words of a head that decide the framing.
 #[derive(Clone, Copy)]
 enum Word {
     ContentLength,
@@ -30,7 +30,7 @@ enum Word {
     Chunked,
 }
 
-/// Whether the bytes are the word, in either case.
+/// Whether the bytes are the word, whatever the case of their letters.
 #[tactic(auto, unfolding(crate::specs::Framing::is_word))]
 fn is_word(word: Word, bytes: &[u8]) -> bool
     ensures { result ≡ is_word word bytes.now }
@@ -42,7 +42,7 @@ fn is_word(word: Word, bytes: &[u8]) -> bool
     }
 }
 
-/// The number that the digits give.
+/// The number that a value of digits gives, or 2^64 - 1 where it is greater; `None` for any other value.
 #[tactic(auto, unfolding(crate::specs::Framing::count_of))]
 fn count_of(value: &[u8]) -> Option<u64>
     ensures { result ≡ count_of value.now }
@@ -81,7 +81,7 @@ fn after_coding(kind: Kind, framing: Framing, is_chunked: bool) -> Option<Framin
     }
 }
 
-/// The framing after one field more, or None where it breaks a rule.
+/// The framing after one more field; `None` where the field breaks a rule.
 #[tactic(auto, unfolding(crate::specs::Framing::after_field))]
 fn after_field(kind: Kind, framing: Framing, name: &[u8], value: &[u8]) -> Option<Framing>
     ensures { result ≡ after_field kind framing (name.now, value.now) }
@@ -110,7 +110,7 @@ pub fn read_framing(kind: Kind, head: &[u8], fields: &[HeaderSpan]) -> Result<Fr
     Ok(framing)
 }
 
-/// Where the last line of the bytes begins. They end with its line feed.
+/// Where the last line of the bytes begins, which ends with their last byte.
 fn last_line(bytes: &[u8]) -> usize
     ensures bound { result ≤ length bytes.now }
     ensures begins { (before text : List ℕ) → bytes.now ≡ before ++ (text ++ 10 ∷ []) → HasNoFeed text → EndsInFeed before → result ≡ length before }
@@ -133,7 +133,7 @@ fn last_lines(bytes: &[u8], count: usize) -> usize
     end
 }
 
-/// Where the field line of this number stands in a head with so many fields, or the empty line behind them.
+/// Where the line of this number begins in a head, among its so many field lines and the empty line after them.
 pub fn place_of(head: &[u8], fields: usize, number: usize) -> u64
     ensures { (kind : Kind) (all : List Field) → IsHead kind all head.now → length all ≡ fields → fields ≤ 64 → number ≤ fields → StandsAt all number result head.now }
 {

@@ -17,7 +17,7 @@ pub const MAX_FIELDS: usize = 64;
 /// How many bytes a head has at most, with the empty line that ends it.
 pub const MAX_HEAD: usize = 16384;
 
-/// Which message it is.
+/// Whether a message is a request or a response.
 #[derive(Clone, Copy)]
 pub enum Kind {
     Request,
@@ -75,8 +75,8 @@ fn judge(kind: Kind, bytes: &[u8]) -> Judged
     }
 }
 
-/// Takes the rest of a head, and no byte behind it. It is judged once for each line. What was taken of it stays in
-/// `head`, whatever the answer.
+/// Takes the rest of a head, and no byte after it. The head is parsed anew at each of its lines. What was taken stays in `head`,
+/// whatever the answer, but for a byte that there was no memory for.
 pub fn take_head<S: Source>(
     source: &mut S,
     tally: &mut Tally,
@@ -110,7 +110,7 @@ pub fn take_head<S: Source>(
     }
 }
 
-/// Reads a whole head at the first byte of a message.
+/// Takes a whole head, from the first byte of a message on.
 pub fn read_head<S: Source>(
     alloc: Global,
     source: &mut S,

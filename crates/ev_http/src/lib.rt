@@ -1,27 +1,28 @@
 //! HTTP/1.1 messages between a client and etcd's JSON gateway, over a source and a sink (RFC 9112; etcd API reference,
 //! "gRPC gateway").
 //!
-//! A client sends a request by [`send_request`] and reads what comes back by [`read_response`], or by [`Lines`] where the
-//! response goes on, as a watch's. A gateway reads a request by [`read_request`] and answers by [`send_response`]. The
-//! JSON in the bodies is the caller's.
+//! A client sends a request with [`send_request`] and reads what comes back with [`read_response`], or with [`Lines`] where the
+//! response is a stream, as a watch's is. A gateway reads a request with [`read_request`] and answers with [`send_response`].
+//! The JSON in the bodies is left to the caller.
 //!
 //! # Reading
 //!
 //! A request is a POST to the path of a route, with a content-length. A response has status 200; its body has a
 //! content-length, or comes in chunks, or lasts to the source's end. Field names are compared without case, other fields
-//! are passed over, and the trailer fields behind chunks are dropped. `specs/Messages` says which bytes carry which body.
-//! No byte behind a message is taken, so the next one begins where it ended.
+//! are passed over, and the trailer fields after the chunks are dropped. `specs/Messages` says which bytes carry which body.
+//! No byte after a message is taken, so the next one can be read from the same source. The body of a response with another
+//! status is not read: its bytes are left in the source.
 //!
-//! What is no such message is an [`HttpFault`] that says why and where: each place is counted from the first byte of the
-//! message. A message that is there and keeps the limits is read, however its bytes are cut into reads; then only the
-//! source and want of memory can be at fault.
+//! What is no such message gives an [`HttpFault`] that says why, and for a fault in the framing where, counted from the first
+//! byte of the message. A whole message within the limits is read, however its bytes are cut into reads: then only the source
+//! and want of memory can be at fault.
 //!
 //! [`Lines::next`] gives the lines of a response's body in turn, across chunks. After `Idle`, `ReadFault` and `Ended` the
 //! next call goes on where the last one stopped, and nothing is lost; any other fault is for good.
 //!
 //! # Writing
 //!
-//! A request has the fields host, content-type and content-length, a response the last two. Head and body are written one
+//! A request has the fields host, content-type and content-length, a response has the last two. Head and body are written one
 //! after the other, each until the sink has taken it whole or has a fault.
 //!
 //! # Limits
@@ -37,10 +38,10 @@
 //! # Cost
 //!
 //! Heads, lines before chunks and trailers are taken byte by byte, so a source that asks the system for each read wants a
-//! buffer in front; bodies are taken in pieces of up to 4,096 bytes, each copied once. A head is parsed anew at each of its
+//! buffer in front. Bodies are taken in pieces of up to 4,096 bytes, each copied once. A head is parsed anew at each of its
 //! lines, and once more for its fields. A call keeps the head, the body and one line before a chunk or the trailer fields,
-//! each in a buffer that grows by doubling. A [`Lines`] keeps the bytes behind the last line that it gave: less than one
-//! line and a piece. It scans each byte once, and copies the bytes behind a line, less than a piece, when it gives the line.
+//! each in a buffer that grows by doubling. A [`Lines`] keeps the bytes after the last line that it gave: less than one line
+//! and a piece. It scans each byte once. When it gives a line, it copies the bytes after it, which are less than a piece.
 #![tactic(auto)]
 
 mod body;

@@ -1,4 +1,4 @@
-//! The lines of a response that goes on, as a watch's.
+//! The lines of a response that is a stream, as a watch's is.
 
 ghost use Rattle.std.specs.Prelude.{◌≡◌, ◌≤◌, ◌<◌, ◌++◌, [], List, ℕ, length, IfSome, IfOk, IfErr, Some, Err, false};
 ghost use Rattle.ev_http.specs.declared.taking.Tally.{Tally};
@@ -21,11 +21,11 @@ use zx_outside::Source;
 enum State {
     Head,
     Body(Part),
-    /// It cannot be read on, for this reason.
+    /// It cannot be read any further, for this reason.
     Refused(Refusal),
 }
 
-/// The lines of one response's body, as they come.
+/// The lines of one response's body, given as they come in. It keeps its source for good.
 #[derive(Drop)]
 pub struct Lines<S> {
     source: S,
@@ -34,13 +34,13 @@ pub struct Lines<S> {
     state: State,
     /// What came of the head, of a chunk line or of trailer fields.
     line: Vec<u8>,
-    /// What came of the body behind the last line that was given.
+    /// What came of the body after the last line that was given.
     kept: Vec<u8>,
     /// How many of the kept bytes have no line feed.
     scanned: usize,
 }
 
-/// Why a response cannot be read on.
+/// Why a response cannot be read any further.
 #[derive(Clone, Copy)]
 enum Refusal {
     Head,
@@ -50,7 +50,7 @@ enum Refusal {
     Memory,
 }
 
-/// The refusal in a fault: after the others the next call goes on where this one stopped.
+/// The refusal that a fault is, if any: after the other faults the next call goes on where this one stopped.
 fn refusal_in(fault: HttpFault) -> Option<Refusal>
     ensures { result ≡ refusal_in fault }
 {
@@ -81,7 +81,7 @@ fn fault_of(refusal: Refusal) -> HttpFault
     }
 }
 
-/// Where the first line feed from a place on stands.
+/// The index of the first line feed at `from` or after it.
 fn feed_from(bytes: &[u8], from: usize) -> Option<usize>
     ensures { FoundFeed result bytes.now from }
 {
@@ -94,7 +94,7 @@ fn feed_from(bytes: &[u8], from: usize) -> Option<usize>
 }
 
 impl<S: Source> Lines<S> {
-    /// The lines of the response that the source gives next.
+    /// The lines of the response that the source gives next. Nothing is read yet.
     pub fn new(alloc: Global, source: S) -> Lines<S>
         ensures source { result.source ≡ source }
         ensures first { IsAt result (told S.given S.left S.counts S.ended S.name source) [] [] }
@@ -110,10 +110,10 @@ impl<S: Source> Lines<S> {
         }
     }
 
-    /// The next line of the body, without its line feed, of at most 8,388,608 bytes. `Ended` says that no whole line is
-    /// left: the message ended, or the source did. Where a response of status 200 is there, the lines are those of its
-    /// body in turn, and no other fault comes but `TooLong` at a line above the limit and those of the source and of
-    /// memory.
+    /// The next line of the body, without its line feed, of at most 8,388,608 bytes. `Ended` says that no whole line is left,
+    /// since the message or the source ended; bytes after the last line feed are not given. Where the source holds a whole
+    /// response of status 200, the lines are those of its body in turn, and the only other faults are `TooLong`, at a line
+    /// above the limit, and those of the source and of memory.
     ///
     /// After `Idle`, `ReadFault` and `Ended` the next call goes on where this one stopped; after any other fault it
     /// gives that fault again.
@@ -133,7 +133,7 @@ impl<S: Source> Lines<S> {
         line
     }
 
-    /// The next line, or the fault that refuses the response from then on.
+    /// The next line, or why there is none; a refusal is kept for the calls after this one.
     fn take_next(&mut self) -> Result<Bytes, HttpFault>
         ensures line { (added : List ℕ)
             × Took added (failed result) (record { turns = 0; taken = self.old.tally.taken }) self.new.tally
@@ -262,7 +262,7 @@ impl<S: Source> Lines<S> {
         }
     }
 
-    /// The kept bytes up to a line feed; those behind it stay.
+    /// Gives the kept bytes up to the line feed at `end`, and keeps those after it.
     fn cut(&mut self, end: usize) -> Result<Bytes, HttpFault>
         requires { end < length self.old.kept.items }
         ensures cut { CutsLine result self.old.kept.items self.new.kept.items self.new.scanned end }

@@ -1,4 +1,4 @@
-//! Reading of requests.
+//! Reads requests.
 
 ghost use Rattle.std.specs.Prelude.{◌≡◌, ◌≢◌, ◌≤◌, List, ℕ, length, map, All, IsTrue, false, IfSome, Some};
 ghost use Rattle.httparse.specs.Spans.{IsRequestWithin, IsHeaderWithin, header_bytes};
@@ -105,7 +105,8 @@ pub fn request_framing(head: &[u8]) -> Result<(Route, u64), HttpFault>
     }
 }
 
-/// How many bytes the body has, or the number of the line that is at fault: without a content-length the empty one.
+/// How many bytes the body has, or the number of the field line that is at fault; without a content-length that is the number of
+/// the empty line after them.
 fn read_counted(head: &[u8], fields: &[HeaderSpan]) -> Result<u64, usize>
     requires { All (IsHeaderWithin (length head.now)) fields.now }
     ensures { whole_framing Kind.Request (length fields.now) (framing_after Kind.Request Framing.ToEnd (map (header_bytes head.now) fields.now)) ≡ counted_framing result }
@@ -142,7 +143,7 @@ fn take_request<S: Source>(alloc: Global, source: &mut S) -> Result<(Route, Vec<
     }
 }
 
-/// A body behind the route of its request.
+/// The route of a request, and its body once it was read.
 fn with_route(route: Route, body: Result<Vec<u8>, HttpFault>) -> Result<(Route, Vec<u8>), HttpFault>
     ensures { result ≡ with_route route body }
 {
@@ -152,8 +153,9 @@ fn with_route(route: Route, body: Result<Vec<u8>, HttpFault>) -> Result<(Route, 
     }
 }
 
-/// Reads one request to the gateway, and takes no byte behind it (RFC 9112): where it goes, and its body. A request that
-/// is there and keeps the limits is read: then only the source and want of memory can be at fault.
+/// Reads one request to the gateway, and no byte after it (RFC 9112): its route, and its body of at most 8,388,608 bytes. A whole
+/// request within the limits is read: then only the source and want of memory can be at fault. After a fault, what was taken of
+/// the request is lost.
 pub fn read_request<S: Source>(alloc: Global, source: &mut S) -> Result<(Route, Vec<u8>), HttpFault>
     ensures answer { (bytes : List ℕ) × (tally : Tally)
         × Took bytes (failed result) fresh tally

@@ -1,4 +1,4 @@
-//! Reading of responses.
+//! Reads responses.
 
 ghost use Rattle.std.specs.Prelude.{◌≡◌, ◌≤◌, List, ℕ, length, IfSome, IfErr, Some, false};
 ghost use Rattle.httparse.specs.Grammar.{ResponseHead, IsResponseHead, print_response};
@@ -33,7 +33,7 @@ fn whole_response(head: &[u8], fields: &mut [HeaderSpan]) -> Option<ResponseSpan
     }
 }
 
-/// How the body behind a whole head is framed.
+/// How the body after a whole head is framed. A fault where the status is not 200, or a field line breaks a rule.
 pub fn response_framing(head: &[u8]) -> Result<Framing, HttpFault>
     ensures judges { (h : ResponseHead) → IsResponseHead h → head.now ≡ print_response h → length h.fields ≤ 64 → JudgesResponse result h head.now }
     ensures calm { IfErr result (λ e. is_read_fault e ≡ false) }
@@ -72,9 +72,9 @@ fn take_response<S: Source>(alloc: Global, source: &mut S) -> Result<Vec<u8>, Ht
     }
 }
 
-/// Reads one response of the gateway, and takes no byte behind it (RFC 9112). A body without a framing field lasts to
-/// the source's end. A response of status 200 that is there and keeps the limits is read: then only the source and want
-/// of memory can be at fault.
+/// Reads one response of the gateway, and no byte after it (RFC 9112): its body, of at most 8,388,608 bytes. A body without a
+/// framing field lasts to the source's end. A whole response of status 200 within the limits is read: then only the source and
+/// want of memory can be at fault. After a fault, what was taken of the response is lost; after `Status`, its body is not taken.
 ///
 /// The head is taken byte by byte, the body in pieces of up to 4,096 bytes, each of which is copied once.
 pub fn read_response<S: Source>(alloc: Global, source: &mut S) -> Result<Vec<u8>, HttpFault>

@@ -1,4 +1,4 @@
-//! Sending of messages.
+//! Sends messages.
 
 ghost use Rattle.std.specs.Prelude.{◌≡◌, ◌++◌, List, ℕ, length, IfOk, IfSome, string_bytes};
 ghost use Rattle.http.specs.StatusCode.{reason_phrase};
@@ -101,8 +101,8 @@ fn response_head(alloc: Global, status: u16, length: usize) -> Result<String, Al
     format!(in alloc; "{version}{status}{blank}{phrase}{fields}{length}{end}")
 }
 
-/// Sends a request to a gateway: its head in one write where the sink takes it whole, and its body. After a fault some
-/// front of the message was sent; without memory nothing was.
+/// Sends a request to a gateway: its head, in one write where the sink takes it whole, and then its body. `host` is written as it
+/// is given. After `WriteFault` a front of the message was sent; after `Memory` nothing was.
 pub fn send_request<K: Sink>(
     alloc: Global,
     sink: &mut K,
@@ -118,8 +118,8 @@ pub fn send_request<K: Sink>(
     }
 }
 
-/// Sends a response of a gateway, of a status from 100 to 999. After a fault some front of the message was sent; without
-/// memory nothing was.
+/// Sends a response of a gateway. The status is meant to be from 100 to 999. After `WriteFault` a front of the message was sent;
+/// after `Memory` nothing was.
 pub fn send_response<K: Sink>(
     alloc: Global,
     sink: &mut K,

@@ -1,4 +1,4 @@
-//! Bytes taken from a source, no more than are asked for.
+//! Takes bytes from a source, and no more than are asked for.
 
 ghost use Rattle.std.specs.Prelude.{◌≡◌, ◌<◌, ◌≤◌, ◌^◌, List, ℕ, length, IfErr};
 ghost use Rattle.ev_http.specs.Taking.{Took, told, failed, bytes_in, byte_in, Fits, AtEnd, Stopped, TakesLine};
@@ -9,7 +9,7 @@ use zx_outside::{Got, Source};
 /// How many idle turns one call waits.
 pub const MAX_IDLE_TURNS: u32 = 6000;
 
-/// What was taken so far: the idle turns of this call, and the bytes of this message.
+/// What was counted so far: the idle turns of this call, and the bytes taken of this message.
 #[derive(Clone, Copy)]
 pub struct Tally {
     pub turns: u32,
@@ -26,7 +26,7 @@ impl Tally {
     }
 }
 
-/// The next bytes: so many at the front of the buffer, or None at the source's end.
+/// Takes the next bytes into the front of the buffer, and says how many; `None` at the source's end.
 pub fn take_piece<S: Source>(
     source: &mut S,
     tally: &mut Tally,
@@ -55,7 +55,7 @@ pub fn take_piece<S: Source>(
     Err(HttpFault::Idle)
 }
 
-/// The next byte, or None at the source's end.
+/// Takes the next byte; `None` at the source's end.
 fn next_byte<S: Source>(source: &mut S, tally: &mut Tally) -> Result<Option<u8>, HttpFault>
     requires { tally.old.turns ≤ 6000 }
     ensures took { Took (byte_in result) (failed result) tally.old tally.new
@@ -82,8 +82,8 @@ pub enum Cut {
     End,
 }
 
-/// Takes bytes, one by one, up to a line feed, until the line has so many bytes. What was taken of it stays in
-/// the line, whatever the answer.
+/// Takes bytes onto the end of a line, one by one, up to a line feed or until the line has `limit` bytes. What was taken stays in
+/// the line, whatever the answer, but for a byte that there was no memory for.
 pub fn take_line<S: Source>(
     source: &mut S,
     tally: &mut Tally,
