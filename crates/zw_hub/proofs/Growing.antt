@@ -68,7 +68,7 @@ sees seat v x y up views kept at =
       (refl, refl, λ some_step. extends-later y x v.list up (kept seat v at some_step)),
     )
 
--- the same, where the list took the changes of the log
+-- a step at which the list took the changes of the log
 pub shows : (seat : ℕ) (v : View) (list next : Published) (log : List Change) → next ≡ fold list_after list log → TurnsAt Keeps seat v list next SeesOnce
 shows seat v list next log is = sees seat v list next (subst (λ (l : Published). Extends l list) (sym is) (extends-fold list log))
 

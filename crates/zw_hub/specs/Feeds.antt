@@ -8,13 +8,13 @@ use Rattle.zw_hub.specs.declared.published.Published.{Published}
 use Rattle.zw_hub.specs.Ends.{MayBeTold}
 use Rattle.zw_hub.specs.Lists.{last_number, floor, IsAt}
 
--- what is answered of a list that this end closed, to a reader that has taken every entry. Memory may always be wanted
+-- what a reader that has taken every entry is answered of a list that this end closed; `Memory` may be the answer at any time
 abbrev pub IsFedEnd : FeedEnd → Fed → Type 0
 IsFedEnd end (fed.Closed told) = (end ≡ arc_value told) × MayBeTold (arc_value told)
 IsFedEnd end fed.Memory = ⊤
 IsFedEnd end _ = ⊥
 
--- what a reader with this cursor is answered of this list. Memory may always be wanted
+-- what a reader with this cursor is answered of this list; `Memory` may be the answer at any time
 abbrev pub IsFed : Published → ℤ → Fed → Type 0
 IsFed list cursor (fed.Entry entry) = (floor list ≤ℤ cursor) × IsAt list (cursor +ℤ pos 1) (arc_value entry)
 IsFed list cursor fed.None = (last_number list ≤ℤ cursor) × (list.end ≡ None)

@@ -6,7 +6,7 @@ use Rattle.zn_layout.specs.declared.entry.Entry.{Entry}
 use Rattle.zw_hub.specs.declared.feed.FeedEnd.{FeedEnd}
 use Rattle.zw_hub.specs.declared.published.Published.{Published}
 
--- a list that nothing was published to
+-- an open list without entries; the first is to have the number after this one
 abbrev pub empty : ℤ → Published
 empty first = record { first = first; entries = []; end = None }
 
@@ -14,7 +14,7 @@ empty first = record { first = first; entries = []; end = None }
 abbrev pub last_number : Published → ℤ
 last_number list = list.first +ℤ pos (length list.entries)
 
--- so many of the newest entries are kept
+-- how many entries are kept, the newest ones
 abbrev pub max_kept : ℕ
 max_kept = 4096
 
@@ -22,7 +22,7 @@ max_kept = 4096
 abbrev pub floor : Published → ℤ
 floor list = list.first +ℤ pos (length list.entries - max_kept)
 
--- this entry of the list has this number, and stands in its place
+-- this entry stands in the list where this number belongs, and has this number
 abbrev pub IsAt : Published → ℤ → Entry → Type 0
 IsAt list number entry = (k : ℕ) × (slice_get list.entries k ≡ Some entry) × (number ≡ list.first +ℤ pos (k + 1)) × (entry.number ≡ number)
 
@@ -30,7 +30,7 @@ IsAt list number entry = (k : ℕ) × (slice_get list.entries k ≡ Some entry) 
 abbrev pub IsNumbered : Published → Type 0
 IsNumbered list = (k : ℕ) (entry : Entry) → slice_get list.entries k ≡ Some entry → entry.number ≡ list.first +ℤ pos (k + 1)
 
--- the later list begins with all of the earlier one, and is the same where that was closed
+-- the later list begins with all entries of the earlier one, and is the earlier one where that was closed
 pub record Extends (later earlier : Published) : Type 0 where
   pub first : later.first ≡ earlier.first
   pub entries : IsPrefix earlier.entries later.entries
@@ -44,14 +44,14 @@ with_entry list entry = record list { entries = list.entries ++ entry ∷ [] }
 abbrev pub with_end : Published → FeedEnd → Published
 with_end list end = record list { end = Some end }
 
--- whether the entry may be published: the list is not closed, and the number is the next
+-- whether the entry may be published: the list is not closed, and the entry has the next number
 abbrev pub is_next : Published → Entry → Bool
 is_next list entry = is_none list.end && int_eq entry.number (last_number list +ℤ pos 1)
 
--- the list after an entry was published. Where that is not the next, the list stays as it is
+-- the list after an entry was published; where it may not be, the list stays as it is
 abbrev pub added : Published → Entry → Published
 added list entry = if is_next list entry then with_entry list entry else list
 
--- the list after it was closed. One that is closed stays as it is
+-- the list after it was closed by this end; a list that was closed before stays as it is
 abbrev pub closed_by : Published → FeedEnd → Published
 closed_by list end = if is_none list.end then with_end list end else list

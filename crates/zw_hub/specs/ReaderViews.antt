@@ -1,4 +1,4 @@
--- How a reader keeps what contracts see of it.
+-- What contracts see of a reader, by what it keeps.
 use Rattle.std.specs.Prelude.{length}
 use Rattle.left_right.specs.Sides.{view}
 use Rattle.zw_hub.specs.declared.reader.HubReader.TheInside.{Inside}

@@ -4,8 +4,8 @@ use Rattle.atomic_table.specs.Seated.{TableId}
 use Rattle.zw_hub.specs.declared.published.Published.{Published}
 use Rattle.zw_hub.specs.Lists.{empty}
 
--- the table that it shares with the writer, the list that it read last, how many reads it made, and how often it lagged and
--- found the list closed
+-- the table that it shares with the hub, the list that it read last, how many reads it made, and how often it was answered that it
+-- lagged, and that the list is closed
 pub record ReaderState : Type 0 where
   pub table : TableId
   pub list : Published

@@ -6,11 +6,12 @@ use Rattle.zw_hub.specs.declared.published.Published.{Published}
 use Rattle.zw_hub.specs.declared.window.Window.TheInside.{Inside}
 use Rattle.zw_hub.specs.Lists.{max_kept, last_number, IsNumbered}
 
--- the list that was published
+-- all that was published, as a list
 abbrev pub published : Inside → Published
 published w = record { first = w.first; entries = w.all.items; end = w.end }
 
--- the ring has the newest entries of the list, and the last number is the list's
+-- the ring has the newest entries of the list, and room for as many as are kept; the last number is the list's, and the numbers of
+-- its entries are consecutive
 pub record IsWindow (w : Inside) : Type 0 where
   pub newest : map arc_value w.ring.items ≡ keep_last max_kept w.all.items
   pub room : w.ring.capacity ≡ max_kept

@@ -6,14 +6,14 @@ use std::marker::Model;
 use std::sync::Arc;
 use zn_layout::Entry;
 
-/// A change of the published list.
+/// A change of the published list: one more entry, or its end.
 #[derive(Drop)]
 pub enum Change {
     Entry(Arc<Entry, Global>),
     End(Ending),
 }
 
-/// An end that may close a list. Contracts see it as that end.
+/// An end that may close a list. Contracts see the end itself.
 #[derive(Drop)]
 pub struct Ending {
     end: Arc<FeedEnd, Global>,
@@ -44,7 +44,7 @@ impl Ending {
         Ending { end }
     }
 
-    /// One more owner of the same end.
+    /// Another owner of the same end.
     pub fn another(&self) -> Result<Ending, AllocError>
         ensures { IfOk result (λ e. e ≡ self.now) }
     {
@@ -53,7 +53,7 @@ impl Ending {
         })
     }
 
-    /// What readers are answered who have taken every entry.
+    /// What a reader is answered that has taken every entry.
     pub fn answer(&self) -> Fed
         ensures { IsFedEnd self.now result }
     {

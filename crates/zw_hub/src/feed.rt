@@ -9,29 +9,30 @@ use zx_base::Bytes;
 /// Why no more entries come.
 #[derive(Debug, Drop)]
 pub enum FeedEnd {
-    /// The store has forgotten the revisions up to this one, and the next entry with them.
+    /// etcd has compacted the revisions below this one, which may have had updates that were not published.
     Compacted { rev: i64 },
-    /// The head had this number where another was expected.
+    /// The head had the number `found` where the next update's number, `expected`, should have been. The two differ.
     Gap { expected: i64, found: i64 },
-    /// The head's value under this key is no record.
+    /// The head's value, found under this key, is not a record.
     Damaged { key: Bytes, value: Bytes },
     /// The watch could not be opened again.
     NoLine,
+    /// The writer ran out of memory. Readers are answered [`Fed::Memory`], not this.
     Memory,
 }
 
-/// What a read of a feed gave.
+/// What a read of a feed gives.
 #[derive(Debug, Drop)]
 pub enum Fed {
-    /// The entry behind the cursor.
+    /// The entry after the cursor: its number is the cursor's plus 1.
     Entry(Arc<Entry, Global>),
-    /// Nothing is above the cursor yet.
+    /// No entry is above the cursor yet.
     None,
-    /// The entry behind the cursor is not kept any more. The floor is the number before the oldest entry that is.
+    /// The entry after the cursor is no longer kept. The floor is the number before that of the oldest entry that is.
     Lagged { cursor: i64, floor: i64 },
-    /// Nothing is above the cursor, and nothing will be.
+    /// No entry is above the cursor, and none will come.
     Closed(Arc<FeedEnd, Global>),
-    /// Memory was refused, or the feed was closed for want of it.
+    /// Memory was refused; or the feed was closed for want of memory and the cursor is at its end; or the hub was dropped.
     Memory,
 }
 

@@ -1,4 +1,4 @@
-//! A hub with its readers.
+//! Makes a hub with its readers.
 
 ghost use Rattle.std.specs.Prelude.{◌≡◌, All, IfOk, vec_len};
 ghost use Rattle.std.specs.Arc.{arc_value};
@@ -15,10 +15,11 @@ use std::alloc::Global;
 use std::sync::Wait;
 use zx_base::Memory;
 
-/// Readers above this number find no memory: `left_right` has room for 2^32 - 1 places, and one stays free.
+/// The most readers: `left_right` has room for 2^32 - 1 seats, and one stays free. More are refused as want of memory.
 const MAX_READERS: usize = 4_294_967_294;
 
-/// An open list behind the number `first`, and so many readers of it. Keep the hub until they have ended.
+/// A hub whose first entry is to have the number `first + 1`, and so many readers of it. No more can be made later. Keep the hub
+/// until the readers have ended: after it is dropped they are answered [`crate::Fed::Memory`].
 pub fn hub<R: Wait + Drop>(
     rt: R,
     alloc: Global,

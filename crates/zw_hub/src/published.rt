@@ -4,15 +4,15 @@ use crate::feed::FeedEnd;
 use zn_layout::Entry;
 use zx_base::Seq;
 
-/// So many of the newest entries are kept for readers.
+/// How many entries are kept for readers: the newest ones.
 pub const MAX_KEPT: usize = 4096;
 
-/// The list of the published entries. No value of it is made: a [`crate::Hub`] keeps the newest entries alone.
+/// The list of all entries that were published, for contracts. No value of it is made: a [`crate::Hub`] keeps only the newest.
 pub struct Published {
     /// The number before that of the first entry.
     pub first: i64,
-    /// Their numbers are consecutive.
+    /// In the order of their numbers, which are consecutive.
     pub entries: Seq<Entry>,
-    /// By what the list was closed, where it is.
+    /// Why the list was closed, where it was.
     pub end: Option<FeedEnd>,
 }

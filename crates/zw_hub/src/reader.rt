@@ -1,4 +1,4 @@
-//! One reader of the list.
+//! Reads the list.
 
 ghost use Rattle.std.specs.Prelude.{◌≡◌, ◌≢◌, ℕ, ◌+◌, ◌<◌, ◌<ℤ◌};
 ghost use Rattle.left_right.specs.Sides.{view};
@@ -13,10 +13,10 @@ use left_right::reader::Reader;
 use std::marker::Model;
 use zx_history::GhostHistory;
 
-/// A place from which the list is read.
+/// The seat in `left_right` from which one reader reads.
 pub type ListReader = Reader<Window, View, Growing>;
 
-/// A reader of the list, for one connection at a time. Its place is given back when it is dropped.
+/// A reader of the list, for one connection at a time. A hub makes no further readers, so one that is dropped is gone.
 #[derive(Drop)]
 pub struct HubReader {
     reader: ListReader,
@@ -34,7 +34,7 @@ impl Model for HubReader {
     ghost view = { reading };
 }
 
-/// One read. Where the writer is gone it is answered `Memory`.
+/// One read of the list. Where the hub was dropped there is none, and the answer is `Memory`.
 fn read_at(reader: ListReader, cursor: i64) -> (ListReader, Fed)
     ensures once { IsOneRead result.1
         (view reader.place).steps (view result.0.place).steps

@@ -1,4 +1,4 @@
-//! The rule by which threads know of the list: it only grows.
+//! Proof only: the rule that the list keeps for all threads, which is that it only grows.
 
 use crate::published::Published;
 use crate::window::Window;
@@ -8,11 +8,11 @@ use crossbeam_utils::rule::{Outcome, Protocol};
 pub struct View {
     /// For a reader the list that it read last, for the writer the one that it published last.
     pub list: Published,
-    /// How many reads, or publishes and closes, it has made.
+    /// How many reads the reader has made, or how many publishes and closes the writer.
     pub steps: u64,
 }
 
-/// The list extends each that a thread has seen.
+/// The rule: the list extends every list that a thread has seen.
 pub struct Growing;
 
 impl Protocol<Window, View> for Growing {
@@ -23,7 +23,7 @@ impl Protocol<Window, View> for Growing {
     ghost first = { nothing_seen };
 }
 
-/// A reader enters the list, or the writer shows a longer one.
+/// One step: a reader enters the list, or the writer shows one that extends it.
 pub struct Sees;
 
 impl Outcome<Window, View> for Sees {

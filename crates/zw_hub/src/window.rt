@@ -1,4 +1,4 @@
-//! What lies behind `left_right`: the newest entries, and whether more will come.
+//! What `left_right` keeps two copies of: the newest entries, and whether more will come.
 
 ghost use Rattle.std.specs.Prelude.{◌≡◌, ◌≢◌, ◌↔◌, ◌<◌, ℕ, ◌+◌, ◌-◌, ◌+ℤ◌, ◌-ℤ◌, ◌≤ℤ◌, ◌<ℤ◌, pos, length, Some, None, IfOk, OnOk, OnErr, IsTrue, slice_get, if◌then◌else◌};
 ghost use Rattle.std.specs.Arc.{arc_value};
@@ -14,7 +14,7 @@ use std::sync::Arc;
 use zn_layout::Entry;
 use zx_history::GhostHistory;
 
-/// The newest entries. Contracts see it as the whole list that was published.
+/// The newest entries. Contracts see the whole list that was published.
 #[derive(Drop)]
 pub struct Window {
     ring: HeapCircularBuffer<Arc<Entry, Global>>,
@@ -83,7 +83,7 @@ impl Window {
         self.above()
     }
 
-    /// The entry behind the cursor, which is kept.
+    /// The entry after the cursor, which is kept.
     fn kept(&self, cursor: i64) -> Fed
         requires least { floor self.now ≤ℤ cursor }
         requires most { cursor <ℤ last_number self.now }
@@ -97,7 +97,7 @@ impl Window {
         }
     }
 
-    /// What is above the last entry.
+    /// What a reader is answered that has taken every entry.
     fn above(&self) -> Fed
         ensures { (cursor : ℤ) → last_number self.now ≤ℤ cursor → IsFed self.now cursor result }
     {
@@ -107,7 +107,7 @@ impl Window {
         }
     }
 
-    /// Puts an entry behind the others, if it is the next.
+    /// Adds an entry, if it is the next one; otherwise nothing changes.
     fn add(&mut self, entry: &Arc<Entry, Global>) -> Result<(), AllocError>
         ensures ok { OnOk result (self.new ≡ added self.old (arc_value entry.now)) }
         ensures err { OnErr result (self.new ≡ self.old) }

@@ -18,12 +18,12 @@ use std::sync::{Arc, Wait};
 use zn_layout::Entry;
 use zx_base::Memory;
 
-/// The two copies of the list, and what one of them lacks.
+/// The two copies of the list, and the changes that one of them still lacks.
 pub type ListWriter = Writer<Window, Change, View, Growing>;
 
-/// The writer of a list, which readers of other threads read. Contracts see the list, and whether the hub is stuck: one
-/// that could not bring a change into its second copy answers `Memory` from then on. It waits for readers that are inside
-/// a read, also where it is dropped; after that its readers are answered `Memory`.
+/// The writer of a list that readers in other threads read. Contracts see the list and whether the hub is stuck: one that could not
+/// bring a change into a copy answers `Memory` from then on, and can no longer be closed; its readers see the list as it was. A
+/// publish, a close and a drop wait for readers that are inside a read. After a drop the readers are answered `Memory`.
 pub struct Hub<R: Wait + Drop> {
     writer: ListWriter,
     is_stuck: bool,
@@ -40,7 +40,7 @@ impl<R: Wait + Drop> Model for Hub<R> {
 
     ghost view = { λ h. record { table = h.writer.desk.place.table_id; list = h.writer.desk.shown.value; steps = (sides.view h.writer.desk.place).steps; is_stuck = h.is_stuck } };
 
-    // No change waits where it is not stuck, and its own view is the list that it published.
+    // Where the hub is not stuck, no change waits; and once it has published, its own view is the list that readers see.
     ghost invariant = { λ h. (h.is_stuck ≡ false → drop h.writer.behind h.writer.log.items ≡ [])
         × (0 < (sides.view h.writer.desk.place).steps → (sides.view h.writer.desk.place).list ≡ h.writer.desk.shown.value) };
 }
@@ -57,7 +57,7 @@ impl<R: Wait + Drop> Drop for Hub<R> {
     }
 }
 
-/// Shows readers the list with the changes that it lacks.
+/// Shows readers the list with the changes that it still lacks.
 fn shown<R: Wait>(writer: ListWriter, rt: &R) -> (ListWriter, Result<(), AllocError>)
     ensures list { MatchResult result.1
         (λ _. result.0.desk.shown.value ≡ fold list_after writer.desk.shown.value (drop writer.behind writer.log.items))
@@ -101,7 +101,7 @@ impl<R: Wait + Drop> Hub<R> {
         self.writer.factory()
     }
 
-    /// Publishes the next entry. Where memory was refused, readers see the list as it was.
+    /// Publishes the next entry. Where memory is refused, readers see the list as it was; the hub may then be stuck.
     pub fn publish(&mut self, entry: Arc<Entry, Global>) -> Result<(), Memory>
         requires next { (arc_value entry).number ≡ last_number self.old.list +ℤ pos 1 }
         requires is_open { self.old.list.end ≡ None }
@@ -114,7 +114,7 @@ impl<R: Wait + Drop> Hub<R> {
         self.show(Change::Entry(entry))
     }
 
-    /// Closes the list for good. Where memory was refused, readers see the list as it was.
+    /// Closes the list for good. Where memory is refused, readers see the list as it was, still open; the hub may then be stuck.
     pub fn close(&mut self, end: FeedEnd) -> Result<(), Memory>
         requires is_open { self.old.list.end ≡ None }
         requires proper { IsProper end }
