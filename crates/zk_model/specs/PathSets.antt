@@ -7,6 +7,7 @@ use Rattle.std.specs.FinSet as set
 use Rattle.zx_base.specs.Maps.{Bytes, same}
 use Rattle.zk_model.specs.Watches.{PathSet, Watches}
 
+-- a list as the set of its members
 abbrev pub set_of : List Bytes → PathSet
 set_of [] = empty
 set_of (p ∷ ps) = insert (set_of ps) p tt

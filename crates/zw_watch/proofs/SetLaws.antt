@@ -50,7 +50,7 @@ set_of-there path ps h = ext _ _ (λ q. ⊎_elim
     (λ (n : q ≢ path). sym (get-insert_other (set_of ps) path q tt n))
     (either q path))
 
--- ---- what stands behind a front
+-- ---- what follows a front
 
 pub starts_with-itself : (ps : List Bytes) → StartsWith ps ps
 starts_with-itself ps = take-length ps

@@ -8,10 +8,11 @@ use Rattle.zx_base.specs.Maps.{Bytes}
 use Rattle.zw_watch.specs.declared.lists.PathLists.{PathLists}
 use Rattle.zw_watch.specs.Sets.{StartsWith}
 
--- with a child watch on this path, or a data watch
+-- the watches with a child watch on this path, or otherwise a data watch
 abbrev pub armed : Bool → Watches → Bytes → Watches
 armed child w p = if child then arm_children w p else arm_data w p
 
+-- the lists of paths as the definitions' sets
 abbrev pub watches_of : PathLists → Watches
 watches_of l = record { on_data = set_of l.on_data.items; on_children = set_of l.on_children.items }
 
@@ -19,7 +20,7 @@ watches_of l = record { on_data = set_of l.on_data.items; on_children = set_of l
 abbrev pub seen_of : PathLists → List Notice → Seen
 seen_of l ns = record { watches = watches_of l; notices = ns }
 
--- further paths may stand behind the old ones
+-- each list begins with the old one; further paths may follow
 abbrev pub StartWith : PathLists → PathLists → Type 0
 StartWith new old = StartsWith new.on_data.items old.on_data.items × StartsWith new.on_children.items old.on_children.items
 

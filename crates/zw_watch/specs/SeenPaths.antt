@@ -13,21 +13,23 @@ use Rattle.zw_watch.specs.declared.seen_path.WatchList.TheVariants.{Datas, Exist
 
 -- ---- one path
 
--- A watch on a node that was there fires where the node is gone or changed since; otherwise it is armed again.
+-- A watch on a node that was there fires where the node is gone or was changed since; otherwise it is armed.
 abbrev pub if_changed : ℤ → ℕ → Rearming → Option ℤ → Rearming
 if_changed since kind arms None = Tells 2
 if_changed since kind arms (Some z) = if int_lt since z then Tells kind else arms
 
--- A watch on a node that was not there fires where it is there now. A path that isn't valid arms nothing.
+-- A watch on a node that was not there fires where it is there now; otherwise a data watch is armed, if the path is valid.
 abbrev pub if_absent : Bool → Option ℤ → Rearming
 if_absent valid None = if valid then ArmsData else ArmsNothing
 if_absent valid (Some z) = Tells 1
 
+-- what becomes of the watch on a path, by the list that it stands in
 abbrev pub rearming_of : ℤ → Bool → WatchList → Option ℤ → Rearming
 rearming_of since valid Datas at = if_changed since 3 ArmsData at
 rearming_of since valid Exists at = if_absent valid at
 rearming_of since valid Children at = if_changed since 4 ArmsChildren at
 
+-- the watches and notices after that
 abbrev pub with_rearming : Seen → Bytes → Rearming → Seen
 with_rearming s p (Tells kind) = tell s kind p
 with_rearming s p ArmsData = record s { watches = arm_data s.watches p }
@@ -49,16 +51,17 @@ unseen w = record { watches = w; notices = [] }
 
 -- ---- the paths of a setWatches on a tree
 
--- the zxid of the last change of the node's data, or of its children
+-- the zxid of the last change of the node's children in the list of child watches, otherwise of its data; None where it isn't there
 abbrev pub changed_at : WatchList → Option Node → Option ℤ
 changed_at Datas n = option_map (λ (x : Node). x.mzxid) n
 changed_at Exists n = option_map (λ (x : Node). x.mzxid) n
 changed_at Children n = option_map (λ (x : Node). x.pzxid) n
 
+-- a path as it is seen on a tree
 abbrev pub path_on : Tree → WatchList → Bytes → SeenPath
 path_on t list p = record { path = p; list = list; at = changed_at list (valid_at p t) }
 
--- its data paths, its exist paths, its child paths
+-- the paths of a setWatches as they are seen on a tree: those of its data, exist and child watches, in this order
 abbrev pub paths_on : Tree → List Bytes → List Bytes → List Bytes → List SeenPath
 paths_on t datas exists children = map (path_on t Datas) datas ++ map (path_on t Exists) exists ++ map (path_on t Children) children
 

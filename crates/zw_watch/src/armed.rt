@@ -12,7 +12,8 @@ use std::marker::Model;
 use zk_model::{Notice, Path, Trigger};
 use zx_base::Memory;
 
-/// The data watches and child watches of a connection. Contracts see the two sets of their paths.
+/// The data watches and child watches of a connection. Contracts see two sets of paths. The watch of an `exists` is a
+/// data watch.
 #[derive(Debug, Drop)]
 pub struct Armed {
     paths: PathLists,
@@ -32,7 +33,7 @@ impl Model for Armed {
 }
 
 impl Armed {
-    /// Nothing is armed.
+    /// No watch is armed.
     pub fn new(alloc: Global) -> Armed
         ensures { result ≡ no_watches }
     {
@@ -42,15 +43,15 @@ impl Armed {
         }
     }
 
-    /// Whether nothing is armed.
+    /// Whether no watch is armed.
     pub fn is_empty(&self) -> bool
         ensures { result ≡ is_unarmed self.now }
     {
         self.paths.is_empty()
     }
 
-    /// Arms a child watch or a data watch on this path. A watch that is armed already stays armed. Without memory the set
-    /// stays as it was.
+    /// Arms a child watch, or otherwise a data watch, on this path. A watch that is armed already stays armed. Where memory runs
+    /// out, nothing changes.
     pub fn arm(&mut self, path: &Path, child: bool) -> Result<(), Memory>
         ensures ok { OnOk result (self.new ≡ armed child self.old path.now) }
         ensures err { OnErr result (self.new ≡ self.old) }
@@ -58,8 +59,8 @@ impl Armed {
         self.paths.arm(self.alloc, path.bytes(), child)
     }
 
-    /// Fires the watches that a change hits: they are no longer armed, and give one notice, also where both watches of a
-    /// deleted node fire. None exactly where the change hits no watch. Without memory the set stays as it was.
+    /// Fires the watches that a change hits. They are no longer armed, and give one notice, also where both watches of a deleted
+    /// node fire. `None` exactly where the change hits no watch. Where memory runs out, nothing changes.
     pub fn fire(&mut self, trigger: &Trigger) -> Result<Option<Notice>, Memory>
         ensures ok { IfOk result (λ n. fired_of self.new n ≡ fire self.old trigger.now) }
         ensures err { OnErr result (self.new ≡ self.old) }
@@ -67,10 +68,10 @@ impl Armed {
         self.paths.fire(self.alloc, trigger)
     }
 
-    /// Arms the watches of a setWatches again, in the order of its paths (zookeeper.jute, `SetWatches`). A watch fires at once
-    /// where its node is gone or changed after the relative zxid, and a watch on a node that was not there where it is there
-    /// now; the others are armed. A text that is not a valid path counts as absent, and arms nothing. Without memory the set
-    /// stays as it was.
+    /// Carries out a setWatches on the paths as they were seen, in their order (zookeeper.jute, `SetWatches`), and gives the
+    /// notices of those watches that fire at once. A data or child watch fires where its node is gone or changed after the zxid
+    /// `relative`, and a watch on an absent node where the node is there now; the others are armed. An exists watch on a text that
+    /// is not a valid path arms nothing. Where memory runs out, nothing changes.
     pub fn rearm(&mut self, seen: &[SeenPath], relative: i64) -> Result<Vec<Notice>, Memory>
         ensures ok { IfOk result (λ ns. record { watches = self.new; notices = ns.items } ≡ see_paths relative (unseen self.old) seen.now) }
         ensures set { IfOk result (λ ns. IsSetWatches relative self.old seen.now (record { watches = self.new; notices = ns.items })) }

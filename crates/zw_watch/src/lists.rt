@@ -12,7 +12,7 @@ use std::alloc::Global;
 use zk_model::{Notice, Trigger};
 use zx_base::{Memory, Text};
 
-/// The paths that have a watch, each once, in the order in which they came.
+/// The paths that have a watch, each once in its list, in the order in which they were armed.
 #[derive(Debug, Drop)]
 pub(crate) struct PathLists {
     pub(crate) on_data: Vec<Text>,
@@ -35,7 +35,7 @@ impl PathLists {
         is_empty(&self.on_data) && is_empty(&self.on_children)
     }
 
-    /// Arms a data watch or a child watch, or is as it was.
+    /// Arms a child watch, or otherwise a data watch; or changes nothing, where memory runs out.
     pub(crate) fn arm(&mut self, alloc: Global, path: &[u8], child: bool) -> Result<(), Memory>
         ensures ok { OnOk result (watches_of self.new ≡ armed child (watches_of self.old) path.now) }
         ensures err { OnErr result (watches_of self.new ≡ watches_of self.old) }
@@ -48,7 +48,7 @@ impl PathLists {
         }
     }
 
-    /// The path's data watch fires, where there is one.
+    /// Fires the path's data watch, if there is one.
     fn fire_data(&mut self, alloc: Global, kind: u8, path: &[u8]) -> Result<Option<Notice>, Memory>
         ensures ok { IfOk result (λ n. fired_of (watches_of self.new) n ≡ (fired_data (watches_of self.old) path.now, note (contains_key (watches_of self.old).on_data path.now) kind path.now)) }
         ensures err { OnErr result (watches_of self.new ≡ watches_of self.old) }
@@ -59,7 +59,7 @@ impl PathLists {
         Ok(notice)
     }
 
-    /// The path's child watch fires, where there is one.
+    /// Fires the path's child watch, if there is one.
     fn fire_children(&mut self, alloc: Global, path: &[u8]) -> Result<Option<Notice>, Memory>
         ensures ok { IfOk result (λ n. fired_of (watches_of self.new) n ≡ (fired_children (watches_of self.old) path.now, note (contains_key (watches_of self.old).on_children path.now) 4 path.now)) }
         ensures err { OnErr result (watches_of self.new ≡ watches_of self.old) }
@@ -76,7 +76,7 @@ impl PathLists {
         contains(&self.on_data, path) || contains(&self.on_children, path)
     }
 
-    /// Both watches of the path fire, with one notice.
+    /// Fires those watches that the path has, with one notice.
     fn fire_both(&mut self, alloc: Global, path: &[u8]) -> Result<Option<Notice>, Memory>
         ensures ok { IfOk result (λ n. fired_of (watches_of self.new) n ≡ (fired_children (fired_data (watches_of self.old) path.now) path.now, note (contains_key (watches_of self.old).on_data path.now || contains_key (watches_of self.old).on_children path.now) 2 path.now)) }
         ensures err { OnErr result (watches_of self.new ≡ watches_of self.old) }
@@ -88,7 +88,7 @@ impl PathLists {
         Ok(notice)
     }
 
-    /// A change fires what it hits, or nothing is changed.
+    /// Fires the watches that a change hits; or changes nothing, where memory runs out.
     pub(crate) fn fire(
         &mut self,
         alloc: Global,
@@ -105,7 +105,7 @@ impl PathLists {
         }
     }
 
-    /// Keeps the first paths.
+    /// Keeps the first so many paths of each list.
     pub(crate) fn keep_first(&mut self, on_data: usize, on_children: usize)
         ensures on_data { self.new.on_data.items ≡ take on_data self.old.on_data.items }
         ensures on_children { self.new.on_children.items ≡ take on_children self.old.on_children.items }

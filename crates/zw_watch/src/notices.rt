@@ -35,7 +35,7 @@ pub(crate) fn note(
     }))
 }
 
-/// Adds a notice behind the others.
+/// Adds a notice after the others.
 pub(crate) fn tell(
     alloc: Global,
     kind: u8,

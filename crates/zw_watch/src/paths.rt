@@ -1,4 +1,4 @@
-//! A set of paths, as the list of its members.
+//! A set of paths, kept as the list of its members.
 
 ghost use Rattle.std.specs.Prelude.{◌≡◌, ◌==◌, OnOk, OnErr};
 ghost use Rattle.std.specs.FinMap.{insert, len};
@@ -25,7 +25,7 @@ pub(crate) fn contains(paths: &[Text], path: &[u8]) -> bool
     false
 }
 
-/// Adds a path behind the others, unless it is there.
+/// Adds a path at the end, unless it is there.
 pub(crate) fn add(alloc: Global, paths: &mut Vec<Text>, path: &[u8]) -> Result<(), Memory>
     ensures ok { OnOk result (set_of paths.new.items ≡ insert (set_of paths.old.items) path.now tt) }
     ensures err { OnErr result (paths.new.items ≡ paths.old.items) }

@@ -1,4 +1,4 @@
-//! Arming again what a setWatches names (zookeeper.jute, `SetWatches`).
+//! Carries out a setWatches (zookeeper.jute, `SetWatches`).
 
 ghost use Rattle.std.specs.Prelude.{◌≡◌, IfOk, OnOk, OnErr};
 ghost use Rattle.zk_model.specs.Paths.{is_path};
@@ -12,7 +12,7 @@ use std::alloc::Global;
 use zk_model::{Notice, Path, PathFault};
 use zx_base::Memory;
 
-/// What becomes of a watch that a setWatches names: it fires at once, with a notice of this kind, or it is armed, or neither.
+/// What becomes of a watch that a setWatches names: it fires at once with a notice of this kind, or is armed, or neither.
 #[derive(Clone, Copy, Debug)]
 pub(crate) enum Rearming {
     Tells(u8),
@@ -68,7 +68,7 @@ fn rearming_of(alloc: Global, relative: i64, seen: &SeenPath) -> Result<Rearming
 }
 
 impl PathLists {
-    /// Tells the connection, or arms the watch again.
+    /// Adds the notice, or arms the watch.
     fn carry_out(
         &mut self,
         alloc: Global,
@@ -102,7 +102,7 @@ impl PathLists {
         self.carry_out(alloc, rearming, seen.path.as_slice(), notices)
     }
 
-    /// Goes through the paths up to the first that there is no memory for.
+    /// Goes through the paths. Where memory runs out, those before stay armed.
     fn see_paths(
         &mut self,
         alloc: Global,
@@ -119,7 +119,7 @@ impl PathLists {
         Ok(notices)
     }
 
-    /// Goes through all paths, or is as it was.
+    /// Goes through the paths; or changes nothing, where memory runs out.
     pub(crate) fn rearm(
         &mut self,
         alloc: Global,

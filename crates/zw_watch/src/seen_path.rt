@@ -2,10 +2,12 @@
 
 use zx_base::Text;
 
-/// The list of a setWatches that a path stands in.
+/// The list of a setWatches that a path stands in (zookeeper.jute, `SetWatches`).
 #[derive(Clone, Copy, Debug)]
 pub enum WatchList {
+    /// Data watches on nodes that were there.
     Datas,
+    /// Data watches on nodes that were not there.
     Exists,
     Children,
 }
@@ -15,6 +17,6 @@ pub enum WatchList {
 pub struct SeenPath {
     pub path: Text,
     pub list: WatchList,
-    /// The node's mzxid, or of a child watch its pzxid; none where no node is there.
+    /// The zxid of the node's last change: its pzxid for `Children`, otherwise its mzxid. `None` where no node is there.
     pub at: Option<i64>,
 }

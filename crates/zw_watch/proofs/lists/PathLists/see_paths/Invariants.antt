@@ -1,4 +1,4 @@
--- What is seen of the paths that are left, behind what was seen so far, is what is seen of all.
+-- What was seen so far, and then what is seen of the paths that are left, is what is seen of all.
 use Rattle.std.proofs.Common.{◌≡◌, drop}
 use Rattle.zw_watch.specs.Armed.{seen_of, watches_of, StartWith}
 use Rattle.zw_watch.specs.SeenPaths.{see_paths, unseen}
