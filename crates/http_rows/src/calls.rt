@@ -1,4 +1,4 @@
-//! What each call of `ev_http` gives, as text.
+//! The calls of `ev_http`, and what each gives, as text.
 
 use crate::marks::unescaped;
 use crate::sources::{idle_source, paused_source, source_of};
@@ -7,7 +7,7 @@ use ev_types::Route;
 use std::alloc::{AllocError, Global};
 use zx_outside::{Got, MemSink, MemSource, Source};
 
-/// What the call of this name gives, of bytes in pieces of this size. None where there is no such call.
+/// What the call of this name gives from these bytes in pieces of this size; `None` where there is no call of the name.
 pub fn outcome(
     alloc: Global,
     call: &str,
@@ -27,7 +27,7 @@ pub fn outcome(
     Ok(Some(found))
 }
 
-/// Appends what a source has left, up to 1,000 pieces.
+/// Appends what a source has left, in at most 1,000 reads.
 fn append_rest(source: &mut MemSource, text: &mut Vec<u8>) -> Result<(), AllocError> {
     text.extend_from_slice(b" left ")?;
     let mut buffer = [0u8; 64];

@@ -5,16 +5,16 @@
 //!
 //! | Line | Says |
 //! |---|---|
-//! | `response BYTES = OUTCOME` | what `read_response` gives: `ok BODY left REST`, with the bytes that are left behind it, or the fault |
-//! | `request BYTES = OUTCOME` | the same of `read_request`: `ok ROUTE BODY left REST` |
-//! | `lines BYTES = OUTCOME` | what calls of `Lines::next` give up to the first fault but `Idle`: `LINE\n` for each line, `Idle\n`, and the fault |
-//! | `idle TURNS BYTES = OUTCOME` | as `response`, of a source that is idle so many turns in front of its first byte |
-//! | `paused ONES NEXT BYTES = OUTCOME` | as `lines`, of a source that gives ONES bytes one by one and then NEXT bytes at once, and then is idle for 6,000 turns |
+//! | `response BYTES = OUTCOME` | what `read_response` gives: `ok BODY left REST`, with REST still in the source, or the fault |
+//! | `request BYTES = OUTCOME` | what `read_request` gives: `ok ROUTE BODY left REST`, or the fault |
+//! | `lines BYTES = OUTCOME` | the calls of `Lines::next` up to a fault but `Idle`: `LINE\n` for each line, `Idle\n`, and the fault |
+//! | `idle TURNS BYTES = OUTCOME` | as `response`, from a source that is idle for TURNS turns before its first byte |
+//! | `paused ONES NEXT BYTES = OUTCOME` | as `lines`: ONES bytes come one by one, then NEXT at once, then 6,000 idle turns |
 //! | `ask ROUTE HOST BODY = BYTES` | what `send_request` writes |
 //! | `answer STATUS BODY = BYTES` | what `send_response` writes |
 //!
-//! What the first three read is cut into pieces of 1, 2 and 7 bytes, the first 500 with an idle turn in front, and as large
-//! as they fit: the outcome is always the same. More than 100,000 bytes are read as large as they fit alone.
+//! The first three are read in pieces of 1, 2 and 7 bytes, with an idle turn before each of the first 500, and in pieces as
+//! large as fit. The outcome must be the same each time. More than 100,000 bytes are read only in pieces as large as fit.
 #![tactic(auto)]
 
 mod calls;
@@ -28,10 +28,10 @@ use std::alloc::{AllocError, Global};
 use std::fs;
 use std::process::ExitCode;
 
-/// The sizes of pieces that each message is read in; 0: as large as they fit.
+/// The sizes in bytes of the pieces that each message is read in; 0: as large as fit.
 const CUTS: [u32; 4] = [1, 2, 7, 0];
 
-/// How many bytes are cut at most.
+/// A message with more bytes is not cut.
 const MAX_CUT: usize = 100_000;
 
 fn main(rt: HostRuntime) -> Result<ExitCode> {
@@ -60,7 +60,7 @@ fn main(rt: HostRuntime) -> Result<ExitCode> {
     })
 }
 
-/// What is wrong with a line, or what comes out instead.
+/// What is wrong with a line, or what came out instead; `None` where it is right.
 fn problem_in(alloc: Global, line: &str) -> Result<Option<String>, AllocError> {
     let Some((words, wanted)) = line.split_once(" = ") else {
         return Ok(Some(String::from_str(alloc, "no outcome")?));

@@ -2,13 +2,13 @@
 
 use std::alloc::{AllocError, Global};
 
-/// Where in a mark a text stands.
+/// How far a mark was read.
 #[derive(Clone, Copy)]
 enum Mark {
     None,
-    /// Behind `\`.
+    /// After `\`.
     Begun,
-    /// Behind `\(` and digits of this number.
+    /// After `\(` and digits of this number.
     Count(usize),
 }
 
@@ -50,7 +50,7 @@ fn push_times(bytes: &mut Vec<u8>, byte: u8, times: usize) -> Result<(), AllocEr
     Ok(())
 }
 
-/// The byte that a letter behind `\` stands for.
+/// The byte that a letter after `\` stands for.
 fn marked(letter: u8) -> u8 {
     match letter {
         b'r' => b'\r',
@@ -60,7 +60,7 @@ fn marked(letter: u8) -> u8 {
     }
 }
 
-/// A text for the first 200 of these bytes.
+/// The first 200 of these bytes as text, with `?` for any that cannot be shown.
 pub fn escaped(alloc: Global, bytes: &[u8]) -> Result<String, AllocError> {
     let mut text = String::new(alloc);
     for byte in bytes.iter().take(200) {

@@ -4,13 +4,13 @@ use crate::marks::unescaped;
 use std::alloc::{AllocError, Global};
 use zx_outside::MemSource;
 
-/// How many pieces have an idle turn in front.
+/// How many pieces come after an idle turn.
 const IDLE_TURNS: usize = 500;
 
 /// How many idle turns a call waits at most.
 const PAUSE: usize = 6000;
 
-/// A source of these bytes in pieces of this size, the first of them with an idle turn in front.
+/// A source of these bytes in pieces of this size, the first 500 of them each after an idle turn; size 0 does not cut them.
 pub fn source_of(alloc: Global, text: &str, cut: u32) -> Result<MemSource, AllocError> {
     let bytes = unescaped(alloc, text.as_bytes())?;
     let mut pieces = Vec::new(alloc);
@@ -25,7 +25,7 @@ pub fn source_of(alloc: Global, text: &str, cut: u32) -> Result<MemSource, Alloc
     Ok(MemSource::new(bytes, pieces, Vec::new(alloc)))
 }
 
-/// A number in front of a text, and the text behind it; 0 where there is none.
+/// The number that a text begins with and the text after it; 0 and the whole text where there is none.
 fn number_before(text: &str) -> (usize, &str) {
     match text.split_once(' ') {
         Some((number, rest)) => match number.parse::<usize>() {
@@ -36,7 +36,7 @@ fn number_before(text: &str) -> (usize, &str) {
     }
 }
 
-/// A source that is idle for some turns first.
+/// A source that is idle for as many turns as the text's first word says, and then gives the rest.
 pub fn idle_source(alloc: Global, text: &str) -> Result<MemSource, AllocError> {
     let (turns, rest) = number_before(text);
     let mut pieces = Vec::new(alloc);
@@ -47,7 +47,7 @@ pub fn idle_source(alloc: Global, text: &str) -> Result<MemSource, AllocError> {
     Ok(MemSource::new(bytes, pieces, Vec::new(alloc)))
 }
 
-/// A source that gives bytes one by one and then a piece, and then is idle.
+/// A source that gives bytes one by one and then a piece, as the text's first two words say, and then is idle for 6,000 turns.
 pub fn paused_source(alloc: Global, text: &str) -> Result<MemSource, AllocError> {
     let (ones, rest) = number_before(text);
     let (next, rest) = number_before(rest);

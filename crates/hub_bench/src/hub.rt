@@ -13,7 +13,7 @@ use std::time::Instant;
 use std::{io, thread};
 use zw_hub::{Feed, FeedEnd, Hub, HubReader, hub};
 
-/// A hub whose last number is at hand.
+/// A hub, with the number of its last entry and whether it is open.
 #[derive(Drop)]
 struct Publisher<R: Wait + Drop> {
     hub: Hub<R>,

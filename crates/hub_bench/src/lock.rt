@@ -12,7 +12,7 @@ use std::{io, thread};
 use zn_layout::Entry;
 use zw_hub::{Fed, FeedEnd, MAX_KEPT};
 
-/// The newest entries.
+/// The newest entries, as many as a hub keeps.
 #[derive(Drop)]
 struct Ring {
     entries: VecDeque<Arc<Entry, Global>>,

@@ -1,7 +1,7 @@
-//! How fast entries go from one writer to 1, 8 and 64 readers: `hub_bench COUNT` publishes so many entries to a hub, and to
-//! a ring under one lock, and prints who took part; `hub_bench COUNT time` prints the microseconds from the first publish
-//! to the last and to the last reader's end, and how many reads were made and entries taken, too. `bench/hub.sh` makes a
-//! table of it.
+//! How fast entries go from one writer to 1, 8 and 64 readers. `hub_bench COUNT` publishes COUNT entries to a hub, and then to a
+//! ring under one lock, and prints who took part. `hub_bench COUNT time` also prints the microseconds from the first publish to
+//! the last and to the end of the last reader, and how many reads were made and entries taken. `bench/hub.sh` makes a table of
+//! it.
 #![tactic(auto)]
 
 mod entry;
@@ -14,7 +14,7 @@ use std::sync::Wait;
 use std::thread::Threads;
 use std::{env, io};
 
-/// How many threads read, in turn.
+/// How many threads read, race by race.
 const READERS: [usize; 3] = [1, 8, 64];
 
 fn main(rt: HostRuntime) -> io::Result<()> {

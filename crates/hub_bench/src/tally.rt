@@ -1,17 +1,18 @@
-//! What is raced, and what came of it.
+//! A race, and what came of it.
 
 use std::time::Duration;
 use std::{io, thread};
 use zw_hub::Fed;
 
-/// So many readers, and so many entries.
+/// How many readers take part, and how many entries are published.
 #[derive(Clone, Copy)]
 pub struct Race {
     pub readers: usize,
     pub count: i64,
 }
 
-/// Microseconds from the first publish to the last, and to the last reader's end; what all readers did.
+/// The microseconds from the first publish to the last and to the end of the last reader; the reads that all readers made, and the
+/// entries that they took.
 #[derive(Clone, Copy)]
 pub struct Tally {
     pub published: u64,
@@ -20,7 +21,7 @@ pub struct Tally {
     pub taken: u64,
 }
 
-/// What one reader did.
+/// What one reader did: its reads, the entries that it took, and the number of the last.
 #[derive(Clone, Copy)]
 pub struct Taken {
     pub reads: u64,
@@ -35,7 +36,7 @@ impl Taken {
         cursor: 0,
     };
 
-    /// Notes an answer, and says whether it was the last. Where nothing is there yet, another thread may go on.
+    /// Notes an answer, and says whether it was the last. Where no entry is there yet, the thread yields.
     pub fn note(&mut self, fed: &Fed) -> bool {
         self.reads = self.reads.saturating_add(1);
         match fed {

@@ -2,15 +2,15 @@
 //!
 //! | Line | What happens |
 //! |---|---|
-//! | `hub FIRST` | a hub behind this number, with one reader, takes the place of the one before |
-//! | `publish COUNT` | so many entries are published |
+//! | `hub FIRST` | a new hub with one reader replaces the one before; its first entry has the number FIRST + 1 |
+//! | `publish COUNT` | COUNT entries are published |
 //! | `close END` | the hub is closed: `compacted REV`, `gap EXPECTED FOUND`, `no line` or `memory` |
 //! | `next CURSOR` | the reader reads at this cursor |
 //! | `orphan` | a reader reads whose hub is gone |
-//! | `race READERS COUNT` | so many threads read what one publishes, until it closes |
+//! | `race READERS COUNT` | READERS threads read what another publishes, COUNT entries, until it closes |
 //!
-//! In a race each reader takes every entry once and in order, or is told that it lagged and goes on at the floor. What is
-//! written is the same whatever the schedule.
+//! In a race each reader takes every entry once and in order, or is told that it lagged and goes on at the floor. Where all
+//! goes well, the same is written whatever the schedule.
 #![tactic(auto)]
 
 mod publisher;
@@ -42,7 +42,7 @@ fn main(rt: HostRuntime) -> io::Result<()> {
     Ok(())
 }
 
-/// Runs a line that is about the hub of the moment.
+/// Runs a line about the present hub.
 fn run<R: Print + Wait + Drop + AllocGlobal>(
     rt: &R,
     trial: &mut Trial<&R>,

@@ -12,7 +12,7 @@ use zn_layout::Entry;
 use zw_hub::{FeedEnd, Hub, HubReader, hub};
 use zx_base::Seq;
 
-/// A hub whose last number is at hand.
+/// A hub, with the number of its last entry and whether it is open.
 #[derive(Drop)]
 pub struct Publisher<R: Wait + Drop> {
     hub: Hub<R>,
@@ -77,7 +77,7 @@ impl<R: Wait + Drop> Publisher<R> {
     }
 }
 
-/// Whether a hub may be closed by this end. No damaged one is tried.
+/// Whether a hub may be closed by this end. Damaged ones are not tried.
 fn is_proper(end: &FeedEnd) -> bool
     ensures { result ≡ true → IsProper end.now }
 {

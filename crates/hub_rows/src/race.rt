@@ -1,4 +1,4 @@
-//! One thread publishes, and others read beside it.
+//! One thread publishes while others read.
 
 use crate::publisher::{Publisher, zxid_of};
 use std::alloc::Global;
@@ -7,7 +7,7 @@ use std::thread::{JoinHandle, Threads};
 use std::{io, thread};
 use zw_hub::{Fed, Feed, FeedEnd, HubReader};
 
-/// What a reader took until the hub was closed.
+/// What a reader took until the hub was closed: how many entries, and how many it was told that it lagged past.
 #[derive(Clone, Copy, Debug)]
 pub struct Taken {
     entries: i64,
@@ -18,7 +18,7 @@ pub struct Taken {
 }
 
 impl Taken {
-    /// Whether it took each entry of so many, or was told that it lagged behind it.
+    /// Whether it took each of `count` entries, or was told that it had lagged past it.
     pub fn is_whole(&self, count: i64) -> bool {
         self.is_right
             && self.cursor == count
@@ -48,7 +48,7 @@ impl Taken {
     }
 }
 
-/// Lets so many threads read what this one publishes.
+/// Lets `readers` threads read the `count` entries that this one publishes.
 pub fn race<R: Threads + Wait + Send + Clone + Drop + 'static>(
     rt: &R,
     alloc: Global,

@@ -3,7 +3,7 @@
 use std::io;
 use zw_hub::{Fed, FeedEnd};
 
-/// A line's first word, and the rest behind a blank.
+/// A line's first word, and what follows the blank after it.
 pub fn split(line: &str) -> (&str, &str) {
     match line.split_once(' ') {
         Some(parts) => parts,

@@ -17,7 +17,7 @@ use zx_base::{Bytes, Memory, Seq};
 /// The ask that is answered: one range.
 const ASK: &str = "{\"success\":[{\"request_range\":{\"key\":\"emsvZC8wMDAxL2E=\"}}]}";
 
-/// An answer with one key, whose value has so many bytes.
+/// An answer with one key, whose value has `size` bytes.
 fn answer_of(alloc: Global, size: u32) -> Result<Answer, Memory> {
     let mut value = Vec::new(alloc);
     for _ in 0..size {
@@ -45,7 +45,7 @@ fn answer_of(alloc: Global, size: u32) -> Result<Answer, Memory> {
     })
 }
 
-/// Writes an answer so many times, and counts the bytes.
+/// Writes an answer `count` times, and counts the bytes written.
 fn write_all(alloc: Global, count: u32, answer: &Answer) -> Result<u64, Memory> {
     let mut bytes: u64 = 0;
     for _ in 0..count {
@@ -67,7 +67,7 @@ fn value_of(answer: &Answer) -> u64 {
     0
 }
 
-/// Reads an answer so many times, and counts the bytes of its value.
+/// Reads an answer `count` times, and counts the bytes of its value each time.
 fn read_all(alloc: Global, count: u32, ask: &Ask, text: &[u8]) -> Result<u64, JsonFault> {
     let mut bytes: u64 = 0;
     for _ in 0..count {
@@ -77,7 +77,7 @@ fn read_all(alloc: Global, count: u32, ask: &Ask, text: &[u8]) -> Result<u64, Js
     Ok(bytes)
 }
 
-/// The value of an answer's bytes as etcd's gateway spells it.
+/// The value of an answer with `size` bytes, in base64.
 fn spelled(alloc: Global, size: u32) -> Result<String, Memory> {
     let mut value = Vec::new(alloc);
     for _ in 0..size {
@@ -89,8 +89,8 @@ fn spelled(alloc: Global, size: u32) -> Result<String, Memory> {
     }
 }
 
-/// Does so many times what no reader over the kit can do without: parses a text by its `serde_json` and decodes a value by
-/// its `base64`. Counts the bytes.
+/// Does `count` times what no reader can do without: parses a text with `serde_json`, and decodes a value with `base64`. Counts 1
+/// for each text parsed, and the bytes decoded.
 fn parse_all(alloc: Global, count: u32, text: &[u8], value: &str) -> u64 {
     let mut bytes: u64 = 0;
     for _ in 0..count {
@@ -143,7 +143,7 @@ fn run(rt: &HostRuntime, size: u32, count: u32, timed: bool) -> io::Result<()> {
     Ok(())
 }
 
-/// The bytes of a hostile body, but for a few.
+/// About how many bytes a hostile body has: its pieces have this many or slightly fewer.
 const BODY: usize = 8_388_608;
 
 fn hostile_body(alloc: Global, head: &[u8], piece: &[u8]) -> Result<Vec<u8>, Memory> {
@@ -156,7 +156,7 @@ fn hostile_body(alloc: Global, head: &[u8], piece: &[u8]) -> Result<Vec<u8>, Mem
     Ok(body)
 }
 
-/// What a body is refused for.
+/// What a body is refused for: `not json`, or the member at fault; `read` where it is not refused.
 fn refusal(alloc: Global, ask: &Ask, body: &[u8]) -> Result<&'static str, Memory> {
     match read_answer(alloc, ask, body) {
         Ok(_) => Ok("read"),

@@ -1,5 +1,5 @@
-//! Rows of JSON texts. The parts of a row stand between ` | `, the last one is what the body reads as: the one text of its
-//! value, or the fault.
+//! Rows of JSON texts. The parts of a row have ` | ` between them. The last is what the body reads as: the one text of the message,
+//! or the fault.
 //!
 //!     ask | ROUTE | BODY | ASK
 //!     answer | ROUTE | ASK | BODY | ANSWER           an answer to that ask
@@ -21,7 +21,7 @@ use zx_base::Memory;
 /// The ask that reads the head.
 const HEAD: &str = "{\"success\":[{\"request_range\":{\"key\":\"emsvaGVhZA==\"}}]}";
 
-/// What a row's body reads as, where that is not what the row says.
+/// What a row's body reads as, where that is not what the row says; `None` where it is.
 pub fn difference_in(alloc: Global, row: &str) -> Result<Option<String>, Memory> {
     let Some((kind, rest)) = row.split_once(" | ") else {
         return Ok(Some(String::from_str(alloc, "no row")?));
@@ -96,7 +96,7 @@ fn ask(alloc: Global, given: &str) -> Result<String, Memory> {
     }
 }
 
-/// An answer; one to a keepalive is read both alone and before another line.
+/// An answer. One to a keepalive is read alone, and again with another line after it.
 fn answer(alloc: Global, given: &str) -> Result<String, Memory> {
     let Some((word, rest)) = given.split_once(" | ") else {
         return Ok(String::from_str(alloc, "no ask")?);
@@ -117,7 +117,7 @@ fn answer(alloc: Global, given: &str) -> Result<String, Memory> {
     }
 }
 
-/// What a body reads as, as an answer to that ask.
+/// What a body reads as, taken for the answer to this ask.
 fn answer_to(alloc: Global, word: &str, asked: &str, body: &[u8]) -> Result<String, Memory> {
     let Some(route) = route_named(word) else {
         return Ok(String::from_str(alloc, "no route")?);
@@ -164,7 +164,7 @@ fn line_text(alloc: Global, said: &Line) -> Result<String, Memory> {
     }
 }
 
-/// Two texts, each repeated.
+/// A body of two texts, each repeated.
 fn repeated(alloc: Global, given: &str) -> Result<String, Memory> {
     let Some((first, second)) = given.split_once(" | ") else {
         return Ok(String::from_str(alloc, "no count")?);

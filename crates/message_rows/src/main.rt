@@ -11,11 +11,11 @@ use std::rt::Files;
 use std::{env, fs};
 use zx_base::Memory;
 
-/// The least number of rows that there are, so that a file that went missing is seen.
+/// The least number of rows that must pass, so that a file that went missing is noticed.
 const MIN_ROWS: u64 = 285;
 
-/// Looks in the folder that its first argument names, and without one where it runs. A second argument is the least number
-/// of rows that is wanted there.
+/// Looks in the folder that the first argument names, or in the current one. A second argument is the least number of rows that
+/// must pass there.
 fn main(rt: HostRuntime) -> Result<ExitCode> {
     let mut words = env::args(&rt)?;
     let _program = words.next();
@@ -44,6 +44,7 @@ fn main(rt: HostRuntime) -> Result<ExitCode> {
     })
 }
 
+/// How many rows passed, and how many differ.
 #[derive(Clone, Copy)]
 struct Counts {
     passed: u64,

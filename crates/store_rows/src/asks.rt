@@ -10,7 +10,7 @@ use zx_base::{Memory, Seq};
 /// The seconds of a lease are below this.
 const MAX_SECONDS: i64 = 4_611_686_018_427_387_904;
 
-/// Does what a row says to the store that the rows before left. `new` makes it a new one.
+/// Does what a row says to the store as the earlier rows left it. `new` makes a new store.
 pub fn carried_out(alloc: Global, store: &mut Store, left: &str) -> Result<Option<String>, Memory> {
     if left == "new" {
         *store = Store::new(alloc)?;
@@ -122,7 +122,7 @@ fn guard(alloc: Global, word: &str) -> Result<Option<Guard>, Memory> {
     }))
 }
 
-/// Operations, each perhaps with `*COUNT` behind it, or `-` for none
+/// Operations, each perhaps followed by `*COUNT`, or `-` for none
 fn acts(alloc: Global, words: &str) -> Result<Option<Seq<Act>>, Memory> {
     let mut acts = Seq::new(alloc);
     if words == "-" {
@@ -136,7 +136,7 @@ fn acts(alloc: Global, words: &str) -> Result<Option<Seq<Act>>, Memory> {
     Ok(Some(acts))
 }
 
-/// Adds an operation as often as its word says; false where it is no such word.
+/// Adds an operation as often as its word says; false where the word is no operation.
 fn push_acts(alloc: Global, acts: &mut Seq<Act>, word: &str) -> Result<bool, Memory> {
     let (word, count) = match word.split_once('*') {
         Some((word, count)) => (word, number(count)),
@@ -273,7 +273,7 @@ fn push_part(alloc: Global, text: &mut String, part: &ActAns) -> Result<(), Memo
     }
 }
 
-/// ` COUNT{KEY=VALUE@CREATE/MOD/VERSION/LEASE ..}`, with `+` behind the count where some were left out
+/// ` COUNT{(KEY=VALUE@CREATE/MOD/VERSION/LEASE)..}`, with `+` after the count where a limit left some out
 fn push_found(alloc: Global, text: &mut String, found: &RangeAns) -> Result<(), Memory> {
     let count = found.count;
     let more = if found.more { "+" } else { "" };
@@ -286,6 +286,7 @@ fn push_found(alloc: Global, text: &mut String, found: &RangeAns) -> Result<(), 
     Ok(())
 }
 
+/// `(KEY=VALUE@CREATE/MOD/VERSION/LEASE)`
 pub fn push_kv(alloc: Global, text: &mut String, kv: &Kv) -> Result<(), Memory> {
     let key = word_of(kv.key.as_slice());
     let value = word_of(kv.value.as_slice());

@@ -1,4 +1,4 @@
-//! What is done to a store beside asks, and what its watchers are told.
+//! What is done to a store besides asks, and what its watchers are told.
 
 use crate::asks::{fault_text, push_kv};
 use crate::words::{bytes_of, count, number};

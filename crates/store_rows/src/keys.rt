@@ -1,14 +1,14 @@
-//! Keys as they are written.
+//! The keys of the stored layout.
 
 use crate::words::{number, word_of};
 use std::alloc::Global;
 use zn_layout::{counts_key, data_key, head_key, lease_key, session_key};
 use zx_base::{Bytes, Memory};
 
-/// The longest path.
+/// The most bytes of a path.
 const MAX_PATH: usize = 1_024;
 
-/// The key of a kind and a path or a number.
+/// The key of a kind with this path or session number, as a word; `None` where the row has no such form.
 pub fn written(alloc: Global, left: &str) -> Result<Option<String>, Memory> {
     let Some((kind, word)) = left.split_once(' ') else {
         return Ok(None);

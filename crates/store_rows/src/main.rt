@@ -28,7 +28,7 @@ enum Kind {
     Asks,
 }
 
-/// The files. The rows of each of the last three are done to a store of its own.
+/// The files. Each of the last three has a store of its own, to which its rows are done.
 const FILES: [(&'static str, Kind); 5] = [
     ("keys", Kind::Keys),
     ("records", Kind::Records),

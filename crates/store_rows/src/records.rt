@@ -1,4 +1,4 @@
-//! Records as they are read, and written again.
+//! Records, which are read and written again.
 
 use crate::words::word_of;
 use row_files::hex_of;
@@ -11,9 +11,10 @@ use zn_layout::{
 };
 use zx_base::Memory;
 
+/// The key that each value is read under, which a damaged record is to name.
 const KEY: &[u8] = b"zk/key";
 
-/// What a value is as a record of this kind. One that is a record has to be written as the same bytes.
+/// What a value is as a record of this kind. A record must be written again as the same bytes.
 pub fn read(alloc: Global, left: &str) -> Result<Option<String>, Memory> {
     let Some((kind, digits)) = left.split_once(' ') else {
         return Ok(None);
@@ -46,7 +47,7 @@ fn fault(alloc: Global, fault: RecordFault, value: &[u8]) -> Result<Option<Strin
     }
 }
 
-/// The record's text, or that it is written otherwise.
+/// The record's text, or that other bytes are written for it.
 fn same(alloc: Global, text: String, again: &[u8], value: &[u8]) -> Result<Option<String>, Memory> {
     if again == value {
         Ok(Some(text))

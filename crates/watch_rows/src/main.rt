@@ -1,7 +1,7 @@
 //! Reads the rows of the file `watches`, and says on standard error where a row differs.
 //!
-//! A row is LEFT = RIGHT. The left side has steps, with `; ` between them, that one connection's watches take; the right
-//! side says what comes of each step. Paths are as they are, without blanks.
+//! A row is LEFT = RIGHT. The left side has the steps that one connection's watches take, with `; ` between them, and the
+//! right side says what comes of each step. Paths stand as they are, and have no blanks.
 //!
 //! - `data PATH`, `child PATH`: a data watch or a child watch is armed. `armed`.
 //! - `created PATH`, `deleted PATH`, `changed PATH`, `children PATH`: a change fires. The notice, or `none`.
@@ -47,7 +47,7 @@ impl Rows for Watches {
     }
 }
 
-/// What comes of the steps of a row; None where a step is of no form.
+/// What comes of the steps of a row; `None` where a step has none of the forms.
 fn found_in(alloc: Global, left: &str) -> Result<Option<String>, Memory> {
     let mut armed = Armed::new(alloc);
     let mut found = String::new(alloc);
@@ -193,7 +193,7 @@ fn notice_text(alloc: Global, notice: &Notice) -> Result<String, Memory> {
     }
 }
 
-/// The path that a text is; None where it is no path.
+/// A text as a path; `None` where it is not a valid one.
 fn read_path(alloc: Global, text: &str) -> Result<Option<Path>, Memory> {
     match Path::read(alloc, text.as_bytes(), false) {
         Ok(path) => Ok(Some(path)),
