@@ -40,6 +40,7 @@ pub fn with(mut text: String, more: &str) -> Result<String, AllocError>
     Ok(text)
 }
 
+/// The text with a comma at its end, if one is wanted.
 #[inline(always)]
 pub fn comma_if(text: String, wanted: bool) -> Result<String, AllocError>
     ensures { IfOk result (λ s. string_bytes s ≡ string_bytes text ++ cond wanted (44 ∷ []) []) }
@@ -50,6 +51,7 @@ pub fn comma_if(text: String, wanted: bool) -> Result<String, AllocError>
     with(text, ",")
 }
 
+/// The text with one more token at its end, and no comma.
 #[inline(always)]
 pub fn put(text: String, token: Token<'_>) -> Result<String, AllocError>
     ensures { IfOk result (λ s. string_bytes s ≡ string_bytes text ++ token_text (token_of token.entry)) }

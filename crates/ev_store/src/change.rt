@@ -11,7 +11,7 @@ pub struct Content {
     pub lease: i64,
 }
 
-/// One key with what was put, or with nothing where it was removed.
+/// One key with what was put; `content` is `None` where the key was removed.
 #[derive(Debug, Drop)]
 pub struct Change {
     pub key: Bytes,

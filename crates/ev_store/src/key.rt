@@ -38,12 +38,14 @@ impl<'a> Model for Found<'a> {
 }
 
 impl<'a> Found<'a> {
+    /// The revision of its last put.
     pub fn mod_revision(&self) -> i64
         ensures { result ≡ self.now.mod_revision }
     {
         self.mod_revision
     }
 
+    /// The number of its lease, 0 for none.
     pub fn lease(&self) -> i64
         ensures { result ≡ self.now.lease }
     {

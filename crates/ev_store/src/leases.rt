@@ -28,6 +28,7 @@ impl Model for Leases {
 }
 
 impl Leases {
+    /// No leases.
     pub fn new(alloc: Global) -> Leases
         ensures { result ≡ empty }
     {

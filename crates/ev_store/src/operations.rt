@@ -42,6 +42,7 @@ impl Store {
         is_at(&found, guard.mod_revision)
     }
 
+    /// Whether all guards hold.
     pub(crate) fn all_hold(&self, guards: &[Guard]) -> bool
         ensures { result ≡ list_all (etcd.holds (etcd.present self.now)) guards.now }
     {
@@ -132,6 +133,7 @@ fn first(history: &[Seq<Change>], revision: i64) -> &[Seq<Change>]
     &history[..count.min(history.len())]
 }
 
+/// The change that puts a key; lease 0 is none. Copies the key and the value.
 pub(crate) fn put(alloc: Global, key: &[u8], value: &[u8], lease: i64) -> Result<Change, Memory>
     ensures { IfOk result (λ c. c ≡ etcd.Puts key.now value.now lease) }
 {
@@ -142,6 +144,7 @@ pub(crate) fn put(alloc: Global, key: &[u8], value: &[u8], lease: i64) -> Result
     })
 }
 
+/// The change that removes a key. Copies the key.
 pub(crate) fn removal(alloc: Global, key: &[u8]) -> Result<Change, Memory>
     ensures { IfOk result (λ c. c ≡ etcd.Removes key.now) }
 {

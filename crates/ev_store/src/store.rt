@@ -89,12 +89,14 @@ impl Store {
         self.revisions.as_slice()
     }
 
+    /// The greatest revision that was compacted, 0 for none.
     pub(crate) fn floor(&self) -> i64
         ensures { result ≡ self.now.floor }
     {
         self.floor
     }
 
+    /// Whether there is a lease with this number. None has a number below 1.
     pub(crate) fn has_lease(&self, id: i64) -> bool
         ensures { result ≡ has_lease self.now id }
     {

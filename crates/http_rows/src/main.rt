@@ -7,7 +7,7 @@
 //! |---|---|
 //! | `response BYTES = OUTCOME` | what `read_response` gives: `ok BODY left REST`, with REST still in the source, or the fault |
 //! | `request BYTES = OUTCOME` | what `read_request` gives: `ok ROUTE BODY left REST`, or the fault |
-//! | `lines BYTES = OUTCOME` | the calls of `Lines::next` up to a fault but `Idle`: `LINE\n` for each line, `Idle\n`, and the fault |
+//! | `lines BYTES = OUTCOME` | the calls of `Lines::next` up to a fault but `Idle`: `LINE\n` for each line, `Idle\n`, the fault |
 //! | `idle TURNS BYTES = OUTCOME` | as `response`, from a source that is idle for TURNS turns before its first byte |
 //! | `paused ONES NEXT BYTES = OUTCOME` | as `lines`: ONES bytes come one by one, then NEXT at once, then 6,000 idle turns |
 //! | `ask ROUTE HOST BODY = BYTES` | what `send_request` writes |

@@ -30,6 +30,7 @@ pub struct Taken {
 }
 
 impl Taken {
+    /// Before the first read.
     pub const NOTHING: Taken = Taken {
         reads: 0,
         taken: 0,

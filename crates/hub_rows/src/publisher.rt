@@ -23,6 +23,7 @@ pub struct Publisher<R: Wait + Drop> {
 }
 
 impl<R: Wait + Drop> Publisher<R> {
+    /// A new hub with so many readers; its first entry has the number `first + 1`.
     pub fn open(
         rt: R,
         alloc: Global,
@@ -40,7 +41,7 @@ impl<R: Wait + Drop> Publisher<R> {
         Ok((publisher, readers))
     }
 
-    /// Publishes so many entries, each two zxids above its number.
+    /// Publishes `count` entries, each with a zxid that is its number plus 2.
     pub fn publish_all(&mut self, alloc: Global, count: i64) -> io::Result<()> {
         for _ in 0..count {
             self.publish(alloc)?;
@@ -63,6 +64,7 @@ impl<R: Wait + Drop> Publisher<R> {
         }
     }
 
+    /// Closes the hub. A fault where it is closed already, or the end is not a proper one.
     pub fn close(&mut self, end: FeedEnd) -> io::Result<()> {
         if !self.is_open || !is_proper(&end) {
             return Err(io::Error::from(io::ErrorKind::InvalidInput));

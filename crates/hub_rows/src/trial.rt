@@ -14,6 +14,7 @@ pub struct Trial<R: Wait + Drop> {
 }
 
 impl<R: Wait + Drop> Trial<R> {
+    /// A new hub, whose first entry has the number `first + 1`.
     pub fn new(rt: R, alloc: Global, first: i64) -> io::Result<Trial<R>> {
         let (publisher, mut readers) = Publisher::open(rt, alloc, first, 1)?;
         match readers.pop() {

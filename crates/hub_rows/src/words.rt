@@ -11,6 +11,7 @@ pub fn split(line: &str) -> (&str, &str) {
     }
 }
 
+/// A word in decimal, perhaps with a sign; a fault where it is none.
 pub fn number_of(word: &str) -> io::Result<i64> {
     match word.parse::<i64>() {
         Ok(number) => Ok(number),
@@ -18,6 +19,7 @@ pub fn number_of(word: &str) -> io::Result<i64> {
     }
 }
 
+/// The end that the words of a `close` name; a fault where they name none.
 pub fn end_of(rest: &str) -> io::Result<FeedEnd> {
     let (word, rest) = split(rest);
     match word {
@@ -37,6 +39,7 @@ pub fn end_of(rest: &str) -> io::Result<FeedEnd> {
     }
 }
 
+/// Writes a line with what was asked and what was answered.
 pub fn print_fed<R: Print>(rt: &R, asked: &str, fed: &Fed) -> io::Result<()> {
     match fed {
         Fed::Entry(entry) => {

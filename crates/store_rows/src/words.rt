@@ -27,10 +27,12 @@ pub fn word_of<'a>(bytes: &'a [u8]) -> &'a str {
     }
 }
 
+/// A word in decimal, perhaps with a sign.
 pub fn number(word: &str) -> Option<i64> {
     word.parse::<i64>().ok()
 }
 
+/// A word in decimal that is at least 0.
 pub fn count(word: &str) -> Option<usize> {
     word.parse::<usize>().ok()
 }

@@ -37,6 +37,7 @@ impl Ending {
     ghost use Rattle.zw_hub.specs.Ends.{IsProper};
     ghost use Rattle.zw_hub.specs.Feeds.{IsFedEnd};
 
+    /// The ending with this end, which must be a proper one (`specs/Ends`).
     pub fn of(end: Arc<FeedEnd, Global>) -> Ending
         requires { IsProper (arc_value end) }
         ensures { result ≡ arc_value end }

@@ -58,6 +58,7 @@ impl HubReader {
     ghost use Rattle.zw_hub.specs.Readers.{new_reader};
     ghost use Rattle.zw_hub.specs.Steps.{nothing_seen};
 
+    /// A reader at this seat, from which nothing was read yet.
     pub(crate) fn over(reader: ListReader) -> HubReader
         requires { view reader.place ≡ nothing_seen }
         ensures { result ≡ new_reader reader.place.table_id }

@@ -42,6 +42,7 @@ impl Window {
     ghost use Rattle.zw_hub.specs.Lists.{empty, last_number, floor, IsAt, is_next, added, closed_by};
     ghost use Rattle.zw_hub.specs.Feeds.{IsFed, IsLagged};
 
+    /// No entries yet, with room for 4,096; the next is to have the number `first + 1`.
     pub fn new(alloc: Global, first: i64) -> Result<Window, AllocError>
         ensures { IfOk result (λ w. w ≡ empty first) }
     {

@@ -79,6 +79,7 @@ impl<R: Wait + Drop> Hub<R> {
     ghost use Rattle.zw_hub.specs.Lists.{last_number, with_entry, with_end};
     ghost use Rattle.zw_hub.specs.Steps.{nothing_seen};
 
+    /// A hub over this writer, which has published nothing yet.
     pub(crate) fn over(writer: ListWriter, alloc: Global, rt: R) -> Hub<R>
         requires none_waits { drop writer.behind writer.log.items ≡ [] }
         requires nothing { view writer.desk.place ≡ nothing_seen }
@@ -95,6 +96,7 @@ impl<R: Wait + Drop> Hub<R> {
         }
     }
 
+    /// What hands out seats to readers.
     pub(crate) fn factory(&self) -> &Factory<Window, View, Growing>
         ensures { (arc_value result.now.board).shared.table_id ≡ self.now.table }
     {

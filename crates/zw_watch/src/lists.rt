@@ -20,6 +20,7 @@ pub(crate) struct PathLists {
 }
 
 impl PathLists {
+    /// No paths.
     pub(crate) fn new(alloc: Global) -> PathLists
         ensures { watches_of result ≡ no_watches }
     {
@@ -29,6 +30,7 @@ impl PathLists {
         }
     }
 
+    /// Whether there are no paths.
     pub(crate) fn is_empty(&self) -> bool
         ensures { result ≡ is_unarmed (watches_of self.now) }
     {

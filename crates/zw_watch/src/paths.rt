@@ -14,6 +14,7 @@ pub(crate) fn is_empty(paths: &[Text]) -> bool
     paths.is_empty()
 }
 
+/// Whether a path is there. Looks at each member.
 pub(crate) fn contains(paths: &[Text], path: &[u8]) -> bool
     ensures { result ≡ has path.now paths.now }
 {
@@ -38,6 +39,7 @@ pub(crate) fn add(alloc: Global, paths: &mut Vec<Text>, path: &[u8]) -> Result<(
     Ok(())
 }
 
+/// Removes a path, if it is there. Looks at each member.
 pub(crate) fn remove(paths: &mut Vec<Text>, path: &[u8])
     ensures { paths.new.items ≡ others path.now paths.old.items }
 {
