@@ -24,7 +24,7 @@
 //! Writing allocates the text once, with room estimated from the lengths of keys and values, and writes each member straight
 //! into it: a name as one literal, a key or a value in base64, 1,024 bytes at a time. Reading parses the body into a tree of
 //! values, in time in proportion to its bytes, and decodes each key and value once from there. The tree takes most of the memory:
-//! some 140 MB for an honest answer of 8 MB, and up to 100 bytes for each byte of a hostile one with many small objects.
+//! some 140 MB for an honest answer of 8 MB, and up to 1.1 GB for a hostile one of that size with many small objects.
 #![tactic(auto)]
 
 mod answer_text;
