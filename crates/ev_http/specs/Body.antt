@@ -262,7 +262,7 @@ StaysAtEnd (Ok (Some n)) old new = ⊤
 StaysAtEnd (Ok None) old new = new ≡ old
 StaysAtEnd (Err e) old new = new ≡ old
 
--- A part took these bytes, whatever came before them.
+-- What the taking of a part came to, whatever bytes of the message came before.
 abbrev pub TakesPart : Result Part HttpFault → Part → List ℕ → List ℕ → List ℕ → List ℕ → List ℕ → Told → Tally → Type 0
 TakesPart result p line body added line' body' source tally =
     (start : ℕ) (f : Framing) (bytes : List ℕ) → Came start f p line bytes body → tally.taken ≡ counted (start + length (bytes ++ added)) → PartAnswer result start f p line' (bytes ++ added) body' source tally

@@ -50,7 +50,7 @@ enum Refusal {
     Memory,
 }
 
-/// The refusal that a fault is, if any: after the other faults the next call goes on where this one stopped.
+/// The refusal that a fault is, if any. After a fault that is none, the next call goes on where this one stopped.
 fn refusal_in(fault: HttpFault) -> Option<Refusal>
     ensures { result ≡ refusal_in fault }
 {

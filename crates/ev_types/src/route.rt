@@ -1,4 +1,4 @@
-//! Where asks go.
+//! Where messages are posted.
 
 /// The path that a message is posted to: `/v3/kv/txn`, `/v3/kv/range`, `/v3/lease/grant`, `/v3/lease/keepalive`, `/v3/watch`
 /// (etcd API reference, "gRPC gateway").

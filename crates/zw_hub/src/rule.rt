@@ -1,4 +1,4 @@
-//! Proof only: the rule that the list keeps for all threads, which is that it only grows.
+//! For proofs: the rule that the list keeps for all threads, which is that it only grows.
 
 use crate::published::Published;
 use crate::window::Window;
