@@ -44,7 +44,4 @@ abbrev pub Finds : Status → List ℕ → List ℕ → Type 0
 Finds status.Done text output = IsJudged text output Lawful
 Finds status.Unlawful text output = (v : Verdict) × (¬ (v ≡ Lawful)) × IsJudged text output v
 Finds (status.Script n) text output = IsUnreadable n text output
-Finds status.Usage text output = ⊥
-Finds status.ReadFault text output = ⊥
-Finds status.WriteFault text output = ⊥
-Finds status.Memory text output = ⊥
+Finds _ text output = ⊥

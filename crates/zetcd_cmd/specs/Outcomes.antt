@@ -68,10 +68,7 @@ abbrev pub ReplayWrites : Status → Bool → Option (List ℕ) → List ℕ →
 ReplayWrites status.Done ended left read output = IsAtItsEnd ended left × IsReplayed read output
 ReplayWrites (status.Script line) ended left read output = StopsAt line ended left read output
 ReplayWrites status.ReadFault ended left read output = IsCutShort read output
-ReplayWrites status.Usage ended left read output = ⊥
-ReplayWrites status.Unlawful ended left read output = ⊥
-ReplayWrites status.WriteFault ended left read output = ⊥
-ReplayWrites status.Memory ended left read output = ⊥
+ReplayWrites _ ended left read output = ⊥
 
 -- A replay with this status read and wrote these bytes. With a fault of the output a front was written, and with want of memory
 -- a front or nothing.
@@ -79,10 +76,9 @@ abbrev pub Replays : Status → Bool → Option (List ℕ) → List ℕ → List
 Replays status.Done ended left read output = ReplayWrites status.Done ended left read output
 Replays (status.Script line) ended left read output = ReplayWrites (status.Script line) ended left read output
 Replays status.ReadFault ended left read output = ReplayWrites status.ReadFault ended left read output
-Replays status.Usage ended left read output = ⊥
-Replays status.Unlawful ended left read output = ⊥
 Replays status.WriteFault ended left read output = IsFront (λ other whole. ReplayWrites other ended left read whole) output
 Replays status.Memory ended left read output = (output ≡ []) ⊎ IsFront (λ other whole. ReplayWrites other ended left read whole) output
+Replays _ ended left read output = ⊥
 
 -- ---- show
 
@@ -124,10 +120,7 @@ abbrev pub ShowWrites : Status → Bool → Option (List ℕ) → List ℕ → L
 ShowWrites status.Done ended left read output = IsAtItsEnd ended left × IsWhole read output
 ShowWrites (status.Script line) ended left read output = IsBroken line ended left read output
 ShowWrites status.ReadFault ended left read output = IsBegun read output
-ShowWrites status.Usage ended left read output = ⊥
-ShowWrites status.Unlawful ended left read output = ⊥
-ShowWrites status.WriteFault ended left read output = ⊥
-ShowWrites status.Memory ended left read output = ⊥
+ShowWrites _ ended left read output = ⊥
 
 -- A show with this status read and wrote these bytes. With a fault of the output a front was written, and with want of memory
 -- the lines of a front of what was read.
@@ -135,10 +128,9 @@ abbrev pub Shows : Status → Bool → Option (List ℕ) → List ℕ → List �
 Shows status.Done ended left read output = ShowWrites status.Done ended left read output
 Shows (status.Script line) ended left read output = ShowWrites (status.Script line) ended left read output
 Shows status.ReadFault ended left read output = ShowWrites status.ReadFault ended left read output
-Shows status.Usage ended left read output = ⊥
-Shows status.Unlawful ended left read output = ⊥
 Shows status.WriteFault ended left read output = IsFront (λ other whole. ShowWrites other ended left read whole) output
 Shows status.Memory ended left read output = (front : List ℕ) × (later : List ℕ) × (read ≡ front ++ later) × IsBegun front output
+Shows _ ended left read output = ⊥
 
 -- ---- judge
 
@@ -150,9 +142,7 @@ JudgeWrites status.Unlawful ended left read output = IsAtItsEnd ended left × Fi
 JudgeWrites (status.Script line) ended left read output =
     (IsAtItsEnd ended left ⊎ ((rest : List ℕ) → transcript (read ++ rest) ≡ transcript read)) × Finds (status.Script line) read output
 JudgeWrites status.ReadFault ended left read output = output ≡ []
-JudgeWrites status.Usage ended left read output = ⊥
-JudgeWrites status.WriteFault ended left read output = ⊥
-JudgeWrites status.Memory ended left read output = ⊥
+JudgeWrites _ ended left read output = ⊥
 
 -- A judgement with this status read and wrote these bytes. With a fault of the output a front was written, and with want of memory
 -- nothing.
@@ -161,9 +151,9 @@ Judges status.Done ended left read output = JudgeWrites status.Done ended left r
 Judges status.Unlawful ended left read output = JudgeWrites status.Unlawful ended left read output
 Judges (status.Script line) ended left read output = JudgeWrites (status.Script line) ended left read output
 Judges status.ReadFault ended left read output = JudgeWrites status.ReadFault ended left read output
-Judges status.Usage ended left read output = ⊥
 Judges status.WriteFault ended left read output = IsFront (λ other whole. JudgeWrites other ended left read whole) output
 Judges status.Memory ended left read output = output ≡ []
+Judges _ ended left read output = ⊥
 
 -- ---- other words
 
