@@ -1,4 +1,4 @@
--- Words that are lent are the words.
+-- Borrowed words are the words themselves.
 use Rattle.std.proofs.Common.{◌≡◌, List, ℕ, suc, [], ◌∷◌, length, min, ◌-◌, map, take, drop, string_bytes, refl, ap, ◌∙◌, arith}
 use Rattle.std.proofs.Math.Seq.{take-length}
 use Rattle.std.specs.declared.string.String.{String}
@@ -19,7 +19,7 @@ texts-is_word name [] h = absurd h
 texts-is_word name (w ∷ []) h = ap (λ (t : List ℕ). t ∷ []) h
 texts-is_word name (w ∷ v ∷ words) h = absurd h
 
--- what stands behind the first word, where there is one
+-- the words after the first, if there is a first
 pub arguments-behind : {Z : Type 0} (words : List (String Z)) (n : ℕ) → n ≡ min (length words) 1 → map string_bytes (take (length words - n) (drop n words)) ≡ arguments words
 arguments-behind [] n h = rw h refl
 arguments-behind (w ∷ words) n h = rw (h ∙ one) (ap (map string_bytes) (whole ∙ take-length words))

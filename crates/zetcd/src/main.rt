@@ -1,4 +1,4 @@
-//! zetcd: a ZooKeeper service over an etcd.
+//! zetcd: ZooKeeper's protocol over etcd. The commands `replay`, `show` and `judge` are built.
 //!
 //! `main` hands the command line, standard input and standard output to [`zetcd_cmd::zetcd`], and ends the process with the
 //! status's number.
@@ -26,7 +26,7 @@ fn main(rt: HostRuntime) -> ExitCode {
     let mut out = StdSink::new(rt.stdout());
     let status = match env::args(&rt) {
         Ok(args) => with_words(alloc, args, &mut input, &mut out).unwrap_or(Status::Memory),
-        // A word that is no text is in no command, and neither is a list without words.
+        // A word that is not UTF-8 belongs to no command. The usage line is written, as it is for no words.
         Err(error) if error.kind() == ErrorKind::InvalidData => zetcd(
             alloc,
             &[],
@@ -38,14 +38,15 @@ fn main(rt: HostRuntime) -> ExitCode {
     exit(status)
 }
 
-/// What the process ends with.
+/// The exit code, which is the status's number.
 fn exit(status: Status) -> ExitCode
     ensures { exit_status result ≡ number_of status }
 {
     ExitCode::from(status.number())
 }
 
-/// Runs the command of these words, of which the first is the program's name.
+/// Runs the command that these words name; the first of them is the program's name. An error is want of memory, met before the
+/// command began.
 fn with_words<I: Source, O: Sink>(
     alloc: Global,
     args: Args,

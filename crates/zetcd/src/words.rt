@@ -7,7 +7,7 @@ ghost use denote.Ref.{Bor};
 use std::alloc::{AllocError, Global};
 use std::env::Args;
 
-/// The words that a process was given.
+/// The words of the command line, the program's name among them.
 pub fn words_of(alloc: Global, args: Args) -> Result<Vec<String>, AllocError>
     ensures { IfOk result (λ words. words.items ≡ into_iter_items args) }
 {
@@ -18,7 +18,7 @@ pub fn words_of(alloc: Global, args: Args) -> Result<Vec<String>, AllocError>
     Ok(words)
 }
 
-/// The same words, lent.
+/// Each of the words, borrowed.
 pub fn lent<'a>(alloc: Global, words: &'a [String]) -> Result<Vec<&'a str>, AllocError>
     ensures { IfOk result (λ all. map (λ (w : Bor (List ℕ)). w.now) all.items ≡ map string_bytes words.now) }
 {

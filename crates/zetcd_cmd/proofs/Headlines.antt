@@ -82,7 +82,7 @@ stopped_refused input s n why few is halted = record {
   written = refl;
 }
 
--- from what holds of the bytes that were read, and of these with any behind them
+-- from what holds of the bytes that were read, whatever follows them
 stops_unread : (read : List ℕ) (s : Script) (n : ℕ) (ended : Bool) (left : Option (List ℕ)) (why : Unread) → length s.world.lines < max_count → n ≡ s.line →
     (IsAtItsEnd ended left × IsHalted read s (stop.Unread why)) ⊎ EndsEarly read s (stop.Unread why) → StopsAt n ended left read (transcript_text s.world.lines ++ fault_text n (unread_text why))
 stops_unread read s n ended left why few at ends =

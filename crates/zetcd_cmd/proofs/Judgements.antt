@@ -42,7 +42,7 @@ long-unread text long =
     ∙ ap (λ (ps : List (List ℕ)). is_some (lines_from true 1 ps).1) some.2
     ∙ cut-unread 1 some.0 some.1
 
--- and no later byte changes what it says
+-- no later byte changes what a text that is too long says
 long-settled : (text rest : List ℕ) → max_script < length text → transcript (text ++ rest) ≡ transcript text
 unfolding transcript
 long-settled text rest long =

@@ -63,7 +63,7 @@ Ends-at input line happenings later w new stop.Memory reached number read halts 
 
 -- ---- a line that ends
 
--- bytes behind what is pending
+-- bytes that follow what is pending
 behind_pending : (seen lines pending later : List ℕ) → seen ≡ lines ++ pending → seen ++ later ≡ lines ++ (pending ++ later)
 behind_pending seen lines pending later parts = ap (λ t. t ++ later) parts ∙ append_assoc lines pending later
 

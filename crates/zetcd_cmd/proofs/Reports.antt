@@ -33,12 +33,12 @@ transcript_text-more lines i line within =
     ap transcript_text (take_more lines i line within) ∙ flat_map-append line_text (take i lines) (get_or lines i line ∷ [])
     ∙ ap (λ t. transcript_text (take i lines) ++ t) (append-nil (line_text (get_or lines i line)))
 
--- what passed, and what is written behind it
+-- what passed, and what is written after it
 pub Passes-out : (bytes last buffer' : List ℕ) (taken taken' taken'' : Option (List ℕ)) → Passes bytes [] buffer' taken taken' → Takes (buffer' ++ last) taken' taken'' → Takes (bytes ++ last) taken taken''
 Passes-out bytes last buffer' taken taken' taken'' early late =
     Takes-append early.0 (buffer' ++ last) taken taken' taken'' early.2 late ∙ ap (append_known taken) (sym (append_assoc early.0 buffer' last) ∙ ap (λ t. t ++ last) early.1)
 
--- a front of what passes a buffer behind what passed before
+-- a front of what passes a buffer after what passed before
 pub TakesSome-passed : (first second buffer buffer' : List ℕ) (taken taken' taken'' : Option (List ℕ)) → Passes first buffer buffer' taken taken' → TakesSome (buffer' ++ second) taken' taken'' →
     TakesSome (buffer ++ (first ++ second)) taken taken''
 TakesSome-passed first second buffer buffer' taken taken' taken'' early some =

@@ -1,4 +1,4 @@
--- What a script says that begins with whole lines, by what stands behind them.
+-- What a script that begins with whole lines says, by what follows them.
 use Rattle.std.proofs.Common.{◌≡◌, ℕ, ◌+◌, ◌-◌, ◌<◌, ◌≤◌, ◌==◌, Bool, true, false, if◌then◌else◌, true≢false, List, [], ◌∷◌, ◌++◌, length, take, suc, refl, sym, ap, ◌∙◌, arith, append_assoc, append-nil, length-append, inl, inr}
 use Rattle.std.specs.Prelude.{nat_lt, Some, None}
 use Rattle.std.specs.List.{onto_first}
@@ -19,7 +19,7 @@ use Rattle.zetcd_cmd.specs.Scripting.{HasNoLineFeed, Says, behind}
 pub Says-nil : Says [] []
 Says-nil = record { says = λ is_cut rest. refl; whole = inl refl; many = omega arith }
 
--- what a line says, with what those behind it say
+-- what a line says, with what the lines after it say
 lines_from-first : (is_cut : Bool) (n : ℕ) (line rest : List ℕ) → HasNoLineFeed line →
     lines_from is_cut n (pieces 10 (line ++ 10 ∷ rest)) ≡ then_script n (line_read line) (lines_from is_cut (n + 1) (pieces 10 rest))
 lines_from-first is_cut n line rest lacks =
@@ -52,7 +52,7 @@ Says-line lines line text happenings h s lacks read text_is =
 
 -- ---- a script that goes on
 
--- the lines say the same in a script, and what stands behind them may be cut
+-- the lines say the same in a script, and what follows them may be cut
 script_from-lines : (room : ℕ) (lines tail : List ℕ) (happenings : List Happening) → Says lines happenings → length lines ≤ room →
     script_from 1 room (lines ++ tail) ≡ behind happenings (lines_from (nat_lt room (length (lines ++ tail))) (length happenings + 1) (pieces 10 (take (room - length lines) tail)))
 unfolding script_from
@@ -62,7 +62,7 @@ script_from-lines room lines tail happenings s fits =
     ap (λ n. take n (lines ++ tail)) size ∙ take-append-add lines tail (room - length lines) in
     ap (λ t. lines_from (nat_lt room (length (lines ++ tail))) 1 (pieces 10 t)) front ∙ s.says (nat_lt room (length (lines ++ tail))) (take (room - length lines) tail)
 
--- with a line behind them that ends within the room
+-- a line follows them that ends within the room
 pub script_from-line : (room : ℕ) (lines line rest : List ℕ) (happenings : List Happening) → Says lines happenings → HasNoLineFeed line → length lines + length line < room →
     (later : Script) × (script_from 1 room (lines ++ (line ++ 10 ∷ rest)) ≡ behind happenings (then_script (length happenings + 1) (line_read line) later))
 script_from-line room lines line rest happenings s lacks fits =
@@ -99,7 +99,7 @@ lines_from-long false n (b ∷ bs) [] long unread = ap (λ r. then_script n r ([
 lines_from-long true n first (o ∷ os) long unread = ap (λ r. then_script n r (lines_from true (n + 1) (o ∷ os))) unread
 lines_from-long false n first (o ∷ os) long unread = ap (λ r. then_script n r (lines_from false (n + 1) (o ∷ os))) unread
 
--- with the beginning of a line behind them that is too long already
+-- the beginning of a line follows them, and it is too long already
 pub script_from-long : (room : ℕ) (lines begun rest : List ℕ) (happenings : List Happening) → Says lines happenings → HasNoLineFeed begun → max_line < length begun →
     length lines + length begun ≤ room → script_from 1 room (lines ++ (begun ++ rest)) ≡ (happenings, Some (length happenings + 1, Unreadable))
 script_from-long room lines begun rest happenings s lacks long fits =
@@ -119,7 +119,7 @@ script_from-long room lines begun rest happenings s lacks long fits =
 
 -- ---- a script that ends
 
--- with a last line behind them that has no line feed, or nothing
+-- a last line without a line feed follows them, or nothing
 pub script_from-last : (room : ℕ) (lines line : List ℕ) (happenings : List Happening) → Says lines happenings → HasNoLineFeed line → length lines + length line ≤ room →
     script_from 1 room (lines ++ line) ≡ behind happenings (last_line false (length happenings + 1) line)
 script_from-last room lines line happenings s lacks fits =
@@ -130,7 +130,7 @@ script_from-last room lines line happenings s lacks fits =
     ∙ ap (λ b. behind happenings (lines_from b (length happenings + 1) (pieces 10 line))) uncut
     ∙ ap (λ ps. behind happenings (lines_from false (length happenings + 1) ps)) (pieces-none 10 line lacks)
 
--- with a line behind them in which the room ends
+-- a line follows them in which the room ends
 pub script_from-cut : (room : ℕ) (lines line rest : List ℕ) (happenings : List Happening) → Says lines happenings → HasNoLineFeed line → length line ≤ max_line →
     length lines + length line ≡ room → 0 < length rest → script_from 1 room (lines ++ (line ++ rest)) ≡ (happenings, Some (length happenings + 1, TooLong))
 script_from-cut room lines line rest happenings s lacks short full more =

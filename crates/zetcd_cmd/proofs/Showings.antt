@@ -36,7 +36,7 @@ Follows-unshown s is = subst (λ (t : Showing). Follows [] [] t) (sym is) (recor
   room = refl;
 })
 
--- behind the lines so far
+-- after the lines so far
 more_lines : (lines added : List (List ℕ)) (last : List ℕ) → joined lines ++ (joined added ++ last) ≡ joined (lines ++ added) ++ last
 more_lines lines added last = sym (append_assoc (joined lines) (joined added) last) ∙ ap (λ t. t ++ last) (sym (joined-append lines added))
 

@@ -1,4 +1,4 @@
--- From idle turn to idle turn, and where the waiting ends.
+-- From one idle turn to the next, and where the waiting ends.
 use Rattle.std.proofs.Common.{◌≡◌, ℕ, ◌+◌, ◌<◌, ◌≤◌, arith, refl, sym, ap, subst}
 use Rattle.zx_outside.specs.Counts.{InputCounts, one_more}
 use Rattle.zx_outside.specs.Reading.{counts_after_read}

@@ -9,9 +9,9 @@ use Rattle.zp_whole.specs.Giving.{IsServedRun}
 use Rattle.zt_text.specs.Transcripts.{IsWellFormed}
 
 pub record IsOneRun (ticks : List Tick) (lines : List TranscriptLine) : Type 0 where
-  -- its updates are one history of the service, at the moments of the script's clock, and each connection is served
+  -- its updates are one history of the service, at times of the script's clock, and each connection is served
   pub run : IsServedRun ticks lines
-  -- the verdict on its lines, of which there is one alone, is lawful
+  -- the verdict on its lines is lawful
   pub lawful : IsVerdict lines Lawful
-  -- the text of its lines has one reading
+  -- each of its lines is well formed
   pub formed : AllByRecursion IsWellFormed lines

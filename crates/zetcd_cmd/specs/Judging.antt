@@ -10,17 +10,19 @@ use Rattle.zetcd_cmd.specs.declared.status.Status.TheVariants as status
 use Rattle.zetcd_cmd.specs.Judged.{Finds}
 use Rattle.zetcd_cmd.specs.Outcomes.{IsAtItsEnd, TakesSome}
 
--- what is kept of the bytes that were read: all of them, unless memory was refused
+-- What is kept of the bytes that were read: all of them, where the input came to its end or is too long. After a fault, or where
+-- memory was refused, nothing is said of it.
 abbrev pub IsText : Reading → Bool → Option (List ℕ) → List ℕ → List ℕ → Type 0
 IsText reading.Whole ended left read text = IsAtItsEnd ended left × (read ≡ text)
 IsText reading.TooLong ended left read text = (max_script < length text) × (read ≡ text)
 IsText reading.Fault ended left read text = ⊤
 IsText reading.Memory ended left read text = ⊤
 
+-- some bytes were read from the source, and this text is kept of them
 abbrev pub IsRead : Reading → List ℕ → Bool → Option (List ℕ) → Option (List ℕ) → Option (List ℕ) → Option (List ℕ) → Type 0
 IsRead how text ended given given' left left' = (read : List ℕ) × Gives read given given' left left' × IsText how ended left' read text
 
--- what is found of a text was written, or a front of it, or nothing
+-- what is found of a text was written; a front of it, where the output has a fault; nothing, where memory was refused
 abbrev pub Tells : Status → List ℕ → Option (List ℕ) → Option (List ℕ) → Type 0
 Tells status.WriteFault text taken taken' = (other : Status) × (whole : List ℕ) × Finds other text whole × TakesSome whole taken taken'
 Tells status.Memory text taken taken' = taken' ≡ taken

@@ -33,8 +33,8 @@ IsJudge words = IsWord (codes "judge") words
 abbrev pub usage_text : List ℕ
 usage_text = codes "usage: zetcd replay | show | stress NUMBER CONNECTIONS STEPS | serve LISTEN ENDPOINT LIMIT | etcd LISTEN LIMIT | judge\n"
 
--- What one call did: the input gave it these bytes and the output took those, each as far as they are told, and this holds of
--- the two. In each pair, what was told before the call comes first.
+-- What one call did: the input gave some bytes and the output took some, as far as the two tell, and this holds of them. In each
+-- pair, what was told before the call comes first.
 pub record Did (Holds : List ℕ → List ℕ → Type 0) (given given' left left' taken taken' : Option (List ℕ)) : Type 0 where
   pub read : List ℕ
   pub output : List ℕ
@@ -53,7 +53,7 @@ IsFront Writes output = (other : Status) × (whole : List ℕ) × (later : List 
 
 -- ---- replay
 
--- the bytes that were read settle a stop at this line: its end was read, and no later byte changes what is written
+-- the bytes that were read settle a stop at this line: they tell that it is over, and no later byte changes what is written
 pub record IsSettled (line : ℕ) (read output : List ℕ) : Type 0 where
   pub over : IsOver read line
   pub for_good : (rest : List ℕ) → IsStopped (read ++ rest) output line
@@ -63,7 +63,7 @@ pub record StopsAt (line : ℕ) (ended : Bool) (left : Option (List ℕ)) (read 
   pub stopped : IsStopped read output line
   pub settled : IsAtItsEnd ended left ⊎ IsSettled line read output
 
--- what a replay writes that is not disturbed
+-- what a replay writes where the output has no fault and memory is not refused
 abbrev pub ReplayWrites : Status → Bool → Option (List ℕ) → List ℕ → List ℕ → Type 0
 ReplayWrites status.Done ended left read output = IsAtItsEnd ended left × IsReplayed read output
 ReplayWrites (status.Script line) ended left read output = StopsAt line ended left read output
@@ -99,7 +99,8 @@ pub record IsWhole (stream output : List ℕ) : Type 0 where
   pub written : output ≡ shown_text shown
   pub end : IsEnd shown.ending
 
--- what is shown of the stream, in so many lines, and it ends otherwise; all of it was read, or no later byte changes that
+-- what is shown of the stream, in so many lines, and it does not end at a frame's end; the whole input was read, or no later byte
+-- changes what is shown
 pub record IsBroken (line : ℕ) (ended : Bool) (left : Option (List ℕ)) (stream output : List ℕ) : Type 0 where
   pub shown : Shown
   pub is_shown : IsShown stream shown
@@ -108,14 +109,14 @@ pub record IsBroken (line : ℕ) (ended : Bool) (left : Option (List ℕ)) (stre
   pub otherwise : ¬ IsEnd shown.ending
   pub settled : IsAtItsEnd ended left ⊎ ((rest : List ℕ) → IsShown (stream ++ rest) shown)
 
--- the lines of the whole frames of the stream, of which nothing ends it
+-- the lines of the stream's whole frames; it ends at a frame's end or inside a frame
 pub record IsBegun (stream output : List ℕ) : Type 0 where
   pub shown : Shown
   pub is_shown : IsShown stream shown
   pub written : output ≡ joined shown.lines
   pub goes_on : IsEnd shown.ending ⊎ IsCut shown.ending
 
--- what a show writes that is not disturbed
+-- what a show writes where the output has no fault and memory is not refused
 abbrev pub ShowWrites : Status → Bool → Option (List ℕ) → List ℕ → List ℕ → Type 0
 ShowWrites status.Done ended left read output = IsAtItsEnd ended left × IsWhole read output
 ShowWrites (status.Script line) ended left read output = IsBroken line ended left read output
@@ -134,8 +135,8 @@ Shows _ ended left read output = ⊥
 
 -- ---- judge
 
--- What a judgement writes that is not disturbed: what is found of the whole input; or of what was read of it, where that settles
--- which line can't be read.
+-- What a judgement writes where the output has no fault and memory is not refused: what is found of the whole input; or of what was
+-- read of it, where no later byte changes how that is read; nothing after a fault of the input.
 abbrev pub JudgeWrites : Status → Bool → Option (List ℕ) → List ℕ → List ℕ → Type 0
 JudgeWrites status.Done ended left read output = IsAtItsEnd ended left × Finds status.Done read output
 JudgeWrites status.Unlawful ended left read output = IsAtItsEnd ended left × Finds status.Unlawful read output
@@ -169,31 +170,31 @@ Refuses _ taken taken' = ⊥
 
 -- ---- faults
 
--- so many idle turns of the input are a fault
+-- this many idle turns of the input are a fault
 abbrev pub patience : ℕ
 patience = 1000
 
--- the input had no fault, and fewer idle turns
+-- the input had no fault, and fewer than `patience` idle turns
 pub record IsUnharmed (before now : InputCounts) : Type 0 where
   pub faults : now.faults ≡ before.faults
   pub idles : now.idles < before.idles + patience
 
--- the input had one fault, and fewer idle turns
+-- the input had one fault, and fewer than `patience` idle turns
 pub record HadFault (before now : InputCounts) : Type 0 where
   pub faults : now.faults ≡ one_more before.faults
   pub idles : now.idles < before.idles + patience
 
--- the input had no fault, and as many idle turns: no fewer, unless its count came to its end, and no more
+-- the input had no fault, and `patience` idle turns: no fewer, unless their count came to its end at 2^64 - 1, and no more
 pub record WasIdle (before now : InputCounts) : Type 0 where
   pub faults : now.faults ≡ before.faults
   pub least : min (before.idles + patience) (2 ^ 64 - 1) ≤ now.idles
   pub most : now.idles ≤ before.idles + patience
 
--- the input had a fault
+-- the input had one fault, or as many idle turns as are a fault
 abbrev pub Failed : InputCounts → InputCounts → Type 0
 Failed before now = HadFault before now ⊎ WasIdle before now
 
--- what the process ends with
+-- the number that the process ends with
 abbrev pub number_of : Status → ℕ
 number_of status.Done = 0
 number_of status.Usage = 2

@@ -8,7 +8,8 @@ use Rattle.zp_whole.specs.Accounting.{IsWithinCounts, OffersSession}
 use Rattle.zt_text.specs.Transcripts.{IsWellFormed}
 use Rattle.zt_text.specs.declared.script.Happening.{Happening}
 
--- these happenings lead to this world
+-- These happenings lead to this world. Each connection that they open offers a session's number and a password in their ranges, no
+-- connection's count of frames is at its end, and the transcript's lines are well formed.
 pub record Reached (happenings : List Happening) (w : World) : Type 0 where
   pub ticks : List Tick
   pub runs : Runs happenings ticks w

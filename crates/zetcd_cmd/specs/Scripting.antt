@@ -16,23 +16,23 @@ use Rattle.zetcd_cmd.specs.declared.script.Stop.TheVariants as stop
 abbrev pub HasNoLineFeed : List ℕ → Type 0
 HasNoLineFeed bytes = All (λ b. (b == 10) ≡ false) bytes
 
--- bytes up to the first line feed, and the bytes behind it
+-- bytes up to the first line feed, and the bytes after it
 abbrev pub IsFirstLine : List ℕ → List ℕ → List ℕ → Type 0
 IsFirstLine bytes line later = (bytes ≡ line ++ 10 ∷ later) × HasNoLineFeed line
 
 -- ---- one line
 
--- it was read and applied
+-- the line was read, and what it says was applied
 abbrev pub Plays : List ℕ → World → World → Type 0
 Plays line w w' = (happenings : List Happening) → Reached happenings w → (h : Happening) × (line_read line ≡ Some h) × Reached (happenings ++ h ∷ []) w'
 
--- it can't be read, or what it says isn't possible; the world is as before
+-- the line can't be read, or what it says isn't possible, and the world is as before; where memory was refused, nothing is said
 abbrev pub Halts : List ℕ → World → Stop → World → Type 0
 Halts line w (stop.Unread why) w' = (why ≡ Unreadable) × (line_read line ≡ None) × (w' ≡ w)
 Halts line w (stop.Refused why) w' = (h : Happening) × (line_read line ≡ Some h) × (fault w h ≡ Some why) × (w' ≡ w)
 Halts line w stop.Memory w' = Unit {0}
 
--- it is too long to be kept, or memory was refused
+-- the line is too long to be kept, or memory was refused
 abbrev pub IsKeptOut : List ℕ → Stop → Type 0
 IsKeptOut line (stop.Unread why) = (why ≡ Unreadable) × (max_line < length line)
 IsKeptOut line (stop.Refused why) = ⊥
@@ -40,11 +40,11 @@ IsKeptOut line stop.Memory = Unit {0}
 
 -- ---- the script so far
 
--- what was said before, and then
+-- what was said before, and then what is read of the rest
 abbrev pub behind : List Happening → Reading → Reading
 behind happenings later = (happenings ++ later.0, later.1)
 
--- these bytes are whole lines that say these happenings, whatever comes behind them
+-- these bytes are whole lines that say these happenings, whatever follows them
 pub record Says (lines : List ℕ) (happenings : List Happening) : Type 0 where
   pub says : (is_cut : Bool) (rest : List ℕ) → lines_from is_cut 1 (pieces 10 (lines ++ rest)) ≡ behind happenings (lines_from is_cut (length happenings + 1) (pieces 10 rest))
   pub whole : IsWholeLines lines
@@ -61,7 +61,7 @@ pub record HasRead (seen : List ℕ) (s : Script) : Type 0 where
   pub number : s.line ≡ length happenings + 1
   pub reached : Reached happenings s.world
 
--- the same, and how many bytes may still come
+-- these bytes were read, and the script may have as many more as its room says
 pub record Stands (seen : List ℕ) (s : Script) : Type 0 where
   pub read : HasRead seen s
   pub room : length seen + s.room ≡ max_script
@@ -93,19 +93,19 @@ pub record IsHalted (input : List ℕ) (s : Script) (why : Stop) : Type 0 where
   pub read : script input ≡ (before ++ later, end)
   pub against : IsAgainst s.world s.line later end why
 
--- the same, unless memory was refused
+-- the lines before the next were applied, and this stands against the next; where memory was refused, nothing is said
 abbrev pub Ends : List ℕ → Script → Stop → Type 0
 Ends input s (stop.Unread why) = IsHalted input s (stop.Unread why)
 Ends input s (stop.Refused why) = IsHalted input s (stop.Refused why)
 Ends input s stop.Memory = Unit {0}
 
--- it ends so whatever comes behind these bytes, and they have all of the line, unless memory was refused
+-- the script ends so whatever follows these bytes, and they tell that its line is over; where memory was refused, nothing is said
 abbrev pub EndsEarly : List ℕ → Script → Stop → Type 0
 EndsEarly read s (stop.Unread why) = ((rest : List ℕ) → Ends (read ++ rest) s (stop.Unread why)) × IsOver read s.line
 EndsEarly read s (stop.Refused why) = ((rest : List ℕ) → Ends (read ++ rest) s (stop.Refused why)) × IsOver read s.line
 EndsEarly read s stop.Memory = Unit {0}
 
--- these bytes have all of the line that wasn't applied, unless memory was refused
+-- these bytes tell that the line that wasn't applied is over; where memory was refused, nothing is said
 abbrev pub IsOverAt : List ℕ → Script → Stop → Type 0
 IsOverAt read s (stop.Unread why) = IsOver read s.line
 IsOverAt read s (stop.Refused why) = IsOver read s.line

@@ -23,14 +23,14 @@ status_at close.Memory lines = status.Memory
 abbrev pub Passes : Showing → List ℕ → Option (List ℕ) → Option (List ℕ) → Showing → Type 0
 Passes old piece taken taken' new = (text : List ℕ) × Adds None old piece [] text new × Takes text taken taken'
 
--- the stream ended in a piece, or not all that the piece adds was written
+-- the stream ended in a piece, or not all that the piece adds was written, or memory was refused and nothing was
 abbrev pub Closes : Close → Showing → List ℕ → Option (List ℕ) → Option (List ℕ) → Showing → Type 0
 Closes (close.Ended end) old piece taken taken' new = (text : List ℕ) × Adds (Some end) old piece [] text new × Takes text taken taken'
 Closes close.ReadFault old piece taken taken' new = ⊥
 Closes close.WriteFault old piece taken taken' new = (found : Option Ending) × (text : List ℕ) × Adds found old piece [] text new × TakesSome text taken taken'
 Closes close.Memory old piece taken taken' new = taken' ≡ taken
 
--- the stream ended behind what came, or not all of the last line was written
+-- the stream ended after what came, or not all of the last line was written, or memory was refused and nothing was
 abbrev pub Finishes : Close → Showing → Option (List ℕ) → Option (List ℕ) → Showing → Type 0
 Finishes (close.Ended end) old taken taken' new = (text : List ℕ) × FinishesText end old [] text new × Takes text taken taken'
 Finishes close.ReadFault old taken taken' new = ⊥
@@ -42,6 +42,6 @@ abbrev pub counts_at : Close → OutputCounts → OutputCounts
 counts_at close.WriteFault counts = counts_after_write took.Failed counts
 counts_at _ counts = counts
 
--- at a frame's end or inside one
+-- a stream ended at a frame's end or inside a frame
 abbrev pub IsOpen : Ending → Type 0
 IsOpen end = IsEnd end ⊎ IsCut end

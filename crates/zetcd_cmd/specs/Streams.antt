@@ -7,13 +7,13 @@ use Rattle.zetcd_cmd.specs.declared.streams.Piece.{Piece}
 use Rattle.zetcd_cmd.specs.declared.streams.Piece.TheVariants as piece
 use Rattle.zetcd_cmd.specs.Outcomes.{patience}
 
--- at least one byte, and no more than the buffer holds
+-- a piece has at least one byte, and no more than the buffer holds
 abbrev pub Fits : Piece → ℕ → Type 0
 Fits (piece.Bytes n) room = (0 < n) × (n ≤ room)
 Fits piece.End room = Unit {0}
 Fits piece.Fault room = Unit {0}
 
--- the bytes at the front of the buffer were given, or none; an end comes only where none is left
+-- the bytes at the front of the buffer were given, or none; an end comes only where no byte is left
 abbrev pub Comes : Piece → List ℕ → Option (List ℕ) → Option (List ℕ) → Option (List ℕ) → Option (List ℕ) → Type 0
 Comes (piece.Bytes n) buffer given given' left left' = Gives (take n buffer) given given' left left'
 Comes piece.End buffer given given' left left' = IsAtEnd left × GivesNone given given' left left'
@@ -26,6 +26,6 @@ pub record Waited (start : InputCounts) (turns : ℕ) (now : InputCounts) : Type
   pub most : now.idles ≤ start.idles + turns
   pub within : turns ≤ patience
 
--- the same, and there may be more
+-- there were so many idle turns and no fault since the counts stood so, and there may be more
 abbrev pub MayWait : InputCounts → ℕ → InputCounts → Type 0
 MayWait start turns now = Waited start turns now × (turns < patience)

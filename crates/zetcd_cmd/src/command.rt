@@ -17,7 +17,8 @@ use zx_outside::{Sink, Source};
 const USAGE: &[u8] =
     b"usage: zetcd replay | show | stress NUMBER CONNECTIONS STEPS | serve LISTEN ENDPOINT LIMIT | etcd LISTEN LIMIT | judge\n";
 
-/// Runs a command: its words, its input and its output.
+/// Runs the command that `words`, the command line without the program's name, are. It reads `input` and writes `out`; for words
+/// that are no command it writes the usage line.
 pub fn zetcd<I: Source, O: Sink>(
     alloc: Global,
     words: &[&str],
@@ -31,22 +32,22 @@ pub fn zetcd<I: Source, O: Sink>(
     ensures show { IsShow words.now → Did (Shows result (I.ended input.new) (I.left input.new)) (I.given input.old) (I.given input.new) (I.left input.old) (I.left input.new) (O.taken out.old) (O.taken out.new) }
     // Of `judge`, by the status: the verdict on the transcript that was read, or its first line that cannot be read.
     ensures judge { IsJudge words.now → Did (Judges result (I.ended input.new) (I.left input.new)) (I.given input.old) (I.given input.new) (I.left input.old) (I.left input.new) (O.taken out.old) (O.taken out.new) }
-    // Of other words: the usage,
+    // Of other words: the usage line was written, or a front of it where the output has a fault.
     ensures usage { ¬ IsReplay words.now → ¬ IsShow words.now → ¬ IsJudge words.now → Refuses result (O.taken out.old) (O.taken out.new) }
-    // and nothing is read.
+    // Of other words: nothing was read.
     ensures unread { ¬ IsReplay words.now → ¬ IsShow words.now → ¬ IsJudge words.now → input.new ≡ input.old }
     // Status 4 has its cause in the input: one fault, or 1,000 idle turns.
     ensures read { result ≡ Status.ReadFault → Failed (I.counts input.old) (I.counts input.new) }
     // Statuses 0, 2, 3 and 8 pass over no fault, and there were fewer than 1,000 idle turns.
     ensures unless_fault { result ≢ Status.ReadFault → result ≢ Status.WriteFault → result ≢ Status.Memory → IsUnharmed (I.counts input.old) (I.counts input.new) }
-    // Nor does want of memory in `show` and in `judge`. In `replay` it may be met when the lines before a fault are written.
+    // The same holds of status 7 of `show` and `judge`. A `replay` may be refused memory while it writes the lines before a fault.
     ensures show_memory { IsShow words.now → result ≡ Status.Memory → IsUnharmed (I.counts input.old) (I.counts input.new) }
     ensures judge_memory { IsJudge words.now → result ≡ Status.Memory → IsUnharmed (I.counts input.old) (I.counts input.new) }
     // With every status the input had at most one fault, and at most 1,000 idle turns.
     ensures once { IsUnharmed (I.counts input.old) (I.counts input.new) ⊎ Failed (I.counts input.old) (I.counts input.new) }
     // Status 5 has its cause in the output: one fault, and no second one.
     ensures write { result ≡ Status.WriteFault → O.counts out.new ≡ counts_after_write TookFailed (O.counts out.old) }
-    // With another status it had none.
+    // With any other status the output had no fault.
     ensures unless_write_fault { result ≢ Status.WriteFault → O.counts out.new ≡ O.counts out.old }
 {
     match command_of(words) {

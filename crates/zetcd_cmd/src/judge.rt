@@ -23,10 +23,11 @@ use zx_outside::{Sink, Source};
 pub enum Reading {
     /// All of it was read.
     Whole,
-    /// It has more bytes than a transcript may have, and was not read on.
+    /// It has more than [`MAX_SCRIPT`] bytes, and was not read further.
     TooLong,
     /// The source had a fault, or was idle for too long.
     Fault,
+    /// Memory was refused.
     Memory,
 }
 
@@ -48,7 +49,7 @@ pub fn judge<I: Source, O: Sink>(alloc: Global, input: &mut I, out: &mut O) -> S
     }
 }
 
-/// Reads a text of which nothing came yet to its end, or to where it is longer than a transcript may be.
+/// Reads the source into `text`, to its end or until `text` has more than [`MAX_SCRIPT`] bytes.
 fn read_text<I: Source>(alloc: Global, input: &mut I, text: &mut Vec<u8>) -> Reading
     requires { text.old.items ≡ [] }
     ensures text { IsRead result text.new.items (I.ended input.new) (I.given input.old) (I.given input.new) (I.left input.old) (I.left input.new) }
@@ -129,7 +130,7 @@ fn status_on(verdict: Verdict) -> Status
     }
 }
 
-/// A verdict in words.
+/// The line that is written of a verdict.
 fn text_on(alloc: Global, verdict: Verdict) -> Result<Vec<u8>, Memory>
     ensures { IfOk result (λ text. text.items ≡ verdict_text verdict) }
 {

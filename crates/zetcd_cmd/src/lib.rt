@@ -1,8 +1,9 @@
-//! The top call: [`zetcd`] is the whole program over values, the words of the command line, a source, a sink and a status.
+//! The top call: [`zetcd`] is the whole program as a function. It is given the words of the command line, a source and a sink,
+//! and returns a [`Status`].
 //!
 //! The program `zetcd` hands it the real ones, and ends the process with the status's number. Nothing is written to standard
-//! error. `specs/Outcomes.antt` says what each status means, in the words of `Replayed` and `Claims` of a replay and of `Judged` of a
-//! judgement; the other files of `specs/` are what the parts say to each other.
+//! error. `specs/Outcomes.antt` says what each status means; it cites `Replayed` and `Claims` for a replay and `Judged` for a
+//! judgement. The other files of `specs/` are the contracts between the parts.
 #![tactic(auto)]
 
 mod command;

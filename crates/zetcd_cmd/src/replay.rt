@@ -14,13 +14,13 @@ use crate::streams::{Piece, next_piece};
 use std::alloc::Global;
 use zx_outside::{Sink, Source};
 
-/// How many bytes are read at once.
+/// The most bytes that one read takes.
 pub const ROOM: usize = 65_536;
 
 /// Runs a script to its end, or to the first line that cannot be read or is not possible, and writes the transcript.
 ///
-/// Reading and writing take time linear in the script and the transcript, and each ask as much as the store has changes; one
-/// unfinished line, the world and its transcript are kept.
+/// Reading and writing take time linear in the script and the transcript, and each ask time linear in the changes that the store
+/// keeps. One unfinished line, the world and its transcript are held in memory.
 pub fn replay<I: Source, O: Sink>(alloc: Global, input: &mut I, out: &mut O) -> Status
     ensures told { Did (Replays result (I.ended input.new) (I.left input.new)) (I.given input.old) (I.given input.new) (I.left input.old) (I.left input.new) (O.taken out.old) (O.taken out.new) }
     ensures read { result ≡ Status.ReadFault → Failed (I.counts input.old) (I.counts input.new) }
@@ -33,7 +33,7 @@ pub fn replay<I: Source, O: Sink>(alloc: Global, input: &mut I, out: &mut O) -> 
         return Status::Memory;
     };
     let end = read_script(alloc, input, &mut script);
-    // What such a script says is not known to the end, so nothing is written of it.
+    // Where memory was refused, the world may show a part of what its last line does, so nothing is written.
     if wants_memory(end) {
         return Status::Memory;
     }
@@ -55,7 +55,7 @@ fn wants_memory(end: End) -> bool
     }
 }
 
-/// Reads a script of which nothing came yet to its end, and applies its lines.
+/// Reads a script from its first byte to its end, and applies its lines.
 fn read_script<I: Source>(alloc: Global, input: &mut I, script: &mut Script) -> End
     requires { Stands [] script.old }
     ensures end { EndsReading result (I.ended input.new) script.new (I.given input.old) (I.given input.new) (I.left input.old) (I.left input.new) }
@@ -79,7 +79,7 @@ fn read_script<I: Source>(alloc: Global, input: &mut I, script: &mut Script) -> 
     }
 }
 
-/// Ends a script that came whole.
+/// Ends a script whose last byte has come.
 fn finish(script: &mut Script) -> End
     ensures { (seen : List ℕ) → Stands seen script.old → EndsAll result seen script.new }
 {

@@ -15,7 +15,7 @@ use zt_text::{push_done, push_fault, push_line, push_unread};
 use zx_base::Memory;
 use zx_outside::Sink;
 
-/// About how many bytes are written at once.
+/// The buffer is written out once it has this many bytes.
 const MAX_KEPT: usize = 65_536;
 
 /// How the reading of a script ended.
@@ -23,7 +23,7 @@ const MAX_KEPT: usize = 65_536;
 pub enum End {
     /// All of it was applied.
     Whole,
-    /// The line that is next was not applied.
+    /// The next line was not applied, for this reason.
     Stopped(Stop),
     /// The source had a fault, or was idle for too long.
     ReadFault,
@@ -34,6 +34,7 @@ pub enum End {
 pub enum Unwritten {
     /// The sink had a fault.
     Sink,
+    /// Memory was refused.
     Memory,
 }
 
@@ -48,7 +49,7 @@ impl From<Memory> for Unwritten {
     }
 }
 
-/// The status of a replay that ended so before this line, and whose report was written.
+/// The status of a replay whose report was written. `line` is the number of the next line, which was not applied.
 pub fn status_of(end: End, line: u64) -> Status
     ensures { result ≡ status_after end line }
 {
@@ -60,7 +61,7 @@ pub fn status_of(end: End, line: u64) -> Status
     }
 }
 
-/// Writes the transcript, and how the script ended before this line.
+/// Writes the transcript, and then how the script ended. `line` is the number of the next line, which was not applied.
 pub fn report<O: Sink>(
     alloc: Global,
     lines: &[TranscriptLine],
@@ -79,7 +80,7 @@ pub fn report<O: Sink>(
     write_out(&mut text, out)
 }
 
-/// Writes lines; what is not written yet stays in `text`.
+/// Writes lines. What is not written yet stays in `text`.
 fn write_lines<O: Sink>(
     lines: &[TranscriptLine],
     text: &mut Vec<u8>,
@@ -114,7 +115,7 @@ fn write_line<O: Sink>(
     write_out(text, out)
 }
 
-/// Writes all of `text`, which is empty then and keeps its room.
+/// Writes all of `text` and empties it; its room is kept.
 fn write_out<O: Sink>(text: &mut Vec<u8>, out: &mut O) -> Result<(), Unwritten>
     ensures ok { OnOk result (Takes text.old.items (O.taken out.old) (O.taken out.new)) }
     ensures empty { OnOk result (text.new.items ≡ []) }
@@ -129,7 +130,7 @@ fn write_out<O: Sink>(text: &mut Vec<u8>, out: &mut O) -> Result<(), Unwritten>
     Ok(())
 }
 
-/// Adds the last line, which a fault of the input has not.
+/// Adds the last line. There is none after a fault of the input, or where memory was refused.
 fn push_end(text: &mut Vec<u8>, end: End, line: u64) -> Result<(), Memory>
     ensures ok { OnOk result (text.new.items ≡ text.old.items ++ ending_text end line) }
     ensures err { OnErr result (text.new.items ≡ text.old.items) }

@@ -1,4 +1,4 @@
-//! A script that comes piece by piece, and the world that its lines are applied to.
+//! A script that is read piece by piece, and the world that its lines are applied to.
 
 ghost use Rattle.std.specs.Prelude.{◌≡◌, ◌+◌, ◌-◌, ◌^◌, ◌<◌, ◌≤◌, ◌++◌, ◌∷◌, [], ℕ, List, length, IfOk, OnOk, IfErr, MatchOption};
 ghost use Rattle.zt_text.specs.Scripts.{max_line, max_script};
@@ -20,25 +20,26 @@ pub enum Stop {
     Unread(Unread),
     /// What it says is not possible.
     Refused(Why),
+    /// Memory was refused.
     Memory,
 }
 
-/// A script of which some bytes came. Each line is applied once its line feed is there, before a later byte is looked
-/// at, so that no more than one line is kept.
+/// A script that is read piece by piece. Each line is applied as soon as its line feed is read, before any later byte is looked at,
+/// so at most one line is kept.
 #[derive(Drop)]
 pub struct Script {
     alloc: Global,
     world: World,
-    /// What came of the line that is not whole yet.
+    /// What was read of the line that is not whole yet.
     pending: Vec<u8>,
     /// The number of that line, from 1.
     line: u64,
-    /// How many bytes may still come.
+    /// How many more bytes a script may have.
     room: usize,
 }
 
 impl Script {
-    /// A script of which nothing came yet.
+    /// A script of which nothing was read yet, over a new world.
     pub fn new(alloc: Global) -> Result<Script, Memory>
         ensures { IfOk result (λ s. Stands [] s) }
     {
@@ -52,7 +53,7 @@ impl Script {
         })
     }
 
-    /// What the lines that were applied show.
+    /// The transcript of the lines that were applied.
     pub fn transcript(&self) -> &[TranscriptLine]
         ensures lines { result.now ≡ self.now.world.lines }
         // No list in memory is longer.
@@ -68,8 +69,8 @@ impl Script {
         self.line
     }
 
-    /// Takes the next bytes, and applies each line that ends in them. Of a script that is too long, the bytes that
-    /// a script may have are taken, and then the line is refused that goes on.
+    /// Takes the next bytes, and applies each line that ends in them. Where they make the script longer than [`MAX_SCRIPT`], only
+    /// those up to this limit are taken, and the answer is that the line which goes on past it is too long.
     pub fn take(&mut self, piece: &[u8]) -> Result<(), Stop>
         ensures ok { OnOk result ((seen : List ℕ) → Stands seen self.old → Stands (seen ++ piece.now) self.new) }
         ensures err { IfErr result (λ stop. (seen : List ℕ) → Stands seen self.old → EndsEarly (seen ++ piece.now) self.new stop) }
@@ -84,7 +85,7 @@ impl Script {
         Ok(())
     }
 
-    /// Applies each line that ends in these bytes, and keeps what stands behind the last.
+    /// Applies each line that ends in these bytes, and keeps what follows the last of them.
     fn take_lines(&mut self, bytes: &[u8]) -> Result<(), Stop>
         ensures ok { OnOk result ((seen : List ℕ) → HasRead seen self.old → length (seen ++ bytes.now) ≤ max_script → HasRead (seen ++ bytes.now) self.new) }
         ensures err { IfErr result (λ stop. (seen rest : List ℕ) → HasRead seen self.old → length (seen ++ bytes.now) ≤ max_script → Ends ((seen ++ bytes.now) ++ rest) self.new stop) }
@@ -112,7 +113,7 @@ impl Script {
         Ok(())
     }
 
-    /// Applies the line that is pending, with these bytes at its end.
+    /// Applies the pending line, with these bytes at its end.
     fn apply_with(&mut self, bytes: &[u8]) -> Result<(), Stop>
         ensures ok { OnOk result (Plays (self.old.pending.items ++ bytes.now) self.old.world self.new.world) }
         ensures empty { OnOk result (self.new.pending.items ≡ []) }
@@ -127,7 +128,7 @@ impl Script {
         self.apply_pending()
     }
 
-    /// Applies the line that is pending, of which nothing is kept then.
+    /// Applies the pending line, of which nothing is kept afterwards.
     fn apply_pending(&mut self) -> Result<(), Stop>
         ensures ok { OnOk result (Plays self.old.pending.items self.old.world self.new.world) }
         ensures empty { OnOk result (self.new.pending.items ≡ []) }
@@ -140,7 +141,7 @@ impl Script {
         Ok(())
     }
 
-    /// Applies what stands behind the last line feed, where that is anything.
+    /// Applies what follows the last line feed, if anything does.
     pub fn finish(&mut self) -> Result<(), Stop>
         ensures ok { OnOk result ((seen : List ℕ) → Stands seen self.old → IsApplied seen self.new) }
         ensures err { IfErr result (λ stop. (seen : List ℕ) → Stands seen self.old → Ends seen self.new stop) }
@@ -152,7 +153,7 @@ impl Script {
     }
 }
 
-/// The first line, without its line feed, and what stands behind that.
+/// The first line without its line feed, and what follows the line feed. None: there is no line feed.
 fn first_line(bytes: &[u8]) -> Option<(&[u8], &[u8])>
     ensures { MatchOption result (HasNoLineFeed bytes.now) (λ parts. IsFirstLine bytes.now parts.0.now parts.1.now) }
 {
@@ -164,7 +165,7 @@ fn first_line(bytes: &[u8]) -> Option<(&[u8], &[u8])>
     None
 }
 
-/// Adds these bytes to the line that is pending, unless it is too long then.
+/// Adds these bytes to the pending line, unless that makes it longer than [`MAX_LINE`].
 fn keep(pending: &mut Vec<u8>, bytes: &[u8]) -> Result<(), Stop>
     ensures ok { OnOk result ((pending.new.items ≡ pending.old.items ++ bytes.now) × (length pending.new.items ≤ max_line)) }
     ensures err { IfErr result (λ stop. IsKeptOut (pending.old.items ++ bytes.now) stop) }

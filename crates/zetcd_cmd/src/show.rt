@@ -17,12 +17,13 @@ use zx_outside::{Sink, Source};
 /// Why no more of a stream is shown.
 #[derive(Clone, Copy, Debug, PartialEq, Eq)]
 pub enum Close {
-    /// It ended so, and the last line was written.
+    /// The stream ended like this, and the last line was written.
     Ended(Ending),
     /// The source had a fault, or was idle for too long.
     ReadFault,
     /// The sink had a fault.
     WriteFault,
+    /// Memory was refused.
     Memory,
 }
 
@@ -43,7 +44,7 @@ pub fn show<I: Source, O: Sink>(alloc: Global, input: &mut I, out: &mut O) -> St
     status_of(close, show.lines())
 }
 
-/// The status of a stream that was shown so, in so many lines.
+/// The status, by why no more is shown and how many lines there are.
 fn status_of(close: Close, lines: u64) -> Status
     ensures { result ≡ status_at close lines }
 {
@@ -56,7 +57,7 @@ fn status_of(close: Close, lines: u64) -> Status
     }
 }
 
-/// Shows a stream of which nothing came yet, piece by piece.
+/// Shows a stream piece by piece, from its first byte on.
 fn show_pieces<I: Source, O: Sink>(
     alloc: Global,
     input: &mut I,
@@ -87,7 +88,7 @@ fn show_pieces<I: Source, O: Sink>(
     }
 }
 
-/// Writes what a piece adds.
+/// Writes the lines that a piece adds.
 fn show_piece<O: Sink>(
     show: &mut Show,
     piece: &[u8],
@@ -115,7 +116,7 @@ fn show_piece<O: Sink>(
     }
 }
 
-/// Writes the last line of a stream that came whole.
+/// Writes the last line of a stream whose last byte has come.
 fn show_end<O: Sink>(show: &mut Show, text: &mut Lines, out: &mut O) -> Close
     requires { text.old ≡ [] }
     ensures told { Finishes result show.old (O.taken out.old) (O.taken out.new) show.new }

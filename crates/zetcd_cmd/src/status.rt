@@ -1,16 +1,17 @@
-//! How the program ends.
+//! The statuses of the program.
 
 ghost use Rattle.std.specs.Prelude.{◌≡◌};
 ghost use Rattle.zetcd_cmd.specs.Outcomes.{number_of};
 
-/// How a command ended.
+/// How a command ended. What was read and written then is said by `specs/Outcomes.antt`.
 #[derive(Clone, Copy, Debug, PartialEq, Eq)]
 pub enum Status {
-    /// The input was read to its end.
+    /// The input was read to its end. Of `show`: that is a frame's end. Of `judge`: the verdict is `lawful`.
     Done,
-    /// The words name no command.
+    /// The words name no command that is built.
     Usage,
-    /// This line of the input, from 1, cannot be read, or what it says is not possible.
+    /// Of `replay`: line `line` of the input, from 1, is the first that cannot be read or is not possible. Of `judge`: it is the
+    /// first that cannot be read. Of `show`: the stream did not end at a frame's end; line `line` of the output, its last, says so.
     Script { line: u64 },
     /// The input had a fault, or 1,000 idle turns.
     ReadFault,
@@ -18,7 +19,7 @@ pub enum Status {
     WriteFault,
     /// Memory was refused.
     Memory,
-    /// The transcript is none of a run of the service.
+    /// Of `judge`: the verdict is not `lawful`.
     Unlawful,
 }
 

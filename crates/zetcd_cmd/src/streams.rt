@@ -1,4 +1,4 @@
-//! Reading of the next piece, and writing of a whole one.
+//! Reads the next piece of a source, and writes a whole piece to a sink.
 
 ghost use Rattle.std.specs.Prelude.{◌≡◌, ◌≢◌, ◌<◌, ℕ, length, IsTrue, true, false};
 ghost use Rattle.zx_outside.specs.Counts.{InputCounts};
@@ -9,13 +9,13 @@ ghost use Rattle.zetcd_cmd.specs.Streams.{Comes, Fits, Waited, MayWait};
 
 use zx_outside::{Got, Sink, Source, Took};
 
-/// So many idle turns in one command are a fault of its input.
+/// This many idle turns in one command are a fault of its input.
 pub const PATIENCE: u32 = 1000;
 
 /// What the next bytes of a source are.
 #[derive(Clone, Copy, Debug, PartialEq, Eq)]
 pub enum Piece {
-    /// So many, at the front of the buffer.
+    /// This many bytes, at the front of the buffer.
     Bytes(usize),
     /// There are no more.
     End,
@@ -23,7 +23,8 @@ pub enum Piece {
     Fault,
 }
 
-/// The next bytes of a source, which is waited for in idle turns up to [`PATIENCE`] in all.
+/// The next bytes of a source. `idle` counts the idle turns of the command so far; where there are [`PATIENCE`] of them, the source
+/// is at fault.
 pub fn next_piece<I: Source>(input: &mut I, buffer: &mut [u8], idle: &mut u32) -> Piece
     requires { 0 < length buffer.old }
     ensures size { Fits result (length buffer.new) }
@@ -43,7 +44,7 @@ pub fn next_piece<I: Source>(input: &mut I, buffer: &mut [u8], idle: &mut u32) -
     Piece::Fault
 }
 
-/// Writes all of the bytes, and says whether the sink took them.
+/// Writes all of the bytes, and says whether the sink took them all. After a fault it took some front of them.
 pub fn write_all<O: Sink>(out: &mut O, bytes: &[u8]) -> bool
     ensures taken { IsTrue result → Takes bytes.now (O.taken out.old) (O.taken out.new) }
     ensures front { result ≡ false → TakesSome bytes.now (O.taken out.old) (O.taken out.new) }
