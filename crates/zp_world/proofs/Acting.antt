@@ -155,7 +155,7 @@ pub fit-acting : (c : ℕ) (kind : Option UpdateKind) (first : ℕ) (zxid : ℤ)
 fit-acting c kind first zxid frames core w flight out w' now rest left acting =
     elim acting.goes [ inl on ↦ on.1 | inr over ↦ subst IsFitFlight (sym over.2) tt ]
 
--- ---- behind the last one
+-- ---- after the last one
 
 pub record HasActed (c : ℕ) (kind : Option UpdateKind) (first : ℕ) (zxid : ℤ) (frames : List (List ℕ)) (core : Core) (w : World) (flight : Option Flight) (out : List Action) (w' : World) (now : Option Flight) (left : List (List ℕ)) : Type 0 where
   pub behind : left ≡ (if is_shut core.stage then [] else frames)

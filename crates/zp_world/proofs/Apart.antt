@@ -1,4 +1,4 @@
--- What answers to a number is taken out of its world, and put back behind a step.
+-- What answers to a number is taken out of its world, and put back after a step.
 use Rattle.std.proofs.Common.{◌≡◌, ℕ, ◌++◌, refl, sym, ap, ◌∙◌, Bool, true, false, cond}
 use Rattle.std.specs.Prelude.{Option, Some, None}
 use Rattle.std.specs.declared.cmp.Ordering.{Ordering}

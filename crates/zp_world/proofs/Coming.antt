@@ -1,4 +1,4 @@
--- What comes behind the frames that came at once: a length out of range, and what is left of the stream.
+-- What follows the frames that came at once: a length out of range, and what is left of the stream.
 use Rattle.std.proofs.Common.{◌≡◌, ℕ, refl, sym, ap, ◌∙◌, true, false, []}
 use Rattle.std.specs.Prelude.{Option, Some, ℤ, not}
 use Rattle.zx_base.proofs.Options.{some_is}

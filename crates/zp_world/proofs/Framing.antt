@@ -38,7 +38,7 @@ stands-bad stream frames place n old new e none h =
 pub stands-short : (stream : List ℕ) (frames : List (List ℕ)) (state : Stream) → Stands stream frames state → All (λ (f : List ℕ). length f ≤ max_frame) frames
 stands-short stream frames state s = spelled-short frames s.framed.0 s.framed.1
 
--- ---- the length behind the frames
+-- ---- the length after the frames
 
 pub not-bad : (bytes : List ℕ) (place : ℕ) (r : Result (Vec (List ℕ)) CutFault) (frames : Vec (List ℕ)) → r ≡ Ok frames → ((n : ℤ) → bad_length bytes ≡ Some n → r ≡ Err (BadLength place n)) → None ≡ bad_length bytes
 not-bad bytes place r frames is refused = go (bad_length bytes) refused

@@ -183,7 +183,7 @@ next-is c w o e = ap (option_and_then (entry_behind w.entries)) e
 pub entry-cursor : (c : ℕ) (w : World) → IsEntered c w → cursor_at c w ≡ None → ⊥
 entry-cursor c w e none = none_some (sym (next-is c w None none) ∙ e.next)
 
--- and an entry behind it
+-- there is an entry after the cursor
 pub entry-missing : (c : ℕ) (w : World) (cursor : ℤ) → IsEntered c w → cursor_at c w ≡ Some cursor → entry_behind w.entries cursor ≡ None → ⊥
 entry-missing c w cursor e at none = none_some (sym (next-is c w (Some cursor) at ∙ none) ∙ e.next)
 

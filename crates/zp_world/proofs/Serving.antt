@@ -91,7 +91,7 @@ arrived-connection (frame ∷ more) c w w' at (x, mid, there, handed, rest) =
       | false ↦ λ same. subst (IsConnectionAt c) (sym same) stays
     ] rest
 
--- ---- one frame, and those behind it
+-- ---- one frame, and those after it
 
 pub serving-next : (c : ℕ) (zxid : ℤ) (w w' : World) (x : Conn) (frame : List ℕ) (behind left : List (List ℕ)) → zxid ≡ zxid_at w.store → Takes c w x frame behind w' left → IsServing c zxid left w'
 serving-next c zxid w w' x frame behind left same t =
@@ -215,7 +215,7 @@ fit-flying core (Some (Out x)) h = h.fit
 fit-flying core (Some (Carried a)) h = tt
 fit-flying core (Some Denied) h = tt
 
--- what is left of it behind the step
+-- what is left of it after the step
 pub left-behind : (c : ℕ) (w w' : World) (x : Conn) (next : Core) (o : StepOutcome) (left behind : List (List ℕ)) → left ≡ (if is_shut next.stage then [] else behind) → w' ≡ leaves c w x (behind_step next) o
     → left ≡ (if is_open_conn (conn_at c w') then behind else [])
 left-behind c w w' x next o left behind is result =

@@ -1,4 +1,4 @@
--- What is out of a connection behind a step: what it asked, or what was out before.
+-- What is out of a connection after a step: what it asked, or what was out before.
 use Rattle.std.proofs.Common.{◌≡◌, ℕ, List, [], ◌∷◌, refl, sym, ap, ◌∙◌, subst, Bool, true, false, inl, inr}
 use Rattle.std.specs.Prelude.{Option, Some, None, MatchBool, ◌⊎◌}
 use Rattle.ev_types.specs.declared.answer.Answer.{Answer}
@@ -149,7 +149,7 @@ leaves-frame old new bytes now out (Some f) live flies steps =
       ];
     }
 
--- ---- behind the actions
+-- ---- after the actions
 
 pub folded : (kind : Option UpdateKind) (f : Option Flight) (out : List Action) → ends_well out ≡ true → closes out ≡ false
     → ((asked_by out ≡ None) × (flight_after kind f out ≡ f)) ⊎ ((a : Ask) × (asked_by out ≡ Some a) × (flight_after kind f out ≡ Some (Out (record { ask = a; kind = kind }))))

@@ -5,11 +5,11 @@ use Rattle.zp_happen.specs.Worlds.{World}
 use Rattle.zp_step.specs.declared.action.Action.{Action}
 use Rattle.zp_step.specs.declared.action.Action.TheVariants as action
 
--- what a step shows and leaves, but what is out of its connection
+-- what a step shows and the strays that it leaves are added; what is out of its connection then is not said
 abbrev pub added : World → StepOutcome → World
 added w o = record w { lines = w.lines ++ o.lines; strays = w.strays ++ o.strays }
 
--- of the frames that came with the last one, those that are not shown behind an action
+-- of the frames that came with the last one, those that are still to be shown after an action
 abbrev pub frames_left : Action → List (List ℕ) → List (List ℕ)
 frames_left (action.Close why) frames = []
 frames_left _ frames = frames

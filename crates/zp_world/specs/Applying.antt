@@ -14,13 +14,14 @@ IsOfScript (line.Open c p id passwd) = pos 1 ≤ℤ id
 IsOfScript (line.Reap c p id) = pos 1 ≤ℤ id
 IsOfScript _ = Unit {0}
 
--- where it is not possible, for the first of its tests that fails, the world is as before; without memory it is spent (see `IsSpent`), and
--- what of the happening it shows is not said
+-- it happens; or it is not possible, for the first of its tests that fails, and the world is as before; where memory was refused,
+-- nothing is said here
 abbrev pub Applies : World → Happening → Result (Unit {0}) ApplyFault → World → Type 0
 Applies w h (Ok x) w' = Happens w h w'
 Applies w h (Err (NotPossible cause)) w' = (fault w h ≡ Some cause) × (w' ≡ w)
 Applies w h (Err Memory) w' = Unit {0}
 
--- memory was refused: it let go of its entries, of which each world that a script leads to has that of the first update
+-- the world has no entry: each world that a script leads to has that of the first update, but one that was refused memory has let
+-- go of its entries
 abbrev pub IsSpent : World → Type 0
 IsSpent w = w.entries ≡ []

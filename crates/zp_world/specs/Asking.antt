@@ -22,6 +22,6 @@ abbrev pub Asks : World → Ask → Option Answer → World → Type 0
 Asks w q None w' = (carry w.store q ≡ None) × (w' ≡ w)
 Asks w q (Some a) w' = (s : Store) × (carry w.store q ≡ Some (s, a)) × (w' ≡ record w { store = s })
 
--- where the head was put at another zxid before, there was an update
+-- the head's zxid was this before; where it is another now, there was an update, which is shown
 abbrev pub Shows : World → ℤ → Option UpdateKind → World → Type 0
 Shows w before kind w' = MatchBool (int_eq before (zxid_at w.store)) (w' ≡ w) (ShowsUpdate w w.store kind w')

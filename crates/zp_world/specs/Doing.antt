@@ -18,7 +18,7 @@ use Rattle.zp_world.specs.declared.activity.Seat.{Seat}
 abbrev pub seated : Seat → Actor → Option Flight → Conn
 seated seat actor flight = record { proxy = seat.proxy; actor = actor; stream = seat.inbox; frames = seat.frames; flight = flight }
 
--- nobody does, and nothing is
+-- nobody sits there any more, and nothing is out
 abbrev pub left : Seat → Conn
 left seat = seated seat Closed None
 

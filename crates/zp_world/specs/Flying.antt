@@ -1,5 +1,4 @@
--- What is known of an ask from the moment at which it was asked until its answer is delivered: the store takes it, and its answer is
--- one that its asker awaits.
+-- What is known of an ask until its answer is delivered: the store takes it, and its answer is one that its asker awaits.
 use Rattle.std.specs.Prelude.{◌≡◌, ◌≢◌, ◌⊎◌, pos, ◌≤ℤ◌, false, List, Option, Some, None, IfSome, All}
 use Rattle.ev_store.specs.Asks.{IsGrantable}
 use Rattle.ev_types.specs.declared.ask.Ask.{Ask}
@@ -48,7 +47,7 @@ IsCarried q Denied = Unit {0}
 
 -- ---- of a connection
 
--- it is the one of the connection's stage
+-- what is out is what the connection's stage asks
 pub record IsOut (core : Core) (x : Asking) : Type 0 where
   pub asked : asked_of core.who core.stage ≡ Some x.ask
   pub fit : IsFit x
@@ -98,6 +97,6 @@ MayFail _ = Unit {0}
 abbrev pub IsEnd : Input → Type 0
 IsEnd x = (why : Cause) × (end_by x ≡ Some why)
 
--- what is out stays out at an end alone
+-- nothing is out, or the input ends the connection
 abbrev pub LeavesFree : Option Flight → Input → Type 0
 LeavesFree flight x = (flight ≡ None) ⊎ IsEnd x

@@ -1,4 +1,4 @@
--- What is out of a connection behind a step.
+-- What is out of a connection after a step.
 use Rattle.std.specs.Prelude.{◌≡◌, true, false, List, fold, Option, Some, None}
 use Rattle.ev_types.specs.declared.ask.Ask.{Ask}
 use Rattle.zk_transcript.specs.declared.transcript.UpdateKind.{UpdateKind}
@@ -10,7 +10,7 @@ use Rattle.zp_step.specs.declared.action.Action.{Action}
 use Rattle.zp_step.specs.declared.action.Action.TheVariants as action
 use Rattle.zp_world.specs.Flying.{IsFlyingOf}
 
--- an ask is out from then on, and nothing behind a close
+-- an ask is out from then on, and after a close nothing is
 abbrev pub next_flight : Option UpdateKind → Option Flight → Action → Option Flight
 next_flight kind f (action.Send bytes) = f
 next_flight kind f (action.Ask a) = Some (Out (record { ask = a; kind = kind }))
@@ -19,7 +19,7 @@ next_flight kind f (action.Close why) = None
 abbrev pub flight_after : Option UpdateKind → Option Flight → List Action → Option Flight
 flight_after kind f out = fold (next_flight kind) f out
 
--- a step did this, where this stays out while it asks nothing
+-- a step to this core did this; where it neither asks nor closes, this stays out
 pub record Leaves (flight : Option Flight) (core : Core) (out : List Action) : Type 0 where
   pub well : ends_well out ≡ true
   pub closes : closes out ≡ is_shut core.stage

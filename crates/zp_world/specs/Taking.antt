@@ -1,4 +1,4 @@
--- Frames come to a connection, with others behind them.
+-- Frames come to a connection, one after the other.
 use Rattle.std.specs.Prelude.{◌≡◌, ◌⊎◌, ℕ, ◌+◌, ℤ, true, false, List, [], ◌∷◌, ◌++◌, if◌then◌else◌, Some}
 use Rattle.zk_transcript.specs.declared.transcript.TranscriptLine.TheVariants.{Frame as FrameLine}
 use Rattle.zp_happen.specs.Arriving.{frame_lines, shown_frame}
@@ -15,16 +15,16 @@ use Rattle.zp_world.specs.declared.activity.Seat.{Seat}
 abbrev pub shown : ℕ → World → ℤ → Seat → List ℕ → World
 shown c w zxid seat bytes = record w { lines = w.lines ++ FrameLine c seat.frames zxid bytes ∷ [] }
 
--- its seat behind the frame
+-- its seat after the frame
 abbrev pub left_next : Seat → Conn
 left_next seat = record (left seat) { frames = counted_up (seat.frames + 1) }
 
--- it is shown and handed in; where that closes the connection, those behind it are shown before its end
+-- it is shown and handed in; where that closes the connection, the frames after it are shown before its end, and none is left
 pub record Takes (c : ℕ) (w : World) (x : Conn) (bytes : List ℕ) (behind : List (List ℕ)) (w' : World) (left_behind : List (List ℕ)) : Type 0 where
   pub handed : Handed c (frame_lines c (counted_up (x.frames + 1)) (zxid_at w.store) behind) (shown_frame c w x bytes) (input.Frame bytes) w'
   pub rest : left_behind ≡ (if is_open_conn (conn_at c w') then behind else [])
 
--- those behind it are left, or none is
+-- all the frames after it are left, or none is
 abbrev pub IsLeft : List (List ℕ) → List (List ℕ) → Type 0
 IsLeft old new = (new ≡ old) ⊎ (new ≡ [])
 

@@ -35,6 +35,7 @@ impl Model for Activities {
 }
 
 impl Activities {
+    /// No connection and no reaper yet.
     pub fn new(alloc: Global) -> Activities
         ensures { result ≡ empty }
     {
@@ -50,6 +51,7 @@ impl Activities {
         let _ = &self.by_number;
     }
 
+    /// The activity of a number. None: the number was never used, or its activity was taken out.
     pub fn get(&self, number: u32) -> Option<&Activity>
         ensures { option_map (λ x. x.now) result ≡ get self.now number }
     {
@@ -64,6 +66,7 @@ impl Activities {
         self.by_number.remove(&number)
     }
 
+    /// Puts an activity under its number, in place of one that is there.
     pub fn put(&mut self, number: u32, activity: Activity) -> Result<(), Memory>
         ensures { OnOk result (self.new ≡ insert self.old number activity) }
     {

@@ -1,4 +1,4 @@
-//! What answers to a number of the script.
+//! What a number of a script stands for: a connection or a reaper.
 
 ghost use Rattle.std.specs.Prelude.{◌≡◌, ◌+◌, ◌<◌, length, Some};
 ghost use Rattle.std.specs.Option.{option_map};
@@ -21,7 +21,7 @@ use zp_happen::Flight;
 use zp_step::Wants;
 use zs_reap::Reaper;
 
-/// An open connection, a reaper at work, or nothing any more.
+/// An open connection, a reaper at work, or one of the two that has ended.
 #[derive(Drop)]
 pub enum Actor {
     Connection(Core),
@@ -29,7 +29,7 @@ pub enum Actor {
     Closed,
 }
 
-/// What is kept of a connection beside what it does.
+/// What is kept of a connection or a reaper also when it has ended.
 #[derive(Drop)]
 pub struct Seat {
     pub proxy: u32,
@@ -70,7 +70,7 @@ impl Model for Activity {
 }
 
 impl Seat {
-    /// A seat at a proxy, of which nothing came.
+    /// A seat at a proxy, to which no byte has come.
     pub fn new(alloc: Global, proxy: u32) -> Seat
         ensures { left result ≡ new_conn proxy worlds.Closed }
     {
@@ -83,7 +83,7 @@ impl Seat {
 }
 
 impl Activity {
-    /// What is known of it.
+    /// Proof only: what was asked is what its stage awaits, and its count of frames is not at its end.
     pub fn know(&self)
         ensures active { IsActive self.now.actor self.now.flight }
         ensures within { self.now.frames < max_count }
@@ -109,26 +109,28 @@ impl Activity {
         }
     }
 
+    /// What it asked, or what came of that, until the answer is delivered.
     pub fn flight(&self) -> Option<&Flight>
         ensures { option_map (λ f. f.now) result ≡ self.now.flight }
     {
         self.flight.as_ref()
     }
 
+    /// The bytes of its client that are no whole frame yet.
     pub fn inbox(&self) -> &Inbox
         ensures { result.now ≡ self.now.stream }
     {
         &self.seat.inbox
     }
 
-    /// Whether bytes of a frame came that is not whole.
+    /// Whether a part of a frame has come.
     pub fn has_part(&self) -> bool
         ensures { result ≡ has_part (Some self.now) }
     {
         self.seat.inbox.has_part()
     }
 
-    /// How many bytes came.
+    /// How many bytes its client has sent. At 2^64 - 1 the count stays.
     pub fn end(&self) -> u64
         ensures { result ≡ counted_up (self.now.stream.place + length self.now.stream.rest) }
     {
@@ -142,7 +144,7 @@ impl Activity {
         self.seat.proxy == proxy && !self.is_closed()
     }
 
-    /// The most asks of the frames so far: 64 each, and one for each path that they may name.
+    /// The most asks of the frames so far: 64 each, and one for each byte, since a path that a frame names has a byte at least.
     pub fn max_asks(&self) -> u64
         ensures { result ≡ counted_up (asks_at (Some self.now)) }
     {

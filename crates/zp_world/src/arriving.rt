@@ -32,7 +32,7 @@ use zp_step::{Action, Fresh, Input};
 use zx_base::{Bytes, Memory};
 
 impl World {
-    /// A connection opens at a proxy, with what a new session of it would be made with.
+    /// A connection opens at a proxy. A new session that it begins gets this number and password.
     pub(crate) fn open(
         &mut self,
         connection: u32,
@@ -111,7 +111,7 @@ impl World {
         Ok(())
     }
 
-    /// A length out of range, if any, comes behind the frames.
+    /// A length out of range, if there is one, comes after the frames.
     fn take_length(&mut self, connection: u32, place: u64, bad: Option<i32>) -> Result<(), Memory>
         ensures { OnOk result (IsConnectionAt connection self.old → EndsBadly connection self.old place bad self.new) }
     {
@@ -136,7 +136,7 @@ impl World {
         }
     }
 
-    /// A frame comes, with others behind it.
+    /// A frame comes, and others came with it.
     fn take_frame(
         &mut self,
         connection: u32,
@@ -258,7 +258,7 @@ fn step_with(alloc: Global, core: &mut Core, bytes: Bytes, now: u64) -> Result<S
     })
 }
 
-/// The seat of a connection behind a frame.
+/// The seat of a connection after a frame.
 fn seat_behind(seat: Seat) -> Result<Seat, Memory>
     ensures { IfOk result (λ next. left next ≡ left_next seat) }
 {

@@ -33,7 +33,7 @@ use zs_session::StepFault;
 use zx_base::{Bytes, Memory};
 
 impl World {
-    /// A connection that is open is handed this, where what it asked stays out.
+    /// An open connection is handed this. It has asked nothing that is not answered, or the input ends it.
     pub(crate) fn hand(&mut self, connection: u32, input: &Input) -> Result<(), Memory>
         requires { (x : Conn) (core : AnyCore) → conn_at connection self.old ≡ Some x → x.actor ≡ Connection core → IsFit core input.now × LeavesFree x.flight input.now }
         ensures { OnOk result ((x : Conn) (core : AnyCore) → conn_at connection self.old ≡ Some x → x.actor ≡ Connection core → Handed connection [] self.old input.now self.new) }
@@ -80,7 +80,7 @@ impl World {
         self.act(connection, seat, core, flight, out, 0, &mut behind)
     }
 
-    /// The answer to what was asked is delivered; of what the store denied, a failure.
+    /// The answer to an ask is delivered. That of a denied ask is a failure.
     pub(crate) fn deliver(&mut self, connection: u32) -> Result<(), Memory>
         requires { fault self.old (line.Answer connection) ≡ None }
         ensures { OnOk result (Delivers connection self.old self.new (flight_at connection self.old)) }
@@ -121,7 +121,7 @@ impl World {
         }
     }
 
-    /// That what was asked failed, which may be carried out later.
+    /// An asker is told that its ask failed. If it is not carried out yet, it may be later.
     pub(crate) fn fail(&mut self, connection: u32) -> Result<(), Memory>
         requires { ask_fault connection self.old None ≡ None }
         ensures { OnOk result (FailureComes connection self.old self.new) }
@@ -137,7 +137,7 @@ impl World {
         self.deliver_failure(connection, seat, actor, flight)
     }
 
-    /// That what was asked was refused, which is never carried out.
+    /// An asker is told that its ask failed, and the ask is never carried out.
     pub(crate) fn refuse(&mut self, connection: u32) -> Result<(), Memory>
         requires { ask_fault connection self.old None ≡ None }
         ensures { OnOk result (FailureComes connection (landed connection self.old) self.new) }
@@ -170,7 +170,7 @@ impl World {
         }
     }
 
-    /// The entry behind the cursor is delivered.
+    /// The entry after the cursor is delivered.
     pub(crate) fn enter(&mut self, connection: u32) -> Result<(), Memory>
         requires { fault self.old (line.Entry connection) ≡ None }
         ensures { OnOk result (EntersBy connection self.old self.new (next_entry connection self.old)) }
@@ -185,7 +185,7 @@ impl World {
         }
     }
 
-    /// That the entry behind the cursor is not kept any more is delivered.
+    /// A connection is told that the entry after its cursor is no longer kept.
     pub(crate) fn lag(&mut self, connection: u32) -> Result<(), Memory>
         requires { fault self.old (line.Lag connection) ≡ None }
         ensures { OnOk result (LagsBy connection self.old self.new (cursor_at connection self.old)) }
@@ -281,7 +281,7 @@ impl World {
     }
 }
 
-/// The end by a value that is no record.
+/// The end of a reaper that found a value which is no record.
 fn damaged(key: Bytes, value: Bytes) -> Ended
     ensures { result ≡ finish.Cause (cause.Damaged key value) }
 {

@@ -1,4 +1,4 @@
-//! What a connection's step does is done, and ends are shown.
+//! The actions of a connection's step are done, and ends are shown.
 
 ghost use Rattle.std.specs.Prelude.{◌≡◌, ◌++◌, ◌∷◌, [], false, if◌then◌else◌, IfOk, IfSome, Some, OnOk};
 ghost use Rattle.std.specs.Vec.Iter.{into_iter_items};
@@ -30,7 +30,7 @@ use zp_step::{Action, Wants};
 use zx_base::{Bytes, Memory};
 
 impl World {
-    /// What a step of a connection does is done. Where it closes, the frames that came with its last one are shown before its
+    /// The actions of a connection's step are done. Where it closes, the frames that came with its last one are shown before its
     /// end.
     pub(crate) fn act(
         &mut self,
@@ -175,7 +175,7 @@ impl World {
     }
 }
 
-/// These frames are shown, from this index on.
+/// These frames are shown; `first` is the index of the first of them.
 fn show_frames(
     transcript: &mut Transcript,
     connection: u32,
@@ -202,7 +202,7 @@ fn show_frames(
     Ok(())
 }
 
-/// What is left of a connection behind a step.
+/// What is left of a connection after a step.
 fn actor_behind(core: Core) -> Actor
     ensures { actor_of result ≡ behind_step core }
 {

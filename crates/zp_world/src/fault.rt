@@ -6,11 +6,12 @@ use std::alloc::AllocFailed;
 use zt_text::Why;
 use zx_base::Memory;
 
+/// Why a line of a script was not applied.
 #[derive(Clone, Copy, Debug, PartialEq, Eq)]
 pub enum ApplyFault {
-    /// It is not possible in this world, which stays as it was.
+    /// It is not possible in this world, which stays as it was; `why` is the first of its tests that fails.
     NotPossible { why: Why },
-    /// The world answers so from then on, and changes no more.
+    /// Memory was refused. The world answers so from then on, and changes no more.
     Memory,
 }
 
@@ -36,7 +37,7 @@ impl<T: Drop> From<AllocFailed<T>> for ApplyFault {
     }
 }
 
-/// That it is not possible, for this cause.
+/// The fault of a line that is not possible.
 pub(crate) fn refused(why: Why) -> ApplyFault
     ensures { result ≡ ApplyFault.NotPossible why }
 {

@@ -6,7 +6,7 @@ ghost use Rattle.zp_world.specs.Flying.{HasSession};
 
 use zk_transcript::{Cause, Ended, UpdateKind};
 
-/// Bytes are below 256; nothing is done.
+/// Proof only: every byte is below 256.
 pub(crate) fn are_bytes(bytes: &[u8])
     ensures { AreBytes bytes.now }
 {}

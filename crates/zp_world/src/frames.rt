@@ -24,12 +24,14 @@ impl Model for Frames {
 }
 
 impl Frames {
+    /// No frame yet.
     pub fn none() -> Frames
         ensures { result ≡ 0 }
     {
         Frames { number: 0 }
     }
 
+    /// The count.
     pub fn number(&self) -> u64
         ensures number { result ≡ self.now }
         ensures within { self.now < max_count }
@@ -37,7 +39,7 @@ impl Frames {
         self.number
     }
 
-    /// One more. So many frames are in no memory, since each has a line.
+    /// One more. It fails at 2^64 - 1, for which no memory has room, since each frame has a line.
     pub fn next(&self) -> Result<Frames, Memory>
         ensures { IfOk result (λ n. n ≡ counted_up (self.now + 1)) }
     {

@@ -14,7 +14,7 @@ use std::alloc::Global;
 use zn_layout::head_key;
 use zx_base::{Bytes, Memory};
 
-/// What a look at one key found.
+/// The key and value that a look at one key found, if it is there.
 fn found_in(answer: Answer) -> Option<Kv>
     ensures { (rev : ℤ) (o : Option AnyKv) → answer ≡ answers.Range rev (one_found o) → result ≡ o }
 {
@@ -29,7 +29,7 @@ fn found_in(answer: Answer) -> Option<Kv>
     }
 }
 
-/// What is kept under the head's key. The store stays as it is.
+/// The head as the store has it, if it has one. The store stays as it is.
 pub fn head_of(alloc: Global, store: &mut Store) -> Result<Option<Kv>, Memory>
     ensures same { store.new ≡ store.old }
     ensures head { IfOk result (λ head. head ≡ at (present store.old) HeadKey) }

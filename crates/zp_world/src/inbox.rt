@@ -14,11 +14,11 @@ use std::marker::Model;
 use zk_wire::{CutFault, Cutter};
 use zx_base::{Bytes, Memory};
 
-/// What of a stream is no whole frame yet, and how many bytes came before that.
+/// The bytes of a stream that are no whole frame yet, and how many bytes came before them.
 #[derive(Debug, Drop)]
 pub struct Inbox {
     alloc: Global,
-    /// At 2^64 - 1 it stays.
+    /// How many bytes came before `rest`. At 2^64 - 1 the count stays.
     place: u64,
     rest: Vec<u8>,
 }
@@ -36,7 +36,7 @@ impl Model for Inbox {
 pub struct Cut {
     /// The frames that are whole with them.
     pub frames: Vec<Bytes>,
-    /// The length behind those, where it is out of range.
+    /// The length that follows those, if it is out of range.
     pub bad: Option<i32>,
     /// What is left.
     pub inbox: Inbox,
@@ -54,28 +54,28 @@ impl Inbox {
         }
     }
 
-    /// Whether bytes of a frame came that is not whole.
+    /// Whether a part of a frame has come.
     pub fn has_part(&self) -> bool
         ensures { result ≡ nat_lt 0 (length self.now.rest) }
     {
         0 < self.rest.len()
     }
 
-    /// How many bytes came before what is no whole frame.
+    /// How many bytes came before those that are no whole frame yet.
     pub fn place(&self) -> u64
         ensures { result ≡ self.now.place }
     {
         self.place
     }
 
-    /// How many bytes came.
+    /// How many bytes came in all. At 2^64 - 1 the count stays.
     pub fn end(&self) -> u64
         ensures { result ≡ counted_up (self.now.place + length self.now.rest) }
     {
         self.place.saturating_add(self.rest.len() as u64)
     }
 
-    /// A whole frame comes, with its length, where no part of one is there.
+    /// A whole frame comes, where no part of one has come. `bytes` lacks its length, which counts among the bytes that came.
     pub fn with_frame(&self, bytes: Bytes) -> Result<Cut, Memory>
         requires size { length bytes ≤ max_frame }
         requires none { length self.now.rest ≡ 0 }

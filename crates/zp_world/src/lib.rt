@@ -1,10 +1,10 @@
 //! The service as one deterministic world, which a script drives: one etcd, a clock, and the connections and reapers of all
 //! proxies.
 //!
-//! A [`World`] begins with the store's first update, the root at moment 0. What happens is applied to it one [`Happening`] at a
-//! time. An ask, its carrying out and its answer are three happenings, so a script may put them in any order, lose an answer,
-//! or carry out an ask whose asker has ended. Each happening leaves its lines in the world's transcript, [`World::lines`]. One
-//! that is not possible is refused by its cause and changes nothing.
+//! A [`World`] begins with the store's first update, which makes the root at time 0. What happens is applied to it one
+//! [`Happening`] at a time. An ask, its carrying out and its answer are happenings of their own, so a script may let others happen
+//! in between, lose an answer, or carry out an ask whose asker has ended. Each happening leaves its lines in the world's
+//! transcript, [`World::lines`]. One that is not possible is refused with its cause and changes nothing.
 //!
 //! What each line of a script does is said in `zp_happen`: `fault`, which tests it makes, and `Happens`, what it leaves. A
 //! connection is a [`Core`](zp_core::Core), a reaper a [`Reaper`](zs_reap::Reaper): a world only carries what they ask to the
@@ -14,8 +14,9 @@
 //! found by its number in the logarithm of their count. Bytes that come in pieces are copied once more with each piece until
 //! their frame is whole.
 //!
-//! In `specs/`: `Flying` (what is known of an ask until its answer is delivered), `Activities` (a number's activity as `zp_happen`
-//! sees it), `Doing` (a step of what is held apart from its world), `Applying` (what `apply` answers).
+//! In `specs/`: `Applying` (what `apply` answers), `Activities` (a number's activity as `zp_happen` sees it), `Flying` (what is
+//! known of an ask until its answer is delivered), `Doing` (a step of what is held apart from its world). The others say what one
+//! function of this crate hands to the next.
 //!
 //! [`Happening`]: zt_text::Happening
 #![tactic(auto)]

@@ -266,7 +266,7 @@ fn lapse_why(denied: &Denied) -> Why
     }
 }
 
-/// Whether a key is none, or one of the service's own.
+/// Whether a key is empty, or is one of the service's own.
 fn is_kept_key(key: &[u8]) -> bool
     ensures { result ≡ is_kept_key key.now }
 {

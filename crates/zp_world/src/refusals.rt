@@ -1,4 +1,4 @@
-//! The first test of a line that fails.
+//! Why a line of a script is refused: the first of its tests that fails.
 
 ghost use Rattle.std.specs.Prelude.{◌≡◌, ◌∷◌, pos, length, nat_lt, is_some, is_none, Some, None, not, IfOk, IfErr, IfNone};
 ghost use Rattle.ev_types.specs.Store.{Change};
@@ -13,11 +13,11 @@ use zk_model::limit::MAX_FRAME;
 use zp_happen::Flight;
 use zt_text::Why;
 
-/// How many of the newest entries are kept.
+/// How many of the newest entries a connection can still take.
 pub(crate) const MAX_KEPT: u64 = 4_096;
 
 impl World {
-    /// A number that was never used.
+    /// Why a line that begins a connection or a reaper is refused: the number was used before.
     pub(crate) fn new_why(&self, number: u32) -> Option<Why>
         ensures { result ≡ new_fault number self.now None }
     {
@@ -27,7 +27,7 @@ impl World {
         }
     }
 
-    /// There is one of this number, and it is open.
+    /// Why a line about a connection or a reaper is refused: there is none of this number, or it is closed.
     pub(crate) fn open_why(&self, number: u32) -> Option<Why>
         ensures { result ≡ open_fault number self.now None }
     {
@@ -38,7 +38,7 @@ impl World {
         }
     }
 
-    /// And it is no reaper.
+    /// Why a line about a connection is refused: there is none of this number, it is closed, or it is a reaper.
     pub(crate) fn connection_why(&self, number: u32) -> Option<Why>
         ensures { result ≡ connection_fault number self.now None }
     {
@@ -50,7 +50,7 @@ impl World {
         }
     }
 
-    /// A whole frame of this size may come.
+    /// Why a whole frame of `size` bytes, its length left out, is refused.
     pub(crate) fn frame_why(&self, number: u32, size: usize) -> Option<Why>
         ensures { result ≡ connection_fault number self.now (if_fails (has_part (conn_at number self.now)) Why.FrameOpen (if_fails (nat_lt max_frame size) Why.TooLong None)) }
     {
@@ -69,7 +69,7 @@ impl World {
         }
     }
 
-    /// An ask is out.
+    /// Why a line about an ask is refused: nothing open has this number, or it has asked nothing that is not answered.
     pub(crate) fn ask_why(&self, number: u32) -> Option<Why>
         ensures { result ≡ ask_fault number self.now None }
     {
@@ -83,7 +83,7 @@ impl World {
         }
     }
 
-    /// And it is not carried out.
+    /// Why an ask is not carried out: there is none, or it was carried out already.
     pub(crate) fn carry_why(&self, number: u32) -> Option<Why>
         ensures { result ≡ carry_fault number self.now }
     {
@@ -98,7 +98,7 @@ impl World {
         }
     }
 
-    /// And it is carried out.
+    /// Why no answer is delivered: nothing was asked, or it is not carried out yet.
     pub(crate) fn answer_why(&self, number: u32) -> Option<Why>
         ensures { result ≡ ask_fault number self.now (if_fails (is_to_carry_out (flight_at number self.now)) Why.NotCarriedOut None) }
     {
@@ -113,7 +113,7 @@ impl World {
         }
     }
 
-    /// A stray of this number is left.
+    /// Why no stray is carried out: there is none of this number, or it was carried out before.
     pub(crate) fn stray_why(&self, number: u32) -> Option<Why>
         ensures { result ≡ if_fails (is_none (left_at number self.now.strays)) Why.NoSuchStray None }
     {
@@ -124,7 +124,7 @@ impl World {
         }
     }
 
-    /// Whether an entry is behind the cursor of a connection.
+    /// Whether there is an entry that a connection can take next.
     pub(crate) fn has_entry(&self, number: u32) -> bool
         ensures { result ≡ is_some (next_entry number self.now) }
     {
@@ -147,7 +147,7 @@ impl World {
         }
     }
 
-    /// Whether something is out.
+    /// Whether a connection or a reaper has asked something that is not answered.
     fn has_flight(&self, number: u32) -> bool
         ensures { result ≡ is_some (flight_at number self.now) }
     {
@@ -157,7 +157,7 @@ impl World {
         }
     }
 
-    /// An entry may be taken.
+    /// Why no entry is taken: there is no such connection, an answer has to come first, or there is no entry.
     pub(crate) fn entry_why(&self, number: u32) -> Option<Why>
         ensures { result ≡ entry_fault number self.now None }
     {
@@ -175,7 +175,7 @@ impl World {
         }
     }
 
-    /// And more are behind it than are kept.
+    /// Why a connection is not told that it lags: it can take no entry, or its next entry is kept.
     pub(crate) fn lag_why(&self, number: u32) -> Option<Why>
         ensures { result ≡ entry_fault number self.now (if_fails (not (is_lagging number self.now)) Why.NoLag None) }
     {
@@ -191,7 +191,7 @@ impl World {
         }
     }
 
-    /// Whether more entries are behind the cursor than are kept.
+    /// Whether more entries follow the cursor than are kept.
     fn is_lagging(&self, number: u32) -> bool
         ensures { result ≡ is_lagging number self.now }
     {

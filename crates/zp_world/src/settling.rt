@@ -38,7 +38,7 @@ impl World {
         Ok(())
     }
 
-    /// It is done as its line of a script is.
+    /// Makes a move, which does what the line of a script for it does.
     fn make(&mut self, connection: u32, next: Move) -> Result<(), Memory>
         requires { fault self.old (line_of connection next) ≡ None }
         ensures { OnOk result (Does self.old (line_of connection next) self.new) }
@@ -50,6 +50,7 @@ impl World {
         }
     }
 
+    /// The next move. None: nothing is left to do.
     fn settling(&self, connection: u32) -> Option<Move>
         ensures { option_map (line_of connection) result ≡ settling connection self.now }
     {
@@ -72,7 +73,7 @@ impl World {
         }
     }
 
-    /// No settle takes so many moves.
+    /// The most moves of a settle.
     fn max_settling(&self, connection: u32) -> u64
         ensures { result ≡ max_settling connection self.now }
     {
@@ -81,7 +82,7 @@ impl World {
             .saturating_add(self.entries.len() as u64)
     }
 
-    /// The most asks that it may have made.
+    /// The most asks that the frames so far can make.
     fn max_asks(&self, connection: u32) -> u64
         ensures { result ≡ counted_up (asks_at (conn_at connection self.now)) }
     {

@@ -1,4 +1,4 @@
-//! What was asked by those that ended before it was carried out.
+//! Strays: asks whose askers ended before they were carried out.
 
 ghost use Rattle.std.specs.Prelude.{◌≡◌, ◌++◌, ◌∷◌, ◌-◌, [], Some, None, is_some, slice_set, OnOk, IfSome};
 ghost use Rattle.zp_happen.specs.Faults.{left_at};
@@ -10,7 +10,7 @@ use std::mem;
 use zp_happen::Asking;
 use zx_base::Memory;
 
-/// Such asks in the order of their ends; None where the store carried one out since.
+/// The strays in the order in which they arose, numbered from 1. `None` stands for one that was carried out since.
 #[derive(Drop)]
 pub struct Strays {
     left: Vec<Option<Asking>>,
@@ -29,6 +29,7 @@ impl Model for Strays {
 }
 
 impl Strays {
+    /// No stray yet.
     pub fn new(alloc: Global) -> Strays
         ensures { result ≡ [] }
     {
@@ -37,7 +38,7 @@ impl Strays {
         }
     }
 
-    /// Whether stray `number`, from 1, is there and was not carried out.
+    /// Whether there is a stray of this number that was not carried out.
     pub fn has(&self, number: u32) -> bool
         ensures { result ≡ is_some (left_at number self.now) }
     {
@@ -50,7 +51,7 @@ impl Strays {
         }
     }
 
-    /// One more.
+    /// Adds a stray, which takes the next number.
     pub fn leave(&mut self, asking: Asking) -> Result<(), Memory>
         requires { IsFit asking }
         ensures { OnOk result (self.new ≡ self.old ++ Some asking ∷ []) }
@@ -59,7 +60,7 @@ impl Strays {
         Ok(())
     }
 
-    /// Takes a stray that is there.
+    /// Takes a stray, to be carried out. None: there is none of this number, or it was carried out.
     pub fn take(&mut self, number: u32) -> Option<Asking>
         ensures taken { result ≡ left_at number self.old }
         ensures left { IfSome result (λ _. self.new ≡ slice_set self.old (number - 1) None) }

@@ -31,7 +31,7 @@ use zx_base::Memory;
 pub struct World {
     pub(crate) alloc: Global,
     pub(crate) store: Store,
-    /// Milliseconds.
+    /// The script's clock, in milliseconds.
     pub(crate) clock: u64,
     pub(crate) activities: Activities,
     pub(crate) strays: Strays,
@@ -68,7 +68,7 @@ impl Model for World {
 }
 
 impl World {
-    /// A world in which nothing has happened: the store holds the root alone, made at moment 0.
+    /// A world in which nothing has happened: the store holds the root alone, made at time 0.
     pub fn new(alloc: Global) -> Result<World, Memory>
         ensures first { IfOk result IsFirst }
         ensures formed { IfOk result (λ w. AllByRecursion IsWellFormed w.lines) }
@@ -107,7 +107,7 @@ impl World {
         })
     }
 
-    /// What happened so far, in order. Its text has one reading.
+    /// The transcript so far. Its text has one reading.
     pub fn lines(&self) -> &[TranscriptLine]
         ensures lines { result.now ≡ self.now.lines }
         ensures formed { AllByRecursion IsWellFormed self.now.lines }
@@ -122,16 +122,16 @@ impl World {
         self.transcript.updates()
     }
 
-    /// The lines of each connection but its updates, in the order in which they opened. They are copied, in time linear in the lines
-    /// but for the logarithm of the connections.
+    /// The lines of each connection but its updates, in the order in which they opened. They are copied; the time is linear in
+    /// the lines but for the logarithm of the number of connections.
     pub fn conversations(&self) -> Result<Vec<Conversation>, Memory>
         ensures { IfOk result (λ found. found.items ≡ conversations_of self.now.lines) }
     {
         self.transcript.conversations(self.alloc)
     }
 
-    /// Applies one happening, where it is possible. A session's number in it is at least 1. Once memory was refused the world
-    /// changes no more: its lines and updates stay, and it answers so again.
+    /// Applies one happening, if it is possible. The number of a session that is offered or reaped is at least 1. Once memory
+    /// was refused the world changes no more: its lines stay, and each later call answers `Memory`.
     pub fn apply(&mut self, happening: Happening) -> Result<(), ApplyFault>
         requires { IsOfScript happening }
         ensures applies { Applies self.old happening result self.new }
@@ -146,7 +146,8 @@ impl World {
         applied
     }
 
-    /// A world that is spent has no entry any more, not even that of the first update.
+    /// Applies a happening, unless the world is spent: after want of memory it has no entry any more, not even that of the first
+    /// update.
     fn apply_unless_spent(&mut self, happening: Happening) -> Result<(), ApplyFault>
         requires { IsOfScript happening }
         ensures applies { Applies self.old happening result self.new }
@@ -198,7 +199,7 @@ impl World {
     }
 }
 
-/// A store that holds the root alone, made at moment 0.
+/// A store that holds the root alone, made at time 0.
 fn first_store(alloc: Global) -> Result<Store, Memory>
     ensures { IfOk result (λ s. (a : AnyAnswer) × (carry new_store (first_ask 0) ≡ Some (s, a))) }
 {

@@ -1,4 +1,4 @@
--- With the frames that are left the lines are those behind all of them. The frames get fewer.
+-- With the lines of the frames that are left, the lines are those of all frames. The frames get fewer.
 use Rattle.std.proofs.Common.{◌≡◌, ◌++◌}
 use Rattle.std.specs.Vec.Iter.{into_iter_items, into_iter_len}
 use Rattle.zp_happen.specs.Arriving.{frame_lines}
