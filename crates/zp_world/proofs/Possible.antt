@@ -24,7 +24,7 @@ use Rattle.zt_text.specs.declared.script.Happening.TheVariants as line
 use Rattle.zt_text.specs.declared.script.Why.{Why}
 use Rattle.zt_text.specs.declared.script.Why.TheVariants as why
 use Rattle.zx_base.proofs.Options.{none_some, some_is, some_none}
-use Rattle.zp_world.specs.Flying.{IsActive, IsFitFlight, IsFlyingOf, IsReapFlying, MayFail}
+use Rattle.zp_world.specs.Flying.{IsActive, IsFlyingOf, IsReapFlying, MayFail}
 
 -- ---- one test
 
@@ -32,7 +32,7 @@ pub passes : (b : Bool) (x : Why) (later : Option Why) → if_fails b x later �
 passes true x later h = absurd (some_none h)
 passes false x later h = (refl, h)
 
--- ---- no one has the number
+-- ---- nothing has the number
 
 unused : (o : Option Conn) → if_fails (is_some o) why.NumberInUse None ≡ None → o ≡ None
 unused None h = refl
@@ -58,7 +58,7 @@ opened-at c w later (Some x) found h = let p = passes (is_closed x.actor) why.Co
 pub open-passes : (c : ℕ) (w : World) (later : Option Why) → open_fault c w later ≡ None → IsOpenAt c w × (later ≡ None)
 open-passes c w later h = opened-at c w later (conn_at c w) refl h
 
--- ---- and it is no reaper
+-- ---- there is an open connection of the number
 
 pub record IsServing (c : ℕ) (w : World) : Type 0 where
   pub conn : Conn
@@ -117,7 +117,7 @@ out-of c w x o there =
     let e : o.conn ≡ x = some_is (sym o.found ∙ there) in
     (subst (λ (y : Conn). is_closed y.actor ≡ false) e o.live, o.flight, subst (λ (y : Conn). y.flight ≡ Some o.flight) e o.out)
 
--- it may fail too, where it may be refused
+-- the test that something of the number is open passes
 pub open-allowed : (c : ℕ) (w : World) (x : Conn) (later : Option Why) → conn_at c w ≡ Some x → is_closed x.actor ≡ false → open_fault c w later ≡ later
 open-allowed c w x later there live =
     ap (open_test later) there ∙ ap (λ b. if_fails b why.ConnectionClosed later) live
@@ -135,7 +135,7 @@ pub answer-out : (c : ℕ) (w : World) → fault w (line.Answer c) ≡ None → 
 unfolding fault
 answer-out c w h = (ask-out c w (if_fails (is_to_carry_out (flight_at c w)) why.NotCarriedOut None) h).0
 
--- and it is carried out
+-- an answer is delivered only of an ask that was carried out
 pub answer-carried : (c : ℕ) (w : World) (x : Conn) (asking : Asking) → fault w (line.Answer c) ≡ None → conn_at c w ≡ Some x → x.flight ≡ Some (Out asking) → ⊥
 unfolding fault
 answer-carried c w x asking h there e =
@@ -187,7 +187,7 @@ entry-cursor c w e none = none_some (sym (next-is c w None none) ∙ e.next)
 pub entry-missing : (c : ℕ) (w : World) (cursor : ℤ) → IsEntered c w → cursor_at c w ≡ Some cursor → entry_behind w.entries cursor ≡ None → ⊥
 entry-missing c w cursor e at none = none_some (sym (next-is c w (Some cursor) at ∙ none) ∙ e.next)
 
--- ---- what is out fits
+-- ---- what is out
 
 awaited-none : (o : Option Ask) (a : Answer) → o ≡ None → IsAwaited o (Some a) → ⊥
 awaited-none None a e h = h
@@ -202,23 +202,6 @@ pub may-fail : (a : Actor) (f : Flight) → IsActive a (Some f) → MayFail a
 may-fail (Connection core) f h = record { live = h.live; asked = flying-asked core f h.flies }
 may-fail (Reaper reap) f h = tt
 may-fail Closed f h = tt
-
-flying-fits : (core : Core) (f : Option Flight) → IsFlyingOf core f → IsFitFlight f
-flying-fits core None h = tt
-flying-fits core (Some (Out x)) h = h.fit
-flying-fits core (Some (Carried a)) h = tt
-flying-fits core (Some Denied) h = tt
-
-reap-fits : (reap : Reap) (f : Option Flight) → IsReapFlying reap f → IsFitFlight f
-reap-fits reap None h = tt
-reap-fits reap (Some (Out x)) h = h.fit
-reap-fits reap (Some (Carried a)) h = tt
-reap-fits reap (Some Denied) h = tt
-
-pub fits : (a : Actor) (f : Option Flight) → IsActive a f → IsFitFlight f
-fits (Connection core) f h = flying-fits core f h.flies
-fits (Reaper reap) f h = reap-fits reap f h
-fits Closed f h = h
 
 txn-grantable : (q : Ask) → IsTxn q → IsGrantable q
 txn-grantable (ask.Txn t) h = tt

@@ -1,22 +1,21 @@
 -- A connection that is held apart from its world takes a step.
 use Rattle.std.proofs.Common.{◌≡◌, ℕ, List, [], ◌∷◌, ◌++◌, sym, ap, ◌∙◌, subst, false, inl, inr}
-use Rattle.std.specs.Prelude.{Option, Some, None}
+use Rattle.std.specs.Prelude.{Option, Some}
 use Rattle.std.specs.FinMap.{remove}
 use Rattle.zk_transcript.specs.declared.transcript.Ended.{Ended}
 use Rattle.zk_transcript.specs.declared.transcript.TranscriptLine.{TranscriptLine}
 use Rattle.zk_transcript.specs.declared.transcript.TranscriptLine.TheVariants.{Close as CloseLine}
 use Rattle.zp_happen.specs.declared.flight.Flight.{Flight}
-use Rattle.zp_happen.specs.declared.flight.Flight.TheVariants.{Out, Carried, Denied}
 use Rattle.zp_happen.specs.Handing.{Handed}
 use Rattle.zp_happen.specs.Kinds.{kind_asked}
 use Rattle.zp_happen.specs.StepOutcomes.{StepOutcome, acts_all, ends, leaves, left_by, quiet}
-use Rattle.zp_happen.specs.Worlds.{Actor, Conn, Conns, Connection, Reaper, Closed, World, behind_step, conn_at, with_conn}
+use Rattle.zp_happen.specs.Worlds.{Actor, Conn, Conns, Connection, Closed, World, behind_step, conn_at, with_conn}
 use Rattle.zp_step.specs.Stages.{Core, is_shut}
 use Rattle.zp_step.specs.Steps.{Steps}
 use Rattle.zp_step.specs.declared.action.Action.{Action}
 use Rattle.zp_step.specs.declared.input.Input.{Input}
 use Rattle.zp_world.specs.Doing.{Stepped, left, seated, without}
-use Rattle.zp_world.specs.Flying.{IsActive, IsFitFlight, LeavesFree}
+use Rattle.zp_world.specs.Flying.{LeavesFree}
 use Rattle.zp_world.specs.Leaving.{Leaves}
 use Rattle.zp_world.specs.declared.activity.Seat.{Seat}
 use Rattle.zp_world.proofs.Apart.{leaves-without}
@@ -25,18 +24,6 @@ use Rattle.zp_world.proofs.Standing.{leaves-end, leaves-none}
 pub leaves-free : (old new : Core) (x : Input) (now : ℕ) (out : List Action) (flight : Option Flight) → is_shut old.stage ≡ false → LeavesFree flight x → Steps old x now new out → Leaves flight new out
 leaves-free old new x now out flight live (inl none) steps = subst (λ (f : Option Flight). Leaves f new out) (sym none) (leaves-none old new x now out live steps)
 leaves-free old new x now out flight live (inr end) steps = leaves-end old new x end.0 now out flight live end.1 steps
-
--- what is out of anyone is fit
-pub fit-active : (a : Actor) (flight : Option Flight) → IsActive a flight → IsFitFlight flight
-fit-active (Connection core) None h = tt
-fit-active (Connection core) (Some (Out x)) h = h.flies.fit
-fit-active (Connection core) (Some (Carried a)) h = tt
-fit-active (Connection core) (Some Denied) h = tt
-fit-active (Reaper reap) None h = tt
-fit-active (Reaper reap) (Some (Out x)) h = h.fit
-fit-active (Reaper reap) (Some (Carried a)) h = tt
-fit-active (Reaper reap) (Some Denied) h = tt
-fit-active Closed flight h = h
 
 -- who was held apart is in the world again
 pub leaves-seated : (c : ℕ) (w : World) (x : Conn) (seat : Seat) (actor : Actor) (flight : Option Flight) (a : Actor) (o : StepOutcome) → x ≡ seated seat actor flight
