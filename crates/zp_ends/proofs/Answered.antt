@@ -212,7 +212,7 @@ module _ (s : Store) (n : ℕ) where
   goes-then now c c' out (inr k) (takes d frame more first later ready w t g o) =
       goes-then now d c' later (takes_up-then d first (record c { waiting = more }) frame now (omega (arith, k.most, ap asks_of_all w)) t) g
 
-  -- what is held behind the first part of a step is held behind the step, or nothing is
+  -- what is held after the first part of a step is held after the step, or nothing is
   true-before : (now : ℕ) (c c' : Core) (out : List Action) → IsTruthful s c' → Goes now c c' out → IsTruthful s c
   true-before now c c' out t (rests why same none) = subst (IsTruthful s) same t
   true-before now c c' out t (takes d frame more first later ready w u g o) = subst (λ st. TruthIn s c.who st) (sym ready) tt

@@ -70,7 +70,7 @@ lasting-append (g ∷ fs) f h k = (h.0, lasting-append fs f h.1 k)
 queued-lasting : (c : Core) (f : List ℕ) → closes_behind (read_request f) ≡ false → IsLasting c → IsLasting (queued c f)
 queued-lasting c f k h = record { work = h.work; waiting = lasting-append c.waiting f h.waiting k }
 
--- it waits behind the others, or is taken up
+-- it waits after the others, or is taken up
 abbrev Stays : Core → Core → Type 0
 Stays c d = IsLasting d × (d.who ≡ c.who)
 

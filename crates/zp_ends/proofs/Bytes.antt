@@ -111,7 +111,7 @@ leaves-quiet w c x actor o le none = lines-quiet w (leaves c w x actor o) c (rec
 
 -- ---- a step
 
--- behind the end stand the frames that came with it
+-- before the end stand the frames that came with it
 abbrev shown_if : Bool → ℕ → ℕ
 shown_if true n = n
 shown_if false n = 0

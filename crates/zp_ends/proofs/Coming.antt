@@ -1,4 +1,4 @@
--- How many asks of a connection are still to be carried out, while nobody else acts: in each stage, and behind each answer.
+-- How many asks of a connection are still to be carried out, while nobody else acts: in each stage, and after each answer.
 use Rattle.std.proofs.Common.{◌≡◌, ℕ, ◌+◌, ◌≤◌, List, length, Bool, true, false, ℤ, pos}
 use Rattle.std.specs.Prelude.{◌||◌}
 use Rattle.std.specs.Ordering.{int_eq}
@@ -30,7 +30,7 @@ use Rattle.std.specs.Prelude.{Some}
 abbrev pub is_present : Store → View → Bool
 is_present s v = int_eq v.revision (revision s)
 
--- or it will be, since it has no round yet
+-- the view is of the present, or it will be, since it has no round yet
 abbrev pub is_asked_now : Store → View → Bool
 is_asked_now s v = int_eq v.revision (pos 0) || is_present s v
 
@@ -42,7 +42,7 @@ again_for false r = looks r + 1
 abbrev pub EndsIf : Request → Who → ℕ → View → Type 0
 EndsIf r who n v = AreFew who.session v → Ends r who n v
 
--- a round is out: behind it come at most n more, and the plan
+-- a round is out: after it come at most n more, and the plan
 pub record ReadsOut (s : Store) (who : Who) (r : Request) (v : View) (ws : List Want) (k : ℕ) : Type 0 where
   pub rounds : ℕ
   pub ends : (z : ℤ) (parts : List ActAns) → length ws ≤ length parts → EndsIf r who rounds (view_on v z ws parts)
@@ -110,7 +110,7 @@ pub record Remains (s : Store) (c : Core) (n : ℕ) : Type 0 where
   pub out : AsksOut s c.who c.stage asks
   pub most : asks + asks_of_all c.waiting ≤ n
 
--- the same behind this answer
+-- after this answer at most so many asks, those of the frames that wait with it
 pub record RemainsBehind (s : Store) (c : Core) (a : Answer) (n : ℕ) : Type 0 where
   pub asks : ℕ
   pub behind : AsksBehind s c.who c.stage a asks

@@ -81,7 +81,7 @@ module _ (w : World) (c : ℕ) (core : Core) (flight : Option Flight) (h : IsAcc
       let at = placed w.lines core k.walker ((h.whole.holds).serves).legal (k.stands).matches in
       omega (arith, ints, t.next, at.cursor)
 
-  -- a reply that waits is behind the cursor
+  -- a reply that waits has a number after the cursor
   reply-on : (p : Pending) → core.stage ≡ Waiting p → nat_abs core.cursor + 1 ≤ nat_abs p.number
   reply-on p st =
       let legal = ((h.whole.holds).serves).legal in
@@ -149,7 +149,7 @@ wanted-served w c x core e there actor next = go (cursor_wanted (wants_of core))
     go None f g = absurd (none_some g)
     go (Some z) f g = awaits-served core core.stage z f
 
--- an entry that is there is behind the cursor
+-- an entry that is there has a number after the cursor
 pub behind-cursor : (w : World) (c : ℕ) (core : Core) (e : Entry) → IsAccounted w → next_entry c w ≡ Some e → IsTrueEntry w.lines core e → nat_abs core.cursor + 1 ≤ length w.entries
 behind-cursor w c core e h next t = go (cursor_at c w) next
   where

@@ -1,4 +1,4 @@
--- A round looks up few things at once: behind each step, where it did so before.
+-- A round looks up few things at once: after each step, where it did so before.
 use Rattle.std.proofs.Common.{◌≡◌, ℕ, ◌≤◌, List, [], length, take, min, refl, sym, subst, arith, Bool, true, false, ℤ, pos, inl, inr}
 use Rattle.std.specs.Prelude.{Option, Some, None, if◌then◌else◌, MatchBool}
 use Rattle.std.specs.Arc.{arc_value}

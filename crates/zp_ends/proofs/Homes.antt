@@ -56,7 +56,7 @@ life-since s who n rises h le since = go (at (store_at s (length s.revisions)) (
       | inr f ↦ ap mod_of f ∙ sym (ap mod_of e) ∙ h
     ]
 
--- ---- a moment behind the attachment
+-- ---- a moment after the attachment
 
 -- what the store had at a revision was put by then
 put-by : (s : Store) (n : ℕ) (kv : Kv) → n ≤ length s.revisions → at (store_at s n) HeadKey ≡ Some kv → kv.mod_revision ≤ℤ pos n
@@ -67,7 +67,7 @@ put-by s n kv le e =
     let most = present-within t (key_bytes HeadKey) kv there in
     omega (arith, ints, most, length-take-le n s.revisions le)
 
--- the store stood then for a state behind the attachment
+-- the store stood then for a state after the attachment
 pub moment-since : (s : Store) (lines : List TranscriptLine) (c : ℕ) (core : Core) (w : Walker) (looked n : ℕ) → is_legal lines ≡ true → pos 1 ≤ℤ core.who.session → Matches lines core w → IsMoment lines c core.who w looked → n ≤ length s.revisions → StandsFor (store_at s n) (state_at lines looked)
     → core.who.mine ≤ℤ pos n
 moment-since s lines c core w looked n legal least m t le stands =

@@ -143,7 +143,7 @@ told-most w c x core h there actor = go (is_served core.stage) refl
     go true e = told-serving w c core x.flight h (h.whole.serving c x core there actor e)
     go false e = omega arith
 
--- ---- behind a step
+-- ---- after a step
 
 -- a step leaves no answer
 acts-none : (c : ℕ) (kind : Option UpdateKind) (behind : List TranscriptLine) (out : List Action) (o : StepOutcome) → answers_of o.flight ≡ 0 → answers_of (fold (acts c kind behind) o out).flight ≡ 0

@@ -274,7 +274,7 @@ module _ (c p : ℕ) (place : ℕ) (own : Attachment) (last : World) (kept : Non
         by (inl s) = stays s
         by (inr q) = waits q.core q.connect (ap (λ (u : Conn). u.actor) (some_is (sym there ∙ q.there)) ∙ q.actor) q.stage
 
-  -- one frame: it is open behind it
+  -- one frame: the connection is open after it
   one-taken : (w mid : World) (x : Conn) (f : List ℕ) (fs : List (List ℕ)) → Grows mid last → IsTaking c w x → (hd : Handed c (frame_lines c (counted_up (x.frames + 1)) (zxid_at w.store) fs) (shown_frame c w x f) (input.Frame f) mid)
       → (y : Conn) × IsTaking c mid y × IsAs x y
   one-taken w mid x f fs g t hd = (y, record { there = there; takes = by t.takes; least = counted }, record { rest = ap (λ (u : Conn). u.stream.rest) (sym is_v); proxy = ap (λ (u : Conn). u.proxy) (sym is_v) })
@@ -341,7 +341,7 @@ module _ (c p : ℕ) (place : ℕ) (own : Attachment) (last : World) (kept : Non
       go true e later r = let z = later r in (z.0, z.1, as-then x one.0 z.0 one.2 z.2)
       go false e later r = absurd (true-false (sym e))
 
-  -- bytes: it is open behind them, or they had a length out of range
+  -- bytes: the connection is open after them, or they had a length out of range
   pub arrives-open : (w w' : World) (bytes : List ℕ) → Grows w last → Grows w' last → IsKept w → attach_of c w.lines ≡ Some (place, own) → IsOpenAt c p w → Arrives c w bytes w' → ((n : ℤ) → IsEndedBadly c n w' → ⊥) → IsOpenAt c p w'
   arrives-open w w' bytes gw g k attached o a unbad = ends a.bad refl a.ends
     where

@@ -134,7 +134,7 @@ closed-roomy w c x o r = leaves-roomy w c x Closed o (λ core e. absurd (closed-
 
 -- ---- a step
 
--- what is denied behind it was denied before, and nothing was asked
+-- what is denied after a step was denied before it, and nothing was asked
 acts-denied : (c : ℕ) (kind : Option UpdateKind) (behind : List TranscriptLine) (out : List Action) (o : StepOutcome) → ends_well out ≡ true → closes out ≡ false → (fold (acts c kind behind) o out).flight ≡ Some Denied → o.flight ≡ Some Denied
 acts-denied c kind behind [] o h k e = e
 acts-denied c kind behind (action.Send bytes ∷ out) o h k e = acts-denied c kind behind out (acts c kind behind o (action.Send bytes)) h k e

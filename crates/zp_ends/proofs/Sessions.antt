@@ -1,4 +1,4 @@
--- A session lives, and is attached to a connection, from that connection's own line on, as long as no line behind it takes it and the
+-- A session lives, and is attached to a connection, from that connection's own line on, as long as no later line takes it and the
 -- connection's frames are mild.
 use Rattle.std.proofs.Common.{◌≡◌, ◌≢◌, ℕ, zero, suc, ◌+◌, ◌-◌, ◌<◌, ◌≤◌, List, ◌++◌, length, take, drop, take-append-drop, refl, sym, ap, ◌∙◌, subst, arith, Bool, true, false, ℤ, pos, inl, inr}
 use Rattle.std.specs.Prelude.{Option, Some, None, ◌&&◌, ◌==◌, ◌⊎◌, ◌≤ℤ◌, is_none, nat_lt, not, option_and_then, slice_get}
@@ -111,7 +111,7 @@ own-update c (Send d b) a h = absurd (none_some h)
 own-update c (Lapse d b) a h = absurd (none_some h)
 own-update c (Close d b) a h = absurd (none_some h)
 
--- right behind its line
+-- right after its line
 new-held : (before : List TranscriptLine) (s : State) (z : ℤ) (c : ℕ) (a : Attachment) → z ≡ a.zxid → IsHeld (updated before s z (NewSession a.session c)) a
 unfolding updated
 new-held before s z c a e = record { session = new_session (opening c before) (connect c before) c z; there = at-insert_same s.sessions a.session (new_session (opening c before) (connect c before) c z); alive = refl; mine = e }
@@ -122,7 +122,7 @@ attach-held before s z c a x there alive e =
     let y : Session = record x { connection = c; attached = z } in
     record { session = y; there = ap (λ o. get (attached_anew s z a.session c o) a.session) there ∙ at-insert_same s.sessions a.session y; alive = alive; mine = e }
 
--- ---- a line behind it
+-- ---- a later line
 
 not-is : (a b : ℤ) → int_eq a b ≡ false → b ≢ a
 not-is a b h e = true-false (sym ((Decides-int_eq a b).1 (sym e)) ∙ h)
@@ -303,7 +303,7 @@ module _ (lines : List TranscriptLine) (c : ℕ) (k : ℕ) (a : Attachment) (leg
       go None e h = subst (λ n. IsHeld (state_at lines n) a) next (subst (λ s. IsHeld s a) (sym (state_at-end lines (k + 1 + m) e)) h)
       go (Some l) e h = subst (λ n. IsHeld (state_at lines n) a) next (subst (λ s. IsHeld s a) (sym (state_at-line lines (k + 1 + m) l e)) (next-held (k + 1 + m) (omega arith) h l e))
 
-  -- at each moment behind its line
+  -- at each moment after its line
   pub held-at : (n : ℕ) → k < n → IsHeld (state_at lines n) a
   held-at n lt = let e : k + 1 + (n - (k + 1)) ≡ n = omega (arith, lt) in subst (λ j. IsHeld (state_at lines j) a) e (held-behind (n - (k + 1)))
 

@@ -6,8 +6,8 @@ use Rattle.zp_ends.specs.Looks.{asks_of, asks_of_all, looks}
 
 -- ---- the asks that are not carried out yet
 
--- Of the request at work: what it looked up before may be of an earlier state, so that its plan fails once, and it is looked up
--- anew. A connect looks, grants or keeps alive, and asks for its session; an attachment may fail once too.
+-- At most so many asks of the request at work. What it looked up before may be of an earlier state, so that its plan fails once,
+-- and it is looked up anew. A connect looks, grants or keeps alive, and asks for its session; an attachment may fail once too.
 abbrev pub asks_in : Stage → ℕ
 asks_in (Unconnected fresh) = 0
 asks_in (Connecting connect) = 4
@@ -19,8 +19,8 @@ asks_in (Committing xid r v p moment) = 2 * looks r + 3
 asks_in (Waiting p) = 0
 asks_in Shut = 0
 
--- and of the frames that wait. A reaper looks at the session, counts its parents and removes it; what it knew before may be of an
--- earlier state
+-- At most so many asks of the request at work and of the frames that wait. A reaper looks at the session, counts its parents and
+-- removes it; what it looked up before may be of an earlier state.
 abbrev pub asks_left : Actor → ℕ
 asks_left (Connection core) = asks_in core.stage + asks_of_all core.waiting
 asks_left (Reaper reap) = 5

@@ -30,7 +30,8 @@ looks_in _ = 0
 
 -- ---- how many asks a frame takes
 
--- a keepalive and the look behind it, each look-up, and the transaction of a plan, where nobody else changes the store meanwhile
+-- at most a keepalive and the look after it, each look-up, and the transaction of a plan, where nobody else changes the store
+-- meanwhile
 abbrev pub asks_of : List ℕ → ℕ
 asks_of bytes = looks_in (read_request bytes) + 4
 

@@ -12,7 +12,7 @@ use Rattle.zt_text.specs.declared.script.Happening.{Happening}
 use Rattle.zp_ends.specs.Bytes.{CountsBytes}
 use Rattle.zp_ends.specs.Lines.{lines_left}
 
--- where it may do so many lines, nothing is left to do
+-- a settle that may do as many lines as are left leaves nothing to do
 abbrev pub SettlesToItsEnd : Type 0
 SettlesToItsEnd = (w w' : World) (c n : ℕ) → IsAccounted w → lines_left c w ≤ n → Settles n c w w' → settling c w' ≡ None
 
@@ -25,7 +25,7 @@ IsWithinBound c w = max_settling c w < max_count
 abbrev pub EndsByItsBound : Type 0
 EndsByItsBound = (w w' : World) (c : ℕ) → IsAccounted w → CountsBytes w → IsWithinBound c w → Settles (max_settling c w) c w w' → settling c w' ≡ None
 
--- the bytes are counted in the first world, and behind each line whose tests pass
+-- the bytes are counted in the first world, and each line whose tests pass keeps them counted
 abbrev pub FirstCounts : Type 0
 FirstCounts = (w : World) → IsFirst w → CountsBytes w
 
@@ -34,6 +34,6 @@ KeepsCounts = (w w' : World) (h : Happening) → Happens w h w' → CountsBytes 
 
 -- ---- in every run
 
--- behind a settle of any script the connection waits for its client alone, with no frame left to answer, or it has ended
+-- in any run, after a settle the connection waits for its client alone, with no frame left to answer, or it has ended
 abbrev pub EverySettleEnds : Type 0
 EverySettleEnds = (hs : List Happening) (ticks : List Tick) (w w' : World) (c : ℕ) (x : Conn) → All OffersSession hs → IsWithinCounts w → Runs hs ticks w → IsWithinBound c w → Happens w (line.Settle c) w' → conn_at c w' ≡ Some x → IsIdle x x.actor

@@ -40,16 +40,16 @@ abbrev pub asks_close : Frame → Bool
 asks_close (Asks xid r) = is_close r
 asks_close _ = false
 
--- behind the answer to such a frame the connection is closed
+-- such a frame closes its connection: after its answer nothing follows
 abbrev pub closes_behind : Frame → Bool
 closes_behind x = asks_close x || refuses (plain_reply no_watches x)
 
--- none of these frames is one
+-- none of these frames closes its connection
 abbrev pub AreLasting : List (List ℕ) → Type 0
 AreLasting [] = Unit {0}
 AreLasting (f ∷ fs) = (closes_behind (read_request f) ≡ false) × AreLasting fs
 
--- nor is the one at work, and no reply that waits is the last one
+-- a connection with a session is in this stage, and neither its frame or request at work closes it nor a reply that waits
 abbrev pub IsLastingIn : Stage → Type 0
 IsLastingIn (Unconnected fresh) = ⊥
 IsLastingIn (Connecting connect) = ⊥
@@ -76,23 +76,24 @@ pub record StaysOpen (c : ℕ) (w : World) : Type 0 where
   pub lasting : IsLasting core
   pub here : IsAttachedHere w.lines core.who
 
--- it has ended, since the store denied what it asked
+-- it has ended, and its line says that its link failed, as where the store denies what it asks
 pub record IsDenied (c : ℕ) (w : World) : Type 0 where
   pub conn : Conn
   pub there : conn_at c w ≡ Some conn
   pub closed : is_closed conn.actor ≡ true
   pub shown : Contains w.lines (Close c (ended.Cause cause.LinkFault))
 
--- however many lines a settle does
+-- it stays so through a settle, however many lines that does, or is denied what it asks
 abbrev pub SettlesOpen : Type 0
 SettlesOpen = (w w' : World) (c n : ℕ) → IsAccounted w → StaysOpen c w → Settles n c w w' → StaysOpen c w' ⊎ IsDenied c w'
 
 -- ---- frames that come
 
--- a whole frame has a header, behind the connect
+-- each of these frames has a header, and none closes its connection
 abbrev pub AreMild : List (List ℕ) → Type 0
 AreMild [] = Unit {0}
 AreMild (f ∷ fs) = (has_header (read_request f) ≡ true) × (closes_behind (read_request f) ≡ false) × AreMild fs
 
+-- bytes that bring such frames and no length out of range leave it so
 abbrev pub FramesLeaveOpen : Type 0
 FramesLeaveOpen = (w w' : World) (c : ℕ) (bytes : List ℕ) → (a : Arrives c w bytes w') → AreMild a.frames → a.bad ≡ None → StaysOpen c w → StaysOpen c w'

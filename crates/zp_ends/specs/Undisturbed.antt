@@ -50,7 +50,7 @@ takes_session id (Update u) = takes_in id u.kind
 takes_session id (Lapse revision other) = int_eq id other
 takes_session id _ = false
 
--- each frame of c behind its connect has a header of 8 bytes, and is no closeSession and no authentication that is refused
+-- each frame of c after its connect has a header of 8 bytes, and is no closeSession and no authentication that is refused
 abbrev pub HasMildFrames : ℕ → List TranscriptLine → Type 0
 HasMildFrames c lines = (k i : ℕ) (zxid : ℤ) (bytes : List ℕ) → slice_get lines k ≡ Some (FrameLine c i zxid bytes) → 1 ≤ i → (has_header (read_request bytes) ≡ true) × (closes_behind (read_request bytes) ≡ false)
 
@@ -60,19 +60,19 @@ bad_at c w = option_and_then (λ (x : Conn). bad_length x.stream.rest) (conn_at 
 
 -- ---- the law
 
--- nothing of all that happened to c since its attachment; these lines led from w, where it was attached, to w'
+-- none of that happened to c since its attachment; these lines of a script led from w, where it was attached, to w'
 pub record IsUndisturbed (c : ℕ) (w : World) (a : IsAttachedAt c w) (hs : List Happening) (w' : World) : Type 0 where
-  -- these lines have no cut, refuse, lag or end of it, and no restart of its proxy
+  -- the lines have no cut, refuse, lag or end of it, and no restart of its proxy
   pub script : All (λ h. ends_conn c a.conn.proxy h ≡ false) hs
-  -- behind its own line, its session has no lapse and no later Attach
+  -- after its own line, its session has no lapse and no later Attach
   pub session : (k : ℕ) (l : TranscriptLine) → a.place < k → slice_get w'.lines k ≡ Some l → takes_session a.own.session l ≡ false
   -- its bytes have no frame without a header, no closeSession and no authentication that is refused, and no length out of range
   pub frames : HasMildFrames c w'.lines
   pub lengths : bad_at c w' ≡ None
-  -- and the store is not at its last revision
+  -- the store is not at its last revision
   pub room : revision w'.store <ℤ last_revision
 
--- then it is open still
+-- in every run, a connection that was attached and is undisturbed since is open still
 abbrev pub UndisturbedStayOpen : Type 0
 UndisturbedStayOpen = (before hs : List Happening) (ticks later : List Tick) (w w' : World) (c : ℕ) → All OffersSession before → All OffersSession hs → IsWithinCounts w' → Runs before ticks w → RunsFrom w hs later w' → (a : IsAttachedAt c w) → IsUndisturbed c w a hs w'
     → is_open_conn (conn_at c w') ≡ true

@@ -1,31 +1,32 @@
-//! The laws of settle. Each function does nothing, and its contract is the law.
+//! The laws of settles and of connections that stay open. Each function does nothing, and its contract is the law.
 
 ghost use Rattle.zp_ends.specs.Staying.{FramesLeaveOpen, SettlesOpen};
 ghost use Rattle.zp_ends.specs.Settling.{EndsByItsBound, EverySettleEnds, FirstCounts, KeepsCounts, SettlesToItsEnd};
 ghost use Rattle.zp_ends.specs.Undisturbed.{UndisturbedStayOpen};
 
-/// A settle comes to its end: where it may do as many lines as are left at most, nothing is left to do behind it. So may it by
-/// its bound, where the bytes of frames are counted and the bound is below 2^64 - 1.
+/// In a world of which all is accounted for, a settle that may do as many lines as are left at most leaves nothing to do. Its own
+/// bound is enough for that, where the bytes of frames are counted and the bound is below 2^64 - 1.
 pub fn a_settle_comes_to_its_end()
     ensures left { SettlesToItsEnd }
     ensures bound { EndsByItsBound }
 {}
 
-/// In the first world, and behind each line of a script, the stream of each connection has counted the bytes of its frames.
+/// In the first world the stream of each connection has counted the bytes of its frames, and each line of a script keeps them
+/// counted.
 pub fn the_bytes_of_frames_are_counted()
     ensures first { FirstCounts }
     ensures happens { KeepsCounts }
 {}
 
-/// In every run of a script, behind a settle the connection waits for its client alone, with no frame left to answer, or it has
-/// ended. The bound is below 2^64 - 1.
+/// In every run of a script, after a settle its connection waits for its client alone, with no frame left to answer, or it has
+/// ended. The settle's bound is below 2^64 - 1.
 pub fn every_settle_ends()
     ensures { EverySettleEnds }
 {}
 
-/// A settle closes no attached connection whose session lives and was attached last by it, and of which no frame asks for its end,
-/// as a closeSession does, and an authentication that is refused: it stays so, unless the store denies what it asks.
-/// Nor do such frames close it when they come.
+/// A settle leaves a connection open whose session lives and was last attached by it, if none of its frames is a closeSession or an
+/// authentication that is refused, unless the store denies what it asks. Nor do such frames close it when they come, if each has a
+/// header and no length among them is out of range.
 pub fn attached_connections_stay_open()
     ensures settle { SettlesOpen }
     ensures frames { FramesLeaveOpen }

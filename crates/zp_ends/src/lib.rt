@@ -1,10 +1,10 @@
-//! What a settle comes to. It carries out and answers what a connection or a reaper has out, and takes the entries that a reply
-//! waits for, until nothing is left: so many lines at most, since nobody else acts meanwhile. A frame asks for a keepalive and a
-//! look at its session, looks up each key that it reads once, and asks for one transaction, whose guards then hold. What was
-//! looked up before the settle may be of an earlier state; then its plan fails once, and all of it is looked up anew.
+//! When a settle ends. It carries out and answers what a connection or a reaper asks, and takes the entries that a reply waits for,
+//! until nothing is left. Nobody else acts meanwhile, so the number of lines that are left has a bound. A frame asks for a
+//! keepalive and a look at its session, looks up each key that it reads once, and asks for one transaction, whose guards then hold.
+//! What was looked up before the settle may be of an earlier state; then its plan fails once, and all of it is looked up anew.
 //!
-//! And when a connection stays open: while its session lives and is attached to it, it ends by its own requests and its bytes
-//! alone, by the lines of a script that end it, or at a full store, which denies what it asks.
+//! When a connection stays open. While its session lives and is attached to it, only these end it: its own requests and bytes, the
+//! lines of a script that end it, and a full store, which denies what it asks.
 //!
 //! In `specs/`: `Looks` (how much a request looks up, and how many asks a frame takes), `Lines` (how many lines are left at
 //! most), `Bytes` (the bytes of the frames that came), `Settling` (a settle ends), `Staying` (a connection stays open at its own

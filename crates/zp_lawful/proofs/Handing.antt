@@ -50,7 +50,7 @@ ended-unbroken lines c e f = apart (sym e ∙ f)
     apart : Ended ≡ Broken → ⊥
     apart g = cc
 
--- of a reaper, or of a connection that is open
+-- a reaper ends, or a connection that is open
 ends-in_step : (lines : List TranscriptLine) (c frames : ℕ) (end : SomeEnd) → closes (progress c lines) ≡ Ended → frames ≤ frames_of c lines → IsInStep (lines ++ Close c end ∷ []) c frames Closed
 ends-in_step lines c frames end e le = (
   ended-unbroken (lines ++ Close c end ∷ []) c (progress-append c lines (Close c end ∷ []) ∙ closes-own c end (progress c lines) ∙ e),
@@ -83,7 +83,7 @@ module _ (lines : List TranscriptLine) (c frames : ℕ) (behind : List Transcrip
   said-in_step : progress c (lines ++ said c ps) ≡ Opened frames
   said-in_step = progress-append c lines (said c ps) ∙ ap (λ p. progress_from c p (said c ps)) opened ∙ said-opened c frames ps
 
-  -- it closes, behind these frames
+  -- it closes, after these frames
   closed-in_step : (end : SomeEnd) → frames_of c (lines ++ ((said c ps ++ behind) ++ Close c end ∷ [])) < max_count → IsInStep (lines ++ ((said c ps ++ behind) ++ Close c end ∷ [])) c frames Closed
   closed-in_step end less =
       let count = in_step-count lines c frames opened in

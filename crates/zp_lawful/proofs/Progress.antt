@@ -55,7 +55,7 @@ progress_from c p (l ∷ ls) = progress_from c (progressed c p l) ls
 abbrev pub progress : ℕ → List TranscriptLine → Progress
 progress c lines = progress_from c Unused lines
 
--- ---- lines behind lines
+-- ---- lines after lines
 
 progress_from-append : (c : ℕ) (p : Progress) (xs ys : List TranscriptLine) → progress_from c p (xs ++ ys) ≡ progress_from c (progress_from c p xs) ys
 progress_from-append c p [] ys = refl

@@ -100,11 +100,11 @@ one-proceeds w w' c v more s now = record {
   tidy = λ t n. one-tidy w w' c v more s t (now t n);
 }
 
--- the same, of a connection that is put into the world
+-- a connection is put into the world, and nothing is shown
 with-changes : (w : World) (c : ℕ) (v : Conn) → ChangesOne w (with_conn w c v) c v []
 with-changes w c v = record { lines = sym (append-nil w.lines); clock = refl; there = conn-here w c v; others = λ d apart. conn-there w c d v apart; aside = λ d apart p. refl }
 
--- it is the same actor with as many frames
+-- in its place comes the same actor with as many frames
 pub alike-proceeds : (w : World) (c : ℕ) (x v : Conn) → conn_at c w ≡ Some x → v.frames ≡ x.frames → v.actor ≡ x.actor → Proceeds w (with_conn w c v)
 alike-proceeds w c x v there frames actor =
     one-proceeds w (with_conn w c v) c v [] (with-changes w c v)

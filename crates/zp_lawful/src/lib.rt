@@ -2,7 +2,7 @@
 //!
 //! `zp_whole` says that a run is one history, in which each connection is served. What a verdict asks besides is that the lines are
 //! formed: each number is opened once, what it receives and is sent stands between its open and its close, and its frames are
-//! numbered from 0 by one. That is kept by each line of a script, for each number apart.
+//! numbered 0, 1, 2 and so on. Each line of a script keeps that, for each number apart.
 //!
 //! In `specs/`: `Lawful`, what the laws say.
 //!
