@@ -26,7 +26,7 @@ pub fn add_line(bytes: &mut Vec<u8>, text: &str) -> Result<()> {
     Ok(())
 }
 
-/// Adds the text behind a count, so many times.
+/// Adds the text after a count as many times as the count says.
 pub fn add_times(bytes: &mut Vec<u8>, rest: &str) -> Result<()> {
     let (count, text) = counted(rest)?;
     for _time in 0..count {
@@ -35,7 +35,7 @@ pub fn add_times(bytes: &mut Vec<u8>, rest: &str) -> Result<()> {
     Ok(())
 }
 
-/// Adds the text behind a count for each number from 1 to it, with the number and so many more where the text has `<MORE>`.
+/// Adds the text after a count for each number from 1 to the count; `<MORE>` in it stands for the sum of the number and MORE.
 pub fn add_each(alloc: Global, bytes: &mut Vec<u8>, rest: &str) -> Result<()> {
     let (count, text) = counted(rest)?;
     for before in 0..count {
@@ -52,7 +52,7 @@ pub fn add_each(alloc: Global, bytes: &mut Vec<u8>, rest: &str) -> Result<()> {
     Ok(())
 }
 
-/// Adds a number and so many more, as 16 hex digits where an `x` stands behind.
+/// Adds the sum of a number and `more`: in decimal, or as 16 hex digits where `more` ends in `x`.
 fn add_number(alloc: Global, bytes: &mut Vec<u8>, counted: u64, more: &str) -> Result<()> {
     match more.strip_suffix("x") {
         Some(more) => {
@@ -66,7 +66,7 @@ fn add_number(alloc: Global, bytes: &mut Vec<u8>, counted: u64, more: &str) -> R
     }
 }
 
-/// A count, and the text behind it.
+/// A count, and the text after it.
 fn counted(rest: &str) -> Result<(u64, &str)> {
     let Some((count, text)) = rest.split_once(' ') else {
         bail!("a count and a text are wanted");

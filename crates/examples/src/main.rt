@@ -30,7 +30,7 @@ use std::rt::Files;
 use zetcd_cmd::zetcd;
 use zx_outside::{MemSink, MemSource};
 
-/// Sizes of the pieces in which an input is handed over: a byte, a prime, and all at once.
+/// The sizes of the pieces in which an input is handed over, in bytes: the least, a prime, and the most that one read takes.
 const SIZES: [u32; 3] = [1, 7, 65_536];
 
 /// What the runs of one folder came to.
@@ -149,13 +149,13 @@ fn judged(rt: &HostRuntime, root: &str, tally: &mut Tally) -> Result<()> {
     Ok(())
 }
 
-/// The verdict on a file's transcript, where it is not that it is lawful.
+/// The verdict on a file's transcript. None: it is lawful.
 fn verdict_in<R: Files + AllocGlobal>(rt: &R, path: &str) -> Result<Option<String>> {
     let text = bytes_of(rt, path)?;
     verdict_on(rt.alloc(), text)
 }
 
-/// The verdict on a transcript, where it is not that it is lawful.
+/// The verdict on a transcript. None: it is lawful.
 fn verdict_on(alloc: Global, text: Vec<u8>) -> Result<Option<String>> {
     let mut source = MemSource::new(text, Vec::new(alloc), Vec::new(alloc));
     let mut out = MemSink::new(alloc, Vec::new(alloc));
