@@ -18,7 +18,7 @@ use Rattle.zp_happen.specs.Effects.{Does, LapsesTo, PutTo, new_conn, new_reap, n
 use Rattle.zp_happen.specs.Entries.{cursor_at, next_entry}
 use Rattle.zp_happen.specs.Faults.{fault, flight_at}
 use Rattle.zp_happen.specs.Handing.{landed}
-use Rattle.zp_happen.specs.Happens.{Effect, Happens, Settles, max_settling, settling}
+use Rattle.zp_happen.specs.Happens.{Effect, Happens, Settles, max_settling}
 use Rattle.zp_happen.specs.Runs.{Runs, RunsFrom, tick_of, world_over}
 use Rattle.zp_happen.specs.Worlds.{Actor, Closed, Conn, Connection, Reaper, World, conn_at}
 use Rattle.zp_lawful.proofs.Arriving.{arrives-proceeds}
@@ -31,7 +31,7 @@ use Rattle.zp_step.specs.Stages.{new_core}
 use Rattle.zp_whole.proofs.Executing.{same-nat}
 use Rattle.zp_whole.proofs.Happenings.{passes}
 use Rattle.zp_whole.proofs.Numbers.{conn-here, conn-there, other-number}
-use Rattle.zp_whole.proofs.Running.{SettlesOn, Settling, answers, carries, enters, number-free, settling-is}
+use Rattle.zp_whole.proofs.Running.{Settling, answers, by-effect, carries, enters, number-free, settles-keep}
 use Rattle.zt_text.specs.declared.script.Happening.TheVariants as line
 use Rattle.zt_text.specs.declared.script.Happening.{Happening}
 use Rattle.zt_text.specs.declared.script.Why.TheVariants as why
@@ -109,33 +109,12 @@ settling-proceeds c w w' _ answers h = delivers-proceed w w' c (flight_at c w) h
 settling-proceeds c w w' _ (enters idle) h = enters-proceed w w' c (next_entry c w) h
 
 settles-proceed : (n c : ℕ) (w w' : World) → Settles n c w w' → Proceeds w w'
-settles-proceed zero c w w' h = proceeds-same w w' h
-settles-proceed (suc n) c w w' h = go (settling c w) refl (λ mid. settles-proceed n c mid w') h
-  where
-    go : (o : Option Happening) → settling c w ≡ o → ((mid : World) → Settles n c mid w' → Proceeds mid w') → SettlesOn n c w w' o → Proceeds w w'
-    go None e later g = proceeds-same w w' g
-    go (Some x) e later (mid, does, rest) = proceeds-then w mid w' (settling-proceeds c w mid x (settling-is c w x e) does) (later mid rest)
+settles-proceed n c w w' h = settles-keep (Proceeds w) c (λ v v' x s does p. proceeds-then w v v' p (settling-proceeds c v v' x s does)) n w w' h (proceeds-same w w refl)
 
 -- ---- each line
 
 effect-proceeds : (w w' : World) (h : Happening) → fault w h ≡ None → Effect w h w' → Proceeds w w'
-effect-proceeds w w' (line.Settle c) possible h = settles-proceed (max_settling c w) c w w' h
-effect-proceeds w w' (line.Open c p id passwd) possible h = does-proceeds w w' (line.Open c p id passwd) possible h
-effect-proceeds w w' (line.Frame c bytes) possible h = does-proceeds w w' (line.Frame c bytes) possible h
-effect-proceeds w w' (line.Arrive c bytes) possible h = does-proceeds w w' (line.Arrive c bytes) possible h
-effect-proceeds w w' (line.Exec c) possible h = does-proceeds w w' (line.Exec c) possible h
-effect-proceeds w w' (line.Answer c) possible h = does-proceeds w w' (line.Answer c) possible h
-effect-proceeds w w' (line.Cut c) possible h = does-proceeds w w' (line.Cut c) possible h
-effect-proceeds w w' (line.Refuse c) possible h = does-proceeds w w' (line.Refuse c) possible h
-effect-proceeds w w' (line.Stray k) possible h = does-proceeds w w' (line.Stray k) possible h
-effect-proceeds w w' (line.Entry c) possible h = does-proceeds w w' (line.Entry c) possible h
-effect-proceeds w w' (line.Lag c) possible h = does-proceeds w w' (line.Lag c) possible h
-effect-proceeds w w' (line.End c) possible h = does-proceeds w w' (line.End c) possible h
-effect-proceeds w w' (line.Restart p) possible h = does-proceeds w w' (line.Restart p) possible h
-effect-proceeds w w' (line.Lapse id) possible h = does-proceeds w w' (line.Lapse id) possible h
-effect-proceeds w w' (line.Foreign k v) possible h = does-proceeds w w' (line.Foreign k v) possible h
-effect-proceeds w w' (line.Reap c p id) possible h = does-proceeds w w' (line.Reap c p id) possible h
-effect-proceeds w w' (line.Tick n) possible h = does-proceeds w w' (line.Tick n) possible h
+effect-proceeds w w' h possible e = by-effect (Proceeds w w') w w' h e (λ c s. settles-proceed (max_settling c w) c w w' s) (λ d. does-proceeds w w' h possible d)
 
 happens-proceeds : (w w' : World) (h : Happening) → Happens w h w' → Proceeds w w'
 happens-proceeds w w' h p = effect-proceeds w w' h p.possible p.effect

@@ -113,61 +113,49 @@ settling-accounted c w w' _ (enters idle) h k = acts-accounted w w' c k (entry-a
 abbrev pub SettlesOn : ℕ → ℕ → World → World → Option Happening → Type 0
 SettlesOn n c w w' o = elim o [ None ↦ w' ≡ w | Some h ↦ (mid : World) × Does w h mid × Settles n c mid w' ]
 
-settles-grown : (n c : ℕ) (w w' : World) → Settles n c w w' → Grown w w'
-settles-grown zero c w w' h = grown-same w w' h
-settles-grown (suc n) c w w' h = go (settling c w) refl (λ mid. settles-grown n c mid w') h
+-- what each line of a settle keeps is kept by the settle
+pub settles-keep : (P : World → Type 0) (c : ℕ) → ((w w' : World) (h : Happening) → Settling c w h → Does w h w' → P w → P w') → (n : ℕ) (w w' : World) → Settles n c w w' → P w → P w'
+settles-keep P c each zero w w' h k = subst P (sym h) k
+settles-keep P c each (suc n) w w' h k = go (settling c w) refl (λ mid r. settles-keep P c each n mid w' r) h
   where
-    go : (o : Option Happening) → settling c w ≡ o → ((mid : World) → Settles n c mid w' → Grown mid w') → SettlesOn n c w w' o → Grown w w'
-    go None e later g = grown-same w w' g
-    go (Some x) e later (mid, does, rest) = grown-then w mid w' (settling-grown c w mid x (settling-is c w x e) does) (later mid rest)
+    go : (o : Option Happening) → settling c w ≡ o → ((mid : World) → Settles n c mid w' → P mid → P w') → SettlesOn n c w w' o → P w'
+    go None e later g = subst P (sym g) k
+    go (Some x) e later (mid, does, rest) = later mid rest (each w mid x (settling-is c w x e) does k)
+
+settles-grown : (n c : ℕ) (w w' : World) → Settles n c w w' → Grown w w'
+settles-grown n c w w' h = settles-keep (Grown w) c (λ v v' x s does g. grown-then w v v' g (settling-grown c v v' x s does)) n w w' h (grown-same w w refl)
 
 settles-accounted : (n c : ℕ) (w w' : World) → Settles n c w w' → IsAccounted w → IsAccounted w'
-settles-accounted zero c w w' h k = subst IsAccounted (sym h) k
-settles-accounted (suc n) c w w' h k = go (settling c w) refl (λ mid r. settles-accounted n c mid w' r) h
-  where
-    go : (o : Option Happening) → settling c w ≡ o → ((mid : World) → Settles n c mid w' → IsAccounted mid → IsAccounted w') → SettlesOn n c w w' o → IsAccounted w'
-    go None e later g = subst IsAccounted (sym g) k
-    go (Some x) e later (mid, does, rest) = later mid rest (settling-accounted c w mid x (settling-is c w x e) does k)
+settles-accounted n c w w' h k = settles-keep IsAccounted c (settling-accounted c) n w w' h k
 
 -- ---- a line whose tests pass
 
+-- a line settles, or it does what `Does` says
+pub by-effect : (P : Type 0) (w w' : World) (h : Happening) → Effect w h w' → ((c : ℕ) → Settles (max_settling c w) c w w' → P) → (Does w h w' → P) → P
+by-effect P w w' (line.Settle c) e settles does = settles c e
+by-effect P w w' (line.Open c p id passwd) e settles does = does e
+by-effect P w w' (line.Frame c bytes) e settles does = does e
+by-effect P w w' (line.Arrive c bytes) e settles does = does e
+by-effect P w w' (line.Exec c) e settles does = does e
+by-effect P w w' (line.Answer c) e settles does = does e
+by-effect P w w' (line.Cut c) e settles does = does e
+by-effect P w w' (line.Refuse c) e settles does = does e
+by-effect P w w' (line.Stray n) e settles does = does e
+by-effect P w w' (line.Entry c) e settles does = does e
+by-effect P w w' (line.Lag c) e settles does = does e
+by-effect P w w' (line.End c) e settles does = does e
+by-effect P w w' (line.Restart p) e settles does = does e
+by-effect P w w' (line.Lapse id) e settles does = does e
+by-effect P w w' (line.Foreign key v) e settles does = does e
+by-effect P w w' (line.Reap c p id) e settles does = does e
+by-effect P w w' (line.Tick n) e settles does = does e
+
 effect-grown : (w w' : World) (h : Happening) → fault w h ≡ None → Effect w h w' → Grown w w'
-effect-grown w w' (line.Settle c) free h = settles-grown (max_settling c w) c w w' h
-effect-grown w w' (line.Open c p id passwd) free h = does-grown w w' (line.Open c p id passwd) free h
-effect-grown w w' (line.Frame c bytes) free h = does-grown w w' (line.Frame c bytes) free h
-effect-grown w w' (line.Arrive c bytes) free h = does-grown w w' (line.Arrive c bytes) free h
-effect-grown w w' (line.Exec c) free h = does-grown w w' (line.Exec c) free h
-effect-grown w w' (line.Answer c) free h = does-grown w w' (line.Answer c) free h
-effect-grown w w' (line.Cut c) free h = does-grown w w' (line.Cut c) free h
-effect-grown w w' (line.Refuse c) free h = does-grown w w' (line.Refuse c) free h
-effect-grown w w' (line.Stray n) free h = does-grown w w' (line.Stray n) free h
-effect-grown w w' (line.Entry c) free h = does-grown w w' (line.Entry c) free h
-effect-grown w w' (line.Lag c) free h = does-grown w w' (line.Lag c) free h
-effect-grown w w' (line.End c) free h = does-grown w w' (line.End c) free h
-effect-grown w w' (line.Restart p) free h = does-grown w w' (line.Restart p) free h
-effect-grown w w' (line.Lapse id) free h = does-grown w w' (line.Lapse id) free h
-effect-grown w w' (line.Foreign key v) free h = does-grown w w' (line.Foreign key v) free h
-effect-grown w w' (line.Reap c p id) free h = does-grown w w' (line.Reap c p id) free h
-effect-grown w w' (line.Tick n) free h = does-grown w w' (line.Tick n) free h
+effect-grown w w' h free e = by-effect (Grown w w') w w' h e (λ c s. settles-grown (max_settling c w) c w w' s) (λ d. does-grown w w' h free d)
 
 effect-accounted : (w w' : World) (h : Happening) → OffersSession h → IsWithinCounts w' → fault w h ≡ None → Effect w h w' → IsAccounted w → IsAccounted w'
-effect-accounted w w' (line.Settle c) offer within free h k = settles-accounted (max_settling c w) c w w' h k
-effect-accounted w w' (line.Open c p id passwd) offer within free h k = does-accounted w w' (line.Open c p id passwd) offer within free h k
-effect-accounted w w' (line.Frame c bytes) offer within free h k = does-accounted w w' (line.Frame c bytes) offer within free h k
-effect-accounted w w' (line.Arrive c bytes) offer within free h k = does-accounted w w' (line.Arrive c bytes) offer within free h k
-effect-accounted w w' (line.Exec c) offer within free h k = does-accounted w w' (line.Exec c) offer within free h k
-effect-accounted w w' (line.Answer c) offer within free h k = does-accounted w w' (line.Answer c) offer within free h k
-effect-accounted w w' (line.Cut c) offer within free h k = does-accounted w w' (line.Cut c) offer within free h k
-effect-accounted w w' (line.Refuse c) offer within free h k = does-accounted w w' (line.Refuse c) offer within free h k
-effect-accounted w w' (line.Stray n) offer within free h k = does-accounted w w' (line.Stray n) offer within free h k
-effect-accounted w w' (line.Entry c) offer within free h k = does-accounted w w' (line.Entry c) offer within free h k
-effect-accounted w w' (line.Lag c) offer within free h k = does-accounted w w' (line.Lag c) offer within free h k
-effect-accounted w w' (line.End c) offer within free h k = does-accounted w w' (line.End c) offer within free h k
-effect-accounted w w' (line.Restart p) offer within free h k = does-accounted w w' (line.Restart p) offer within free h k
-effect-accounted w w' (line.Lapse id) offer within free h k = does-accounted w w' (line.Lapse id) offer within free h k
-effect-accounted w w' (line.Foreign key v) offer within free h k = does-accounted w w' (line.Foreign key v) offer within free h k
-effect-accounted w w' (line.Reap c p id) offer within free h k = does-accounted w w' (line.Reap c p id) offer within free h k
-effect-accounted w w' (line.Tick n) offer within free h k = does-accounted w w' (line.Tick n) offer within free h k
+effect-accounted w w' h offer within free e k =
+    by-effect (IsAccounted w') w w' h e (λ c s. settles-accounted (max_settling c w) c w w' s k) (λ d. does-accounted w w' h offer within free d k)
 
 pub happens-accounted : (w w' : World) (h : Happening) → OffersSession h → IsWithinCounts w' → Happens w h w' → IsAccounted w → IsAccounted w'
 happens-accounted w w' h offer within p k = effect-accounted w w' h offer within p.possible p.effect k
