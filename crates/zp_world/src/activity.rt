@@ -144,7 +144,7 @@ impl Activity {
         self.seat.proxy == proxy && !self.is_closed()
     }
 
-    /// The most asks of the frames so far: 64 each, and one for each byte, since a path that a frame names has a byte at least.
+    /// The most asks of the frames so far: 64 for each and 64 more, and one for each byte, since a path has one at least.
     pub fn max_asks(&self) -> u64
         ensures { result ≡ counted_up (asks_at (Some self.now)) }
     {

@@ -13,7 +13,7 @@ use zk_model::limit::MAX_FRAME;
 use zp_happen::Flight;
 use zt_text::Why;
 
-/// How many of the newest entries a connection can still take.
+/// A connection lags where more entries than this follow its cursor.
 pub(crate) const MAX_KEPT: u64 = 4_096;
 
 impl World {
@@ -175,7 +175,7 @@ impl World {
         }
     }
 
-    /// Why a connection is not told that it lags: it can take no entry, or its next entry is kept.
+    /// Why a connection is not told that it lags: it can take no entry, or no more than [`MAX_KEPT`] follow its cursor.
     pub(crate) fn lag_why(&self, number: u32) -> Option<Why>
         ensures { result ≡ entry_fault number self.now (if_fails (not (is_lagging number self.now)) Why.NoLag None) }
     {
@@ -191,7 +191,7 @@ impl World {
         }
     }
 
-    /// Whether more entries follow the cursor than are kept.
+    /// Whether more than [`MAX_KEPT`] entries follow the cursor.
     fn is_lagging(&self, number: u32) -> bool
         ensures { result ≡ is_lagging number self.now }
     {
