@@ -40,7 +40,7 @@ ends_conn c p (line.End d) = c == d
 ends_conn c p (line.Restart q) = q == p
 ends_conn c p _ = false
 
--- a line of a transcript that takes its session from a connection: the session is attached to another one, or lapses
+-- a line of a transcript that, after the session's own attachment, takes it from its connection: it is attached again, or lapses
 abbrev pub takes_in : ℤ → UpdateKind → Bool
 takes_in id (Attach other c) = int_eq id other
 takes_in id _ = false

@@ -1,6 +1,6 @@
 -- The bytes of a frame in its stream.
 use Rattle.std.specs.Prelude.{ℕ, ◌+◌, List, length}
 
--- with its length before it
+-- how many bytes a frame takes there, with its length before it
 abbrev pub framed_size : List ℕ → ℕ
 framed_size frame = 4 + length frame

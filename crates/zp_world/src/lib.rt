@@ -2,9 +2,9 @@
 //! proxies.
 //!
 //! A [`World`] begins with the store's first update, which makes the root at time 0. What happens is applied to it one
-//! [`Happening`] at a time. An ask, its carrying out and its answer are happenings of their own, so a script may let others happen
-//! in between, lose an answer, or carry out an ask whose asker has ended. Each happening leaves its lines in the world's
-//! transcript, [`World::lines`]. One that is not possible is refused with its cause and changes nothing.
+//! [`Happening`] at a time. That the store carries out an ask and that its answer is delivered are happenings of their own, so a
+//! script may let others happen in between, lose an answer, or carry out an ask whose asker has ended. Each happening leaves its
+//! lines in the world's transcript, [`World::lines`]. One that is not possible is refused with its cause and changes nothing.
 //!
 //! What each line of a script does is said in `zp_happen`: `fault`, which tests it makes, and `Happens`, what it leaves. A
 //! connection is a [`Core`](zp_core::Core), a reaper a [`Reaper`](zs_reap::Reaper): a world only carries what they ask to the
