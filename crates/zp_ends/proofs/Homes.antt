@@ -45,7 +45,7 @@ home-life s lines who serves least h = go (at (present s) (life_key who.session)
     go None e none = absurd (none_some (sym none ∙ lives))
     go (Some kv) e (x, is, attached) = ap mod_of e ∙ sym attached ∙ ap (λ (y : Session). y.attached) (some_is (sym is ∙ lives)) ∙ h.mine
 
--- and at each revision from that attachment on
+-- the record now was put by the attachment; so was the record at each revision from it on
 pub life-since : (s : Store) (who : Who) (n : ℕ) → pos 1 ≤ℤ who.mine → HasLife s who (length s.revisions) → n ≤ length s.revisions → who.mine ≤ℤ pos n → HasLife s who n
 life-since s who n rises h le since = go (at (store_at s (length s.revisions)) (life_key who.session)) refl
   where

@@ -307,7 +307,7 @@ module _ (lines : List TranscriptLine) (c : ℕ) (k : ℕ) (a : Attachment) (leg
   pub held-at : (n : ℕ) → k < n → IsHeld (state_at lines n) a
   held-at n lt = let e : k + 1 + (n - (k + 1)) ≡ n = omega (arith, lt) in subst (λ j. IsHeld (state_at lines j) a) e (held-behind (n - (k + 1)))
 
-  -- and now
+  -- the session lives now, and its last attachment is the connection's own
   pub here-now : IsAttachedHere lines (record { session = a.session; mine = a.zxid })
   here-now =
       let h = held-at (length lines) (slice_get_within lines k (Update the-line.0) the-line.1) in

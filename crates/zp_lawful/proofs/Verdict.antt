@@ -61,7 +61,7 @@ served-fresh lines c s = record {
   walks = λ a e. (let q = s.walks a e in record { choices = q.choices; lawful = q.lawful; fresh = q.fresh });
 }
 
--- ---- each time is within the clock's limit
+-- ---- the time of each update is within the clock's limit
 
 clocks-within : (hs : List Happening) (ticks : List Tick) (w : World) → Runs hs ticks w → IsServedRun ticks w.lines → (k c i now : ℕ) (z : ℤ) → slice_get w.lines k ≡ Some (Update (record { zxid = z; kind = Asked c i now })) → now ≤ max_moment
 clocks-within hs ticks w runs served k c i now z at =
