@@ -28,7 +28,7 @@ pub struct Stepped {
 }
 
 /// The time of each create, delete, setData and multi, in milliseconds.
-const MOMENT: u64 = 1000;
+const TIME: u64 = 1000;
 
 /// The value, or `None` where a number does not fit its field: the row does not go on then.
 fn or_stop<T: Drop>(outcome: Result<T, Fault>) -> Result<Option<T>, Memory> {
@@ -63,7 +63,7 @@ impl Service {
             limit: 40,
             session: 0,
             zxid: 2,
-            moment: 0,
+            time: 0,
         };
         Ok(Service {
             state: State::begun(alloc, begin(alloc, &turn)?, 2),
@@ -257,7 +257,7 @@ impl Service {
             limit: self.limit,
             session: self.session,
             zxid,
-            moment: MOMENT,
+            time: TIME,
         };
         let Some(Some(done)) = or_stop(commit(alloc, self.state.tree(), &turn, request))? else {
             return Ok(None);

@@ -18,7 +18,7 @@ use zn_view::{Arm, Decision, View, Want, Who, ranges};
 use zx_base::{Memory, Seq};
 
 /// The time of a decision is below this, in milliseconds.
-const MOMENTS: u64 = 4_611_686_018_427_387_904;
+const TIMES: u64 = 4_611_686_018_427_387_904;
 
 /// What a single request or a multi needs; `None` for a closeSession, or a session number below 1.
 fn wanted(
@@ -63,7 +63,7 @@ fn decision_alone(
     view: &View,
 ) -> Result<Option<Decision>, Memory>
     requires real { pos 1 ≤ℤ who.session }
-    requires moment { now < 2 ^ 62 }
+    requires time { now < 2 ^ 62 }
 {
     if !is_single(request) || !is_short(request) {
         return Ok(None);
@@ -84,7 +84,7 @@ fn decision_on_parts(
     view: &View,
 ) -> Result<Option<Decision>, Memory>
     requires real { pos 1 ≤ℤ who.session }
-    requires moment { now < 2 ^ 62 }
+    requires time { now < 2 ^ 62 }
 {
     if !are_short(parts) {
         return Ok(None);
@@ -104,7 +104,7 @@ fn decision(
     now: u64,
     view: &View,
 ) -> Result<Option<Decision>, Memory> {
-    if who.session < 1 || MOMENTS <= now {
+    if who.session < 1 || TIMES <= now {
         return Ok(None);
     }
     match request {

@@ -76,13 +76,13 @@ fn rearmed(seen: Seen) -> Told
 
 /// The turn of an update of which only a refusal is asked: that depends on neither its zxid nor its time.
 fn looking(limit: usize, session: i64) -> Turn
-    ensures { (result.limit ≡ limit) × (result.session ≡ session) × (result.zxid ≡ pos 0) × (result.moment ≡ 0) }
+    ensures { (result.limit ≡ limit) × (result.session ≡ session) × (result.zxid ≡ pos 0) × (result.time ≡ 0) }
 {
     Turn {
         limit,
         session,
         zxid: 0,
-        moment: 0,
+        time: 0,
     }
 }
 

@@ -26,8 +26,8 @@ RequestFits t limit session (req.Multi parts) zxid now = StaysWithin t limit ses
 RequestFits t limit session _ zxid now = ⊤
 
 -- the time of an update is below 2^63 milliseconds
-abbrev pub IsMoment : ℕ → Type 0
-IsMoment now = now < 9223372036854775808
+abbrev pub IsTime : ℕ → Type 0
+IsTime now = now < 9223372036854775808
 
 -- one more update can be counted in 64 bits
 abbrev pub IsCountable : State → Type 0
@@ -38,8 +38,8 @@ AskedFits t (Some session) (Some r) zxid now = RequestFits t max_owned session r
 AskedFits t _ _ zxid now = ⊤
 
 abbrev pub UpdateFits : List TranscriptLine → State → ℤ → UpdateKind → Type 0
-UpdateFits before s zxid (Begin now) = IsMoment now
-UpdateFits before s zxid (Asked c i now) = IsMoment now × AskedFits s.tree (session_of c s) (request c i before) zxid now
+UpdateFits before s zxid (Begin now) = IsTime now
+UpdateFits before s zxid (Asked c i now) = IsTime now × AskedFits s.tree (session_of c s) (request c i before) zxid now
 UpdateFits before s zxid _ = ⊤
 
 -- the numbers of a line fit, where s is the state before it and `before` are the lines before it

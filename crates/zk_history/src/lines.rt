@@ -6,7 +6,7 @@ ghost use Rattle.zk_transcript.specs.History.{State, attached_anew, asked_commit
 ghost use Rattle.zk_plain.specs.Faults.{BeyondUnless};
 ghost use Rattle.zk_history.specs.Commits.{commit_of, response_in, response_to};
 ghost use Rattle.zk_history.specs.Pasts.{lines_of};
-ghost use Rattle.zk_history.specs.Fits.{AskedFits, Fits, IsCountable, IsMoment, UpdateFits};
+ghost use Rattle.zk_history.specs.Fits.{AskedFits, Fits, IsCountable, IsTime, UpdateFits};
 
 use crate::ended::session_ended;
 use crate::outcome::Commit;
@@ -25,21 +25,21 @@ use zx_base::{Memory, Seq};
 const MAX_LONG: u64 = 9223372036854775807;
 
 /// Who makes an update, and when. `Beyond` where the time, in milliseconds, is above the greatest `long`.
-fn turn(session: i64, zxid: i64, moment: u64) -> Result<Turn, Fault>
+fn turn(session: i64, zxid: i64, time: u64) -> Result<Turn, Fault>
     ensures limit { IfOk result (λ t. t.limit ≡ 40) }
     ensures session { IfOk result (λ t. t.session ≡ session) }
     ensures zxid { IfOk result (λ t. t.zxid ≡ zxid) }
-    ensures moment { IfOk result (λ t. t.moment ≡ moment) }
-    ensures beyond { IfErr result (BeyondUnless (IsMoment moment)) }
+    ensures time { IfOk result (λ t. t.time ≡ time) }
+    ensures beyond { IfErr result (BeyondUnless (IsTime time)) }
 {
-    if MAX_LONG < moment {
+    if MAX_LONG < time {
         return Err(Fault::Beyond);
     }
     Ok(Turn {
         limit: MAX_OWNED,
         session,
         zxid,
-        moment,
+        time,
     })
 }
 
@@ -53,11 +53,11 @@ fn session_of(connection: u32, state: &State) -> Option<i64>
 
 /// The state after the first update.
 #[tactic(auto, unfolding(zk_transcript::specs::History::updated))]
-fn begun(alloc: Global, zxid: i64, moment: u64) -> Result<State, Fault>
-    ensures ok { IfOk result (λ s. (before : List TranscriptLine) (state : State) → s ≡ updated before state zxid (kind.Begin moment)) }
-    ensures beyond { IfErr result (BeyondUnless (IsMoment moment)) }
+fn begun(alloc: Global, zxid: i64, time: u64) -> Result<State, Fault>
+    ensures ok { IfOk result (λ s. (before : List TranscriptLine) (state : State) → s ≡ updated before state zxid (kind.Begin time)) }
+    ensures beyond { IfErr result (BeyondUnless (IsTime time)) }
 {
-    let tree = begin(alloc, &turn(0, zxid, moment)?)?;
+    let tree = begin(alloc, &turn(0, zxid, time)?)?;
     Ok(State::begun(alloc, tree, zxid))
 }
 
@@ -124,10 +124,10 @@ pub fn planned_commit(
     zxid: i64,
     connection: u32,
     index: u64,
-    moment: u64,
+    time: u64,
 ) -> Result<Option<Commit>, Fault>
-    ensures ok { IfOk result (λ o. option_map (commit_of state.now.tree) o ≡ asked_commit (lines_of before.now) state.now zxid connection index moment) }
-    ensures beyond { IfErr result (BeyondUnless (IsMoment moment × AskedFits state.now.tree (session_of connection state.now) (request connection index (lines_of before.now)) zxid moment)) }
+    ensures ok { IfOk result (λ o. option_map (commit_of state.now.tree) o ≡ asked_commit (lines_of before.now) state.now zxid connection index time) }
+    ensures beyond { IfErr result (BeyondUnless (IsTime time × AskedFits state.now.tree (session_of connection state.now) (request connection index (lines_of before.now)) zxid time)) }
 {
     let Some(session) = session_of(connection, state) else {
         return Ok(None);
@@ -135,7 +135,7 @@ pub fn planned_commit(
     let Some(asked) = before.request(alloc, connection, index)? else {
         return Ok(None);
     };
-    let turn = turn(session, zxid, moment)?;
+    let turn = turn(session, zxid, time)?;
     Ok(commit(alloc, state.tree(), &turn, asked)?)
 }
 
@@ -187,13 +187,13 @@ fn asked(
     zxid: i64,
     connection: u32,
     index: u64,
-    moment: u64,
+    time: u64,
 ) -> Result<Applied, Fault>
-    ensures ok { IfOk result (λ a. a.state ≡ updated (lines_of before.now) state zxid (kind.Asked connection index moment)) }
-    ensures response { IfOk result (λ a. a.response ≡ response_in (lines_of before.now) state zxid (kind.Asked connection index moment)) }
-    ensures beyond { IfErr result (BeyondUnless (IsCountable state × IsMoment moment × AskedFits state.tree (session_of connection state) (request connection index (lines_of before.now)) zxid moment)) }
+    ensures ok { IfOk result (λ a. a.state ≡ updated (lines_of before.now) state zxid (kind.Asked connection index time)) }
+    ensures response { IfOk result (λ a. a.response ≡ response_in (lines_of before.now) state zxid (kind.Asked connection index time)) }
+    ensures beyond { IfErr result (BeyondUnless (IsCountable state × IsTime time × AskedFits state.tree (session_of connection state) (request connection index (lines_of before.now)) zxid time)) }
 {
-    let done = planned_commit(alloc, before, &state, zxid, connection, index, moment)?;
+    let done = planned_commit(alloc, before, &state, zxid, connection, index, time)?;
     Ok(committed(alloc, state, zxid, done)?)
 }
 

@@ -51,7 +51,7 @@ fn commit_single(
     turn: &Turn,
     part: &Part,
 ) -> Result<Option<Commit>, Fault>
-    ensures ok { IfOk result (λ o. option_map (commit_of tree.now) o ≡ commit_single (single tree.now turn.now.limit turn.now.session part.now turn.now.zxid turn.now.moment)) }
+    ensures ok { IfOk result (λ o. option_map (commit_of tree.now) o ≡ commit_single (single tree.now turn.now.limit turn.now.session part.now turn.now.zxid turn.now.time)) }
     ensures beyond { IfErr result (BeyondUnless (PartFits tree.now part.now)) }
 {
     Ok(done(single(alloc, tree, turn, part)?))
@@ -82,8 +82,8 @@ fn commit_several(
     turn: &Turn,
     parts: &[Part],
 ) -> Result<Option<Commit>, Fault>
-    ensures ok { IfOk result (λ o. option_map (commit_of tree.now) o ≡ commit_several (several tree.now turn.now.limit turn.now.session parts.now turn.now.zxid turn.now.moment)) }
-    ensures beyond { IfErr result (BeyondUnless (StaysWithin tree.now turn.now.limit turn.now.session parts.now turn.now.zxid turn.now.moment)) }
+    ensures ok { IfOk result (λ o. option_map (commit_of tree.now) o ≡ commit_several (several tree.now turn.now.limit turn.now.session parts.now turn.now.zxid turn.now.time)) }
+    ensures beyond { IfErr result (BeyondUnless (StaysWithin tree.now turn.now.limit turn.now.session parts.now turn.now.zxid turn.now.time)) }
 {
     Ok(all_done(several(alloc, tree, turn, parts)?))
 }
@@ -97,8 +97,8 @@ pub fn commit(
     turn: &Turn,
     request: Request,
 ) -> Result<Option<Commit>, Fault>
-    ensures ok { IfOk result (λ o. option_map (commit_of tree.now) o ≡ commit tree.now turn.now.limit turn.now.session request turn.now.zxid turn.now.moment) }
-    ensures beyond { IfErr result (BeyondUnless (RequestFits tree.now turn.now.limit turn.now.session request turn.now.zxid turn.now.moment)) }
+    ensures ok { IfOk result (λ o. option_map (commit_of tree.now) o ≡ commit tree.now turn.now.limit turn.now.session request turn.now.zxid turn.now.time) }
+    ensures beyond { IfErr result (BeyondUnless (RequestFits tree.now turn.now.limit turn.now.session request turn.now.zxid turn.now.time)) }
 {
     match request {
         Request::Create {

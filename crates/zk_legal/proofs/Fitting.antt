@@ -6,7 +6,7 @@ use Rattle.std.specs.Ordering.{int_eq}
 use Rattle.std.proofs.lemmas.Bool.{and_parts, cases_Bool}
 use Rattle.std.proofs.lemmas.List.{length-append}
 use Rattle.std.proofs.lemmas.List.Elements.{All-weaker, recursion_from_All}
-use Rattle.zk_model.specs.Limits.{max_frame, max_moment, max_owned}
+use Rattle.zk_model.specs.Limits.{max_frame, max_time, max_owned}
 use Rattle.zk_model.specs.Multi.{data_len}
 use Rattle.zk_model.specs.Znodes.{Tree}
 use Rattle.zk_model.specs.declared.request.Part.{Part}
@@ -28,10 +28,10 @@ use Rattle.zk_transcript.proofs.SoundEffects.{IsShort, IsSmallPart}
 use Rattle.zk_transcript.proofs.SoundHistories.{legal-sound}
 use Rattle.zk_plain.specs.Faults.{IsWhole}
 use Rattle.zk_plain.proofs.WholeTrees.{empty-whole, parts-within, sound-whole}
-use Rattle.zk_history.specs.Fits.{AllFit, AskedFits, Fits, IsMoment, RequestFits, UpdateFits}
+use Rattle.zk_history.specs.Fits.{AllFit, AskedFits, Fits, IsTime, RequestFits, UpdateFits}
 use Rattle.zk_history.proofs.Counts.{change-updates}
 use Rattle.zk_legal.specs.Formed.{frames_of, has_begun, is_formed_line}
-use Rattle.zk_legal.specs.Faults.{IsRunTo, has_event, history_fault, history_fault_from, is_history_line, is_moment, or_empty}
+use Rattle.zk_legal.specs.Faults.{IsRunTo, has_event, history_fault, history_fault_from, is_history_line, is_timely, or_empty}
 use Rattle.zk_legal.proofs.Counting.{frames-few}
 use Rattle.zk_legal.proofs.NoFault.{first, history_fault-none, legal-line, no_fault}
 use Rattle.zk_legal.proofs.WithoutFault.{formed-line, range-line}
@@ -176,17 +176,17 @@ asked-fits before s c i zxid now whole small = by_session (session_of c s) (requ
 
 -- ---- lines
 
-pub moment-fits : (now : ℕ) → now ≤ max_moment → IsMoment now
-moment-fits now le = omega (arith, le)
+pub time-fits : (now : ℕ) → now ≤ max_time → IsTime now
+time-fits now le = omega (arith, le)
 
-kind-fits : (before : List TranscriptLine) (s : State) (zxid : ℤ) (k : UpdateKind) → IsWhole s.tree → is_moment k ≡ true → may_update before s zxid k ≡ true → UpdateFits before s zxid k
+kind-fits : (before : List TranscriptLine) (s : State) (zxid : ℤ) (k : UpdateKind) → IsWhole s.tree → is_timely k ≡ true → may_update before s zxid k ≡ true → UpdateFits before s zxid k
 unfolding may_update
-kind-fits before s zxid (kind.Begin now) whole timely may = moment-fits now (leb-true now max_moment timely)
+kind-fits before s zxid (kind.Begin now) whole timely may = time-fits now (leb-true now max_time timely)
 kind-fits before s zxid (kind.Asked c i now) whole timely may =
     let a = and_parts _ (is_some (asked_commit before s zxid c i now)) may in
     let b = and_parts _ (is_within_parts (request c i before)) a.0 in
     let small = (and_parts _ (is_small_frame (frame c i before)) b.0).1 in
-    (moment-fits now (leb-true now max_moment timely), asked-fits before s c i zxid now whole small)
+    (time-fits now (leb-true now max_time timely), asked-fits before s c i zxid now whole small)
 kind-fits before s zxid (kind.Session id c) whole timely may = tt
 kind-fits before s zxid (kind.Attach id c) whole timely may = tt
 kind-fits before s zxid (kind.Closed id c i) whole timely may = tt
@@ -194,7 +194,7 @@ kind-fits before s zxid (kind.Reaped id) whole timely may = tt
 
 pub line-fits : (before : List TranscriptLine) (s : State) (l : TranscriptLine) → IsRunTo before s → is_history_line before s l ≡ true → Fits before s l
 line-fits before s (line.Update u) run holds =
-    let timely = (and_parts _ (is_moment u.kind) (range-line before s (line.Update u) holds)).1 in
+    let timely = (and_parts _ (is_timely u.kind) (range-line before s (line.Update u) holds)).1 in
     let may = (and_parts (may_update before s u.zxid u.kind) (is_next_zxid s u.zxid) (legal-line before s (line.Update u) holds)).0 in
     kind-fits before s u.zxid u.kind (run-whole before s run) timely may
 line-fits before s (line.Open c p id pw) run holds = tt

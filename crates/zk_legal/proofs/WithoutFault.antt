@@ -16,7 +16,7 @@ use Rattle.zk_transcript.specs.Walks.{Due, packets_from}
 use Rattle.zk_transcript.proofs.Appending.{after-push}
 use Rattle.zk_transcript.proofs.Histories.{first_shown-push}
 use Rattle.zk_legal.specs.Formed.{is_formed_line, is_opened}
-use Rattle.zk_legal.specs.Faults.{history_fault, history_fault_from, is_history_line, is_in_range, is_moment}
+use Rattle.zk_legal.specs.Faults.{history_fault, history_fault_from, is_history_line, is_in_range, is_timely}
 use Rattle.zk_legal.proofs.NoFault.{first, no_fault}
 
 pub formed-line : (before : List TranscriptLine) (s : State) (l : TranscriptLine) → is_history_line before s l ≡ true → is_formed_line before s l ≡ true
@@ -33,7 +33,7 @@ not-below : (z : ℤ) → int_le (pos 0) z ≡ true → pos 0 ≤ℤ z
 not-below z h = grind (arith, nat_tests, ints)
 
 least-zxid : (u : UpdateRec) → is_in_range (line.Update u) ≡ true → pos 0 ≤ℤ u.zxid
-least-zxid u h = not-below u.zxid (and_parts (int_le (pos 0) u.zxid) (is_moment u.kind) h).0
+least-zxid u h = not-below u.zxid (and_parts (int_le (pos 0) u.zxid) (is_timely u.kind) h).0
 
 zxids-from : (before : List TranscriptLine) (s : State) (ls : List TranscriptLine) → history_fault_from before s ls ≡ None → (k : ℕ) (u : UpdateRec) → slice_get ls k ≡ Some (line.Update u) → pos 0 ≤ℤ u.zxid
 zxids-from before s [] none k u at = absurd (cc)

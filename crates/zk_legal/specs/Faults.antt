@@ -1,7 +1,7 @@
 -- The first line at which a transcript is no run of the service: by its form and its updates, and by the order of each
 -- connection's requests.
 use Rattle.std.specs.Prelude.{◌≡◌, ℕ, ◌+◌, Bool, true, false, ◌&&◌, ◌||◌, List, [], ◌∷◌, ◌++◌, length, nat_le, int_le, pos, Option, Some, None, if◌then◌else◌}
-use Rattle.zk_model.specs.Limits.{max_moment}
+use Rattle.zk_model.specs.Limits.{max_time}
 use Rattle.zk_transcript.specs.declared.transcript.UpdateKind.{UpdateKind}
 use Rattle.zk_transcript.specs.declared.transcript.UpdateKind.TheVariants.{Begin, Asked}
 use Rattle.zk_transcript.specs.declared.transcript.TranscriptLine.{TranscriptLine}
@@ -10,10 +10,10 @@ use Rattle.zk_transcript.specs.History.{State, after, nothing_yet, change}
 use Rattle.zk_transcript.specs.Legal.{is_begin, is_legal_line, is_in_order}
 use Rattle.zk_legal.specs.Formed.{has_begun, is_formed_line}
 
-abbrev pub is_moment : UpdateKind → Bool
-is_moment (Begin now) = nat_le now max_moment
-is_moment (Asked c i now) = nat_le now max_moment
-is_moment _ = true
+abbrev pub is_timely : UpdateKind → Bool
+is_timely (Begin now) = nat_le now max_time
+is_timely (Asked c i now) = nat_le now max_time
+is_timely _ = true
 
 -- no lapse, and no update but Begin, comes before the first update
 abbrev pub comes_after_begin : State → TranscriptLine → Bool
@@ -23,7 +23,7 @@ comes_after_begin s _ = true
 
 -- the zxid of an update is not below 0, and its time is one that the clock can show
 abbrev pub is_in_range : TranscriptLine → Bool
-is_in_range (line.Update u) = int_le (pos 0) u.zxid && is_moment u.kind
+is_in_range (line.Update u) = int_le (pos 0) u.zxid && is_timely u.kind
 is_in_range _ = true
 
 -- a run can have written this line after the lines `before`, which lead to the state s

@@ -6,23 +6,23 @@ ghost use Rattle.zk_transcript.specs.History.{change as change_of, nothing_yet};
 ghost use Rattle.zk_transcript.specs.Legal.{is_begin as is_begin_of};
 ghost use Rattle.zk_history.specs.Pasts.{lines_of};
 ghost use Rattle.zk_legal.specs.Counted.{AreCounts};
-ghost use Rattle.zk_legal.specs.Faults.{IsRunTo, comes_after_begin as comes_after_begin_of, has_event as has_event_of, history_fault as history_fault_of, history_fault_from, is_event as is_event_of, is_history_line as is_history_line_of, is_in_range as is_in_range_of, is_moment as is_moment_of};
+ghost use Rattle.zk_legal.specs.Faults.{IsRunTo, comes_after_begin as comes_after_begin_of, has_event as has_event_of, history_fault as history_fault_of, history_fault_from, is_event as is_event_of, is_history_line as is_history_line_of, is_in_range as is_in_range_of, is_timely as is_timely_of};
 
 use crate::counts::Counts;
 use crate::formed::{has_begun, is_formed_line};
 use crate::legal::is_legal_line;
 use std::alloc::Global;
 use zk_history::{Fault, Past, State, change};
-use zk_model::limit::MAX_MOMENT;
+use zk_model::limit::MAX_TIME;
 use zk_transcript::{TranscriptLine, UpdateKind};
 use zx_base::Memory;
 
-fn is_moment(kind: UpdateKind) -> bool
-    ensures { result ≡ is_moment_of kind }
+fn is_timely(kind: UpdateKind) -> bool
+    ensures { result ≡ is_timely_of kind }
 {
     match kind {
-        UpdateKind::Begin { now } => now <= MAX_MOMENT,
-        UpdateKind::Asked { now, .. } => now <= MAX_MOMENT,
+        UpdateKind::Begin { now } => now <= MAX_TIME,
+        UpdateKind::Asked { now, .. } => now <= MAX_TIME,
         _ => true,
     }
 }
@@ -32,7 +32,7 @@ fn is_in_range(line: &TranscriptLine) -> bool
     ensures { result ≡ is_in_range_of line.now }
 {
     match line {
-        TranscriptLine::Update(update) => 0 <= update.zxid && is_moment(update.kind),
+        TranscriptLine::Update(update) => 0 <= update.zxid && is_timely(update.kind),
         _ => true,
     }
 }

@@ -1,13 +1,13 @@
 //! Updates that the service could make in the state before them.
 
 ghost use Rattle.std.specs.Prelude.{◌≡◌, ◌≤◌, ◌&&◌, true, is_none, is_some, IfOk};
-ghost use Rattle.zk_model.specs.Limits.{max_moment};
+ghost use Rattle.zk_model.specs.Limits.{max_time};
 ghost use Rattle.zk_transcript.specs.History.{asked_commit as asked_commit_of, attached_session, frame as frame_of, opening as opening_of, request as request_of, session_at, session_of};
 ghost use Rattle.zk_transcript.specs.Legal.{asks_anew as asks_anew_of, is_close as is_close_of, is_id as is_id_of, is_lapsed as is_lapsed_of, is_legal_line as is_legal_line_of, is_live as is_live_of, is_live_as as is_live_as_of, is_next_zxid as is_next_zxid_of, is_resumed_by as is_resumed_by_of, is_small_frame as is_small_frame_of, is_within_parts as is_within_parts_of, may_attach as may_attach_of, may_update as may_update_of, offers as offers_of};
 ghost use Rattle.zk_transcript.specs.declared.transcript.UpdateKind.TheVariants as kind;
-ghost use Rattle.zk_history.specs.Fits.{AskedFits, IsMoment};
+ghost use Rattle.zk_history.specs.Fits.{AskedFits, IsTime};
 ghost use Rattle.zk_history.specs.Pasts.{lines_of};
-ghost use Rattle.zk_legal.specs.Faults.{IsRunTo, is_in_range, is_moment};
+ghost use Rattle.zk_legal.specs.Faults.{IsRunTo, is_in_range, is_timely};
 
 use std::alloc::Global;
 use zk_history::{Fault, Past, State, planned_commit};
@@ -192,7 +192,7 @@ fn is_committed(
     index: u64,
     now: u64,
 ) -> Result<bool, Memory>
-    requires { IsMoment now × AskedFits state.now.tree (session_of connection state.now) (request_of connection index (lines_of before.now)) zxid now }
+    requires { IsTime now × AskedFits state.now.tree (session_of connection state.now) (request_of connection index (lines_of before.now)) zxid now }
     ensures { IfOk result (λ b. b ≡ is_some (asked_commit_of (lines_of before.now) state.now zxid connection index now)) }
 {
     match planned_commit(alloc, before, state, zxid, connection, index, now) {
@@ -215,7 +215,7 @@ fn may_ask(
     now: u64,
 ) -> Result<bool, Memory>
     requires run { IsRunTo (lines_of before.now) state.now }
-    requires moment { now ≤ max_moment }
+    requires time { now ≤ max_time }
     ensures { IfOk result (λ b. b ≡ may_update_of (lines_of before.now) state.now zxid (kind.Asked connection index now)) }
 {
     let asked = before.request(alloc, connection, index)?;
@@ -263,7 +263,7 @@ fn may_update(
     kind: UpdateKind,
 ) -> Result<bool, Memory>
     requires run { IsRunTo (lines_of before.now) state.now }
-    requires moment { is_moment kind ≡ true }
+    requires time { is_timely kind ≡ true }
     ensures { IfOk result (λ b. b ≡ may_update_of (lines_of before.now) state.now zxid kind) }
 {
     match kind {

@@ -43,8 +43,8 @@ abbrev pub max_timeout : ℤ
 max_timeout = pos 40000
 
 -- the greatest reading of the clock, in milliseconds
-abbrev pub max_moment : ℕ
-max_moment = 9000000000000000
+abbrev pub max_time : ℕ
+max_time = 9000000000000000
 
 -- the greatest long: of session numbers, zxids and revisions
 abbrev pub max_long : ℤ

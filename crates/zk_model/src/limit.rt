@@ -22,4 +22,4 @@ pub const MIN_TIMEOUT: i32 = 4_000;
 pub const MAX_TIMEOUT: i32 = 40_000;
 
 /// The greatest reading of the clock, in milliseconds.
-pub const MAX_MOMENT: u64 = 9_000_000_000_000_000;
+pub const MAX_TIME: u64 = 9_000_000_000_000_000;

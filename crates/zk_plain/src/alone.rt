@@ -28,7 +28,7 @@ pub fn single_create(
     acl: &[Acl],
     flags: i32,
 ) -> Result<Outcome, Fault>
-    ensures ok { IfOk result (λ o. outcome_of tree.now o ≡ single tree.now turn.now.limit turn.now.session (part.Create text.now content.now acl.now flags) turn.now.zxid turn.now.moment) }
+    ensures ok { IfOk result (λ o. outcome_of tree.now o ≡ single tree.now turn.now.limit turn.now.session (part.Create text.now content.now acl.now flags) turn.now.zxid turn.now.time) }
     ensures beyond { IfErr result (BeyondUnless (IsWithin tree.now)) }
 {
     requests::single_create(alloc, &Draft::of(tree), turn, text, content, acl, flags)
@@ -42,7 +42,7 @@ pub fn single_delete(
     text: &[u8],
     version: i32,
 ) -> Result<Outcome, Memory>
-    ensures { IfOk result (λ o. outcome_of tree.now o ≡ single tree.now turn.now.limit turn.now.session (part.Delete text.now version) turn.now.zxid turn.now.moment) }
+    ensures { IfOk result (λ o. outcome_of tree.now o ≡ single tree.now turn.now.limit turn.now.session (part.Delete text.now version) turn.now.zxid turn.now.time) }
 {
     requests::single_delete(alloc, &Draft::of(tree), turn, text, version)
 }
@@ -56,7 +56,7 @@ pub fn single_set_data(
     content: &[u8],
     version: i32,
 ) -> Result<Outcome, Fault>
-    ensures ok { IfOk result (λ o. outcome_of tree.now o ≡ single tree.now turn.now.limit turn.now.session (part.SetData text.now content.now version) turn.now.zxid turn.now.moment) }
+    ensures ok { IfOk result (λ o. outcome_of tree.now o ≡ single tree.now turn.now.limit turn.now.session (part.SetData text.now content.now version) turn.now.zxid turn.now.time) }
     ensures beyond { IfErr result (BeyondUnless (IsWithin tree.now × (length content.now ≤ max_frame))) }
 {
     requests::single_set_data(alloc, &Draft::of(tree), turn, text, content, version)
@@ -70,14 +70,14 @@ pub fn single_check(
     text: &[u8],
     version: i32,
 ) -> Result<Outcome, Memory>
-    ensures { IfOk result (λ o. outcome_of tree.now o ≡ single tree.now turn.now.limit turn.now.session (part.Check text.now version) turn.now.zxid turn.now.moment) }
+    ensures { IfOk result (λ o. outcome_of tree.now o ≡ single tree.now turn.now.limit turn.now.session (part.Check text.now version) turn.now.zxid turn.now.time) }
 {
     requests::single_check(alloc, &Draft::of(tree), turn, text, version)
 }
 
 /// What one create, delete, setData or check makes of the tree.
 pub fn single(alloc: Global, tree: &Tree, turn: &Turn, part: &Part) -> Result<Outcome, Fault>
-    ensures ok { IfOk result (λ o. outcome_of tree.now o ≡ single tree.now turn.now.limit turn.now.session part.now turn.now.zxid turn.now.moment) }
+    ensures ok { IfOk result (λ o. outcome_of tree.now o ≡ single tree.now turn.now.limit turn.now.session part.now turn.now.zxid turn.now.time) }
     ensures beyond { IfErr result (BeyondUnless (IsWithin tree.now × (data_len part.now ≤ max_frame))) }
 {
     requests::single(alloc, &Draft::of(tree), turn, part)

@@ -59,15 +59,15 @@ pub fn is_open_acl(entries: &[Acl]) -> bool
 
 /// A new node, made at this zxid and time.
 fn new_node(alloc: Global, content: &[u8], owner: i64, turn: &Turn) -> Result<Node, Memory>
-    ensures { IfOk result (λ n. n ≡ new_node content.now owner turn.now.zxid turn.now.moment) }
+    ensures { IfOk result (λ n. n ≡ new_node content.now owner turn.now.zxid turn.now.time) }
 {
     Ok(Node {
         content: Bytes::copy_of(alloc, content)?,
         czxid: turn.zxid,
         mzxid: turn.zxid,
         pzxid: turn.zxid,
-        ctime: turn.moment as i64,
-        mtime: turn.moment as i64,
+        ctime: turn.time as i64,
+        mtime: turn.time as i64,
         version: 0,
         creates: 0,
         owner,
@@ -76,7 +76,7 @@ fn new_node(alloc: Global, content: &[u8], owner: i64, turn: &Turn) -> Result<No
 
 /// The tree of a new service: the root alone.
 pub fn begin(alloc: Global, turn: &Turn) -> Result<Tree, Memory>
-    ensures { IfOk result (λ t. t ≡ root_alone turn.now.zxid turn.now.moment) }
+    ensures { IfOk result (λ t. t ≡ root_alone turn.now.zxid turn.now.time) }
 {
     let mut tree = Tree::new(alloc);
     let node = new_node(alloc, b"".as_slice(), 0, turn)?;
@@ -168,7 +168,7 @@ fn create_allowed(
 ) -> Result<Outcome, Fault>
     requires { get tree.now parent ≡ Some up.now }
     ensures ok { IfOk result (λ o. outcome_of tree.now o ≡ Done (results.Created path)
-        (insert (insert tree.now parent (with_child up.now turn.now.zxid)) path (new_node content.now (if is_ephemeral flags then turn.now.session else pos 0) turn.now.zxid turn.now.moment))
+        (insert (insert tree.now parent (with_child up.now turn.now.zxid)) path (new_node content.now (if is_ephemeral flags then turn.now.session else pos 0) turn.now.zxid turn.now.time))
         (trigger.Created path ∷ trigger.Children parent ∷ [])) }
     ensures beyond { IfErr result (BeyondUnless (up.now.creates ≤ℤ max_creates)) }
 {
@@ -189,7 +189,7 @@ fn create_absent(
     path: Path,
 ) -> Result<Outcome, Fault>
     requires { get tree.now parent ≡ Some up.now }
-    ensures ok { IfOk result (λ o. outcome_of tree.now o ≡ create_node tree.now turn.now.limit turn.now.session flags content.now turn.now.zxid turn.now.moment parent up.now path None) }
+    ensures ok { IfOk result (λ o. outcome_of tree.now o ≡ create_node tree.now turn.now.limit turn.now.session flags content.now turn.now.zxid turn.now.time parent up.now path None) }
     ensures beyond { IfErr result (BeyondUnless (up.now.creates ≤ℤ max_creates)) }
 {
     if up.owner != 0 {
@@ -213,7 +213,7 @@ fn create_node(
     path: Path,
 ) -> Result<Outcome, Fault>
     requires { get tree.now parent ≡ Some up.now }
-    ensures ok { IfOk result (λ o. outcome_of tree.now o ≡ create_node tree.now turn.now.limit turn.now.session flags content.now turn.now.zxid turn.now.moment parent up.now path (get tree.now path)) }
+    ensures ok { IfOk result (λ o. outcome_of tree.now o ≡ create_node tree.now turn.now.limit turn.now.session flags content.now turn.now.zxid turn.now.time parent up.now path (get tree.now path)) }
     ensures beyond { IfErr result (BeyondUnless (up.now.creates ≤ℤ max_creates)) }
 {
     match tree.get(path.bytes()) {
@@ -247,7 +247,7 @@ fn create_under(
 ) -> Result<Outcome, Fault>
     requires valid { IsTrue (is_valid (is_sequential flags) text.now) }
     requires named { named ≡ tested (is_sequential flags) text.now }
-    ensures ok { IfOk result (λ o. outcome_of tree.now o ≡ create_under tree.now turn.now.limit turn.now.session flags content.now turn.now.zxid turn.now.moment text.now parent (get tree.now parent)) }
+    ensures ok { IfOk result (λ o. outcome_of tree.now o ≡ create_under tree.now turn.now.limit turn.now.session flags content.now turn.now.zxid turn.now.time text.now parent (get tree.now parent)) }
     ensures beyond { IfErr result (BeyondUnless (IsWithin tree.now)) }
 {
     match tree.get(parent.bytes()) {
@@ -271,7 +271,7 @@ pub fn create(
 ) -> Result<Outcome, Fault>
     requires valid { IsTrue (is_valid (is_sequential flags) text.now) }
     requires named { named ≡ tested (is_sequential flags) text.now }
-    ensures ok { IfOk result (λ o. outcome_of tree.now o ≡ create tree.now turn.now.limit turn.now.session flags content.now turn.now.zxid turn.now.moment text.now) }
+    ensures ok { IfOk result (λ o. outcome_of tree.now o ≡ create tree.now turn.now.limit turn.now.session flags content.now turn.now.zxid turn.now.time text.now) }
     ensures beyond { IfErr result (BeyondUnless (IsWithin tree.now)) }
 {
     match named.parent(alloc)? {

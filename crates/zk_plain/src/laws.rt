@@ -18,5 +18,5 @@ pub fn sound_trees_fit()
 /// From a whole tree, the numbers stay within their fields at each part of a transaction, whoever asks for it, where the data of
 /// each part are no longer than a frame.
 pub fn parts_fit()
-    ensures { (t : Tree) (parts : List Part) → IsWhole t → AllByRecursion (λ p. data_len p ≤ max_frame) parts → (limit : ℕ) (session zxid : ℤ) (moment : ℕ) → StaysWithin t limit session parts zxid moment }
+    ensures { (t : Tree) (parts : List Part) → IsWhole t → AllByRecursion (λ p. data_len p ≤ max_frame) parts → (limit : ℕ) (session zxid : ℤ) (time : ℕ) → StaysWithin t limit session parts zxid time }
 {}

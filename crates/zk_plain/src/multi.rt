@@ -133,9 +133,9 @@ fn parts_of(
     parts: &[Part],
 ) -> Result<Parts, Fault>
     requires { AreTold tree.now writes.items }
-    ensures ok { IfOk result (λ p. parts_as tree.now p ≡ parts_of (written_all tree.now writes.items) turn.now.limit turn.now.session parts.now turn.now.zxid turn.now.moment) }
+    ensures ok { IfOk result (λ p. parts_as tree.now p ≡ parts_of (written_all tree.now writes.items) turn.now.limit turn.now.session parts.now turn.now.zxid turn.now.time) }
     ensures within { IfOk result (λ p. IsPlacedBelow p (length parts.now)) }
-    ensures beyond { IfErr result (BeyondUnless (StaysWithin (written_all tree.now writes.items) turn.now.limit turn.now.session parts.now turn.now.zxid turn.now.moment)) }
+    ensures beyond { IfErr result (BeyondUnless (StaysWithin (written_all tree.now writes.items) turn.now.limit turn.now.session parts.now turn.now.zxid turn.now.time)) }
 {
     match parts {
         [] => Ok(Parts::Passed {
@@ -286,8 +286,8 @@ pub fn several(
     turn: &Turn,
     parts: &[Part],
 ) -> Result<Transaction, Fault>
-    ensures ok { IfOk result (λ s. several_as tree.now s ≡ several tree.now turn.now.limit turn.now.session parts.now turn.now.zxid turn.now.moment) }
-    ensures beyond { IfErr result (BeyondUnless (StaysWithin tree.now turn.now.limit turn.now.session parts.now turn.now.zxid turn.now.moment)) }
+    ensures ok { IfOk result (λ s. several_as tree.now s ≡ several tree.now turn.now.limit turn.now.session parts.now turn.now.zxid turn.now.time) }
+    ensures beyond { IfErr result (BeyondUnless (StaysWithin tree.now turn.now.limit turn.now.session parts.now turn.now.zxid turn.now.time)) }
 {
     match parts_of(alloc, tree, Vec::new(alloc), turn, parts)? {
         Parts::Stopped { place, code } => {

@@ -44,7 +44,7 @@ pub fn single_create(
     acl: &[Acl],
     flags: i32,
 ) -> Result<Outcome, Fault>
-    ensures ok { IfOk result (λ o. outcome_of tree.now o ≡ single tree.now turn.now.limit turn.now.session (part.Create text.now content.now acl.now flags) turn.now.zxid turn.now.moment) }
+    ensures ok { IfOk result (λ o. outcome_of tree.now o ≡ single tree.now turn.now.limit turn.now.session (part.Create text.now content.now acl.now flags) turn.now.zxid turn.now.time) }
     ensures beyond { IfErr result (BeyondUnless (IsWithin tree.now)) }
 {
     let Some(named) = read_path(alloc, text, is_sequential(flags))? else {
@@ -67,7 +67,7 @@ pub fn single_delete(
     text: &[u8],
     version: i32,
 ) -> Result<Outcome, Memory>
-    ensures { IfOk result (λ o. outcome_of tree.now o ≡ single tree.now turn.now.limit turn.now.session (part.Delete text.now version) turn.now.zxid turn.now.moment) }
+    ensures { IfOk result (λ o. outcome_of tree.now o ≡ single tree.now turn.now.limit turn.now.session (part.Delete text.now version) turn.now.zxid turn.now.time) }
 {
     match read_path(alloc, text, false)? {
         Some(path) if path.bytes() != b"/".as_slice() => Ok(delete(
@@ -86,7 +86,7 @@ pub fn single_set_data(
     content: &[u8],
     version: i32,
 ) -> Result<Outcome, Fault>
-    ensures ok { IfOk result (λ o. outcome_of tree.now o ≡ single tree.now turn.now.limit turn.now.session (part.SetData text.now content.now version) turn.now.zxid turn.now.moment) }
+    ensures ok { IfOk result (λ o. outcome_of tree.now o ≡ single tree.now turn.now.limit turn.now.session (part.SetData text.now content.now version) turn.now.zxid turn.now.time) }
     ensures beyond { IfErr result (BeyondUnless (IsWithin tree.now × (length content.now ≤ max_frame))) }
 {
     match read_path(alloc, text, false)? {
@@ -103,7 +103,7 @@ pub fn single_check(
     text: &[u8],
     version: i32,
 ) -> Result<Outcome, Memory>
-    ensures { IfOk result (λ o. outcome_of tree.now o ≡ single tree.now turn.now.limit turn.now.session (part.Check text.now version) turn.now.zxid turn.now.moment) }
+    ensures { IfOk result (λ o. outcome_of tree.now o ≡ single tree.now turn.now.limit turn.now.session (part.Check text.now version) turn.now.zxid turn.now.time) }
 {
     match read_path(alloc, text, false)? {
         Some(path) => Ok(check(alloc, tree, path, version)?),
@@ -113,7 +113,7 @@ pub fn single_check(
 
 /// What one create, delete, setData or check makes of the tree.
 pub fn single(alloc: Global, tree: &Draft, turn: &Turn, part: &Part) -> Result<Outcome, Fault>
-    ensures ok { IfOk result (λ o. outcome_of tree.now o ≡ single tree.now turn.now.limit turn.now.session part.now turn.now.zxid turn.now.moment) }
+    ensures ok { IfOk result (λ o. outcome_of tree.now o ≡ single tree.now turn.now.limit turn.now.session part.now turn.now.zxid turn.now.time) }
     ensures beyond { IfErr result (BeyondUnless (IsWithin tree.now × (data_len part.now ≤ max_frame))) }
 {
     match part {

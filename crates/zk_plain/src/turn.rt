@@ -12,6 +12,6 @@ pub struct Turn {
     /// The zxid that the update gets.
     pub zxid: i64,
     /// The time of the update in milliseconds, since 1970 or on a script's clock.
-    pub moment: u64,
-    ghost clock: { moment < 2 ^ 63 },
+    pub time: u64,
+    ghost clock: { time < 2 ^ 63 },
 }

@@ -32,7 +32,7 @@ fn next_version(version: i32) -> i32
 /// The node with these data, set at this zxid and time.
 fn with_content(alloc: Global, node: &Node, content: &[u8], turn: &Turn) -> Result<Node, Memory>
     requires { node.now.version ≢ pos 2147483647 }
-    ensures { IfOk result (λ n. n ≡ with_content node.now content.now turn.now.zxid turn.now.moment) }
+    ensures { IfOk result (λ n. n ≡ with_content node.now content.now turn.now.zxid turn.now.time) }
 {
     Ok(Node {
         content: Bytes::copy_of(alloc, content)?,
@@ -40,7 +40,7 @@ fn with_content(alloc: Global, node: &Node, content: &[u8], turn: &Turn) -> Resu
         mzxid: turn.zxid,
         pzxid: node.pzxid,
         ctime: node.ctime,
-        mtime: turn.moment as i64,
+        mtime: turn.time as i64,
         version: next_version(node.version),
         creates: node.creates,
         owner: node.owner,
@@ -71,7 +71,7 @@ pub fn set_data(
     content: &[u8],
     version: i32,
 ) -> Result<Outcome, Fault>
-    ensures ok { IfOk result (λ o. outcome_of tree.now o ≡ set_data tree.now path content.now version turn.now.zxid turn.now.moment (get tree.now path)) }
+    ensures ok { IfOk result (λ o. outcome_of tree.now o ≡ set_data tree.now path content.now version turn.now.zxid turn.now.time (get tree.now path)) }
     ensures beyond { IfErr result (BeyondUnless (IsWithin tree.now × (length content.now ≤ max_frame))) }
 {
     let Some(node) = tree.get(path.bytes()) else {

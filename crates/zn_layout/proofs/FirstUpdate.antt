@@ -47,16 +47,16 @@ begin_again = read_key (key_bytes HeadKey) ∷ []
 
 -- ---- each key
 
-moment_within : (now : ℕ) → now < 2 ^ 62 → IsLongCount (pos now)
-moment_within now h = record { least = omega (arith, ints); most = omega (arith, ints) }
+time_within : (now : ℕ) → now < 2 ^ 62 → IsLongCount (pos now)
+time_within now h = record { least = omega (arith, ints); most = omega (arith, ints) }
 
 root_bounds : (now : ℕ) → now < 2 ^ 62 → IsNodeRec (new_record [] now (pos 0))
 root_bounds now h = record {
   czxid = record { least = omega (arith, ints); most = omega (arith, ints) };
   version_least = omega (arith, ints);
   version_most = omega (arith, ints);
-  ctime = moment_within now h;
-  mtime = moment_within now h;
+  ctime = time_within now h;
+  mtime = time_within now h;
   owner = record { least = omega (arith, ints); most = omega (arith, ints) };
   content = omega arith;
 }

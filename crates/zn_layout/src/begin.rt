@@ -57,12 +57,12 @@ fn put_root(alloc: Global, now: u64) -> Result<Act, Memory>
     requires { now < 2 ^ 62 }
     ensures { IfOk result (λ a. a ≡ act_of (put_key (DataKey root) (node_value (new_record [] now (pos 0))))) }
 {
-    let moment = now as i64;
+    let time = now as i64;
     let node = NodeRec {
         czxid: 0,
         version: 0,
-        ctime: moment,
-        mtime: moment,
+        ctime: time,
+        mtime: time,
         owner: 0,
         content: Seq::new(alloc),
     };

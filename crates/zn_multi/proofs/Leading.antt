@@ -127,7 +127,7 @@ unfolding parts_of
 stopped_here t id z now p ps code e =
     ap (λ (o : Outcome). elim o as (λ x. Parts) [ Refused code ↦ StoppedAt 0 code | Done r u g ↦ then_parts r g (touched_by t id p) (parts_of u max_owned id ps z now) ]) e
 
-module _ (who : Who) (now : ℕ) (moment : now < 2 ^ 62) (v near : View) (narrow : IsNarrower near v) (parts : List Part) (s : State) (z : ℤ) (sound : IsSound s) (shown : Shows z near s) (x : Session) (opened : session_at who.session s ≡ Some x) where
+module _ (who : Who) (now : ℕ) (time : now < 2 ^ 62) (v near : View) (narrow : IsNarrower near v) (parts : List Part) (s : State) (z : ℤ) (sound : IsSound s) (shown : Shows z near s) (x : Session) (opened : session_at who.session s ≡ Some x) where
   abbrev Here : List Part → Progress → Type 0
   Here rest old = LeadsTo who.session now v parts rest old s z
 
@@ -137,7 +137,7 @@ module _ (who : Who) (now : ℕ) (moment : now < 2 ^ 62) (v near : View) (narrow
   module _ (p : Part) (ps : List Part) (old mid : Progress) (h : Here (p ∷ ps) old) (saw : IsPartSeen who.session (layered old.over near) p) (short : length (part_content p) ≤ max_frame) where
     stops : (code : ℤ) → IsPartChoice p who now (layered old.over v) (chosen.Refused code) → parts_of s.tree max_owned who.session parts z now ≡ StoppedAt (length old.results) code
     stops code is =
-        let right = (is.chosen (layered old.over near) (layered_narrower old.over near v narrow) saw).right (with_tree s h.tree) z now moment h.sound (over_shown (p ∷ ps) old h) x opened in
+        let right = (is.chosen (layered old.over near) (layered_narrower old.over near v narrow) saw).right (with_tree s h.tree) z now time h.sound (over_shown (p ∷ ps) old h) x opened in
         let refused : single h.tree max_owned who.session p z now ≡ Refused code = subst (λ (c : Choice). IsRight z (with_tree s h.tree) c (single h.tree max_owned who.session p z now)) (refuse_is (is.choice now) code is.is) right in
         h.runs ∙ ap (behind (map (own_result z) old.results) old.triggers old.touched) (stopped_here h.tree who.session z now p ps code refused)
         ∙ ap (λ (n : ℕ). StoppedAt n code) (let e = length-map old.results (own_result z) in omega (arith, e))
@@ -145,7 +145,7 @@ module _ (who : Who) (now : ℕ) (moment : now < 2 ^ 62) (v near : View) (narrow
     module _ (is : IsStep p who now v old mid) where
       pub outcome : IsOutcome z (with_tree s h.tree) is.changes is.told is.draft (single h.tree max_owned who.session p z now)
       outcome = subst (λ (c : Choice). IsRight z (with_tree s h.tree) c (single h.tree max_owned who.session p z now)) is.is
-          ((is.chosen (layered old.over near) (layered_narrower old.over near v narrow) saw).right (with_tree s h.tree) z now moment h.sound (over_shown (p ∷ ps) old h) x opened)
+          ((is.chosen (layered old.over near) (layered_narrower old.over near v narrow) saw).right (with_tree s h.tree) z now time h.sound (over_shown (p ∷ ps) old h) x opened)
 
       pub results_are : map (own_result z) mid.results ≡ map (own_result z) old.results ++ own_result z is.draft ∷ []
       results_are = ap (map (own_result z)) is.results ∙ map-append (own_result z) old.results (is.draft ∷ [])

@@ -3,7 +3,7 @@ pub mod Laid
 pub mod Loads
 pub mod ReadKeys
 pub mod MappedTrees
-pub mod Moments
+pub mod Times
 pub mod Walking
 pub mod Owning
 pub mod Looking

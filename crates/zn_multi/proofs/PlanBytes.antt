@@ -227,8 +227,8 @@ plus_each b f (o ∷ os) = let rest = plus_each b f os in omega (arith, rest, su
 
 -- ---- the plan
 
-module _ (parts : List Part) (who : Who) (v : View) (now : ℕ) (moment : now < 2 ^ 62) (few : length parts ≤ max_parts) (near : View) (narrow : IsNarrower near v) (s : State) (z : ℤ) (sound : IsSound s) (shown : Shows z near s) (x : Session) (opened : session_at who.session s ≡ Some x)
-    (p : Progress) (run : Runs who now v no_progress 0 parts (Passed p)) (made : List Bytes) (st : Stays who now moment v near narrow parts s z sound shown x opened made [] p) where
+module _ (parts : List Part) (who : Who) (v : View) (now : ℕ) (time : now < 2 ^ 62) (few : length parts ≤ max_parts) (near : View) (narrow : IsNarrower near v) (s : State) (z : ℤ) (sound : IsSound s) (shown : Shows z near s) (x : Session) (opened : session_at who.session s ≡ Some x)
+    (p : Progress) (run : Runs who now v no_progress 0 parts (Passed p)) (made : List Bytes) (st : Stays who now time v near narrow parts s z sound shown x opened made [] p) where
   abbrev id : ℤ
   id = who.session
 

@@ -115,7 +115,7 @@ module _ (parts : List Part) (who : Who) (v : View) (now : ℕ) (few : length pa
     is_asked = narrowed-asked who v (read_keys who.session ks) plan changes attached.0 is.guards is.again acts_are
         (once_has (map key_bytes (start_keys who.session ++ ks)) (key_bytes (LeaseKey (nat_abs who.session))) (in_mapped key_bytes (LeaseKey (nat_abs who.session)) (start_keys who.session ++ ks) (inr (inl refl)))) attached.1 attached.2
 
-    pub is_plan : (moment : now < 2 ^ 62) → AreShort parts → (real : pos 1 ≤ℤ who.session) → ((k : Key) → In k (start_keys who.session ++ ks) → HasSeen v k) → (n : ℕ) → AreOwnedLoads v (distinct p.touched) n → nat_lt max_load (sum_by data_len parts + n) ≡ false
+    pub is_plan : (time : now < 2 ^ 62) → AreShort parts → (real : pos 1 ≤ℤ who.session) → ((k : Key) → In k (start_keys who.session ++ ks) → HasSeen v k) → (n : ℕ) → AreOwnedLoads v (distinct p.touched) n → nat_lt max_load (sum_by data_len parts + n) ≡ false
         → IsPlan (req.Multi parts) who now v plan (λ y. finished y plan.draft)
-    is_plan moment short real saw n loads low =
-        carries_out parts who v now moment short real ks read saw p run bounds n loads low laid.changes laid.is laid.once laid.kept plan is.guards acts_are is.draft is.triggers (headless-written v laid.changes laid.kept) attached
+    is_plan time short real saw n loads low =
+        carries_out parts who v now time short real ks read saw p run bounds n loads low laid.changes laid.is laid.once laid.kept plan is.guards acts_are is.draft is.triggers (headless-written v laid.changes laid.kept) attached

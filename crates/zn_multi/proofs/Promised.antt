@@ -42,17 +42,17 @@ pub record IsPromised (parts : List Part) (who : Who) (now : ℕ) (v : View) (pl
   pub good : IsGood (req.Multi parts) who now v plan
   pub once : WritesOnce plan
 
-module _ (parts : List Part) (who : Who) (now : ℕ) (v : View) (moment : now < 2 ^ 62) (short : AreShort parts) (real : pos 1 ≤ℤ who.session) (few : length parts ≤ max_parts) (whole : IsWhole (req.Multi parts) who v) where
+module _ (parts : List Part) (who : Who) (now : ℕ) (v : View) (time : now < 2 ^ 62) (short : AreShort parts) (real : pos 1 ≤ℤ who.session) (few : length parts ≤ max_parts) (whole : IsWhole (req.Multi parts) who v) where
   planned_by : (p : Progress) → Runs who now v no_progress 0 parts (Passed p) → (n : ℕ) → AreOwnedLoads v (distinct p.touched) n → IsAttached who v → (d : Decision) (b : Bool) → nat_lt max_load (sum_by data_len parts + n) ≡ b
       → MatchBool b (d ≡ refused bad_arguments) (IsPlannedAs who.session v parts p d) → IfPlanned (IsPromised parts who now v) d
   planned_by p run n loads attached d true low h = subst (IfPlanned (IsPromised parts who now v)) (sym h) tt
   planned_by p run n loads attached d false low (plan, e, ks, read, is) = subst (IfPlanned (IsPromised parts who now v)) (sym e) (record {
     good = record {
-      commits = is_plan parts who v now few p run ks read plan is attached moment short real (whole_seen parts who v ks read few whole) n loads low;
+      commits = is_plan parts who v now few p run ks read plan is attached time short real (whole_seen parts who v ks read few whole) n loads low;
       asked = is_asked parts who v now few p run ks read plan is attached;
       reads = guards_reads parts who v now few p run ks read plan is;
       writes = (writes_once parts who v now few p run ks read plan is).own;
-      taken = is_taken parts who v now moment short real few ks read (whole_seen parts who v ks read few whole) p run plan is n loads low attached;
+      taken = is_taken parts who v now time short real few ks read (whole_seen parts who v ks read few whole) p run plan is n loads low attached;
     };
     once = writes_once parts who v now few p run ks read plan is;
   })
@@ -78,7 +78,7 @@ module _ (parts : List Part) (who : Who) (now : ℕ) (v : View) (moment : now < 
       let shown : Shows (pos 0) v s = shows (pos 0) v m s stands (told v m (agrees-as_seen v m agrees)) in
       let ks = keys_there (pos 0) v s shown who.session parts (Some []) in
       let near_agrees = narrowed-agrees v (read_keys who.session ks.0) m agrees in
-      by_tree parts who v now moment short real ks.0 ks.1 (whole_seen parts who v ks.0 ks.1 few whole) s (pos 0) sound (shows (pos 0) (narrowed v (read_keys who.session ks.0)) m s stands (told (narrowed v (read_keys who.session ks.0)) m (agrees-as_seen (narrowed v (read_keys who.session ks.0)) m near_agrees))) x (open_session s x lives) d turn)
+      by_tree parts who v now time short real ks.0 ks.1 (whole_seen parts who v ks.0 ks.1 few whole) s (pos 0) sound (shows (pos 0) (narrowed v (read_keys who.session ks.0)) m s stands (told (narrowed v (read_keys who.session ks.0)) m (agrees-as_seen (narrowed v (read_keys who.session ks.0)) m near_agrees))) x (open_session s x lives) d turn)
     where
       open_session : (s : State) (x : Session) → live (session_at who.session s) ≡ Some x → session_at who.session s ≡ Some x
       open_session s x e = open_is (session_at who.session s) x e

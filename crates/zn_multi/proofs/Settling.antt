@@ -65,7 +65,7 @@ use Rattle.zn_multi.specs.declared.carrying.Carried.TheVariants.{Stopped, Passed
 use Rattle.zn_multi.specs.declared.carrying.Progress.{Progress}
 use Rattle.zn_multi.proofs.Laid.{laid-injective}
 use Rattle.zn_multi.proofs.Leading.{parts_stop}
-use Rattle.zn_multi.proofs.Moments.{IsPassed, passed-always, stopped-always}
+use Rattle.zn_multi.proofs.Times.{IsPassed, passed-always, stopped-always}
 use Rattle.zn_multi.proofs.Needs.{once_has}
 use Rattle.zn_multi.proofs.Staying.{IsWritten, Stays, run_seen, run_stays, stays_start}
 use Rattle.zn_multi.proofs.Written.{fits-written}
@@ -116,7 +116,7 @@ open_is (Some y) x = at y.lapsed
     at true e = absurd (cc)
     at false e = e
 
-module _ (parts : List Part) (who : Who) (v : View) (now : ℕ) (moment : now < 2 ^ 62) (short : AreShort parts) (real : pos 1 ≤ℤ who.session) (ks : List Key) (read : AreRead who.session v parts ks) (saw : (k : Key) → In k (start_keys who.session ++ ks) → HasSeen v k) where
+module _ (parts : List Part) (who : Who) (v : View) (now : ℕ) (time : now < 2 ^ 62) (short : AreShort parts) (real : pos 1 ≤ℤ who.session) (ks : List Key) (read : AreRead who.session v parts ks) (saw : (k : Key) → In k (start_keys who.session ++ ks) → HasSeen v k) where
   abbrev id : ℤ
   id = who.session
 
@@ -142,12 +142,12 @@ module _ (parts : List Part) (who : Who) (v : View) (now : ℕ) (moment : now < 
 
   module _ (s : State) (z : ℤ) (sound : IsSound s) (shown : Shows z near s) (x : Session) (opened : session_at id s ≡ Some x) where
     pub stops : (k : ℕ) (code : ℤ) → Runs who now v no_progress 0 parts (Stopped k code) → parts_of s.tree max_owned id parts z now ≡ StoppedAt k code
-    stops k code run = parts_stop who now moment v near narrow parts s z sound shown x opened k code run
-        (run_seen who now moment v near narrow parts s z sound shown x opened parts [] no_progress 0 (Stopped k code) run ks read all_near short (stays_start who now moment v near narrow parts s z sound shown x opened)) short
+    stops k code run = parts_stop who now time v near narrow parts s z sound shown x opened k code run
+        (run_seen who now time v near narrow parts s z sound shown x opened parts [] no_progress 0 (Stopped k code) run ks read all_near short (stays_start who now time v near narrow parts s z sound shown x opened)) short
 
     module _ (p : Progress) (run : Runs who now v no_progress 0 parts (Passed p)) where
-      pub ends : (n : List Bytes) × Stays who now moment v near narrow parts s z sound shown x opened n [] p
-      ends = run_stays who now moment v near narrow parts s z sound shown x opened parts [] no_progress p 0 run ks read all_near short (stays_start who now moment v near narrow parts s z sound shown x opened)
+      pub ends : (n : List Bytes) × Stays who now time v near narrow parts s z sound shown x opened n [] p
+      ends = run_stays who now time v near narrow parts s z sound shown x opened parts [] no_progress p 0 run ks read all_near short (stays_start who now time v near narrow parts s z sound shown x opened)
 
       abbrev led : LeadsTo id now v parts [] p s z
       led = ends.1.leads
@@ -182,10 +182,10 @@ module _ (parts : List Part) (who : Who) (v : View) (now : ℕ) (moment : now < 
       load_is n loads = ap (λ (k : ℕ). sum_by data_len parts + k) (loads_sum (distinct p.touched) n (all_distinct IsCounted p.touched [] (All-nil IsCounted) (all_in IsCounted p.touched counted)) loads)
 
       -- at every zxid and time
-      settled_is : (y : ℤ) (moment : ℕ) (n : ℕ) (b : Bool) → AreOwnedLoads v (distinct p.touched) n → nat_lt max_load (sum_by data_len parts + n) ≡ b → (w : IsPassed p.touched (parts_of s.tree max_owned id parts y moment))
-          → several s.tree max_owned id parts y moment ≡ (if b then Denied bad_arguments else AllDone w.results w.tree w.triggers)
-      settled_is y moment n b loads e w =
-          several_is s.tree max_owned id parts y moment _ w.is
+      settled_is : (y : ℤ) (time : ℕ) (n : ℕ) (b : Bool) → AreOwnedLoads v (distinct p.touched) n → nat_lt max_load (sum_by data_len parts + n) ≡ b → (w : IsPassed p.touched (parts_of s.tree max_owned id parts y time))
+          → several s.tree max_owned id parts y time ≡ (if b then Denied bad_arguments else AllDone w.results w.tree w.triggers)
+      settled_is y time n b loads e w =
+          several_is s.tree max_owned id parts y time _ w.is
           ∙ ap (λ (k : ℕ). if nat_lt max_load k then Denied bad_arguments else AllDone w.results w.tree w.triggers) (sym (load_is n loads))
           ∙ ap (λ c. if c then Denied bad_arguments else AllDone w.results w.tree w.triggers) e
 

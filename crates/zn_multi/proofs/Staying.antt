@@ -94,7 +94,7 @@ pub record IsWritten (near : View) (touched : List ℤ) (c : Change) : Type 0 wh
   pub gone : c.put ≡ None → HasSeen near c.key
   pub nodes : (n : ℕ) → c.key ≡ SessionKey n → (o : ℤ) × In o touched × (n ≡ nat_abs o)
 
-module _ (who : Who) (now : ℕ) (moment : now < 2 ^ 62) (v near : View) (narrow : IsNarrower near v) (parts : List Part) (s : State) (z : ℤ) (sound : IsSound s) (shown : Shows z near s) (x : Session) (opened : session_at who.session s ≡ Some x) where
+module _ (who : Who) (now : ℕ) (time : now < 2 ^ 62) (v near : View) (narrow : IsNarrower near v) (parts : List Part) (s : State) (z : ℤ) (sound : IsSound s) (shown : Shows z near s) (x : Session) (opened : session_at who.session s ≡ Some x) where
   abbrev id : ℤ
   id = who.session
 
@@ -121,17 +121,17 @@ module _ (who : Who) (now : ℕ) (moment : now < 2 ^ 62) (v near : View) (narrow
     tree = h.leads.tree
 
     left : Shows z (layered old.over near) (with_tree s tree)
-    left = over_shown who now moment v near narrow parts s z sound shown x opened (p ∷ ps) old h.leads
+    left = over_shown who now time v near narrow parts s z sound shown x opened (p ∷ ps) old h.leads
 
     pub part_seen : IsPartSeen id (layered old.over near) p
     part_seen form = looks z v near narrow s shown id m tree h.walks old.over left p own next (formed form) saw
 
     module _ (mid : Progress) (short : length (part_content p) ≤ max_frame) (one : IsStep p who now v old mid) where
       abbrev on : LeadsTo id now v parts ps mid s z
-      on = leads_on who now moment v near narrow parts s z sound shown x opened p ps old mid h.leads part_seen short one
+      on = leads_on who now time v near narrow parts s z sound shown x opened p ps old mid h.leads part_seen short one
 
       abbrev made : IsOutcome z (with_tree s tree) one.changes one.told one.draft (single tree max_owned id p z now)
-      made = outcome who now moment v near narrow parts s z sound shown x opened p ps old mid h.leads part_seen short one
+      made = outcome who now time v near narrow parts s z sound shown x opened p ps old mid h.leads part_seen short one
 
       form : form_refusal p ≡ None
       form = at (form_refusal p) refl
@@ -144,7 +144,7 @@ module _ (who : Who) (now : ℕ) (moment : now < 2 ^ 62) (v near : View) (narrow
       goes = subst (Leads (Goes s.tree IsKnown next)) made.done (single_goes s.tree IsKnown m tree h.walks max_owned id z now p next (λ f. finds z v near narrow s shown id m tree h.walks old.over left now p own next (formed f) saw))
 
       touched_is : mid.touched ≡ old.touched ++ touched_by tree id p
-      touched_is = touched_are who now moment v near narrow parts s z sound shown x opened p ps old mid h.leads part_seen short one
+      touched_is = touched_are who now time v near narrow parts s z sound shown x opened p ps old mid h.leads part_seen short one
 
       -- the sessions whose nodes it makes or removes are open
       owner_open : (o : ℤ) (n : Option Node) → ((y : Node) → n ≡ Some y → (y.owner ≡ pos 0 → ⊥) → (k : Session) × (session_at y.owner s ≡ Some k)) → In o (owner_list n) → (y : Session) × (session_at o s ≡ Some y)
@@ -276,7 +276,7 @@ module _ (who : Who) (now : ℕ) (moment : now < 2 ^ 62) (v near : View) (narrow
 
   pub stays_start : Stays [] parts no_progress
   stays_start = record {
-    leads = start who now moment v near narrow parts s z sound shown x opened;
+    leads = start who now time v near narrow parts s z sound shown x opened;
     walks = walks_start s.tree IsKnown (λ p n is. let counted = sound.counted p n is in least_of n _ counted.counted);
     touched = λ o bad. absurd bad;
     written = All-nil (IsWritten near []);

@@ -40,7 +40,7 @@ use Rattle.zn_multi.proofs.PlanBytes.{plan_small}
 use Rattle.zn_multi.proofs.Planned.{acts_are, bounds, laid, writes_once}
 use Rattle.zn_multi.proofs.Settling.{ends, load_is, narrow, open_is}
 
-module _ (parts : List Part) (who : Who) (v : View) (now : ℕ) (moment : now < 2 ^ 62) (short : AreShort parts) (real : pos 1 ≤ℤ who.session) (few : length parts ≤ max_parts) (ks : List Key) (read : AreRead who.session v parts ks) (saw : (k : Key) → In k (start_keys who.session ++ ks) → HasSeen v k)
+module _ (parts : List Part) (who : Who) (v : View) (now : ℕ) (time : now < 2 ^ 62) (short : AreShort parts) (real : pos 1 ≤ℤ who.session) (few : length parts ≤ max_parts) (ks : List Key) (read : AreRead who.session v parts ks) (saw : (k : Key) → In k (start_keys who.session ++ ks) → HasSeen v k)
     (p : Progress) (run : Runs who now v no_progress 0 parts (Passed p)) (plan : Plan) (is : IsPlanOn v (read_keys who.session ks) p plan) (n : ℕ) (loads : AreOwnedLoads v (distinct p.touched) n) (low : nat_lt max_load (sum_by data_len parts + n) ≡ false) (attached : IsAttached who v) where
   abbrev near : View
   near = narrowed v (read_keys who.session ks)
@@ -58,11 +58,11 @@ module _ (parts : List Part) (who : Who) (v : View) (now : ℕ) (moment : now < 
   is_taken s sound of =
       let shown : Shows (pos 0) near s = shows (pos 0) near of.0 s of.1 (told near of.0 (agrees-as_seen near of.0 (narrowed-agrees v (read_keys who.session ks) of.0 of.2))) in
       let x = opened_in s of in
-      let st = ends parts who v now moment short real ks read saw s (pos 0) sound shown x.0 x.1 p run in
+      let st = ends parts who v now time short real ks read saw s (pos 0) sound shown x.0 x.1 p run in
       let changes = laid parts who v now few p run ks read plan is in
       let same = laid-injective changes.changes st.1.leads.changes (sym changes.is ∙ st.1.leads.over) in
       let acts : plan.success ≡ update_acts (written v st.1.leads.changes) plan.triggers = acts_are parts who v now few p run ks read plan is ∙ ap (λ (us : List Change). update_acts (written v us) plan.triggers) same in
-      let load = load_is parts who v now moment short real ks read saw s (pos 0) sound shown x.0 x.1 p run n loads in
+      let load = load_is parts who v now time short real ks read saw s (pos 0) sound shown x.0 x.1 p run n loads in
       let counted : n ≡ sum_by (λ (o : ℤ). path_load s.tree o) (distinct p.touched) = omega (arith, load) in
       small-taken plan (writes_once parts who v now few p run ks read plan is)
-      (plan_small parts who v now moment few near (narrow parts who v now moment short real ks read saw) s (pos 0) sound shown x.0 x.1 p run st.0 st.1 ks read plan is.guards is.again acts is.triggers (bounds parts who v now few p run ks read plan is) n counted within)
+      (plan_small parts who v now time few near (narrow parts who v now time short real ks read saw) s (pos 0) sound shown x.0 x.1 p run st.0 st.1 ks read plan is.guards is.again acts is.triggers (bounds parts who v now few p run ks read plan is) n counted within)

@@ -133,7 +133,7 @@ fn carry_one(
     now: u64,
     view: &View,
 ) -> Result<Carried, Memory>
-    requires moment { now < 2 ^ 62 }
+    requires time { now < 2 ^ 62 }
     requires short { length (part_content part.now) ≤ max_frame }
     requires real { pos 1 ≤ℤ who.session }
     ensures { IfOk result (IsCarriedOne part.now who now view.now passed place) }
@@ -155,7 +155,7 @@ pub(crate) fn carry_out(
     now: u64,
     view: &View,
 ) -> Result<Carried, Memory>
-    requires moment { now < 2 ^ 62 }
+    requires time { now < 2 ^ 62 }
     requires short { AreShort parts.now }
     requires real { pos 1 ≤ℤ who.session }
     ensures { IfOk result (Runs who now view.now no_progress 0 parts.now) }

@@ -63,7 +63,7 @@ fn decide_by_tree(
     now: u64,
     view: &View,
 ) -> Result<Decision, Memory>
-    requires moment { now < 2 ^ 62 }
+    requires time { now < 2 ^ 62 }
     requires short { AreShort parts.now }
     requires real { pos 1 ≤ℤ who.session }
     requires few { length parts.now ≤ max_parts }
@@ -97,7 +97,7 @@ fn decide_by_session(
     now: u64,
     view: &View,
 ) -> Result<Decision, Memory>
-    requires moment { now < 2 ^ 62 }
+    requires time { now < 2 ^ 62 }
     requires short { AreShort parts.now }
     requires real { pos 1 ≤ℤ who.session }
     requires few { length parts.now ≤ max_parts }
@@ -126,7 +126,7 @@ pub fn decide_multi(
     now: u64,
     view: &View,
 ) -> Result<Decision, Memory>
-    requires moment { now < 2 ^ 62 }
+    requires time { now < 2 ^ 62 }
     requires short { AreShort parts.now }
     requires real { pos 1 ≤ℤ who.session }
     requires whole { IsWhole (requests.Multi parts.now) who view.now }

@@ -46,7 +46,7 @@ pub fn parts_are_carried_out_in_turn()
 {}
 
 /// Whether parts are refused, and which of them with which code, depends neither on the zxid nor on the time.
-pub fn refusals_do_not_depend_on_the_moment()
+pub fn refusals_do_not_depend_on_the_time()
     ensures { (t : Tree) (limit : ℕ) (id : ℤ) (parts : List AnyPart) (z y : ℤ) (now other : ℕ) (place : ℕ) (code : ℤ) → parts_of t limit id parts z now ≡ StoppedAt place code → parts_of t limit id parts y other ≡ StoppedAt place code }
 {}
 

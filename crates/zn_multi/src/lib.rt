@@ -22,6 +22,6 @@ mod wanting;
 pub use deciding::decide_multi;
 pub use laws::{
     each_key_is_laid_once, later_parts_see_earlier_ones, parts_are_carried_out_in_turn,
-    refusals_do_not_depend_on_the_moment, what_parts_look_at_was_seen,
+    refusals_do_not_depend_on_the_time, what_parts_look_at_was_seen,
 };
 pub use wanting::needs_multi;

@@ -46,7 +46,7 @@ fn decide_by_tree(
 ) -> Result<Decision, Memory>
     requires single { is_single request.now ≡ true }
     requires real { pos 1 ≤ℤ who.session }
-    requires moment { now < 2 ^ 62 }
+    requires time { now < 2 ^ 62 }
     requires short { length (content_in request.now) ≤ max_frame }
     requires whole { IsWhole request.now who view.now }
     requires formed { plain_request no_watches request.now ≡ None }
@@ -72,7 +72,7 @@ fn decide_by_session(
 ) -> Result<Decision, Memory>
     requires single { is_single request.now ≡ true }
     requires real { pos 1 ≤ℤ who.session }
-    requires moment { now < 2 ^ 62 }
+    requires time { now < 2 ^ 62 }
     requires short { length (content_in request.now) ≤ max_frame }
     requires whole { IsWhole request.now who view.now }
     requires formed { plain_request no_watches request.now ≡ None }
@@ -107,7 +107,7 @@ pub fn decide(
 ) -> Result<Decision, Memory>
     requires single { is_single request.now ≡ true }
     requires real { pos 1 ≤ℤ who.session }
-    requires moment { now < 2 ^ 62 }
+    requires time { now < 2 ^ 62 }
     requires short { length (content_in request.now) ≤ max_frame }
     requires whole { IsWhole request.now who view.now }
     ensures decision { IfOk result (IsDecision request.now who view.now) }

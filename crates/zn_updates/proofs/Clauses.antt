@@ -75,7 +75,7 @@ key_in (want.Children q) = q
 
 -- ---- all that is promised
 
-module _ (r : Request) (p : Part) (who : Who) (v : View) (ks : List Key) (choice : ℕ → Choice) (now : ℕ) (part : IsPart r p) (chosen : IsChosen p who v choice) (moment : now < 2 ^ 62) (real : pos 1 ≤ℤ who.session)
+module _ (r : Request) (p : Part) (who : Who) (v : View) (ks : List Key) (choice : ℕ → Choice) (now : ℕ) (part : IsPart r p) (chosen : IsChosen p who v choice) (time : now < 2 ^ 62) (real : pos 1 ≤ℤ who.session)
     (plain : plain_request no_watches r ≡ None) (d : Decision) (is : d ≡ decision_of (on_keys v ks) (choice now)) where
   pub by_form : IsToldByForm r d
   by_form t e = absurd (none_some (sym plain ∙ e))
@@ -123,7 +123,7 @@ module _ (r : Request) (p : Part) (who : Who) (v : View) (ks : List Key) (choice
       guarded : IsGuarded r who now v plan
       guarded = record {
         commits = λ attached. (
-          narrowed-plan r who now v (map key_bytes ks) plan _ refl (plan_is r p who (on_keys v ks) choice now part near moment cs ts draft made well.triggers real (near_attached attached)),
+          narrowed-plan r who now v (map key_bytes ks) plan _ refl (plan_is r p who (on_keys v ks) choice now part near time cs ts draft made well.triggers real (near_attached attached)),
           narrowed-asked who v (map key_bytes ks) plan cs attached.0 refl refl refl life_inside attached.1 attached.2,
         );
         reads = guards_reads;

@@ -199,14 +199,14 @@ module _ (path content : Bytes) (acl : List Acl) (flags : ℤ) (formed : form_re
 
     -- ---- where the view has what a state has
 
-    module _ (s : State) (z : ℤ) (now : ℕ) (moment : now < 2 ^ 62) (sound : IsSound s) (shown : Shows z v s) (y : Session) (opened : session_at who.session s ≡ Some y) where
+    module _ (s : State) (z : ℤ) (now : ℕ) (time : now < 2 ^ 62) (sound : IsSound s) (shown : Shows z v s) (y : Session) (opened : session_at who.session s ≡ Some y) where
       own_shown : is_ephemeral flags ≡ true → ShowsOwned paths (owned s.tree who.session)
       own_shown is = subst (λ (o : ℤ). ShowsOwned paths (owned s.tree o)) (of_abs who.session long.least)
           (paths-shown z v s shown (nat_abs who.session) y paths (ap (λ (o : ℤ). session_at o s) (of_abs who.session long.least) ∙ opened) (own_seen is))
 
       -- by the node at the path that was looked up
-      right_at : IsRight z s (create_choice p q content now (is_ephemeral flags) who.session x c (is_some (get s.tree p)) paths) (created_under s p q content flags who.session z now sound (made_below q up (creates_in c)) (valid_path (creates_in c)) moment short y opened long (get s.tree q) (get s.tree p))
-      right_at = create_right s p q content flags who.session z now sound (made_below q up (creates_in c)) (valid_path (creates_in c)) moment short y opened long x c paths (get s.tree q) (get s.tree p) refl refl
+      right_at : IsRight z s (create_choice p q content now (is_ephemeral flags) who.session x c (is_some (get s.tree p)) paths) (created_under s p q content flags who.session z now sound (made_below q up (creates_in c)) (valid_path (creates_in c)) time short y opened long (get s.tree q) (get s.tree p))
+      right_at = create_right s p q content flags who.session z now sound (made_below q up (creates_in c)) (valid_path (creates_in c)) time short y opened long x c paths (get s.tree q) (get s.tree p) refl refl
           (data-shown z v s shown q x data_seen) (counts-shown z v s shown q c counts_seen) own_shown
 
       -- the path that the model makes is the one that was looked up
@@ -216,7 +216,7 @@ module _ (path content : Bytes) (acl : List Acl) (flags : ℤ) (formed : form_re
           ap (λ (n : ℕ). if is_sequential flags then sequence_path path n else path) (sym (shown_creates z c u (num_children s.tree q) counted))
 
       under_is : (u : Option Node) → get s.tree q ≡ u → create_under s.tree max_owned who.session flags content z now path q u
-          ≡ created_under s p q content flags who.session z now sound (made_below q up (creates_in c)) (valid_path (creates_in c)) moment short y opened long u (get s.tree p)
+          ≡ created_under s p q content flags who.session z now sound (made_below q up (creates_in c)) (valid_path (creates_in c)) time short y opened long u (get s.tree p)
       under_is None there = refl
       under_is (Some u) there = ap (λ (r : Bytes). create_node s.tree max_owned who.session flags content z now q u r (get s.tree r)) (same_path u there)
 
@@ -228,11 +228,11 @@ module _ (path content : Bytes) (acl : List Acl) (flags : ℤ) (formed : form_re
 
       right_here : IsRight z s (choice now) (single s.tree max_owned who.session (Create path content acl flags) z now)
       right_here = subst (λ (o : Outcome). IsRight z s (choice now) o) (sym (effect_is s who.session z now (Some q) up ∙ under_is (get s.tree q) refl))
-          (subst (λ (k : Choice). IsRight z s k (created_under s p q content flags who.session z now sound (made_below q up (creates_in c)) (valid_path (creates_in c)) moment short y opened long (get s.tree q) (get s.tree p))) (taken_is c refl) right_at)
+          (subst (λ (k : Choice). IsRight z s k (created_under s p q content flags who.session z now sound (made_below q up (creates_in c)) (valid_path (creates_in c)) time short y opened long (get s.tree q) (get s.tree p))) (taken_is c refl) right_at)
 
     pub below_chosen : IsChosen (Create path content acl flags) who v choice
     below_chosen = record {
-      right = λ s z now moment sound shown y opened. right_here s z now moment sound shown y opened;
+      right = λ s z now time sound shown y opened. right_here s z now time sound shown y opened;
       same_code = λ now. create_codes p q content now (is_ephemeral flags) who.session x c (has_found (sees v (DataKey p))) paths;
     }
 
@@ -240,7 +240,7 @@ module _ (path content : Bytes) (acl : List Acl) (flags : ℤ) (formed : form_re
 
   pub root_chosen : (who : Who) (v : View) → parent (named flags path) ≡ None → IsChosen (Create path content acl flags) who v (λ now. Refuse node_exists)
   root_chosen who v none = record {
-    right = λ s z now moment sound shown y opened. effect_is s who.session z now None none;
+    right = λ s z now time sound shown y opened. effect_is s who.session z now None none;
     same_code = λ now. refl;
   }
 
@@ -373,7 +373,7 @@ module _ (path content : Bytes) (acl : List Acl) (flags : ℤ) (formed : form_re
 
   -- ---- what is promised
 
-  module _ (who : Who) (v : View) (now : ℕ) (moment : now < 2 ^ 62) (short : length content ≤ max_frame) (real : pos 1 ≤ℤ who.session) (long : IsLongCount who.session) (d : Decision) where
+  module _ (who : Who) (v : View) (now : ℕ) (time : now < 2 ^ 62) (short : length content ≤ max_frame) (real : pos 1 ≤ℤ who.session) (long : IsLongCount who.session) (d : Decision) where
     module _ (q : Bytes) (up : parent (named flags path) ≡ Some q) (looked_up : (w : SeenCounts) → IsCountsSeen (sees v (CountsKey q)) (Some w) → HasSeen v (DataKey (path_for (is_sequential flags) path (Some w))))
         (is : IsCreate v path content now (is_sequential flags) (is_ephemeral flags) who.session (Some q) d) where
       abbrev node : Bytes
@@ -383,7 +383,7 @@ module _ (path content : Bytes) (acl : List Acl) (flags : ℤ) (formed : form_re
       keys = create_keys (is_sequential flags) (is_ephemeral flags) path (Some q) who.session (creates_seen is.1)
 
       abbrev decided : ℕ → Choice
-      decided at_moment = create_choice node q content at_moment (is_ephemeral flags) who.session is.0 is.1 (has_found (sees v (DataKey node))) is.2
+      decided at_time = create_choice node q content at_time (is_ephemeral flags) who.session is.0 is.1 (has_found (sees v (DataKey node))) is.2
 
       path_seen : (w : SeenCounts) → is.1 ≡ Some w → HasSeen v (DataKey node)
       path_seen w e = subst (λ (o : Option SeenCounts). HasSeen v (DataKey (path_for (is_sequential flags) path o))) (sym e) (looked_up w (subst (λ (o : Option SeenCounts). IsCountsSeen (sees v (CountsKey q)) o) e is.4))
@@ -395,17 +395,17 @@ module _ (path content : Bytes) (acl : List Acl) (flags : ℤ) (formed : form_re
       path_near : (w : SeenCounts) → is.1 ≡ Some w → sees (on_keys v keys) (DataKey node) ≡ sees v (DataKey node)
       path_near w e = near_sees v keys (DataKey node) (subst (λ (o : Option SeenCounts). In (DataKey (path_for (is_sequential flags) path o)) (create_keys (is_sequential flags) (is_ephemeral flags) path (Some q) who.session (creates_seen o))) (sym e) (path-in (is_sequential flags) (is_ephemeral flags) path q who.session w))
 
-      near_taken : (o : Option SeenCounts) → is.1 ≡ o → (at_moment : ℕ) → create_choice node q content at_moment (is_ephemeral flags) who.session is.0 is.1 (has_found (sees (on_keys v keys) (DataKey node))) is.2 ≡ decided at_moment
-      near_taken None e at_moment =
-          subst (λ (o : Option SeenCounts). create_choice node q content at_moment (is_ephemeral flags) who.session is.0 o (has_found (sees (on_keys v keys) (DataKey node))) is.2 ≡ create_choice node q content at_moment (is_ephemeral flags) who.session is.0 o (has_found (sees v (DataKey node))) is.2) (sym e)
-          (same_taken node q content at_moment (is_ephemeral flags) who.session is.0 is.2 _ _)
-      near_taken (Some w) e at_moment = ap (λ (o : Option (Option Kv)). create_choice node q content at_moment (is_ephemeral flags) who.session is.0 is.1 (has_found o) is.2) (path_near w e)
+      near_taken : (o : Option SeenCounts) → is.1 ≡ o → (at_time : ℕ) → create_choice node q content at_time (is_ephemeral flags) who.session is.0 is.1 (has_found (sees (on_keys v keys) (DataKey node))) is.2 ≡ decided at_time
+      near_taken None e at_time =
+          subst (λ (o : Option SeenCounts). create_choice node q content at_time (is_ephemeral flags) who.session is.0 o (has_found (sees (on_keys v keys) (DataKey node))) is.2 ≡ create_choice node q content at_time (is_ephemeral flags) who.session is.0 o (has_found (sees v (DataKey node))) is.2) (sym e)
+          (same_taken node q content at_time (is_ephemeral flags) who.session is.0 is.2 _ _)
+      near_taken (Some w) e at_time = ap (λ (o : Option (Option Kv)). create_choice node q content at_time (is_ephemeral flags) who.session is.0 is.1 (has_found o) is.2) (path_near w e)
 
       near_own : IsOwnPaths (on_keys v keys) (is_ephemeral flags) who.session is.2
       near_own e = subst (λ (o : Option (Option Kv)). IsPathsSeen o is.2) (sym (near_sees v keys (SessionKey (nat_abs who.session)) (own-in (is_sequential flags) (is_ephemeral flags) path q who.session (creates_seen is.1) e))) (is.5 e)
 
       near : IsChosen (Create path content acl flags) who (on_keys v keys) decided
-      near = subst (λ (f : ℕ → Choice). IsChosen (Create path content acl flags) who (on_keys v keys) f) (λ i at_moment. near_taken is.1 refl at_moment i)
+      near = subst (λ (f : ℕ → Choice). IsChosen (Create path content acl flags) who (on_keys v keys) f) (λ i at_time. near_taken is.1 refl at_time i)
           (below_chosen who (on_keys v keys) q up short long is.0 is.1 is.2
           (subst (λ (o : Option (Option Kv)). IsDataSeen o is.0) (sym (near_sees v keys (DataKey q) (inr (inr (inl refl))))) is.3)
           (subst (λ (o : Option (Option Kv)). IsCountsSeen o is.1) (sym (near_sees v keys (CountsKey q) (inr (inr (inr (inl refl)))))) is.4)
@@ -416,9 +416,9 @@ module _ (path content : Bytes) (acl : List Acl) (flags : ℤ) (formed : form_re
 
       below_promised : IsToldByForm (req.Create path content acl flags) d × IsBySound (req.Create path content acl flags) who v d × IfPlanned (IsGuarded (req.Create path content acl flags) who now v) d
       below_promised = (
-        by_form (req.Create path content acl flags) (Create path content acl flags) who v keys decided now create_part chosen moment real create_formed d is.6,
-        by_sound (req.Create path content acl flags) (Create path content acl flags) who v keys decided now create_part chosen moment real create_formed d is.6,
-        planned (req.Create path content acl flags) (Create path content acl flags) who v keys decided now create_part chosen moment real create_formed d is.6 near (plan_keys who v q is.1 up is.4)
+        by_form (req.Create path content acl flags) (Create path content acl flags) who v keys decided now create_part chosen time real create_formed d is.6,
+        by_sound (req.Create path content acl flags) (Create path content acl flags) who v keys decided now create_part chosen time real create_formed d is.6,
+        planned (req.Create path content acl flags) (Create path content acl flags) who v keys decided now create_part chosen time real create_formed d is.6 near (plan_keys who v q is.1 up is.4)
             (create-made node q (valid_path (creates_in is.1)) (made_below q up (creates_in is.1)) v content short now (is_ephemeral flags) who.session is.0 is.1 (has_found (sees v (DataKey node))) is.2 listed),
       )
 
@@ -426,8 +426,8 @@ module _ (path content : Bytes) (acl : List Acl) (flags : ℤ) (formed : form_re
     root_promised none is =
         let chosen = root_chosen who v none in
         let choice : ℕ → Choice = λ _. Refuse node_exists in (
-          by_form (req.Create path content acl flags) (Create path content acl flags) who v [] choice now create_part chosen moment real create_formed d is,
-          by_sound (req.Create path content acl flags) (Create path content acl flags) who v [] choice now create_part chosen moment real create_formed d is,
+          by_form (req.Create path content acl flags) (Create path content acl flags) who v [] choice now create_part chosen time real create_formed d is,
+          by_sound (req.Create path content acl flags) (Create path content acl flags) who v [] choice now create_part chosen time real create_formed d is,
           refused_plans (req.Create path content acl flags) who v v now node_exists d is,
         )
 

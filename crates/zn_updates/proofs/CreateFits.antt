@@ -28,7 +28,7 @@ use Rattle.zn_updates.specs.OwnedLists.{placed}
 use Rattle.zn_updates.specs.Right.{with_tree}
 use Rattle.zn_updates.specs.Seen.{IsSeenCounts, IsSeenPaths}
 use Rattle.zn_updates.proofs.ListBounds.{placed-within}
-use Rattle.zn_updates.proofs.Meanings.{below_most, data_along, data_same, counts_along, nodes_along, int_eq-same, int_eq-apart, session_is, session_other, moment_within, zero_within}
+use Rattle.zn_updates.proofs.Meanings.{below_most, data_along, data_same, counts_along, nodes_along, int_eq-same, int_eq-apart, session_is, session_other, time_within, zero_within}
 use Rattle.zn_updates.proofs.OwnedLists.{owned-create}
 
 pub one_more-within : (c : CountRec) → IsCountRec c → int_eq c.creates max_creates ≡ false → IsCountRec (one_more c)
@@ -38,12 +38,12 @@ one_more-within c within room =
     record { children = omega (arith, ints); fewer = omega (arith, ints); creates = below_most c.creates max_creates within.creates room }
 
 pub new_record-within : (content : Bytes) (now : ℕ) (owner : ℤ) → now < 2 ^ 62 → length content ≤ max_frame → IsLongCount owner → IsNodeRec (new_record content now owner)
-new_record-within content now owner moment short owned = record {
+new_record-within content now owner time short owned = record {
   czxid = zero_within;
   version_least = omega (arith, ints);
   version_most = omega (arith, ints);
-  ctime = moment_within now moment;
-  mtime = moment_within now moment;
+  ctime = time_within now time;
+  mtime = time_within now time;
   owner = owned;
   content = short;
 }
@@ -54,7 +54,7 @@ no_counts-within = record { children = omega (arith, ints); fewer = omega (arith
 module _ (s : State) (p q content : Bytes) (z : ℤ) (now : ℕ) (up : Node) (above : SeenCounts) (owner : ℤ) (sound : IsSound s)
     (below_q : parent p ≡ Some q) (there : get s.tree q ≡ Some up) (none : get s.tree p ≡ None) (plain : up.owner ≡ pos 0)
     (seen : IsSeenCounts z above up (num_children s.tree q)) (room : int_eq above.counts.creates max_creates ≡ false)
-    (moment : now < 2 ^ 62) (short : length content ≤ max_frame) (owner_within : IsLongCount owner) where
+    (time : now < 2 ^ 62) (short : length content ≤ max_frame) (owner_within : IsLongCount owner) where
   abbrev fresh : Node
   fresh = new_node content owner z now
 
@@ -85,7 +85,7 @@ module _ (s : State) (p q content : Bytes) (z : ℤ) (now : ℕ) (up : Node) (ab
   put_new = Some (Some (record { value = node_value (new_record content now owner); lease = pos 0 }))
 
   new_data : IsData (record { value = node_value (new_record content now owner); revision = z; lease = pos 0 }) fresh
-  new_data = record { stored = pos 0; fits = new_record-within content now owner moment short owner_within; value = refl; made = refl; changed = refl; free = refl }
+  new_data = record { stored = pos 0; fits = new_record-within content now owner time short owner_within; value = refl; made = refl; changed = refl; free = refl }
 
   data_fits : (r : Bytes) → KeyFits z (cond (same r p) put_new None) (DataKey r) s new
   data_fits r = elim (same r p) as (λ b. same r p ≡ b → KeyFits z (cond b put_new None) (DataKey r) s new) [

@@ -30,7 +30,7 @@ few_paths : (ps : List Bytes) → nat_le max_owned (length ps) ≡ false → len
 few_paths ps h = grind (arith, nat_tests)
 
 module _ (s : State) (p q content : Bytes) (flags session z : ℤ) (now : ℕ) (sound : IsSound s) (below : parent p ≡ Some q) (valid : IsTrue (is_path p))
-    (moment : now < 2 ^ 62) (short : length content ≤ max_frame) (y : Session) (opened : session_at session s ≡ Some y) (within : IsLongCount session) where
+    (time : now < 2 ^ 62) (short : length content ≤ max_frame) (y : Session) (opened : session_at session s ≡ Some y) (within : IsLongCount session) where
   -- below the node at q, which may be there
   abbrev pub created_under : Option Node → Option Node → Outcome
   created_under None here = Refused no_node
@@ -51,7 +51,7 @@ module _ (s : State) (p q content : Bytes) (flags session z : ℤ) (now : ℕ) (
       persistent = record {
         tree = create_tree s.tree q (with_child up z) p (new_node content (pos 0) z now);
         done = refl;
-        fits = create_fits s p q content z now up above (pos 0) sound below there none plain counted room moment short zero_within refl;
+        fits = create_fits s p q content z now up above (pos 0) sound below there none plain counted room time short zero_within refl;
         headless = refl;
       }
 
@@ -62,7 +62,7 @@ module _ (s : State) (p q content : Bytes) (flags session z : ℤ) (now : ℕ) (
       for_session paths listed false e = record {
         tree = create_tree s.tree q (with_child up z) p (new_node content session z now);
         done = refl;
-        fits = create_owned_fits s p q content z now up above session sound below there none plain counted room moment short within y opened paths listed valid (few_paths paths e);
+        fits = create_owned_fits s p q content z now up above session sound below there none plain counted room time short within y opened paths listed valid (few_paths paths e);
         headless = refl;
       }
 

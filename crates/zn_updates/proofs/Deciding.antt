@@ -100,7 +100,7 @@ living id None None kv e h = absurd (cc)
 living id None (Some y) kv e h = absurd h
 living id (Some x) k kv e h = (x, refl)
 
-module _ (r : Request) (p : Part) (who : Who) (v : View) (choice : ℕ → Choice) (now : ℕ) (part : IsPart r p) (chosen : IsChosen p who v choice) (moment : now < 2 ^ 62)
+module _ (r : Request) (p : Part) (who : Who) (v : View) (choice : ℕ → Choice) (now : ℕ) (part : IsPart r p) (chosen : IsChosen p who v choice) (time : now < 2 ^ 62)
     (cs : List Change) (ts : List Trigger) (draft : PartResult) (is : choice now ≡ Make cs ts draft) (bounds : IsHeadRec ts) (real : pos 1 ≤ℤ who.session) (attached : IsAttached who v) where
   abbrev plan : Plan
   plan = plan_of v cs ts draft
@@ -124,7 +124,7 @@ module _ (r : Request) (p : Part) (who : Who) (v : View) (choice : ℕ → Choic
     limit = ap limit_in opened.1
 
     made : IsOutcome z s cs ts draft (single s.tree max_owned who.session p z now)
-    made = subst (λ (c : Choice). IsRight z s c (single s.tree max_owned who.session p z now)) is (chosen.right s z now moment sound (shows z v m s stands tells) opened.0 opened.1)
+    made = subst (λ (c : Choice). IsRight z s c (single s.tree max_owned who.session p z now)) is (chosen.right s z now time sound (shows z v m s stands tells) opened.0 opened.1)
 
     abbrev commits : Commit
     commits = record { response = response_of (own_result z draft); tree = made.tree; triggers = ts }

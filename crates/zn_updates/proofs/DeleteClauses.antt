@@ -128,7 +128,7 @@ module _ (p : Bytes) (version : ℤ) where
       → IsDataSeen (sees v (DataKey p)) x → IsCountsSeen (sees v (CountsKey p)) c → IsCountsSeen (sees v (CountsKey q)) a → IsOwnerPaths v x paths
       → IsChosen (Delete p version) who v (λ now. delete_choice p q version x c a paths)
   delete_chosen who v q x c a paths valid below data_seen counts_seen above_seen owner_seen = record {
-    right = λ s z now moment sound shown y opened.
+    right = λ s z now time sound shown y opened.
         subst (IsRight z s (delete_choice p q version x c a paths)) (sym (effect_is s who.session z now valid))
         (delete_right s p q version z sound below x c a paths (get s.tree p) refl (data-shown z v s shown p x data_seen) (counts-shown z v s shown p c counts_seen) (counts-shown z v s shown q a above_seen)
         (λ w e owns. by_node v s sound z shown p w paths (get s.tree p) refl
@@ -143,7 +143,7 @@ module _ (p : Bytes) (version : ℤ) where
 
   pub orphan_chosen : (who : Who) (v : View) → (is_path p && not (same p root)) ≡ true → parent p ≡ None → IsChosen (Delete p version) who v (λ now. Refuse no_node)
   orphan_chosen who v valid none = record {
-    right = λ s z now moment sound shown y opened. effect_is s who.session z now valid ∙ no_parent s z sound (not_root p (both _ _ valid).1) none (get s.tree p) refl;
+    right = λ s z now time sound shown y opened. effect_is s who.session z now valid ∙ no_parent s z sound (not_root p (both _ _ valid).1) none (get s.tree p) refl;
     same_code = λ now. refl;
   }
 
@@ -278,7 +278,7 @@ module _ (p : Bytes) (version : ℤ) where
   not_owned : (owner : ℤ) → int_eq owner (pos 0) ≡ false → owner ≡ pos 0 → ⊥
   not_owned owner e is = true≢false (sym ((Decides-int_eq owner (pos 0)).1 is) ∙ e)
 
-  module _ (who : Who) (v : View) (now : ℕ) (valid : (is_path p && not (same p root)) ≡ true) (moment : now < 2 ^ 62) (real : pos 1 ≤ℤ who.session) (d : Decision) where
+  module _ (who : Who) (v : View) (now : ℕ) (valid : (is_path p && not (same p root)) ≡ true) (time : now < 2 ^ 62) (real : pos 1 ≤ℤ who.session) (d : Decision) where
     module _ (q : Bytes) (below : parent p ≡ Some q) (is : IsDelete v p version who.session (Some q) d) where
       path : is_path p ≡ true
       path = (both _ _ valid).0
@@ -287,7 +287,7 @@ module _ (p : Bytes) (version : ℤ) where
       keys = delete_keys p (Some q) who.session (owner_seen is.0)
 
       abbrev choice : ℕ → Choice
-      choice at_moment = delete_choice p q version is.0 is.1 is.2 is.3
+      choice at_time = delete_choice p q version is.0 is.1 is.2 is.3
 
       chosen : IsChosen (Delete p version) who v choice
       chosen = delete_chosen who v q is.0 is.1 is.2 is.3 valid below is.4 is.5 is.6 is.7
@@ -319,17 +319,17 @@ module _ (p : Bytes) (version : ℤ) where
 
       below_promised : IsToldByForm (req.Delete p version) d × IsBySound (req.Delete p version) who v d × IfPlanned (IsGuarded (req.Delete p version) who now v) d
       below_promised = (
-        by_form (req.Delete p version) (Delete p version) who v keys choice now delete_part chosen moment real (delete_valid valid) d is.8,
-        by_sound (req.Delete p version) (Delete p version) who v keys choice now delete_part chosen moment real (delete_valid valid) d is.8,
-        planned (req.Delete p version) (Delete p version) who v keys choice now delete_part chosen moment real (delete_valid valid) d is.8 near (plan_keys who v q is.0 path below is.4) (delete-made p q path below v version is.0 is.1 is.2 is.3 few_paths),
+        by_form (req.Delete p version) (Delete p version) who v keys choice now delete_part chosen time real (delete_valid valid) d is.8,
+        by_sound (req.Delete p version) (Delete p version) who v keys choice now delete_part chosen time real (delete_valid valid) d is.8,
+        planned (req.Delete p version) (Delete p version) who v keys choice now delete_part chosen time real (delete_valid valid) d is.8 near (plan_keys who v q is.0 path below is.4) (delete-made p q path below v version is.0 is.1 is.2 is.3 few_paths),
       )
 
     orphan_promised : parent p ≡ None → d ≡ decision_of v (Refuse no_node) → IsToldByForm (req.Delete p version) d × IsBySound (req.Delete p version) who v d × IfPlanned (IsGuarded (req.Delete p version) who now v) d
     orphan_promised none is =
         let chosen = orphan_chosen who v valid none in
         let choice : ℕ → Choice = λ _. Refuse no_node in (
-          by_form (req.Delete p version) (Delete p version) who v [] choice now delete_part chosen moment real (delete_valid valid) d is,
-          by_sound (req.Delete p version) (Delete p version) who v [] choice now delete_part chosen moment real (delete_valid valid) d is,
+          by_form (req.Delete p version) (Delete p version) who v [] choice now delete_part chosen time real (delete_valid valid) d is,
+          by_sound (req.Delete p version) (Delete p version) who v [] choice now delete_part chosen time real (delete_valid valid) d is,
           refused_plans (req.Delete p version) who v v now no_node d is,
         )
 

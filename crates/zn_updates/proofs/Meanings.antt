@@ -74,8 +74,8 @@ session_other r id e is = eqb-false r (nat_abs id) e (ap nat_abs (sym is))
 
 -- ---- numbers within their bounds
 
-pub moment_within : (now : ℕ) → now < 2 ^ 62 → IsLongCount (pos now)
-moment_within now h = record { least = omega (arith, ints); most = omega (arith, ints) }
+pub time_within : (now : ℕ) → now < 2 ^ 62 → IsLongCount (pos now)
+time_within now h = record { least = omega (arith, ints); most = omega (arith, ints) }
 
 pub zero_within : IsLongCount (pos 0)
 zero_within = record { least = omega (arith, ints); most = omega (arith, ints) }

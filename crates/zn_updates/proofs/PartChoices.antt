@@ -51,7 +51,7 @@ pub refused_part : (p : Part) (who : Who) (now : ℕ) (v : View) (code : ℤ) �
 refused_part p who now v code e = record {
   choice = λ _. Refuse code;
   is = refl;
-  chosen = λ near narrow _. record { right = λ s z at moment sound shown y opened. refused_single s who.session z at p code e; same_code = λ _. refl };
+  chosen = λ near narrow _. record { right = λ s z at time sound shown y opened. refused_single s who.session z at p code e; same_code = λ _. refl };
   kept = tt;
   own = tt;
 }
@@ -75,7 +75,7 @@ module _ (path content : Bytes) (acl : List Acl) (flags : ℤ) (who : Who) (now 
   pub created_root : parent (named flags path) ≡ None → IsPartChoice (part.Create path content acl flags) who now v (chosen.Refused node_exists)
   created_root none = record { choice = λ _. Refuse node_exists; is = refl; chosen = λ near narrow _. root_chosen path content acl flags formed valid who near none; kept = tt; own = tt }
 
-  module _ (q : Bytes) (up : parent (named flags path) ≡ Some q) (short : length content ≤ max_frame) (moment : now < 2 ^ 62) (long : IsLongCount who.session) (c : Chosen) (h : IsCreatedBelow v path content now (is_sequential flags) (is_ephemeral flags) who.session q c) where
+  module _ (q : Bytes) (up : parent (named flags path) ≡ Some q) (short : length content ≤ max_frame) (time : now < 2 ^ 62) (long : IsLongCount who.session) (c : Chosen) (h : IsCreatedBelow v path content now (is_sequential flags) (is_ephemeral flags) who.session q c) where
     abbrev node : Bytes
     node = path_for (is_sequential flags) path h.above
 
@@ -113,7 +113,7 @@ module _ (path content : Bytes) (acl : List Acl) (flags : ℤ) (who : Who) (now 
       choice = chosen_on v;
       is = h.is;
       chosen = λ near narrow saw. chosen_near near narrow (saw formed q up);
-      kept = create-kept node q (valid_path path content acl flags formed valid (creates_in h.above)) (parent_is_valid path content acl flags formed valid q up) content short now moment who.session long (is_ephemeral flags) h.up h.above _ h.paths h.above_within h.paths_within;
+      kept = create-kept node q (valid_path path content acl flags formed valid (creates_in h.above)) (parent_is_valid path content acl flags formed valid q up) content short now time who.session long (is_ephemeral flags) h.up h.above _ h.paths h.above_within h.paths_within;
       own = create-own who.session v (part.Create path content acl flags) node q content (valid_path path content acl flags formed valid (creates_in h.above)) (parent_is_valid path content acl flags formed valid q up) now (omega arith) (is_ephemeral flags) who.session h.up h.above _ h.paths (λ e. (e, refl));
     }
 
@@ -146,7 +146,7 @@ module _ (p : Bytes) (version : ℤ) (who : Who) (now : ℕ) (v : View) (valid :
 
 pub set_part : (p content : Bytes) (version : ℤ) (who : Who) (now : ℕ) (v : View) → IsTrue (is_path p) → length content ≤ max_frame → now < 2 ^ 62 → (x : Option SeenData) (k : Option SeenCounts) → IfData v p x → IfCounts v p k → IfSome x IsDataWithin
     → (c : Chosen) → c ≡ chosen_of (set_data_choice p content version now x k) → IsPartChoice (part.SetData p content version) who now v c
-set_part p content version who now v valid short moment x k data_is counts_are within c is = record {
+set_part p content version who now v valid short time x k data_is counts_are within c is = record {
   choice = λ at. set_data_choice p content version at x k;
   is = is;
   chosen = λ near narrow saw.
@@ -154,7 +154,7 @@ set_part p content version who now v valid short moment x k data_is counts_are w
       set_chosen p content version who near x k valid short
       (near_is near v narrow (λ (o : Option (Option Kv)). IsDataSeen o x) (DataKey p) here.0 data_is)
       (near_is near v narrow (λ (o : Option (Option Kv)). IsCountsSeen o k) (CountsKey p) here.1 counts_are);
-  kept = set-kept p content now valid moment short version x k within;
+  kept = set-kept p content now valid time short version x k within;
   own = set-own who.session v p content version now x k valid;
 }
 
@@ -195,7 +195,7 @@ checked_part p version who now v valid x data_is c is = record {
   choice = λ _. check_choice version x;
   is = is;
   chosen = λ near narrow saw. record {
-    right = λ s z at moment sound shown y opened.
+    right = λ s z at time sound shown y opened.
         subst (IsRight z s (check_choice version x)) (sym (checked_single s who.session z at p version valid)) (check_right z s version x (get s.tree p) (data-shown z near s shown p x
         (near_is near v narrow (λ (o : Option (Option Kv)). IsDataSeen o x) (DataKey p) (saw (check_refusal p version true valid)) data_is)));
     same_code = λ _. refl;

@@ -56,14 +56,14 @@ one_kept c h = All-cons IsKeptChange c [] h (All-nil IsKeptChange)
 
 -- ---- setData
 
-module _ (p content : Bytes) (now : ℕ) (valid : IsTrue (is_path p)) (moment : now < 2 ^ 62) (short : length content ≤ max_frame) where
+module _ (p content : Bytes) (now : ℕ) (valid : IsTrue (is_path p)) (time : now < 2 ^ 62) (short : length content ≤ max_frame) where
   pub set-kept : (version : ℤ) (x : Option SeenData) (c : Option SeenCounts) → IfSome x IsDataWithin → IfChanges AreKept (set_data_choice p content version now x c)
   unfolding set_data_choice
   set-kept version None c within = tt
   set-kept version (Some x) None within = tt
   set-kept version (Some x) (Some c) within =
       changes_cond AreKept (not (matches version x.version)) _ _ (λ _. tt) (λ _. changes_cond AreKept (int_eq x.version max_version) _ _ (λ _. tt) (λ room. record {
-        changes = one_kept _ (of_kind (DataKey p) (node_value (set_record x content now)) (set_record x content now, (set_record-within x content now within room moment short, refl)) (data_apart p));
+        changes = one_kept _ (of_kind (DataKey p) (node_value (set_record x content now)) (set_record x content now, (set_record-within x content now within room time short, refl)) (data_apart p));
         few = omega arith;
         triggers = one_trigger (Changed p) valid;
         told = omega arith;
@@ -98,11 +98,11 @@ module _ (p q : Bytes) (valid : IsTrue (is_path p)) (also : IsTrue (is_path q)) 
 
   -- ---- create
 
-  module _ (content : Bytes) (short : length content ≤ max_frame) (now : ℕ) (moment : now < 2 ^ 62) where
+  module _ (content : Bytes) (short : length content ≤ max_frame) (now : ℕ) (time : now < 2 ^ 62) where
     created_kept : (owner : ℤ) (above : CountRec) (more : List Change) → IsLongCount owner → IsCountRec above → int_eq above.creates max_creates ≡ false → All IsKeptChange more → All IsKeptChange (create_changes p q content now owner above ++ more)
     created_kept owner above more long within room rest =
         All-cons IsKeptChange (put_key (DataKey p) (node_value (new_record content now owner))) (put_key (CountsKey p) (counts_value no_counts) ∷ put_key (CountsKey q) (counts_value (one_more above)) ∷ more)
-        (of_kind (DataKey p) (node_value (new_record content now owner)) (new_record content now owner, (new_record-within content now owner moment short long, refl)) (data_apart p))
+        (of_kind (DataKey p) (node_value (new_record content now owner)) (new_record content now owner, (new_record-within content now owner time short long, refl)) (data_apart p))
         (All-cons IsKeptChange (put_key (CountsKey p) (counts_value no_counts)) (put_key (CountsKey q) (counts_value (one_more above)) ∷ more) (kept_counts p no_counts no_counts-within)
         (All-cons IsKeptChange (put_key (CountsKey q) (counts_value (one_more above))) more (kept_counts q (one_more above) (one_more-within above within room)) rest))
 

@@ -85,9 +85,9 @@ module _ (p content : Bytes) (version : ℤ) where
   pub set_chosen : (who : Who) (v : View) (x : Option SeenData) (c : Option SeenCounts) → is_path p ≡ true → length content ≤ max_frame → IsDataSeen (sees v (DataKey p)) x → IsCountsSeen (sees v (CountsKey p)) c
       → IsChosen (SetData p content version) who v (λ now. set_data_choice p content version now x c)
   set_chosen who v x c valid short data_seen counts_seen = record {
-    right = λ s z now moment sound shown y opened.
+    right = λ s z now time sound shown y opened.
         subst (IsRight z s (set_data_choice p content version now x c)) (sym (effect_is s who.session z now valid))
-        (set_data_right s p content version z now moment short x c (get s.tree p) refl (data-shown z v s shown p x data_seen) (counts-shown z v s shown p c counts_seen));
+        (set_data_right s p content version z now time short x c (get s.tree p) refl (data-shown z v s shown p x data_seen) (counts-shown z v s shown p c counts_seen));
     same_code = set_codes x c;
   }
 
@@ -128,9 +128,9 @@ module _ (p content : Bytes) (version : ℤ) where
     to = reads_to who v;
   }
 
-  module _ (who : Who) (v : View) (now : ℕ) (valid : is_path p ≡ true) (moment : now < 2 ^ 62) (short : length content ≤ max_frame) (real : pos 1 ≤ℤ who.session) (d : Decision) (is : IsSetData v p content version now who.session d) where
+  module _ (who : Who) (v : View) (now : ℕ) (valid : is_path p ≡ true) (time : now < 2 ^ 62) (short : length content ≤ max_frame) (real : pos 1 ≤ℤ who.session) (d : Decision) (is : IsSetData v p content version now who.session d) where
     abbrev choice : ℕ → Choice
-    choice at_moment = set_data_choice p content version at_moment is.0 is.1
+    choice at_time = set_data_choice p content version at_time is.0 is.1
 
     abbrev keys : List Key
     keys = set_data_keys p who.session
@@ -141,13 +141,13 @@ module _ (p content : Bytes) (version : ℤ) where
         (subst (λ (o : Option (Option Kv)). IsCountsSeen o is.1) (sym (near_sees v keys (CountsKey p) (inr (inr (inr (inl refl)))))) is.3)
 
     pub set_by_form : IsToldByForm (req.SetData p content version) d
-    set_by_form = by_form (req.SetData p content version) (SetData p content version) who v keys choice now set_part (set_chosen who v is.0 is.1 valid short is.2 is.3) moment real (set_valid valid) d is.4
+    set_by_form = by_form (req.SetData p content version) (SetData p content version) who v keys choice now set_part (set_chosen who v is.0 is.1 valid short is.2 is.3) time real (set_valid valid) d is.4
 
     pub set_by_sound : IsBySound (req.SetData p content version) who v d
-    set_by_sound = by_sound (req.SetData p content version) (SetData p content version) who v keys choice now set_part (set_chosen who v is.0 is.1 valid short is.2 is.3) moment real (set_valid valid) d is.4
+    set_by_sound = by_sound (req.SetData p content version) (SetData p content version) who v keys choice now set_part (set_chosen who v is.0 is.1 valid short is.2 is.3) time real (set_valid valid) d is.4
 
     pub set_planned : IfPlanned (IsGuarded (req.SetData p content version) who now v) d
-    set_planned = planned (req.SetData p content version) (SetData p content version) who v keys choice now set_part (set_chosen who v is.0 is.1 valid short is.2 is.3) moment real (set_valid valid) d is.4
+    set_planned = planned (req.SetData p content version) (SetData p content version) who v keys choice now set_part (set_chosen who v is.0 is.1 valid short is.2 is.3) time real (set_valid valid) d is.4
         near (set_keys who v valid) (set_data-made v p content version is.0 is.1 now valid short)
 
 pub set_data-by_tree : (v : View) (p content : Bytes) (version : ℤ) (now : ℕ) (session : ℤ) (d : Decision) → IsSetData v p content version now session d → is_by_tree d ≡ true

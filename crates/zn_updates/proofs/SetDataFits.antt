@@ -20,25 +20,25 @@ use Rattle.zn_updates.specs.declared.seen.SeenData.{SeenData}
 use Rattle.zn_updates.specs.Seen.{IsSeenData, IsDataWithin}
 use Rattle.zn_updates.specs.Choices.{set_record, set_changes}
 use Rattle.zn_updates.specs.Right.{with_tree}
-use Rattle.zn_updates.proofs.Meanings.{data_along, counts_along, counts_same, nodes_along, below_most, moment_within}
+use Rattle.zn_updates.proofs.Meanings.{data_along, counts_along, counts_same, nodes_along, below_most, time_within}
 use Rattle.zn_updates.proofs.OwnedLists.{owned-change}
 
 -- the record that is put keeps its bounds
 pub set_record-within : (x : SeenData) (content : Bytes) (now : ℕ) → IsDataWithin x → int_eq x.version max_version ≡ false → now < 2 ^ 62 → length content ≤ max_frame → IsNodeRec (set_record x content now)
-set_record-within x content now within room moment short =
+set_record-within x content now within room time short =
     let least = within.version_least in
     record {
       czxid = within.czxid;
       version_least = omega (arith, ints);
       version_most = below_most x.version max_version within.version_most room;
       ctime = within.ctime;
-      mtime = moment_within now moment;
+      mtime = time_within now time;
       owner = within.owner;
       content = short;
     }
 
 module _ (s : State) (p content : Bytes) (z : ℤ) (now : ℕ) (n : Node) (x : SeenData) (here : get s.tree p ≡ Some n) (seen : IsSeenData z x n)
-    (room : int_eq x.version max_version ≡ false) (moment : now < 2 ^ 62) (short : length content ≤ max_frame) where
+    (room : int_eq x.version max_version ≡ false) (time : now < 2 ^ 62) (short : length content ≤ max_frame) where
   abbrev changed : Node
   changed = with_content n content z now
 
@@ -51,7 +51,7 @@ module _ (s : State) (p content : Bytes) (z : ℤ) (now : ℕ) (n : Node) (x : S
   new_data : IsData (record { value = node_value (set_record x content now); revision = z; lease = pos 0 }) changed
   new_data = record {
     stored = x.czxid;
-    fits = subst IsNodeRec same_record (set_record-within x content now seen.within room moment short);
+    fits = subst IsNodeRec same_record (set_record-within x content now seen.within room time short);
     value = ap node_value same_record;
     made = seen.czxid;
     changed = refl;

@@ -21,7 +21,7 @@ use Rattle.zn_updates.specs.Choices.{Refuse, Make, set_stat, set_changes, set_da
 use Rattle.zn_updates.specs.Right.{IsRight}
 use Rattle.zn_updates.proofs.SetDataFits.{set_data_fits}
 
-module _ (s : State) (p content : Bytes) (version z : ℤ) (now : ℕ) (moment : now < 2 ^ 62) (short : length content ≤ max_frame) where
+module _ (s : State) (p content : Bytes) (version z : ℤ) (now : ℕ) (time : now < 2 ^ 62) (short : length content ≤ max_frame) where
   abbrev set_data_done : Node → Outcome
   set_data_done n = Done (result.Set (stat_of s.tree p (with_content n content z now))) (insert s.tree p (with_content n content z now)) (Changed p ∷ [])
 
@@ -39,7 +39,7 @@ module _ (s : State) (p content : Bytes) (version z : ℤ) (now : ℕ) (moment :
     made room = record {
       tree = insert s.tree p changed;
       done = ap (λ (w : Stat). Done (result.Set w) (insert s.tree p changed) (Changed p ∷ [])) (sym same_stat);
-      fits = set_data_fits s p content z now n x here seen room moment short;
+      fits = set_data_fits s p content z now n x here seen room time short;
       headless = refl;
     }
 

@@ -58,7 +58,7 @@ fn one_more(above: &CountRec) -> CountRec
 
 /// A new node's record but for its content. Its czxid is 0: that is the revision of the put.
 fn new_record(alloc: Global, now: u64, owner: i64) -> NodeRec
-    requires moment { now < 2 ^ 62 }
+    requires time { now < 2 ^ 62 }
     requires owned { IsLongCount owner }
     ensures is { result ≡ record_of_new [] now owner }
     ensures within { IsNodeRec result }
@@ -119,7 +119,7 @@ fn create_node(
 ) -> Result<Update, Memory>
     requires valid { IsTrue (is_path path.now) }
     requires parent { IsTrue (is_path parent.now) }
-    requires moment { now < 2 ^ 62 }
+    requires time { now < 2 ^ 62 }
     requires short { length content.now ≤ max_frame }
     requires owned { IsLongCount owner }
     requires counted { IsCountRec above.now }
@@ -147,7 +147,7 @@ fn create_owned(
 ) -> Result<Chosen, Memory>
     requires valid { IsTrue (is_path path.now) }
     requires parent { IsTrue (is_path parent.now) }
-    requires moment { now < 2 ^ 62 }
+    requires time { now < 2 ^ 62 }
     requires short { length content.now ≤ max_frame }
     requires real { pos 1 ≤ℤ session }
     requires owned { IsLongCount session }
@@ -182,7 +182,7 @@ fn create_here(
 ) -> Result<Chosen, Memory>
     requires valid { IsTrue (is_path path.now) }
     requires parent { IsTrue (is_path parent.now) }
-    requires moment { now < 2 ^ 62 }
+    requires time { now < 2 ^ 62 }
     requires short { length content.now ≤ max_frame }
     requires real { pos 1 ≤ℤ session }
     requires owned { IsLongCount session }
@@ -216,7 +216,7 @@ pub fn choose_create(
 ) -> Result<Chosen, Memory>
     requires valid { IsTrue (is_path path.now) }
     requires parent { IsTrue (is_path parent.now) }
-    requires moment { now < 2 ^ 62 }
+    requires time { now < 2 ^ 62 }
     requires short { length content.now ≤ max_frame }
     requires real { pos 1 ≤ℤ session }
     requires owned { IsLongCount session }
@@ -312,7 +312,7 @@ fn create_at(
     view: &View,
 ) -> Result<Decision, Memory>
     requires parent { IsTrue (is_path parent.now) }
-    requires moment { now < 2 ^ 62 }
+    requires time { now < 2 ^ 62 }
     requires short { length content.now ≤ max_frame }
     requires real { pos 1 ≤ℤ session }
     requires prefix { IsTrue sequential → IsTrue (is_sequence_prefix path.now) }
@@ -365,7 +365,7 @@ fn create_named(
     now: u64,
     view: &View,
 ) -> Result<Decision, Memory>
-    requires moment { now < 2 ^ 62 }
+    requires time { now < 2 ^ 62 }
     requires short { length content.now ≤ max_frame }
     requires real { pos 1 ≤ℤ session }
     requires prefix { IsTrue sequential → IsTrue (is_sequence_prefix path.now) }
@@ -395,7 +395,7 @@ pub(crate) fn decide_create(
     view: &View,
 ) -> Result<Decision, Memory>
     requires real { pos 1 ≤ℤ who.session }
-    requires moment { now < 2 ^ 62 }
+    requires time { now < 2 ^ 62 }
     requires short { length content.now ≤ max_frame }
     requires whole { IsWhole (req.Create path.now content.now acl.now flags) who view.now }
     ensures form { IfOk result (IsToldByForm (req.Create path.now content.now acl.now flags)) }

@@ -275,7 +275,7 @@ pub(crate) fn decide_delete(
     view: &View,
 ) -> Result<Decision, Memory>
     requires real { pos 1 ≤ℤ who.session }
-    requires moment { now < 2 ^ 62 }
+    requires time { now < 2 ^ 62 }
     requires whole { IsWhole (req.Delete path.now version) who view.now }
     ensures form { IfOk result (IsToldByForm (req.Delete path.now version)) }
     ensures sound { IfOk result (IsBySound (req.Delete path.now version) who view.now) }

@@ -58,7 +58,7 @@ fn created_below(
     view: &View,
 ) -> Result<Chosen, Memory>
     requires parent { IsTrue (is_path parent.now) }
-    requires moment { now < 2 ^ 62 }
+    requires time { now < 2 ^ 62 }
     requires short { length content.now ≤ max_frame }
     requires real { pos 1 ≤ℤ session }
     requires prefix { IsTrue sequential → IsTrue (is_sequence_prefix path.now) }
@@ -96,7 +96,7 @@ fn created(
     over: &View,
     view: &View,
 ) -> Result<Chosen, Memory>
-    requires moment { now < 2 ^ 62 }
+    requires time { now < 2 ^ 62 }
     requires short { length content.now ≤ max_frame }
     requires real { pos 1 ≤ℤ who.session }
     ensures { IfOk result (IsPartChoice (parts.Create path.now content.now acl.now flags) who now (layered over.now view.now)) }
@@ -199,7 +199,7 @@ fn set(
     over: &View,
     view: &View,
 ) -> Result<Chosen, Memory>
-    requires moment { now < 2 ^ 62 }
+    requires time { now < 2 ^ 62 }
     requires short { length content.now ≤ max_frame }
     ensures { IfOk result (IsPartChoice (parts.SetData path.now content.now version) who now (layered over.now view.now)) }
 {
@@ -270,7 +270,7 @@ pub fn choose_part(
     over: &View,
     view: &View,
 ) -> Result<Chosen, Memory>
-    requires moment { now < 2 ^ 62 }
+    requires time { now < 2 ^ 62 }
     requires short { length (part_content part.now) ≤ max_frame }
     requires real { pos 1 ≤ℤ who.session }
     ensures { IfOk result (IsPartChoice part.now who now (layered over.now view.now)) }

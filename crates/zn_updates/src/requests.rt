@@ -50,7 +50,7 @@ pub fn decide_update(
 ) -> Result<Decision, Memory>
     requires update { IsTrue (is_update request.now) }
     requires real { pos 1 ≤ℤ who.session }
-    requires moment { now < 2 ^ 62 }
+    requires time { now < 2 ^ 62 }
     requires short { length (content_in request.now) ≤ max_frame }
     requires whole { IsWhole request.now who view.now }
     ensures form { IfOk result (IsToldByForm request.now) }

@@ -58,7 +58,7 @@ fn next_version(node: &SeenData) -> i32
 fn set_record(alloc: Global, node: &SeenData, now: u64) -> NodeRec
     requires within { IsDataWithin node.now }
     requires room { int_eq node.now.version max_version ≡ false }
-    requires moment { now < 2 ^ 62 }
+    requires time { now < 2 ^ 62 }
     ensures { result ≡ set_record_of node.now [] now }
 {
     NodeRec {
@@ -84,7 +84,7 @@ fn set_stat(node: &SeenData, counts: &SeenCounts, content: &[u8], now: u64) -> S
     requires within { IsDataWithin node.now }
     requires room { int_eq node.now.version max_version ≡ false }
     requires counted { IsCountRec counts.now.counts }
-    requires moment { now < 2 ^ 62 }
+    requires time { now < 2 ^ 62 }
     requires short { length content.now ≤ max_frame }
     ensures { result ≡ set_stat_of node.now counts.now content.now now }
 {
@@ -122,7 +122,7 @@ fn set_update(
     counts: &SeenCounts,
 ) -> Result<Update, Memory>
     requires valid { IsTrue (is_path path.now) }
-    requires moment { now < 2 ^ 62 }
+    requires time { now < 2 ^ 62 }
     requires short { length content.now ≤ max_frame }
     requires within { IsDataWithin node.now }
     requires room { int_eq node.now.version max_version ≡ false }
@@ -151,7 +151,7 @@ pub fn choose_set_data(
     counts: Option<&SeenCounts>,
 ) -> Result<Chosen, Memory>
     requires valid { IsTrue (is_path path.now) }
-    requires moment { now < 2 ^ 62 }
+    requires time { now < 2 ^ 62 }
     requires short { length content.now ≤ max_frame }
     requires within { IfSome (option_copied node) IsDataWithin }
     requires counted { IfSome (option_copied counts) (λ c. IsCountRec c.counts) }
@@ -184,7 +184,7 @@ fn set_data_at(
 ) -> Result<Decision, Memory>
     requires valid { IsTrue (is_path path.now) }
     requires real { pos 1 ≤ℤ session }
-    requires moment { now < 2 ^ 62 }
+    requires time { now < 2 ^ 62 }
     requires short { length content.now ≤ max_frame }
     requires node { HasSeen view.now (DataKey path.now) }
     requires counts { HasSeen view.now (CountsKey path.now) }
@@ -216,7 +216,7 @@ pub(crate) fn decide_set_data(
     view: &View,
 ) -> Result<Decision, Memory>
     requires real { pos 1 ≤ℤ who.session }
-    requires moment { now < 2 ^ 62 }
+    requires time { now < 2 ^ 62 }
     requires short { length content.now ≤ max_frame }
     requires whole { IsWhole (req.SetData path.now content.now version) who view.now }
     ensures form { IfOk result (IsToldByForm (req.SetData path.now content.now version)) }

@@ -209,10 +209,10 @@ module _ (c : Core) (frames : All IsFrame c.waiting) (now : ℕ) (c' : Core) (ou
   answers-held (Reading xid r v ws) k (answer.Range z found) fit h = absurd fit
   answers-held (Reading xid r v ws) k (answer.Granted z id ttl) fit h = absurd fit
   answers-held (Reading xid r v ws) k (answer.Alive z id ttl) fit h = absurd fit
-  answers-held (Committing xid r v p moment) k (answer.Txn z b parts) fit h = commit-held c k.0 frames now c' out xid r p z b parts k.1 fit.revision_is h
-  answers-held (Committing xid r v p moment) k (answer.Range z found) fit h = absurd fit
-  answers-held (Committing xid r v p moment) k (answer.Granted z id ttl) fit h = absurd fit
-  answers-held (Committing xid r v p moment) k (answer.Alive z id ttl) fit h = absurd fit
+  answers-held (Committing xid r v p time) k (answer.Txn z b parts) fit h = commit-held c k.0 frames now c' out xid r p z b parts k.1 fit.revision_is h
+  answers-held (Committing xid r v p time) k (answer.Range z found) fit h = absurd fit
+  answers-held (Committing xid r v p time) k (answer.Granted z id ttl) fit h = absurd fit
+  answers-held (Committing xid r v p time) k (answer.Alive z id ttl) fit h = absurd fit
   answers-held (Unconnected fresh) k a fit h = absurd h
   answers-held Ready k a fit h = absurd h
   answers-held (Waiting p) k a fit h = absurd h
@@ -237,7 +237,7 @@ module _ (c : Core) (frames : All IsFrame c.waiting) (now : ℕ) (c' : Core) (ou
   comes-held (KeepingAlive f) at shut k bytes short h = later-held (KeepingAlive f) at shut k bytes short (has_header (read_request bytes)) refl h
   comes-held (Checking f) at shut k bytes short h = later-held (Checking f) at shut k bytes short (has_header (read_request bytes)) refl h
   comes-held (Reading xid r v ws) at shut k bytes short h = later-held (Reading xid r v ws) at shut k bytes short (has_header (read_request bytes)) refl h
-  comes-held (Committing xid r v p moment) at shut k bytes short h = later-held (Committing xid r v p moment) at shut k bytes short (has_header (read_request bytes)) refl h
+  comes-held (Committing xid r v p time) at shut k bytes short h = later-held (Committing xid r v p time) at shut k bytes short (has_header (read_request bytes)) refl h
   comes-held (Waiting p) at shut k bytes short h = later-held (Waiting p) at shut k bytes short (has_header (read_request bytes)) refl h
   comes-held Shut at shut k bytes short h = absurd (cc)
 
@@ -254,7 +254,7 @@ told-held c e Ready at shut k = still-held c e Ready at shut k
 told-held c e (KeepingAlive f) at shut k = still-held c e (KeepingAlive f) at shut k
 told-held c e (Checking f) at shut k = still-held c e (Checking f) at shut k
 told-held c e (Reading xid r v ws) at shut k = still-held c e (Reading xid r v ws) at shut k
-told-held c e (Committing xid r v p moment) at shut k = still-held c e (Committing xid r v p moment) at shut k
+told-held c e (Committing xid r v p time) at shut k = still-held c e (Committing xid r v p time) at shut k
 told-held c e Shut at shut k = absurd (cc)
 
 pub handles-held : (c : Core) (x : Input) (now : ℕ) (c' : Core) (out : List Action) → is_shut c.stage ≡ false → IsHeld c → IsFit c x → Handles c x now c' out → IsHeld c'

@@ -30,7 +30,7 @@ IsHeldIn session Ready = IsReal session
 IsHeldIn session (KeepingAlive frame) = IsReal session × IsFrame frame
 IsHeldIn session (Checking frame) = IsReal session × IsFrame frame
 IsHeldIn session (Reading xid r v ws) = IsReal session × IsRequest r × IsCount v.revision
-IsHeldIn session (Committing xid r v p moment) = IsReal session × IsRequest r
+IsHeldIn session (Committing xid r v p time) = IsReal session × IsRequest r
 IsHeldIn session (Waiting p) = IsReal session
 IsHeldIn session Shut = Unit {0}
 

@@ -51,7 +51,7 @@ stage_of stage.Ready = step.Ready
 stage_of (stage.KeepingAlive frame) = step.KeepingAlive frame
 stage_of (stage.Checking frame) = step.Checking frame
 stage_of (stage.Reading xid r v ws) = step.Reading xid r v ws
-stage_of (stage.Committing xid r c) = step.Committing xid r (viewed_last c.view.items) (plan_of c) c.moment
+stage_of (stage.Committing xid r c) = step.Committing xid r (viewed_last c.view.items) (plan_of c) c.time
 stage_of (stage.Waiting p) = step.Waiting (pending_of p)
 stage_of stage.Shut = step.Shut
 

@@ -106,7 +106,7 @@ pub(crate) fn ask_plan(
         draft,
         triggers,
         view: GhostHistory::new().and(&view),
-        moment: now,
+        time: now,
     };
     Ok(Move {
         stage: Stage::Committing {

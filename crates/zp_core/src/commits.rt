@@ -79,7 +79,7 @@ fn look_again(
 ) -> Result<Move, Memory>
     requires request { IsRequest request }
     requires real { pos 1 ≤ℤ client.old.who.session }
-    requires moment { now < 2 ^ 62 }
+    requires time { now < 2 ^ 62 }
     requires revision { IsCount revision }
     requires numbers { AreNumbers parts.now }
     ensures { IfOk result (Leads (λ c out. Committed (ready client.old) xid request (plan_of commit) now c out revision false parts.now) client.new) }
@@ -104,7 +104,7 @@ fn commit_at(
 ) -> Result<Move, Memory>
     requires request { IsRequest request }
     requires real { pos 1 ≤ℤ client.old.who.session }
-    requires moment { now < 2 ^ 62 }
+    requires time { now < 2 ^ 62 }
     requires revision { IsCount revision }
     requires numbers { AreNumbers parts.now }
     ensures { IfOk result (Leads (λ c out. Committed (ready client.old) xid request (plan_of commit) now c out revision succeeded parts.now) client.new) }
@@ -128,7 +128,7 @@ pub(crate) fn committed(
     requires awaited { IsAnswerTo (transaction (plan_of commit)) answer.now }
     requires request { IsRequest request }
     requires real { pos 1 ≤ℤ client.old.who.session }
-    requires moment { now < 2 ^ 62 }
+    requires time { now < 2 ^ 62 }
     ensures { IfOk result (Leads (λ c out. CommitAnswered (ready client.old) xid request (plan_of commit) now c out answer.now) client.new) }
 {
     match answer {

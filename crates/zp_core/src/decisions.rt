@@ -35,7 +35,7 @@ pub(crate) fn decide(
 ) -> Result<Decision, Memory>
     requires request { IsRequest request.now }
     requires real { pos 1 ≤ℤ who.session }
-    requires moment { now < 2 ^ 62 }
+    requires time { now < 2 ^ 62 }
     requires whole { AreNeeds request.now who view.now [] }
     ensures tested { IfOk result (IsTested request.now who view.now) }
     ensures right { IfOk result (IsDecision request.now who view.now) }

@@ -56,7 +56,7 @@ fn take_request(
 ) -> Result<Move, Memory>
     requires request { IsRequest request }
     requires real { pos 1 ≤ℤ client.old.who.session }
-    requires moment { now < 2 ^ 62 }
+    requires time { now < 2 ^ 62 }
     ensures { IfOk result (Leads (λ c out. TakesReadable (ready client.old) now c out (Asks xid request) (plain_request no_watches request)) client.new) }
 {
     match plain_reply(alloc, &request)? {
@@ -74,7 +74,7 @@ pub(crate) fn take(
 ) -> Result<Move, Memory>
     requires frame { IsFrame frame.now }
     requires real { pos 1 ≤ℤ client.old.who.session }
-    requires moment { now < 2 ^ 62 }
+    requires time { now < 2 ^ 62 }
     ensures { IfOk result (Leads (Takes (ready client.old) frame.now now) client.new) }
 {
     match read_request(alloc, frame) {

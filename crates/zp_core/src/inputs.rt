@@ -43,7 +43,7 @@ fn answered(
 ) -> Result<Move, Memory>
     requires held { IsHeld (core_of client.old (stage_of stage)) }
     requires opened { is_shut (stage_of stage) ≡ false }
-    requires moment { now < 2 ^ 62 }
+    requires time { now < 2 ^ 62 }
     requires fit { IsAwaited (asked_of client.old.who (stage_of stage)) (Some answer.now) }
     ensures { IfOk result (Leads (λ c out. Answers (core_of client.old (stage_of stage)) answer.now now c out (stage_of stage)) client.new) }
 {
@@ -156,7 +156,7 @@ fn handle_open(
 ) -> Result<Move, Memory>
     requires held { IsHeld (core_of client.old (stage_of stage)) }
     requires opened { is_shut (stage_of stage) ≡ false }
-    requires moment { now < 2 ^ 62 }
+    requires time { now < 2 ^ 62 }
     requires fit { IsFit (core_of client.old (stage_of stage)) input.now }
     requires goes_on { end_of input.now ≡ None }
     ensures { IfOk result (Leads (Handles (core_of client.old (stage_of stage)) input.now now) client.new) }
@@ -183,7 +183,7 @@ pub(crate) fn handle(
 ) -> Result<Move, Memory>
     requires held { IsHeld (core_of client.old (stage_of stage)) }
     requires opened { is_shut (stage_of stage) ≡ false }
-    requires moment { now < 2 ^ 62 }
+    requires time { now < 2 ^ 62 }
     requires fit { IsFit (core_of client.old (stage_of stage)) input.now }
     ensures { IfOk result (Leads (Handles (core_of client.old (stage_of stage)) input.now now) client.new) }
 {
@@ -219,7 +219,7 @@ fn take_next(
 ) -> Result<Seq<Action>, Memory>
     requires frame { IsFrame frame }
     requires real { pos 1 ≤ℤ client.old.who.session }
-    requires moment { now < 2 ^ 62 }
+    requires time { now < 2 ^ 62 }
     ensures { IfOk result (TakesUp (ready client.old) frame now (core_of client.new (stage_of stage.new))) }
 {
     let taken = take_up(alloc, client, frame, now)?;
@@ -236,7 +236,7 @@ pub(crate) fn go_on(
     now: u64,
 ) -> Result<(), Memory>
     requires held { IsHeld (core_of client.old (stage_of stage.old)) }
-    requires moment { now < 2 ^ 62 }
+    requires time { now < 2 ^ 62 }
     ensures { OnOk result (GoesOn now (core_of client.old (stage_of stage.old)) actions.old.items (core_of client.new (stage_of stage.new)) actions.new.items) }
 {
     'frames: while let Some(frame) = next_frame(client, stage) {

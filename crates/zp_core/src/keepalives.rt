@@ -56,7 +56,7 @@ pub(crate) fn take_up(
 ) -> Result<Move, Memory>
     requires frame { IsFrame frame }
     requires real { pos 1 ≤ℤ client.old.who.session }
-    requires moment { now < 2 ^ 62 }
+    requires time { now < 2 ^ 62 }
     ensures { IfOk result (Leads (TakesUp (ready client.old) frame now) client.new) }
 {
     if alive_due(client.kept, now, client.timeout) {
@@ -89,7 +89,7 @@ pub(crate) fn kept_alive(
     requires awaited { IsAnswerTo (asks.Alive client.old.who.session) answer.now }
     requires frame { IsFrame frame }
     requires real { pos 1 ≤ℤ client.old.who.session }
-    requires moment { now < 2 ^ 62 }
+    requires time { now < 2 ^ 62 }
     ensures { IfOk result (Leads (λ c out. KeptAlive (ready client.old) frame now c out answer.now) client.new) }
 {
     match answer {
@@ -150,7 +150,7 @@ fn take_or_refuse(
 ) -> Result<Move, Memory>
     requires frame { IsFrame frame.now }
     requires real { pos 1 ≤ℤ client.old.who.session }
-    requires moment { now < 2 ^ 62 }
+    requires time { now < 2 ^ 62 }
     ensures { IfOk result (Leads (λ c out. MatchBool (int_eq found client.old.who.mine) (Takes (ready client.old) frame.now now c out) (Is (waits (ready client.old) (moved_of client.old.who view.now found (xid_in (read_as frame.now)))) c out)) client.new) }
 {
     if found != client.who.mine {
@@ -169,7 +169,7 @@ fn look_at(
 ) -> Result<Move, Memory>
     requires frame { IsFrame frame.now }
     requires real { pos 1 ≤ℤ client.old.who.session }
-    requires moment { now < 2 ^ 62 }
+    requires time { now < 2 ^ 62 }
     ensures { IfOk result (Leads (λ c out. Looked (ready client.old) frame.now now c out view.now) client.new) }
 {
     let life = life_seen(alloc, view, client.who.session)?;
@@ -189,7 +189,7 @@ fn check_at(
 ) -> Result<Move, Memory>
     requires frame { IsFrame frame.now }
     requires real { pos 1 ≤ℤ client.old.who.session }
-    requires moment { now < 2 ^ 62 }
+    requires time { now < 2 ^ 62 }
     requires revision { IsCount revision }
     requires numbers { AreNumbers parts.now }
     ensures { IfOk result (Leads (λ c out. IfRecords (ready client.old) (wants_of client.old.who.session) parts.now c out (Looked (ready client.old) frame.now now c out (viewed revision (wants_of client.old.who.session) parts.now))) client.new) }
@@ -213,7 +213,7 @@ pub(crate) fn checked(
     requires awaited { IsAnswerTo (reading_of (pos 0) (wants_of client.old.who.session)) answer.now }
     requires frame { IsFrame frame.now }
     requires real { pos 1 ≤ℤ client.old.who.session }
-    requires moment { now < 2 ^ 62 }
+    requires time { now < 2 ^ 62 }
     ensures { IfOk result (Leads (λ c out. Checked (ready client.old) frame.now now c out answer.now) client.new) }
 {
     match answer {

@@ -25,7 +25,7 @@ pub(crate) fn look(
 ) -> Result<Move, Memory>
     requires request { IsRequest request }
     requires real { pos 1 ≤ℤ client.old.who.session }
-    requires moment { now < 2 ^ 62 }
+    requires time { now < 2 ^ 62 }
     ensures { IfOk result (Leads (Looks (ready client.old) xid request view now) client.new) }
 {
     let lacking = needs(alloc, &request, client.who, &view)?;

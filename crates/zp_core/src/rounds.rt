@@ -47,7 +47,7 @@ fn read_at(
 ) -> Result<Move, Memory>
     requires request { IsRequest request }
     requires real { pos 1 ≤ℤ client.old.who.session }
-    requires moment { now < 2 ^ 62 }
+    requires time { now < 2 ^ 62 }
     requires first { IsCount view.revision }
     requires revision { IsCount revision }
     requires numbers { AreNumbers parts.now }
@@ -76,7 +76,7 @@ pub(crate) fn read_on(
     requires awaited { IsAnswerTo (reading_of view.revision asked.now) answer.now }
     requires request { IsRequest request }
     requires real { pos 1 ≤ℤ client.old.who.session }
-    requires moment { now < 2 ^ 62 }
+    requires time { now < 2 ^ 62 }
     requires first { IsCount view.revision }
     ensures { IfOk result (Leads (λ c out. ReadOn (ready client.old) xid request view asked.now now c out answer.now) client.new) }
 {

@@ -48,7 +48,7 @@ pub struct Commit {
     /// The view that the plan was made on, for proofs alone.
     pub view: GhostHistory<View>,
     /// When the plan was made, in milliseconds.
-    pub moment: u64,
+    pub time: u64,
 }
 
 /// How far a connection has come, and what is out. The ask that is out in each stage is `asked_of` in `zp_step`.

@@ -32,7 +32,7 @@ fn step_open(
     requires held { IsHeld (core_of client.old (stage_of stage)) }
     requires opened { is_shut (stage_of stage) ≡ false }
     requires fit { IsFit (core_of client.old (stage_of stage)) input.now }
-    requires moment { now < 2 ^ 62 }
+    requires time { now < 2 ^ 62 }
     ensures ok { IfOk result (Leads (StepsOpen (core_of client.old (stage_of stage)) input.now now) client.new) }
     ensures held { IfOk result (λ m. IsHeld (core_of client.new (stage_of m.stage))) }
 {
@@ -130,7 +130,7 @@ impl Core {
     /// a server: an update stores it as ctime and mtime. Without memory the connection is shut, and nothing is done.
     pub fn step(&mut self, input: &Input, now: u64) -> Result<Vec<Action>, Memory>
         requires may { MayTake self.old input.now }
-        requires moment { now < 2 ^ 62 }
+        requires time { now < 2 ^ 62 }
         ensures ok { IfOk result (λ out. Steps self.old input.now now self.new out.items) }
         ensures shut { OnErr result (is_shut self.new.stage ≡ true) }
     {

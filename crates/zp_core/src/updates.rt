@@ -31,8 +31,8 @@ fn of_connect(connection: u32, connect: &Connect) -> Option<UpdateKind>
     }
 }
 
-fn of_request(connection: u32, index: u64, id: i64, moment: u64, request: &Request) -> UpdateKind
-    ensures { result ≡ kind_of_request connection index id moment request.now }
+fn of_request(connection: u32, index: u64, id: i64, time: u64, request: &Request) -> UpdateKind
+    ensures { result ≡ kind_of_request connection index id time request.now }
 {
     match request {
         Request::Close => UpdateKind::Closed {
@@ -43,7 +43,7 @@ fn of_request(connection: u32, index: u64, id: i64, moment: u64, request: &Reque
         _ => UpdateKind::Asked {
             connection,
             index,
-            now: moment,
+            now: time,
         },
     }
 }
@@ -63,7 +63,7 @@ pub(crate) fn asked_in(connection: u32, client: &Client, stage: &Stage) -> Optio
             connection,
             client.next,
             client.who.session,
-            commit.moment,
+            commit.time,
             request,
         )),
         Stage::Unconnected { .. }

@@ -133,18 +133,18 @@ module _ (s u : Store) (who : Who) where
         most = (let m = o.most in omega (arith, m, e, again-read s r v (revision u) ws d.parts (ap revision d.same)));
       })))
 
-  commit-behind : (xid : ℤ) (r : Request) (v : View) (p : Plan) (moment : ℕ) (a : Answer) (k : ℕ) → carry s (transaction p) ≡ Some (u, a) → 1 + again_for (succeeds s (plan_txn p)) r ≤ k → Done k (AsksBehind u who (Committing xid r v p moment) a)
-  commit-behind xid r v p moment a k h o = done-one k (AsksBehind u who (Committing xid r v p moment) a) (omega (arith, o)) (λ j e. go j e (succeeds s (plan_txn p)) refl)
+  commit-behind : (xid : ℤ) (r : Request) (v : View) (p : Plan) (time : ℕ) (a : Answer) (k : ℕ) → carry s (transaction p) ≡ Some (u, a) → 1 + again_for (succeeds s (plan_txn p)) r ≤ k → Done k (AsksBehind u who (Committing xid r v p time) a)
+  commit-behind xid r v p time a k h o = done-one k (AsksBehind u who (Committing xid r v p time) a) (omega (arith, o)) (λ j e. go j e (succeeds s (plan_txn p)) refl)
     where
-      go : (j : ℕ) → k ≡ suc j → (b : Bool) → succeeds s (plan_txn p) ≡ b → AsksBehind u who (Committing xid r v p moment) a j
+      go : (j : ℕ) → k ≡ suc j → (b : Bool) → succeeds s (plan_txn p) ≡ b → AsksBehind u who (Committing xid r v p time) a j
       go j e true f =
           let b = txn-answered s u (plan_txn p) a h in
-          subst (λ y. AsksBehind u who (Committing xid r v p moment) y j) (sym (b.1 ∙ ap (λ y. answer.Txn (revision u) y b.0) f)) tt
+          subst (λ y. AsksBehind u who (Committing xid r v p time) y j) (sym (b.1 ∙ ap (λ y. answer.Txn (revision u) y b.0) f)) tt
       go j e false f =
           let d = is-again s u p a h f in
           let y = viewed (revision u) p.again d.parts in
           let at : y.revision ≡ revision s = revision-kept (at_revision empty_view (revision u)) p.again d.parts ∙ ap revision d.same in
-          subst (λ q. AsksBehind u who (Committing xid r v p moment) q j) (sym d.is)
+          subst (λ q. AsksBehind u who (Committing xid r v p time) q j) (sym d.is)
           (subst (λ q. LooksOn q who r (viewed (revision u) p.again d.parts) j) (sym d.same) (record {
             rounds = looks r;
             ends = λ few. request-ends r who y few;

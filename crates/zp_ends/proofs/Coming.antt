@@ -85,7 +85,7 @@ AsksOut s who Ready k = Unit {0}
 AsksOut s who (KeepingAlive frame) k = asks_of frame ≤ k
 AsksOut s who (Checking frame) k = asks_of frame ≤ k + 1
 AsksOut s who (Reading xid r v ws) k = ReadsOut s who r v ws k
-AsksOut s who (Committing xid r v p moment) k = 1 + again_for (succeeds s (plan_txn p)) r ≤ k
+AsksOut s who (Committing xid r v p time) k = 1 + again_for (succeeds s (plan_txn p)) r ≤ k
 AsksOut s who (Waiting p) k = Unit {0}
 AsksOut s who Shut k = Unit {0}
 
@@ -99,7 +99,7 @@ AsksBehind s who (Connecting x) a k = ConnectBehind s x a k
 AsksBehind s who (KeepingAlive frame) a k = asks_of frame ≤ k + 1
 AsksBehind s who (Checking frame) a k = asks_of frame ≤ k + 2
 AsksBehind s who (Reading xid r v ws) (answer.Txn z b parts) k = LooksOn s who r (view_on v z ws parts) k
-AsksBehind s who (Committing xid r v p moment) (answer.Txn z b parts) k = CommitBehind s who r (viewed z p.again parts) b k
+AsksBehind s who (Committing xid r v p time) (answer.Txn z b parts) k = CommitBehind s who r (viewed z p.again parts) b k
 AsksBehind s who _ a k = Unit {0}
 
 -- ---- a connection between two steps
@@ -119,7 +119,7 @@ pub record RemainsBehind (s : Store) (c : Core) (a : Answer) (n : ℕ) : Type 0 
 -- what it holds is true of the store: a session has few nodes, and the guards of a plan on the present hold
 abbrev pub TruthIn : Store → Who → Stage → Type 0
 TruthIn s who (Reading xid r v ws) = AreFew who.session v
-TruthIn s who (Committing xid r v p moment) = v.revision ≡ revision s → succeeds s (plan_txn p) ≡ true
+TruthIn s who (Committing xid r v p time) = v.revision ≡ revision s → succeeds s (plan_txn p) ≡ true
 TruthIn s who _ = Unit {0}
 
 abbrev pub IsTruthful : Store → Core → Type 0

@@ -150,7 +150,7 @@ alive-allowed s id = refl
 
 -- ---- a plan, which guards the record of its session's life
 
-module _ (s : Store) (who : Who) (r : Request) (v : View) (p : Plan) (moment : ℕ) (b : IsBoundPlan s who r v p moment) where
+module _ (s : Store) (who : Who) (r : Request) (v : View) (p : Plan) (time : ℕ) (b : IsBoundPlan s who r v p time) where
   guard-holds : holds (store_at s b.number) (lease_guard who) ≡ true
   guard-holds =
       let asked = (b.good).asked in

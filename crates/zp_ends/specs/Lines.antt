@@ -15,7 +15,7 @@ asks_in Ready = 0
 asks_in (KeepingAlive frame) = asks_of frame
 asks_in (Checking frame) = asks_of frame
 asks_in (Reading xid r v ws) = 2 * looks r + 3
-asks_in (Committing xid r v p moment) = 2 * looks r + 3
+asks_in (Committing xid r v p time) = 2 * looks r + 3
 asks_in (Waiting p) = 0
 asks_in Shut = 0
 

@@ -57,7 +57,7 @@ IsLastingIn Ready = Unit {0}
 IsLastingIn (KeepingAlive frame) = closes_behind (read_request frame) ≡ false
 IsLastingIn (Checking frame) = closes_behind (read_request frame) ≡ false
 IsLastingIn (Reading xid r v ws) = is_close r ≡ false
-IsLastingIn (Committing xid r v p moment) = is_close r ≡ false
+IsLastingIn (Committing xid r v p time) = is_close r ≡ false
 IsLastingIn (Waiting p) = p.ends ≡ None
 IsLastingIn Shut = ⊥
 

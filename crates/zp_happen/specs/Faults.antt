@@ -6,7 +6,7 @@ use Rattle.std.specs.List.{starts_with}
 use Rattle.ev_types.specs.Store.{Store, Change, Puts}
 use Rattle.ev_types.specs.Denials.{has_lease, is_full}
 use Rattle.ev_types.specs.Lapses.{leased_keys, removals}
-use Rattle.zk_model.specs.Limits.{max_frame, max_moment}
+use Rattle.zk_model.specs.Limits.{max_frame, max_time}
 use Rattle.zx_base.specs.Maps.{Bytes, same}
 use Rattle.zn_layout.specs.Keys.{front}
 use Rattle.zt_text.specs.declared.script.Happening.{Happening}
@@ -97,5 +97,5 @@ fault w (line.Restart p) = None
 fault w (line.Lapse id) = if_fails (not (has_lease w.store id)) why.NoSuchLease (full_fault w.store (removals (leased_keys w.store id)))
 fault w (line.Foreign k v) = if_fails (is_kept_key k) why.KeyKept (full_fault w.store (Puts k v (pos 0) ∷ []))
 fault w (line.Reap c p id) = new_fault c w None
-fault w (line.Tick n) = if_fails (nat_lt max_moment (w.clock + n)) why.ClockLimit None
+fault w (line.Tick n) = if_fails (nat_lt max_time (w.clock + n)) why.ClockLimit None
 fault w (line.Settle c) = open_fault c w None

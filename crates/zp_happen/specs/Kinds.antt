@@ -20,12 +20,12 @@ kind_of_connect c x _ = None
 
 -- the request in frame i of c, of this session, planned at this time (in milliseconds)
 abbrev pub kind_of_request : ℕ → ℕ → ℤ → ℕ → Request → UpdateKind
-kind_of_request c i id moment req.Close = ClosedSession id c i
-kind_of_request c i id moment _ = Asked c i moment
+kind_of_request c i id time req.Close = ClosedSession id c i
+kind_of_request c i id time _ = Asked c i time
 
 abbrev pub kind_in_stage : ℕ → Core → Stage → Option UpdateKind
 kind_in_stage c core (Connecting x) = kind_of_connect c x x.phase
-kind_in_stage c core (Committing xid r v p moment) = Some (kind_of_request c core.next core.who.session moment r)
+kind_in_stage c core (Committing xid r v p time) = Some (kind_of_request c core.next core.who.session time r)
 kind_in_stage c core _ = None
 
 abbrev pub kind_of_reap : ℤ → ReapPhase → Option UpdateKind

@@ -5,9 +5,9 @@ use Rattle.std.proofs.lemmas.Bool.Decides.{Decides-int_eq, nat_tests}
 use Rattle.std.proofs.lemmas.Bool.{and_from, and_parts}
 use Rattle.std.proofs.lemmas.Int.{ints}
 use Rattle.std.specs.Prelude.{Option, Some, None, if◌then◌else◌, int_le, int_lt, is_none, is_some, nat_le, not, slice_get, ◌<ℤ◌, ◌&&◌, ◌||◌, ◌==◌}
-use Rattle.zk_legal.specs.Faults.{comes_after_begin, has_event, history_fault, history_fault_from, is_history_line, is_in_range, is_moment, or_empty}
+use Rattle.zk_legal.specs.Faults.{comes_after_begin, has_event, history_fault, history_fault_from, is_history_line, is_in_range, is_timely, or_empty}
 use Rattle.zk_legal.specs.Formed.{frames_of, has_begun, is_closed, is_formed_line, is_kind_formed, is_opened}
-use Rattle.zk_model.specs.Limits.{max_frame, max_moment}
+use Rattle.zk_model.specs.Limits.{max_frame, max_time}
 use Rattle.zk_model.specs.declared.connect.ConnectRequest.{ConnectRequest}
 use Rattle.zk_transcript.proofs.Appending.{after-push}
 use Rattle.zk_transcript.proofs.Histories.{legal-begun, not-begin}
@@ -152,25 +152,25 @@ begun-line s (FrameLine c i z bytes) h = refl
 begun-line s (Send c bytes) h = refl
 begun-line s (Close c end) h = refl
 
-within-limit : (now : ℕ) → now ≤ max_moment → nat_le now max_moment ≡ true
+within-limit : (now : ℕ) → now ≤ max_time → nat_le now max_time ≡ true
 within-limit now le = grind (arith, nat_tests)
 
 above-two : (z : ℤ) → pos 2 <ℤ z → int_le (pos 0) z ≡ true
 above-two z h = grind (arith, nat_tests, ints)
 
-moment-within : (before : List TranscriptLine) (s : State) (z : ℤ) (kind : UpdateKind) → 1 ≤ s.updates → may_update before s z kind ≡ true → ((c i now : ℕ) → kind ≡ Asked c i now → now ≤ max_moment) → is_moment kind ≡ true
-moment-within before s z (Begin now) begun may clock = absurd (not-begin before s z now begun may)
-moment-within before s z (Asked c i now) begun may clock = within-limit now (clock c i now refl)
-moment-within before s z (NewSession id c) begun may clock = refl
-moment-within before s z (Attach id c) begun may clock = refl
-moment-within before s z (Closed id c i) begun may clock = refl
-moment-within before s z (Reaped id) begun may clock = refl
+time-within : (before : List TranscriptLine) (s : State) (z : ℤ) (kind : UpdateKind) → 1 ≤ s.updates → may_update before s z kind ≡ true → ((c i now : ℕ) → kind ≡ Asked c i now → now ≤ max_time) → is_timely kind ≡ true
+time-within before s z (Begin now) begun may clock = absurd (not-begin before s z now begun may)
+time-within before s z (Asked c i now) begun may clock = within-limit now (clock c i now refl)
+time-within before s z (NewSession id c) begun may clock = refl
+time-within before s z (Attach id c) begun may clock = refl
+time-within before s z (Closed id c i) begun may clock = refl
+time-within before s z (Reaped id) begun may clock = refl
 
 range-line : (before : List TranscriptLine) (s : State) (l : TranscriptLine) → 1 ≤ s.updates → is_legal_line before s l ≡ true → ((u : UpdateRec) → l ≡ Update u → pos 2 <ℤ u.zxid)
-    → ((c i now : ℕ) (z : ℤ) → l ≡ Update (record { zxid = z; kind = Asked c i now }) → now ≤ max_moment) → is_in_range l ≡ true
+    → ((c i now : ℕ) (z : ℤ) → l ≡ Update (record { zxid = z; kind = Asked c i now }) → now ≤ max_time) → is_in_range l ≡ true
 range-line before s (Update u) begun legal zxid clock =
     and_from _ _ (above-two u.zxid (zxid u refl))
-    (moment-within before s u.zxid u.kind begun (and_parts (may_update before s u.zxid u.kind) (is_next_zxid s u.zxid) legal).0 (λ c i now e. clock c i now u.zxid (ap (λ k. Update (record { zxid = u.zxid; kind = k })) e)))
+    (time-within before s u.zxid u.kind begun (and_parts (may_update before s u.zxid u.kind) (is_next_zxid s u.zxid) legal).0 (λ c i now e. clock c i now u.zxid (ap (λ k. Update (record { zxid = u.zxid; kind = k })) e)))
 range-line before s (Lapse revision id) begun legal zxid clock = refl
 range-line before s (Open c proxy id passwd) begun legal zxid clock = refl
 range-line before s (FrameLine c i z bytes) begun legal zxid clock = refl
@@ -206,7 +206,7 @@ pub record IsUnbrokenRun (lines : List TranscriptLine) : Type 0 where
   pub legal : is_legal lines ≡ true
   pub fresh : IsShownFresh lines
   pub unbroken : (c : ℕ) → progress c lines ≡ Broken → ⊥
-  pub clocks : (k c i now : ℕ) (z : ℤ) → slice_get lines k ≡ Some (Update (record { zxid = z; kind = Asked c i now })) → now ≤ max_moment
+  pub clocks : (k c i now : ℕ) (z : ℤ) → slice_get lines k ≡ Some (Update (record { zxid = z; kind = Asked c i now })) → now ≤ max_time
 
 module _ (lines : List TranscriptLine) (r : IsUnbrokenRun lines) where
   first-at : slice_get lines 0 ≡ Some (Update first_update)

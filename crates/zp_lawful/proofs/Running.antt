@@ -9,7 +9,7 @@ use Rattle.std.specs.Prelude.{None, Option, Some, if◌then◌else◌, nat_lt, s
 use Rattle.zk_jute.specs.JuteWriting.{with_length}
 use Rattle.zk_legal.proofs.Counting.{frames-few}
 use Rattle.zk_legal.specs.Formed.{frames_of}
-use Rattle.zk_model.specs.Limits.{max_moment}
+use Rattle.zk_model.specs.Limits.{max_time}
 use Rattle.zk_transcript.specs.Legal.{Tick}
 use Rattle.zk_transcript.specs.declared.transcript.TranscriptLine.TheVariants.{Lapse as LapseLine, Open}
 use Rattle.zk_transcript.specs.declared.transcript.TranscriptLine.{TranscriptLine}
@@ -76,8 +76,8 @@ foreign-proceeds w w' (Some s) e = others-proceed w w' [] (ap (λ (v : World). v
 not-above : (m n : ℕ) → nat_lt m n ≡ false → n ≤ m
 not-above m n h = grind (arith, nat_tests)
 
-tick-proceeds : (w : World) (n : ℕ) → nat_lt max_moment (w.clock + n) ≡ false → Proceeds w (record w { clock = w.clock + n })
-tick-proceeds w n within = record { more = []; lines = sym (append-nil w.lines); clock = λ le. not-above max_moment (w.clock + n) within; tidy = λ t k. record { used = t.used; unused = t.unused } }
+tick-proceeds : (w : World) (n : ℕ) → nat_lt max_time (w.clock + n) ≡ false → Proceeds w (record w { clock = w.clock + n })
+tick-proceeds w n within = record { more = []; lines = sym (append-nil w.lines); clock = λ le. not-above max_time (w.clock + n) within; tidy = λ t k. record { used = t.used; unused = t.unused } }
 
 -- ---- each line but settle
 
@@ -98,7 +98,7 @@ does-proceeds w w' (line.Restart p) possible h = subst (Proceeds w) (sym h) (res
 does-proceeds w w' (line.Lapse id) possible h = lapse-proceeds w w' id (lapse w.store id) h
 does-proceeds w w' (line.Foreign k v) possible h = foreign-proceeds w w' (foreign w.store k v) h
 does-proceeds w w' (line.Reap c p id) possible h = reaps-proceed w w' c (new_reaper p id) (new_reap id) None (λ t. (t.unused c (number-free (conn_at c w) possible), refl)) h
-does-proceeds w w' (line.Tick n) possible h = proceeds-to w (record w { clock = w.clock + n }) w' h (tick-proceeds w n ((passes (nat_lt max_moment (w.clock + n)) why.ClockLimit None possible).0))
+does-proceeds w w' (line.Tick n) possible h = proceeds-to w (record w { clock = w.clock + n }) w' h (tick-proceeds w n ((passes (nat_lt max_time (w.clock + n)) why.ClockLimit None possible).0))
 does-proceeds w w' (line.Settle c) possible h = absurd h
 
 -- ---- settle: what is out is carried out or answered, and entries are taken
@@ -126,14 +126,14 @@ runs-proceed w w' [] ticks (none, same) = proceeds-same w w' same
 runs-proceed w w' (h ∷ hs) ticks (mid, more, one, e, rest) = proceeds-then w mid w' (happens-proceeds w mid h one) (runs-proceed mid w' hs more rest)
 
 -- each clock of a script is within its limit
-clocks-within : (w w' : World) (hs : List Happening) (ticks : List Tick) → w.clock ≤ max_moment → RunsFrom w hs ticks w' → (k : ℕ) (t : Tick) → slice_get ticks k ≡ Some t → t.clock ≤ max_moment
+clocks-within : (w w' : World) (hs : List Happening) (ticks : List Tick) → w.clock ≤ max_time → RunsFrom w hs ticks w' → (k : ℕ) (t : Tick) → slice_get ticks k ≡ Some t → t.clock ≤ max_time
 clocks-within w w' [] ticks le (none, same) k t at = absurd (none_some (sym (ap (λ l. slice_get l k) none) ∙ at))
 clocks-within w w' (h ∷ hs) ticks le (mid, more, one, e, rest) k t at =
     let still = (happens-proceeds w mid h one).clock le in
     first-or-later (tick_of mid) more still (clocks-within mid w' hs more still rest) k t (sym (ap (λ l. slice_get l k) e) ∙ at)
   where
-    first-or-later : (first : Tick) (later : List Tick) → first.clock ≤ max_moment → ((j : ℕ) (u : Tick) → slice_get later j ≡ Some u → u.clock ≤ max_moment) → (j : ℕ) (u : Tick) → slice_get (first ∷ later) j ≡ Some u → u.clock ≤ max_moment
-    first-or-later first later one rest zero u f = subst (λ (v : Tick). v.clock ≤ max_moment) (some_is f) one
+    first-or-later : (first : Tick) (later : List Tick) → first.clock ≤ max_time → ((j : ℕ) (u : Tick) → slice_get later j ≡ Some u → u.clock ≤ max_time) → (j : ℕ) (u : Tick) → slice_get (first ∷ later) j ≡ Some u → u.clock ≤ max_time
+    first-or-later first later one rest zero u f = subst (λ (v : Tick). v.clock ≤ max_time) (some_is f) one
     first-or-later first later one rest (suc j) u f = rest j u f
 
 first-tidy : (s : Store) → IsTidy (world_over s)
@@ -150,7 +150,7 @@ run-lines hs ticks w (first, (s, a, e, is), runs) =
     let p = runs-proceed (world_over s) w hs ticks (subst (λ v. RunsFrom v hs ticks w) is runs) in
     record { more = p.more; lines = p.lines; tidy = λ n. p.tidy (first-tidy s) n }
 
-pub run-clocks : (hs : List Happening) (ticks : List Tick) (w : World) → Runs hs ticks w → (k : ℕ) (t : Tick) → slice_get ticks k ≡ Some t → t.clock ≤ max_moment
+pub run-clocks : (hs : List Happening) (ticks : List Tick) (w : World) → Runs hs ticks w → (k : ℕ) (t : Tick) → slice_get ticks k ≡ Some t → t.clock ≤ max_time
 run-clocks hs ticks w (first, (s, a, e, is), runs) k t at = clocks-within (world_over s) w hs ticks (omega arith) (subst (λ v. RunsFrom v hs ticks w) is runs) k t at
 
 -- ---- counts

@@ -3,7 +3,7 @@ use Rattle.std.proofs.Common.{◌≡◌, ◌≢◌, ◌≤◌, ℕ, List, [], �
 use Rattle.std.specs.Prelude.{Some, None, ◌⊎◌}
 use Rattle.std.specs.FinMap.{get}
 use Rattle.zk_legal.specs.Formed.{frames_of}
-use Rattle.zk_model.specs.Limits.{max_moment}
+use Rattle.zk_model.specs.Limits.{max_time}
 use Rattle.zk_transcript.specs.declared.transcript.TranscriptLine.{TranscriptLine}
 use Rattle.zp_happen.specs.Worlds.{Actor, Closed, Conn, Connection, Reaper, World, conn_at, with_conn}
 use Rattle.zp_lawful.proofs.Meaning.{found-as}
@@ -28,7 +28,7 @@ pub record IsTidy (w : World) : Type 0 where
 pub record Proceeds (w w' : World) : Type 0 where
   pub more : List TranscriptLine
   pub lines : w'.lines ≡ w.lines ++ more
-  pub clock : w.clock ≤ max_moment → w'.clock ≤ max_moment
+  pub clock : w.clock ≤ max_time → w'.clock ≤ max_time
   pub tidy : IsTidy w → AreCounted w'.lines → IsTidy w'
 
 counted-front : (xs ys : List TranscriptLine) → AreCounted (xs ++ ys) → AreCounted xs
@@ -49,7 +49,7 @@ pub proceeds-same : (w w' : World) → w' ≡ w → Proceeds w w'
 proceeds-same w w' e = record {
   more = [];
   lines = ap (λ (v : World). v.lines) e ∙ sym (append-nil w.lines);
-  clock = λ le. subst (λ (v : World). v.clock ≤ max_moment) (sym e) le;
+  clock = λ le. subst (λ (v : World). v.clock ≤ max_time) (sym e) le;
   tidy = λ t n. subst IsTidy (sym e) t;
 }
 

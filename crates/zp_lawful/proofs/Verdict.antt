@@ -3,7 +3,7 @@ use Rattle.std.proofs.Common.{◌≡◌, ◌≤◌, ◌+◌, ℕ, ℤ, List, [],
 use Rattle.std.proofs.lemmas.Bool.{and_parts}
 use Rattle.std.specs.Prelude.{None, Option, Some, if◌then◌else◌, option_map, slice_get}
 use Rattle.zk_legal.specs.Faults.{order_fault, order_fault_from}
-use Rattle.zk_model.specs.Limits.{max_moment}
+use Rattle.zk_model.specs.Limits.{max_time}
 use Rattle.zk_transcript.proofs.Placed.{asked-framed}
 use Rattle.zk_transcript.specs.Conversations.{IsLawfulAndFresh, IsServed}
 use Rattle.zk_transcript.specs.Legal.{Tick, is_in_order, is_ordered, is_ordered_from}
@@ -63,11 +63,11 @@ served-fresh lines c s = record {
 
 -- ---- the time of each update is within the clock's limit
 
-clocks-within : (hs : List Happening) (ticks : List Tick) (w : World) → Runs hs ticks w → IsServedRun ticks w.lines → (k c i now : ℕ) (z : ℤ) → slice_get w.lines k ≡ Some (Update (record { zxid = z; kind = Asked c i now })) → now ≤ max_moment
+clocks-within : (hs : List Happening) (ticks : List Tick) (w : World) → Runs hs ticks w → IsServedRun ticks w.lines → (k c i now : ℕ) (z : ℤ) → slice_get w.lines k ≡ Some (Update (record { zxid = z; kind = Asked c i now })) → now ≤ max_time
 clocks-within hs ticks w runs served k c i now z at =
     let f = asked-framed w.lines k z c i now served.history.legal at in
     let (j, t, there, clock, behind, before) = served.punctual k f.0 c i now z at (ap (option_map (λ (x : ℕ × List ℕ). x.0)) f.2) in
-    subst (λ n. n ≤ max_moment) clock (run-clocks hs ticks w runs j t there)
+    subst (λ n. n ≤ max_time) clock (run-clocks hs ticks w runs j t there)
 
 pub every-replay-lawful : EveryReplayIsLawful
 every-replay-lawful hs ticks w offers counted runs =

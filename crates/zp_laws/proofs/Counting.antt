@@ -175,7 +175,7 @@ module _ (n : ℕ) (small : n ≤ max_count) where
     answers-keeps c a now (KeepingAlive bytes) w h = alive-keeps c bytes now a w h
     answers-keeps c a now (Checking bytes) w h = checked-keeps c bytes now a w h
     answers-keeps c a now (Reading xid r v ws) w h = read-keeps c xid r v ws now a w h
-    answers-keeps c a now (Committing xid r v p moment) w h = of_txn a _ (Keeps true n c') h (λ z b parts f. committed-keeps c xid r p now z b parts w f)
+    answers-keeps c a now (Committing xid r v p time) w h = of_txn a _ (Keeps true n c') h (λ z b parts f. committed-keeps c xid r p now z b parts w f)
     answers-keeps c a now Ready w h = absurd h
     answers-keeps c a now (Waiting p) w h = absurd h
     answers-keeps c a now Shut w h = absurd h

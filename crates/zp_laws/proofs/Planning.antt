@@ -147,7 +147,7 @@ answers-plan c c' a now out (Checking bytes) h = of_txn a _ (IsPlannedAt now c'.
 answers-plan c c' a now out (Reading xid r v ws) h = of_txn a _ (IsPlannedAt now c'.stage) h (λ z b parts f.
     let y = with_parts (at_revision v z) ws parts in
     records-plan c c' ws parts now out (Looks c xid r y now c' out) (looks-plans c c' xid r y now out) f)
-answers-plan c c' a now out (Committing xid r v p moment) h = of_txn a _ (IsPlannedAt now c'.stage) h (λ z b parts f. committed-plans c c' xid r p now out z b parts f)
+answers-plan c c' a now out (Committing xid r v p time) h = of_txn a _ (IsPlannedAt now c'.stage) h (λ z b parts f. committed-plans c c' xid r p now out z b parts f)
 answers-plan c c' a now out Ready h = absurd h
 answers-plan c c' a now out (Waiting p) h = absurd h
 answers-plan c c' a now out Shut h = absurd h

@@ -44,7 +44,7 @@ abbrev pub IsAtWork : List TranscriptLine → ℕ → ℕ → Stage → Type 0
 IsAtWork lines conn i (KeepingAlive bytes) = IsFrameAt lines conn i bytes
 IsAtWork lines conn i (Checking bytes) = IsFrameAt lines conn i bytes
 IsAtWork lines conn i (Reading xid r v ws) = IsRequestAt lines conn i xid r
-IsAtWork lines conn i (Committing xid r v p moment) = IsRequestAt lines conn i xid r
+IsAtWork lines conn i (Committing xid r v p time) = IsRequestAt lines conn i xid r
 IsAtWork lines conn i _ = Unit {0}
 
 -- ---- stages

@@ -65,7 +65,7 @@ pub record Precedes (s u : Store) : Type 0 where
 abbrev pub is_first : Stage → Bool
 is_first (Checking bytes) = true
 is_first (Reading xid r v ws) = int_eq v.revision (pos 0)
-is_first (Committing xid r v p moment) = true
+is_first (Committing xid r v p time) = true
 is_first _ = false
 
 -- the store's keys stood for the state at that moment
@@ -79,7 +79,7 @@ IsOfEarlier v before = (r : ℕ) → v.revision ≡ pos r → r ≤ length befor
 
 abbrev pub IsOfEarlierIn : Stage → Store → Type 0
 IsOfEarlierIn (Reading xid r v ws) before = IsOfEarlier v before
-IsOfEarlierIn (Committing xid r v p moment) before = IsOfEarlier v before
+IsOfEarlierIn (Committing xid r v p time) before = IsOfEarlier v before
 IsOfEarlierIn _ before = Unit {0}
 
 -- the update of request i of c, planned at this time (in milliseconds)
@@ -88,20 +88,20 @@ kind_for req.Close id c i now = kinds.Closed id c i
 kind_for _ id c i now = kinds.Asked c i now
 
 -- the request at work has its line, right before the moment; the store that carried it out stood for the state before that line
-pub record IsOwnLine (lines : List TranscriptLine) (conn : ℕ) (c : Core) (w : Walker) (before : Store) (request : Request) (moment : ℕ) (revision : ℤ) (looked : ℕ) : Type 0 where
+pub record IsOwnLine (lines : List TranscriptLine) (conn : ℕ) (c : Core) (w : Walker) (before : Store) (request : Request) (time : ℕ) (revision : ℤ) (looked : ℕ) : Type 0 where
   pub place : ℕ
   pub update : UpdateRec
   pub line : own_update conn c.next lines ≡ Some (place, update)
   pub there : slice_get lines place ≡ Some (Update update)
   pub right : looked ≡ place + 1
   pub zxid : update.zxid ≡ revision
-  pub kind : update.kind ≡ kind_for request c.who.session conn c.next moment
+  pub kind : update.kind ≡ kind_for request c.who.session conn c.next time
   pub stood : StandsFor (present before) (state_at lines place)
   pub planned : IsMoment lines conn c.who w place
 
 -- a plan that was carried out has its line; otherwise the request at work has none
 abbrev pub IsOwn : List TranscriptLine → ℕ → Core → Walker → Store → ℕ → Stage → Answer → Type 0
-IsOwn lines conn c w before looked (Committing xid r v p moment) (answer.Txn revision true parts) = IsOwnLine lines conn c w before r moment revision looked
+IsOwn lines conn c w before looked (Committing xid r v p time) (answer.Txn revision true parts) = IsOwnLine lines conn c w before r time revision looked
 IsOwn lines conn c w before looked stage a = own_update conn c.next lines ≡ None
 
 -- the answer to what is out, which was carried out at an earlier time

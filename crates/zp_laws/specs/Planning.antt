@@ -8,7 +8,7 @@ use Rattle.zp_step.specs.declared.input.Input.{Input}
 
 -- the plan that a stage has out, if it has one, was made at this time
 abbrev pub IsPlannedAt : ℕ → Stage → Type 0
-IsPlannedAt now (Committing xid r v p moment) = moment ≡ now
+IsPlannedAt now (Committing xid r v p time) = time ≡ now
 IsPlannedAt now _ = Unit {0}
 
 -- after a step the plan that is out was made now, or the stage is what it was and the step asked nothing

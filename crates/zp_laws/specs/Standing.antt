@@ -57,13 +57,13 @@ abbrev pub IsForTree : Request → Type 0
 IsForTree r = plain_request no_watches r ≡ None
 
 -- the plan is a good one, made on a view of a revision of the store
-pub record IsBoundPlan (store : Store) (who : Who) (request : Request) (v : View) (p : Plan) (moment : ℕ) : Type 0 where
+pub record IsBoundPlan (store : Store) (who : Who) (request : Request) (v : View) (p : Plan) (time : ℕ) : Type 0 where
   pub number : ℕ
   pub revision : v.revision ≡ pos number
   pub known : number ≤ length store.revisions
   pub agrees : Agrees v (store_at store number)
   pub put : All WasPut v.keys
-  pub good : IsGood request who moment v p
+  pub good : IsGood request who time v p
 
 -- a reply that waits is the service's as of the moment, whatever is armed
 pub record IsReply (lines : List TranscriptLine) (conn : ℕ) (who : Who) (w : Walker) (p : Pending) (looked : ℕ) : Type 0 where
@@ -82,7 +82,7 @@ is_ahead lines conn i = list_all (λ l. is_below i (index_shown conn l)) lines
 
 abbrev pub Knows : Store → List TranscriptLine → ℕ → Core → Walker → ℕ → Stage → Type 0
 Knows store lines conn c w looked (Reading xid r v ws) = IsForTree r × (IsNoView v ⊎ IsViewAt store lines conn c.who w v looked)
-Knows store lines conn c w looked (Committing xid r v p moment) = IsForTree r × IsBoundPlan store c.who r v p moment
+Knows store lines conn c w looked (Committing xid r v p time) = IsForTree r × IsBoundPlan store c.who r v p time
 Knows store lines conn c w looked (Waiting p) = IsReply lines conn c.who w p looked × (is_due c p ≡ false)
 Knows store lines conn c w looked (Unconnected fresh) = ⊥
 Knows store lines conn c w looked (Connecting connect) = ⊥

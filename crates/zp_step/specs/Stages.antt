@@ -64,7 +64,7 @@ pub data Stage : Type 0 where
   -- a request was taken up, and what it asked for is out, to be added to the view
   Reading : (xid : ℤ) (request : Request) (view : View) (asked : List Want) → Stage
   -- the transaction of a plan is out; the plan was made on this view, at this time (in milliseconds)
-  Committing : (xid : ℤ) (request : Request) (view : View) (plan : Plan) (moment : ℕ) → Stage
+  Committing : (xid : ℤ) (request : Request) (view : View) (plan : Plan) (time : ℕ) → Stage
   -- a reply waits for the entries up to its number
   Waiting : (pending : Pending) → Stage
   -- the connection is closed
@@ -123,7 +123,7 @@ asked_of who Ready = None
 asked_of who (KeepingAlive frame) = Some (ask.Alive who.session)
 asked_of who (Checking frame) = Some (reading (pos 0) (attach_wants who.session))
 asked_of who (Reading xid r v ws) = Some (reading v.revision ws)
-asked_of who (Committing xid r v p moment) = Some (transaction p)
+asked_of who (Committing xid r v p time) = Some (transaction p)
 asked_of who (Waiting p) = None
 asked_of who Shut = None
 
@@ -136,7 +136,7 @@ wanted_in c Ready = if is_unarmed c.watches then wants.Frame else wants.FrameOrE
 wanted_in c (KeepingAlive frame) = wants.Answer
 wanted_in c (Checking frame) = wants.Answer
 wanted_in c (Reading xid r v ws) = wants.Answer
-wanted_in c (Committing xid r v p moment) = wants.Answer
+wanted_in c (Committing xid r v p time) = wants.Answer
 wanted_in c (Waiting p) = wants.Entry c.cursor
 wanted_in c Shut = wants.Nothing
 

@@ -127,7 +127,7 @@ is_busy (Connecting connect) = true
 is_busy (KeepingAlive frame) = true
 is_busy (Checking frame) = true
 is_busy (Reading xid r v ws) = true
-is_busy (Committing xid r v p moment) = true
+is_busy (Committing xid r v p time) = true
 is_busy _ = false
 
 pub data Arrived (c c' : Core) (bytes : List ℕ) (out : List Action) : Type 0 where
@@ -139,7 +139,7 @@ busy-open (Connecting connect) h = refl
 busy-open (KeepingAlive frame) h = refl
 busy-open (Checking frame) h = refl
 busy-open (Reading xid r v ws) h = refl
-busy-open (Committing xid r v p moment) h = refl
+busy-open (Committing xid r v p time) h = refl
 busy-open _ h = absurd (cc)
 
 busy-ready : (st : Stage) → is_busy st ≡ true → st ≡ Ready → ⊥
@@ -151,7 +151,7 @@ module _ (c c' : Core) (bytes : List ℕ) (now : ℕ) where
   comes-in (KeepingAlive frame) mid first h k = k
   comes-in (Checking frame) mid first h k = k
   comes-in (Reading xid r v ws) mid first h k = k
-  comes-in (Committing xid r v p moment) mid first h k = k
+  comes-in (Committing xid r v p time) mid first h k = k
   comes-in (Unconnected fresh) mid first h k = absurd (cc)
   comes-in Ready mid first h k = absurd (cc)
   comes-in (Waiting p) mid first h k = absurd (cc)

@@ -73,7 +73,7 @@ bound-at s lines c core w looked a (Committing xid q v p m) o least served work 
         framed = work;
         small = o.small core.next work.bytes (first_shown-place (frame_shown c core.next) 0 lines ((work.frame).place, work.bytes) (work.frame).framed);
         tree = tree;
-        moment = m;
+        time = m;
         of_kind = kind-same q core.who.session c core.next m;
         view = v;
         plan = p;

@@ -83,7 +83,7 @@ request-kept s u lines more c i kind t x b =
       };
       small = b.small;
       tree = b.tree;
-      moment = b.moment;
+      time = b.time;
       of_kind = b.of_kind;
       view = b.view;
       plan = b.plan;

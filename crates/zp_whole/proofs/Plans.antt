@@ -193,13 +193,13 @@ request-commits s lines c i t kind w room last b h =
       asked = request-is lines c i (b.framed).bytes b.xid b.request framed (b.framed).reads;
       tree = b.tree;
     } in
-    let d = does lines (after lines) z (b.who).session c i b.moment b.request answer.made acts answer.commits in
+    let d = does lines (after lines) z (b.who).session c i b.time b.request answer.made acts answer.commits in
     let carried = ((p.good).commits).carries (present s) (after lines) z sound st may rises room in
     record {
       may = subst (λ k. may_update lines (after lines) z k ≡ true) (sym b.of_kind) d.may;
-      ordered = subst (λ k. is_in_order lines (Update (record { zxid = z; kind = k })) ≡ true) (sym b.of_kind) (in-order lines z (b.who).session c i b.moment b.request last);
+      ordered = subst (λ k. is_in_order lines (Update (record { zxid = z; kind = k })) ≡ true) (sym b.of_kind) (in-order lines z (b.who).session c i b.time b.request last);
       stands = subst (λ k. StandsFor (acts_applied z (present s) t.success) (updated lines (after lines) z k)) (sym b.of_kind)
-          (subst (λ (l : TxnReq). StandsFor (acts_applied z (present s) l.success) (updated lines (after lines) z (kind_for b.request (b.who).session c i b.moment))) (sym b.txn)
+          (subst (λ (l : TxnReq). StandsFor (acts_applied z (present s) l.success) (updated lines (after lines) z (kind_for b.request (b.who).session c i b.time))) (sym b.txn)
           (subst (StandsFor (acts_applied z (present s) (b.plan).success)) (sym d.same) carried));
       zxid = ap (λ k. (updated lines (after lines) z k).zxid) b.of_kind ∙ ap (λ (v : State). v.zxid) d.same ∙ d.zxid;
     }

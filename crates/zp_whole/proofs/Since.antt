@@ -186,18 +186,18 @@ ends-leaves w c f behind end h = record { flight = λ x e. absurd (none_some e);
 
 -- ---- a connection's step
 
-asked-moment : (c i m d j n : ℕ) → Asked c i m ≡ Asked d j n → m ≡ n
-asked-moment c i m d j n e = cc
+asked-time : (c i m d j n : ℕ) → Asked c i m ≡ Asked d j n → m ≡ n
+asked-time c i m d j n e = cc
 
 closed-asked : (id : ℤ) (c i d j n : ℕ) → ClosedSession id c i ≡ Asked d j n → ⊥
 closed-asked id c i d j n e = cc
 
-request-now : (c k : ℕ) (id : ℤ) (moment d i m now : ℕ) (q : Request) → moment ≡ now → kind_of_request c k id moment q ≡ Asked d i m → m ≡ now
-request-now c k id moment d i m now req.Close g f = absurd (closed-asked id c k d i m f)
-request-now c k id moment d i m now _ g f = sym (asked-moment c k moment d i m f) ∙ g
+request-now : (c k : ℕ) (id : ℤ) (time d i m now : ℕ) (q : Request) → time ≡ now → kind_of_request c k id time q ≡ Asked d i m → m ≡ now
+request-now c k id time d i m now req.Close g f = absurd (closed-asked id c k d i m f)
+request-now c k id time d i m now _ g f = sym (asked-time c k time d i m f) ∙ g
 
 kind-now : (c : ℕ) (core : Core) (st : Stage) (now : ℕ) → IsPlannedAt now st → IsOfNow now (kind_in_stage c core st)
-kind-now c core (Committing xid r v p moment) now h d i m e = request-now c core.next core.who.session moment d i m now r h (some_is e)
+kind-now c core (Committing xid r v p time) now h d i m e = request-now c core.next core.who.session time d i m now r h (some_is e)
 kind-now c core (Connecting x) now h d i m e = connect-now x.phase e
   where
     connect-now : (p : Phase) → kind_of_connect c x p ≡ Some (Asked d i m) → m ≡ now

@@ -51,11 +51,11 @@ pub record IsBoundRequest (s : Store) (lines : List TranscriptLine) (c i : ℕ) 
   pub framed : IsRequestAt lines c i xid request
   pub small : length (framed.bytes) ≤ max_frame
   pub tree : IsForTree request
-  pub moment : ℕ
-  pub of_kind : kind ≡ kind_for request who.session c i moment
+  pub time : ℕ
+  pub of_kind : kind ≡ kind_for request who.session c i time
   pub view : View
   pub plan : Plan
-  pub bound : IsBoundPlan s who request view plan moment
+  pub bound : IsBoundPlan s who request view plan time
   pub txn : t ≡ plan_txn plan
 
 -- ---- a reaper's plan

@@ -24,9 +24,9 @@ numbered-connect c x LookingAgain k fresh held h = absurd (none_some h)
 numbered-connect c x (Attaching seen life) k fresh held h = subst HasSession (some_is h) held.session
 numbered-connect c x Over k fresh held h = absurd (none_some h)
 
-numbered-request : (c i : ℕ) (id : ℤ) (moment : ℕ) (r : Request) → pos 1 ≤ℤ id → HasSession (kind_of_request c i id moment r)
-numbered-request c i id moment req.Close real = real
-numbered-request c i id moment _ real = tt
+numbered-request : (c i : ℕ) (id : ℤ) (time : ℕ) (r : Request) → pos 1 ≤ℤ id → HasSession (kind_of_request c i id time r)
+numbered-request c i id time req.Close real = real
+numbered-request c i id time _ real = tt
 
 numbered-stage : (c : ℕ) (core : Core) (s : Stage) (k : UpdateKind) → IsHeldIn core.who.session s → kind_in_stage c core s ≡ Some k → HasSession k
 numbered-stage c core (Unconnected fresh) k held h = absurd (none_some h)
@@ -35,7 +35,7 @@ numbered-stage c core Ready k held h = absurd (none_some h)
 numbered-stage c core (KeepingAlive frame) k held h = absurd (none_some h)
 numbered-stage c core (Checking frame) k held h = absurd (none_some h)
 numbered-stage c core (Reading xid r v ws) k held h = absurd (none_some h)
-numbered-stage c core (Committing xid r v p moment) k held h = subst HasSession (some_is h) (numbered-request c core.next core.who.session moment r held.0)
+numbered-stage c core (Committing xid r v p time) k held h = subst HasSession (some_is h) (numbered-request c core.next core.who.session time r held.0)
 numbered-stage c core (Waiting p) k held h = absurd (none_some h)
 numbered-stage c core Shut k held h = absurd (none_some h)
 
@@ -46,7 +46,7 @@ held-stage core Ready held is = subst (IsHeldIn core.who.session) is held.stage
 held-stage core (KeepingAlive frame) held is = subst (IsHeldIn core.who.session) is held.stage
 held-stage core (Checking frame) held is = subst (IsHeldIn core.who.session) is held.stage
 held-stage core (Reading xid r v ws) held is = subst (IsHeldIn core.who.session) is held.stage
-held-stage core (Committing xid r v p moment) held is = subst (IsHeldIn core.who.session) is held.stage
+held-stage core (Committing xid r v p time) held is = subst (IsHeldIn core.who.session) is held.stage
 held-stage core (Waiting p) held is = subst (IsHeldIn core.who.session) is held.stage
 held-stage core Shut held is = tt
 

@@ -4,7 +4,7 @@ use Rattle.std.specs.Prelude.{Option, Some, None, Err, is_none, is_some, not, po
 use Rattle.ev_types.specs.Store.{Puts}
 use Rattle.ev_types.specs.Lapses.{leased_keys, removals}
 use Rattle.ev_types.specs.Denials.{has_lease}
-use Rattle.zk_model.specs.Limits.{max_frame, max_moment}
+use Rattle.zk_model.specs.Limits.{max_frame, max_time}
 use Rattle.zt_text.specs.declared.script.Happening.{Happening}
 use Rattle.zt_text.specs.declared.script.Happening.TheVariants as line
 use Rattle.zt_text.specs.declared.script.Why.{Why}
@@ -88,7 +88,7 @@ pub reap-line : (w : World) (c p : ℕ) (id : ℤ) → fault w (line.Reap c p id
 unfolding fault
 reap-line w c p id = refl
 
-pub tick-line : (w : World) (n : ℕ) → fault w (line.Tick n) ≡ if_fails (nat_lt max_moment (w.clock + n)) why.ClockLimit None
+pub tick-line : (w : World) (n : ℕ) → fault w (line.Tick n) ≡ if_fails (nat_lt max_time (w.clock + n)) why.ClockLimit None
 unfolding fault
 tick-line w n = refl
 

@@ -246,7 +246,7 @@ struct SteppedFrame {
 /// The step of a connection by a frame.
 fn step_with(alloc: Global, core: &mut Core, bytes: Bytes, now: u64) -> Result<SteppedFrame, Memory>
     requires short { length bytes ≤ max_frame }
-    requires moment { now < 2 ^ 62 }
+    requires time { now < 2 ^ 62 }
     ensures bytes { IfOk result (λ stepped. stepped.bytes ≡ bytes) }
     ensures steps { IfOk result (λ stepped. Steps core.old (input.Frame bytes) now core.new stepped.out.items) }
 {

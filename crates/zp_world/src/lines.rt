@@ -12,7 +12,7 @@ ghost use Rattle.zp_world.specs.Applying.{Applies};
 use crate::fault::{ApplyFault, refused};
 use crate::world::World;
 use ev_store::{Denied, StoreFault};
-use zk_model::limit::MAX_MOMENT;
+use zk_model::limit::MAX_TIME;
 use zk_transcript::TranscriptLine;
 use zt_text::Why;
 use zx_base::Bytes;
@@ -231,7 +231,7 @@ impl World {
         ensures { Applies self.old (line.Tick millis) result self.new }
     {
         let clock = self.clock + u64::from(millis);
-        if MAX_MOMENT < clock {
+        if MAX_TIME < clock {
             return Err(refused(Why::ClockLimit));
         }
         self.clock = clock;

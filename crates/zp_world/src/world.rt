@@ -49,7 +49,7 @@ impl Model for World {
     ghost use Rattle.zk_model.specs.PathSets.{coded_watches};
     ghost use Rattle.std.specs.Ordering.{nat_cmp};
     ghost use Rattle.zp_happen.specs.Worlds.{World as TheWorld, Conn, zxid_at};
-    ghost use Rattle.zk_model.specs.Limits.{max_moment};
+    ghost use Rattle.zk_model.specs.Limits.{max_time};
 
     ghost Value = { TheWorld };
 
@@ -64,7 +64,7 @@ impl Model for World {
       entries = w.entries;
     } };
 
-    ghost invariant = { λ w. (w.clock ≤ max_moment) × IfSome w.zxid (λ z. z ≡ zxid_at w.store) };
+    ghost invariant = { λ w. (w.clock ≤ max_time) × IfSome w.zxid (λ z. z ≡ zxid_at w.store) };
 }
 
 impl World {

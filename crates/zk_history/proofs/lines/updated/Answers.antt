@@ -8,15 +8,15 @@ use Rattle.zk_transcript.specs.History.{State, request, session_of}
 use Rattle.zk_plain.specs.declared.fault.Fault.{Fault}
 use Rattle.zk_plain.specs.Faults.{BeyondUnless}
 use Rattle.zk_plain.proofs.FaultLaws.{beyond-weaker}
-use Rattle.zk_history.specs.Fits.{AskedFits, IsCountable, IsMoment, UpdateFits}
+use Rattle.zk_history.specs.Fits.{AskedFits, IsCountable, IsTime, UpdateFits}
 use Rattle.zk_history.specs.Pasts.{lines_of}
 use Rattle.zk_history.proofs.lines.updated.Goals as goal
 
 -- the request of an update fits where the update does
 asked_beyond : (before : List TranscriptLine) (s : State) (zxid : ℤ) (kind : UpdateKind) (c i now : ℕ) (e : Fault) → kind ≡ Asked c i now →
-    BeyondUnless (IsCountable s × IsMoment now × AskedFits s.tree (session_of c s) (request c i before) zxid now) e → BeyondUnless (IsCountable s × UpdateFits before s zxid kind) e
+    BeyondUnless (IsCountable s × IsTime now × AskedFits s.tree (session_of c s) (request c i before) zxid now) e → BeyondUnless (IsCountable s × UpdateFits before s zxid kind) e
 asked_beyond before s zxid kind c i now e is beyond =
-    rw is (beyond-weaker (IsCountable s × IsMoment now × AskedFits s.tree (session_of c s) (request c i before) zxid now) (IsCountable s × UpdateFits before s zxid (Asked c i now)) e
+    rw is (beyond-weaker (IsCountable s × IsTime now × AskedFits s.tree (session_of c s) (request c i before) zxid now) (IsCountable s × UpdateFits before s zxid (Asked c i now)) e
     (λ fits. (fits.0, fits.1.0, fits.1.1)) beyond)
 
 pub returns-in_err-asked-in-Asked-clause-beyond : goal.returns-in_err-asked-in-Asked-clause-beyond

@@ -26,12 +26,12 @@ returns-then-parts-gt-MAX_PARTS-clause-tested c = λ none.
 pub returns-clause-decision : goal.returns-clause-decision
 returns-clause-decision c =
     let few : length c.args.parts.now ≤ max_parts = omega arith in
-    IfOk-weaker c.decide_by_session.result _ _ (λ d is. is_decision c.args.parts.now c.args.who c.args.now c.args.view.now c.requires.moment c.requires.short c.requires.real few c.requires.whole d is) c.decide_by_session.ensures
+    IfOk-weaker c.decide_by_session.result _ _ (λ d is. is_decision c.args.parts.now c.args.who c.args.now c.args.view.now c.requires.time c.requires.short c.requires.real few c.requires.whole d is) c.decide_by_session.ensures
 
 pub returns-clause-tested : goal.returns-clause-tested
 returns-clause-tested c =
     let few : length c.args.parts.now ≤ max_parts = omega arith in
-    IfOk-weaker c.decide_by_session.result _ _ (λ d is. is_tested c.args.parts.now c.args.who c.args.now c.args.view.now c.requires.moment c.requires.short c.requires.real few c.requires.whole d is) c.decide_by_session.ensures
+    IfOk-weaker c.decide_by_session.result _ _ (λ d is. is_tested c.args.parts.now c.args.who c.args.now c.args.view.now c.requires.time c.requires.short c.requires.real few c.requires.whole d is) c.decide_by_session.ensures
 
 pub decide_by_session-requires-clause-life : goal.decide_by_session-requires-clause-life
 decide_by_session-requires-clause-life c =
@@ -42,10 +42,10 @@ pub returns-clause-plan : goal.returns-clause-plan
 returns-clause-plan c =
     let few : length c.args.parts.now ≤ max_parts = omega arith in
     IfOk-weaker c.decide_by_session.result _ _ (λ d is. planned-weaker (IsPromised c.args.parts.now c.args.who c.args.now c.args.view.now) (IsGood (req.Multi c.args.parts.now) c.args.who c.args.now c.args.view.now) (λ p h. h.good) d
-    (is_promised c.args.parts.now c.args.who c.args.now c.args.view.now c.requires.moment c.requires.short c.requires.real few c.requires.whole d is)) c.decide_by_session.ensures
+    (is_promised c.args.parts.now c.args.who c.args.now c.args.view.now c.requires.time c.requires.short c.requires.real few c.requires.whole d is)) c.decide_by_session.ensures
 
 pub returns-clause-once : goal.returns-clause-once
 returns-clause-once c =
     let few : length c.args.parts.now ≤ max_parts = omega arith in
     IfOk-weaker c.decide_by_session.result _ _ (λ d is. planned-weaker (IsPromised c.args.parts.now c.args.who c.args.now c.args.view.now) WritesOnce (λ p h. h.once) d
-    (is_promised c.args.parts.now c.args.who c.args.now c.args.view.now c.requires.moment c.requires.short c.requires.real few c.requires.whole d is)) c.decide_by_session.ensures
+    (is_promised c.args.parts.now c.args.who c.args.now c.args.view.now c.requires.time c.requires.short c.requires.real few c.requires.whole d is)) c.decide_by_session.ensures

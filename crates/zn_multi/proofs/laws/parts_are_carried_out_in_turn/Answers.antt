@@ -2,7 +2,7 @@ use Rattle.zn_multi.proofs.Leading.{parts_pass, parts_stop}
 use Rattle.zn_multi.proofs.laws.parts_are_carried_out_in_turn.Goals as goal
 
 pub returns-clause-stops : goal.returns-clause-stops
-returns-clause-stops c = λ who now v near parts s z x place code run saw narrow moment short sound shown opened. parts_stop who now moment v near narrow parts s z sound shown x opened place code run saw short
+returns-clause-stops c = λ who now v near parts s z x place code run saw narrow time short sound shown opened. parts_stop who now time v near narrow parts s z sound shown x opened place code run saw short
 
 pub returns-clause-passes : goal.returns-clause-passes
-returns-clause-passes c = λ who now v near parts s z x p run saw narrow moment short sound shown opened. parts_pass who now moment v near narrow parts s z sound shown x opened p run saw short
+returns-clause-passes c = λ who now v near parts s z x p run saw narrow time short sound shown opened. parts_pass who now time v near narrow parts s z sound shown x opened p run saw short

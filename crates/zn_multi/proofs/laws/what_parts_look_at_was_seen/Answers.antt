@@ -8,8 +8,8 @@ use Rattle.zn_multi.proofs.Staying.{run_seen, stays_start}
 use Rattle.zn_multi.proofs.laws.what_parts_look_at_was_seen.Goals as goal
 
 pub returns : goal.returns
-returns c = λ who now v parts s z x carried run few whole moment short sound shown opened.
+returns c = λ who now v parts s z x carried run few whole time short sound shown opened.
     let ks = keys_there z v s shown who.session parts (Some []) in
-    run_seen who now moment v v (λ k o e. e) parts s z sound shown x opened parts [] no_progress 0 carried run ks.0 ks.1
+    run_seen who now time v v (λ k o e. e) parts s z sound shown x opened parts [] no_progress 0 carried run ks.0 ks.1
     (λ k i. whole_seen parts who v ks.0 ks.1 few whole k (in_right k (start_keys who.session) ks.0 i)) short
-    (stays_start who now moment v v (λ k o e. e) parts s z sound shown x opened)
+    (stays_start who now time v v (λ k o e. e) parts s z sound shown x opened)

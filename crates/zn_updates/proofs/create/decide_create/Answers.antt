@@ -84,7 +84,7 @@ returns-in-Valid-clause-form c =
     let session = to_z-of_z w64 _ session_fits in
     let long : IsLongCount c.args.who.session = first_of (search rules, grind (arith, common_steps)) in
     IfOk-weaker c.create_named.result _ _ (λ d is.
-    (all_promised c.args.path.now c.args.content.now c.args.acl.now c.args.flags form.1 valid c.args.who c.args.view.now c.args.now c.requires.moment c.requires.short c.requires.real long d _ refl
+    (all_promised c.args.path.now c.args.content.now c.args.acl.now c.args.flags form.1 valid c.args.who c.args.view.now c.args.now c.requires.time c.requires.short c.requires.real long d _ refl
     (λ w r e seen. path_looked_up c.args.path.now c.args.content.now c.args.acl.now c.args.flags form.1 valid c.args.who c.args.view.now c.requires.whole w r e seen)
     (subst (λ (t : Bool × Bool × ℤ × Bytes). IsCreate c.args.view.now c.args.path.now c.args.content.now c.args.now t.0 t.1 t.2 (parent t.3) d) (λ i. (sequential i, ephemeral i, session i, form.0 i)) is)).0) c.create_named.ensures
 
@@ -100,7 +100,7 @@ returns-in-Valid-clause-sound c =
     let session = to_z-of_z w64 _ session_fits in
     let long : IsLongCount c.args.who.session = first_of (search rules, grind (arith, common_steps)) in
     IfOk-weaker c.create_named.result _ _ (λ d is.
-    (all_promised c.args.path.now c.args.content.now c.args.acl.now c.args.flags form.1 valid c.args.who c.args.view.now c.args.now c.requires.moment c.requires.short c.requires.real long d _ refl
+    (all_promised c.args.path.now c.args.content.now c.args.acl.now c.args.flags form.1 valid c.args.who c.args.view.now c.args.now c.requires.time c.requires.short c.requires.real long d _ refl
     (λ w r e seen. path_looked_up c.args.path.now c.args.content.now c.args.acl.now c.args.flags form.1 valid c.args.who c.args.view.now c.requires.whole w r e seen)
     (subst (λ (t : Bool × Bool × ℤ × Bytes). IsCreate c.args.view.now c.args.path.now c.args.content.now c.args.now t.0 t.1 t.2 (parent t.3) d) (λ i. (sequential i, ephemeral i, session i, form.0 i)) is)).1) c.create_named.ensures
 
@@ -116,7 +116,7 @@ returns-in-Valid-clause-plan c =
     let session = to_z-of_z w64 _ session_fits in
     let long : IsLongCount c.args.who.session = first_of (search rules, grind (arith, common_steps)) in
     IfOk-weaker c.create_named.result _ _ (λ d is.
-    (all_promised c.args.path.now c.args.content.now c.args.acl.now c.args.flags form.1 valid c.args.who c.args.view.now c.args.now c.requires.moment c.requires.short c.requires.real long d _ refl
+    (all_promised c.args.path.now c.args.content.now c.args.acl.now c.args.flags form.1 valid c.args.who c.args.view.now c.args.now c.requires.time c.requires.short c.requires.real long d _ refl
     (λ w r e seen. path_looked_up c.args.path.now c.args.content.now c.args.acl.now c.args.flags form.1 valid c.args.who c.args.view.now c.requires.whole w r e seen)
     (subst (λ (t : Bool × Bool × ℤ × Bytes). IsCreate c.args.view.now c.args.path.now c.args.content.now c.args.now t.0 t.1 t.2 (parent t.3) d) (λ i. (sequential i, ephemeral i, session i, form.0 i)) is)).2) c.create_named.ensures
 

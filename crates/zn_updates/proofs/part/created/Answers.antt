@@ -55,7 +55,7 @@ returns-in-Some c =
     let long : IsLongCount c.args.who.session = first_of (search rules, grind (arith, common_steps)) in
     let up : parent (tested (is_sequential c.args.flags) c.args.path.now) ≡ Some c.in-Some.parent = ap parent (sym form.0) ∙ sym c.in_ok-parent.ensures.parent ∙ c.in-Some.is in
     IfOk-weaker c.created_below.result _ _ (λ d is.
-    created_part c.args.path.now c.args.content.now c.args.acl.now c.args.flags c.args.who c.args.now (layered c.args.over.now c.args.view.now) form.1 valid c.in-Some.parent up c.requires.short c.requires.moment long d
+    created_part c.args.path.now c.args.content.now c.args.acl.now c.args.flags c.args.who c.args.now (layered c.args.over.now c.args.view.now) form.1 valid c.in-Some.parent up c.requires.short c.requires.time long d
     (subst (λ (t : Bool × Bool × ℤ). IsCreatedBelow (layered c.args.over.now c.args.view.now) c.args.path.now c.args.content.now c.args.now t.0 t.1 t.2 c.in-Some.parent d) (λ i. (sequential i, ephemeral i, session i)) is)) c.created_below.ensures
 
 pub returns-in-None : goal.returns-in-None

@@ -22,7 +22,7 @@ returns-in_ok-counts-in-Some c =
     let fits : SFits w32 c.args.version = search rules in
     let version = to_z-of_z w32 _ fits in
     IfOk-weaker c.choose_set_data.result _ _ (λ d is.
-    set_part c.args.path.now c.args.content.now c.args.version c.args.who c.args.now (layered c.args.over.now c.args.view.now) path.1 c.requires.short c.requires.moment c.in_ok-node-in-Some.node c.in_ok-counts-in-Some.counts
+    set_part c.args.path.now c.args.content.now c.args.version c.args.who c.args.now (layered c.args.over.now c.args.view.now) path.1 c.requires.short c.requires.time c.in_ok-node-in-Some.node c.in_ok-counts-in-Some.counts
     (subst (λ (p : Bytes). IfData (layered c.args.over.now c.args.view.now) p c.in_ok-node-in-Some.node) path.0 c.in_ok-node-in-Some.ensures.is)
     (subst (λ (p : Bytes). IfCounts (layered c.args.over.now c.args.view.now) p c.in_ok-counts-in-Some.counts) path.0 c.in_ok-counts-in-Some.ensures.is)
     c.in_ok-node-in-Some.ensures.within d

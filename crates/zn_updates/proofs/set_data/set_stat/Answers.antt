@@ -15,13 +15,13 @@ returns c =
     let version : SFits w32 c.next_version.result = search rules in
     let children : SFits w32 counts.counts.children = search rules in
     let cversion : SFits w32 c.cversion.result = search rules in
-    let moment : to_z w64 c.args.now ≡ pos c.args.now = search rules in
+    let time : to_z w64 c.args.now ≡ pos c.args.now = search rules in
     let long : to_z w32 (length c.args.content.now) ≡ pos (length c.args.content.now) = search rules in
     λ i. record {
       czxid = to_z-of_z w64 _ czxid i;
       mzxid = pos 0;
       ctime = to_z-of_z w64 _ ctime i;
-      mtime = moment i;
+      mtime = time i;
       version = (to_z-of_z w32 _ version ∙ c.next_version.ensures) i;
       cversion = (to_z-of_z w32 _ cversion ∙ c.cversion.ensures) i;
       aversion = pos 0;

@@ -97,31 +97,31 @@ alike_if true false code x y e h = absurd (cc)
 alike_if false true code x y e h = absurd (cc)
 alike_if false false code x y e h = h refl
 
-module _ (t : Tree) (limit : ℕ) (id z y : ℤ) (now moment : ℕ) where
+module _ (t : Tree) (limit : ℕ) (id z y : ℤ) (now time : ℕ) where
   -- ---- create
 
   module _ (flags : ℤ) (content path : Bytes) where
     full-shape : (up : Node) → is_full t limit id flags up ≡ is_full (shape t) limit id flags (bare up)
     full-shape up = ap (λ (l : List Bytes). int_eq up.creates max_creates || (is_ephemeral flags && nat_le limit (length l))) (sym (owned-shape t id))
 
-    node-alike : (q : Bytes) (up : Node) (p : Bytes) (o : Option Node) → IsAlike (create_node t limit id flags content z now q up p o) (create_node (shape t) limit id flags content y moment q (bare up) p (option_map bare o))
+    node-alike : (q : Bytes) (up : Node) (p : Bytes) (o : Option Node) → IsAlike (create_node t limit id flags content z now q up p o) (create_node (shape t) limit id flags content y time q (bare up) p (option_map bare o))
     node-alike q up p (Some old) = refl
     node-alike q up p None =
         alike_if (not (int_eq up.owner (pos 0))) (not (int_eq up.owner (pos 0))) _ _ _ refl (λ _.
         alike_if (is_full t limit id flags up) (is_full (shape t) limit id flags (bare up)) _ _ _ (full-shape up) (λ _.
         shape-insert (insert t q (with_child up z)) p _
         ∙ (λ i. insert (put-shape t q (with_child up z) (with_child (bare up) y) refl i) p (bare (new_node content (if is_ephemeral flags then id else pos 0) z now)))
-        ∙ sym (shape-insert (insert (shape t) q (with_child (bare up) y)) p (new_node content (if is_ephemeral flags then id else pos 0) y moment))))
+        ∙ sym (shape-insert (insert (shape t) q (with_child (bare up) y)) p (new_node content (if is_ephemeral flags then id else pos 0) y time))))
 
-    under-alike : (q : Bytes) (o : Option Node) → IsAlike (create_under t limit id flags content z now path q o) (create_under (shape t) limit id flags content y moment path q (option_map bare o))
+    under-alike : (q : Bytes) (o : Option Node) → IsAlike (create_under t limit id flags content z now path q o) (create_under (shape t) limit id flags content y time path q (option_map bare o))
     under-alike q None = refl
     under-alike q (Some up) =
-        subst (λ (o : Option Node). IsAlike (create_node t limit id flags content z now q up (made_path flags path up) (get t (made_path flags path up))) (create_node (shape t) limit id flags content y moment q (bare up) (made_path flags path up) o))
+        subst (λ (o : Option Node). IsAlike (create_node t limit id flags content z now q up (made_path flags path up) (get t (made_path flags path up))) (create_node (shape t) limit id flags content y time q (bare up) (made_path flags path up) o))
         (sym (get-shape t (made_path flags path up))) (node-alike q up (made_path flags path up) (get t (made_path flags path up)))
 
-    create-alike : (o : Option Bytes) → IsAlike (create_at t limit id flags content z now path o) (create_at (shape t) limit id flags content y moment path o)
+    create-alike : (o : Option Bytes) → IsAlike (create_at t limit id flags content z now path o) (create_at (shape t) limit id flags content y time path o)
     create-alike None = refl
-    create-alike (Some q) = subst (λ (o : Option Node). IsAlike (create_under t limit id flags content z now path q (get t q)) (create_under (shape t) limit id flags content y moment path q o)) (sym (get-shape t q)) (under-alike q (get t q))
+    create-alike (Some q) = subst (λ (o : Option Node). IsAlike (create_under t limit id flags content z now path q (get t q)) (create_under (shape t) limit id flags content y time path q o)) (sym (get-shape t q)) (under-alike q (get t q))
 
   -- ---- delete
 
@@ -145,11 +145,11 @@ module _ (t : Tree) (limit : ℕ) (id z y : ℤ) (now moment : ℕ) where
 
   -- ---- setData and check
 
-  set-alike : (p content : Bytes) (version : ℤ) (o : Option Node) → IsAlike (set_data t p content version z now o) (set_data (shape t) p content version y moment (option_map bare o))
+  set-alike : (p content : Bytes) (version : ℤ) (o : Option Node) → IsAlike (set_data t p content version z now o) (set_data (shape t) p content version y time (option_map bare o))
   set-alike p content version None = refl
   set-alike p content version (Some n) =
       alike_if (not (matches version n.version)) (not (matches version n.version)) _ _ _ refl (λ _.
-      alike_if (int_eq n.version max_version) (int_eq n.version max_version) _ _ _ refl (λ _. put-shape t p (with_content n content z now) (with_content (bare n) content y moment) refl))
+      alike_if (int_eq n.version max_version) (int_eq n.version max_version) _ _ _ refl (λ _. put-shape t p (with_content n content z now) (with_content (bare n) content y time) refl))
 
   check-alike : (version : ℤ) (o : Option Node) → IsAlike (check t version o) (check (shape t) version (option_map bare o))
   check-alike version None = refl
@@ -157,20 +157,20 @@ module _ (t : Tree) (limit : ℕ) (id z y : ℤ) (now moment : ℕ) where
 
   -- ---- each part
 
-  effect-alike : (p : Part) → IsAlike (effect t limit id p z now) (effect (shape t) limit id p y moment)
+  effect-alike : (p : Part) → IsAlike (effect t limit id p z now) (effect (shape t) limit id p y time)
   unfolding effect
   effect-alike (Create path content acl flags) = create-alike flags content path (parent (named flags path))
   effect-alike (Delete path version) = subst (λ (o : Option Node). IsAlike (delete t path version z (get t path)) (delete (shape t) path version y o)) (sym (get-shape t path)) (delete-alike path version (get t path))
-  effect-alike (SetData path content version) = subst (λ (o : Option Node). IsAlike (set_data t path content version z now (get t path)) (set_data (shape t) path content version y moment o)) (sym (get-shape t path)) (set-alike path content version (get t path))
+  effect-alike (SetData path content version) = subst (λ (o : Option Node). IsAlike (set_data t path content version z now (get t path)) (set_data (shape t) path content version y time o)) (sym (get-shape t path)) (set-alike path content version (get t path))
   effect-alike (Check path version) = subst (λ (o : Option Node). IsAlike (check t version (get t path)) (check (shape t) version o)) (sym (get-shape t path)) (check-alike version (get t path))
 
   by_refusal : (refusal : Option ℤ) (a b : Outcome) → IsAlike a b → IsAlike (unless_refused refusal a) (unless_refused refusal b)
   by_refusal (Some code) a b h = refl
   by_refusal None a b h = h
 
-  single-alike : (p : Part) → IsAlike (single t limit id p z now) (single (shape t) limit id p y moment)
+  single-alike : (p : Part) → IsAlike (single t limit id p z now) (single (shape t) limit id p y time)
   unfolding single
-  single-alike p = by_refusal (form_refusal p) (effect t limit id p z now) (effect (shape t) limit id p y moment) (effect-alike p)
+  single-alike p = by_refusal (form_refusal p) (effect t limit id p z now) (effect (shape t) limit id p y time) (effect-alike p)
 
 -- ---- all parts
 
@@ -221,42 +221,42 @@ module _ (limit : ℕ) (id : ℤ) where
   unfolding parts_of
   parts_next t z now p ps = refl
 
-  parts_none : (t : Tree) (z y : ℤ) (now moment : ℕ) → AreAlike (parts_of t limit id [] z now) (parts_of (shape t) limit id [] y moment)
+  parts_none : (t : Tree) (z y : ℤ) (now time : ℕ) → AreAlike (parts_of t limit id [] z now) (parts_of (shape t) limit id [] y time)
   unfolding parts_of
-  parts_none t z y now moment = refl
+  parts_none t z y now time = refl
 
-  rest-alike : (t : Tree) (z y : ℤ) (now moment : ℕ) (p : Part) (ps : List Part) → ((u w : Tree) → shape u ≡ shape w → AreAlike (parts_of u limit id ps z now) (parts_of w limit id ps y moment)) → (a b : Outcome) → IsAlike a b
-      → AreAlike (then_rest t z now p ps a) (then_rest (shape t) y moment p ps b)
-  rest-alike t z y now moment p ps later (Refused code) (Refused other) h = (refl, h)
-  rest-alike t z y now moment p ps later (Refused code) (Done r u g) h = absurd h
-  rest-alike t z y now moment p ps later (Done r u g) (Refused code) h = absurd h
-  rest-alike t z y now moment p ps later (Done r u g) (Done s w k) h = alike_then r s g k (touched_by t id p) (touched_by (shape t) id p) _ _ (touched-shape t id p) (later u w h)
+  rest-alike : (t : Tree) (z y : ℤ) (now time : ℕ) (p : Part) (ps : List Part) → ((u w : Tree) → shape u ≡ shape w → AreAlike (parts_of u limit id ps z now) (parts_of w limit id ps y time)) → (a b : Outcome) → IsAlike a b
+      → AreAlike (then_rest t z now p ps a) (then_rest (shape t) y time p ps b)
+  rest-alike t z y now time p ps later (Refused code) (Refused other) h = (refl, h)
+  rest-alike t z y now time p ps later (Refused code) (Done r u g) h = absurd h
+  rest-alike t z y now time p ps later (Done r u g) (Refused code) h = absurd h
+  rest-alike t z y now time p ps later (Done r u g) (Done s w k) h = alike_then r s g k (touched_by t id p) (touched_by (shape t) id p) _ _ (touched-shape t id p) (later u w h)
 
   -- parts on a tree, and on that tree without zxids, times and data
-  shape-alike : (ps : List Part) (t : Tree) (z y : ℤ) (now moment : ℕ) → AreAlike (parts_of t limit id ps z now) (parts_of (shape t) limit id ps y moment)
-  shape-alike [] t z y now moment = parts_none t z y now moment
-  shape-alike (p ∷ ps) t z y now moment =
-      subst (λ (x : Parts × Parts). AreAlike x.0 x.1) (λ i. (sym (parts_next t z now p ps) i, sym (parts_next (shape t) y moment p ps) i))
-      (rest-alike t z y now moment p ps
+  shape-alike : (ps : List Part) (t : Tree) (z y : ℤ) (now time : ℕ) → AreAlike (parts_of t limit id ps z now) (parts_of (shape t) limit id ps y time)
+  shape-alike [] t z y now time = parts_none t z y now time
+  shape-alike (p ∷ ps) t z y now time =
+      subst (λ (x : Parts × Parts). AreAlike x.0 x.1) (λ i. (sym (parts_next t z now p ps) i, sym (parts_next (shape t) y time p ps) i))
+      (rest-alike t z y now time p ps
       (λ u w e. both_alike _ _ (parts_of (shape w) limit id ps (pos 0) 0)
       (subst (λ (x : Tree). AreAlike (parts_of u limit id ps z now) (parts_of x limit id ps (pos 0) 0)) e (shape-alike ps u z (pos 0) now 0))
-      (shape-alike ps w y (pos 0) moment 0))
-      (single t limit id p z now) (single (shape t) limit id p y moment) (single-alike t limit id z y now moment p))
+      (shape-alike ps w y (pos 0) time 0))
+      (single t limit id p z now) (single (shape t) limit id p y time) (single-alike t limit id z y now time p))
 
   -- at any two zxids and times
-  always-alike : (ps : List Part) (t : Tree) (z y : ℤ) (now moment : ℕ) → AreAlike (parts_of t limit id ps z now) (parts_of t limit id ps y moment)
-  always-alike ps t z y now moment = both_alike _ _ (parts_of (shape t) limit id ps (pos 0) 0) (shape-alike ps t z (pos 0) now 0) (shape-alike ps t y (pos 0) moment 0)
+  always-alike : (ps : List Part) (t : Tree) (z y : ℤ) (now time : ℕ) → AreAlike (parts_of t limit id ps z now) (parts_of t limit id ps y time)
+  always-alike ps t z y now time = both_alike _ _ (parts_of (shape t) limit id ps (pos 0) 0) (shape-alike ps t z (pos 0) now 0) (shape-alike ps t y (pos 0) time 0)
 
   stopped_as : (k : ℕ) (code : ℤ) (x : Parts) → AreAlike (Stopped k code) x → x ≡ Stopped k code
   stopped_as k code (Stopped j other) h = λ i. Stopped (sym h.0 i) (sym h.1 i)
   stopped_as k code (Passed rs u gs ss) h = absurd h
 
-  pub stopped-always : (ps : List Part) (t : Tree) (z y : ℤ) (now moment k : ℕ) (code : ℤ) → parts_of t limit id ps z now ≡ Stopped k code → parts_of t limit id ps y moment ≡ Stopped k code
-  stopped-always ps t z y now moment k code e = stopped_as k code (parts_of t limit id ps y moment) (subst (λ (x : Parts). AreAlike x (parts_of t limit id ps y moment)) e (always-alike ps t z y now moment))
+  pub stopped-always : (ps : List Part) (t : Tree) (z y : ℤ) (now time k : ℕ) (code : ℤ) → parts_of t limit id ps z now ≡ Stopped k code → parts_of t limit id ps y time ≡ Stopped k code
+  stopped-always ps t z y now time k code e = stopped_as k code (parts_of t limit id ps y time) (subst (λ (x : Parts). AreAlike x (parts_of t limit id ps y time)) e (always-alike ps t z y now time))
 
   passed_as : (rs : List PartResult) (u : Tree) (gs : List Trigger) (ss : List ℤ) (x : Parts) → AreAlike (Passed rs u gs ss) x → IsPassed ss x
   passed_as rs u gs ss (Stopped k code) h = absurd h
   passed_as rs u gs ss (Passed qs w hs us) h = record { results = qs; tree = w; triggers = hs; is = λ i. Passed qs w hs (sym h i) }
 
-  pub passed-always : (ps : List Part) (t : Tree) (z y : ℤ) (now moment : ℕ) (rs : List PartResult) (u : Tree) (gs : List Trigger) (ss : List ℤ) → parts_of t limit id ps z now ≡ Passed rs u gs ss → IsPassed ss (parts_of t limit id ps y moment)
-  passed-always ps t z y now moment rs u gs ss e = passed_as rs u gs ss (parts_of t limit id ps y moment) (subst (λ (x : Parts). AreAlike x (parts_of t limit id ps y moment)) e (always-alike ps t z y now moment))
+  pub passed-always : (ps : List Part) (t : Tree) (z y : ℤ) (now time : ℕ) (rs : List PartResult) (u : Tree) (gs : List Trigger) (ss : List ℤ) → parts_of t limit id ps z now ≡ Passed rs u gs ss → IsPassed ss (parts_of t limit id ps y time)
+  passed-always ps t z y now time rs u gs ss e = passed_as rs u gs ss (parts_of t limit id ps y time) (subst (λ (x : Parts). AreAlike x (parts_of t limit id ps y time)) e (always-alike ps t z y now time))
