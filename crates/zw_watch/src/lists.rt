@@ -4,7 +4,7 @@ ghost use Rattle.std.specs.Prelude.{◌≡◌, ◌||◌, take, IfOk, OnOk, OnErr
 ghost use Rattle.std.specs.FinMap.{contains_key};
 ghost use Rattle.zk_model.specs.Watches.{no_watches, is_unarmed, fired_data, fired_children, fire, note};
 ghost use Rattle.zw_watch.specs.Armed.{armed, fired_of, watches_of, StartWith};
-ghost use Rattle.zw_watch.specs.Sets.{has};
+ghost use Rattle.zk_model.specs.PathSets.{has};
 
 use crate::notices::{CHANGED, CHILDREN, CREATED, DELETED, note};
 use crate::paths::{add, contains, is_empty, remove};

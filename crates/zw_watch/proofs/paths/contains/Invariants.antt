@@ -1,5 +1,5 @@
 use Rattle.std.proofs.Common.{◌≡◌, drop}
-use Rattle.zw_watch.specs.Sets.{has}
+use Rattle.zk_model.specs.PathSets.{has}
 use Rattle.zw_watch.proofs.paths.contains.Given as goal
 
 abbrev pub invariant-loop-at : goal.invariant-loop-at

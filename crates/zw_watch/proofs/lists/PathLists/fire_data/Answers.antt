@@ -1,5 +1,5 @@
 use Rattle.std.proofs.Common.{ap, ◌∙◌}
-use Rattle.zw_watch.specs.Sets.{has}
+use Rattle.zk_model.specs.PathSets.{has}
 use Rattle.zw_watch.proofs.Firing.{fired_of-data}
 use Rattle.zw_watch.proofs.lists.PathLists.fire_data.Goals as goal
 
