@@ -22,18 +22,6 @@ abbrev pub later_by : ℕ → Result Framing ℕ → Result Framing ℕ
 later_by n (Ok f) = Ok f
 later_by n (Err number) = Err (n + number)
 
-pub later_by-zero : (r : Result Framing ℕ) → later_by 0 r ≡ r
-later_by-zero (Ok f) = refl
-later_by-zero (Err n) = ap Err (omega arith)
-
-pub later_by-later : (n : ℕ) (r : Result Framing ℕ) → later_by n (later r) ≡ later_by (n + 1) r
-later_by-later n (Ok f) = refl
-later_by-later n (Err m) = ap Err (omega arith)
-
-value-least : (n : ℕ) (ds : List ℕ) → n ≤ digits_value_after 10 n ds
-value-least n [] = omega arith
-value-least n (d ∷ ds) = omega (arith, value-least (n * 10 + digit_value d) ds)
-
 -- a count that stands at its end stays there
 pub counted-digits : (n m : ℕ) (ds : List ℕ) → counted n ≡ counted m → counted (digits_value_after 10 n ds) ≡ counted (digits_value_after 10 m ds)
 counted-digits n m [] e = e

@@ -1,5 +1,5 @@
 -- Whole messages.
-use Rattle.std.proofs.Common.{Bool, ◌≡◌, ℕ, ◌≤◌, List, [], ◌++◌, length, Ok, Err, refl, sym, subst, ◌∙◌, arith, inl, inr}
+use Rattle.std.proofs.Common.{Bool, ◌≡◌, ℕ, ◌≤◌, List, [], ◌++◌, length, Ok, Err, refl, sym, subst, ◌∙◌, arith, inr}
 use Rattle.std.specs.Prelude.{Result}
 use Rattle.std.specs.Global.{Vec}
 use Rattle.httparse.specs.Grammar.{Field, ResponseHead, IsResponseHead, print_response, RequestHead, IsRequestHead, print_request}
@@ -29,19 +29,6 @@ stops_in_head A (fault.Body p) k bytes head source' tally got start none taken =
 stops_in_head A (fault.TooLong n) k bytes head source' tally got start none taken = absurd got
 stops_in_head A fault.WriteFault k bytes head source' tally got start none taken = absurd got
 
-pub response_judged : (answer : Result (Vec ℕ) HttpFault) (e : HttpFault) (head bytes : List ℕ) (fields : List Field) (source : Told) (tally : Tally) → answer ≡ Err e → head ≡ bytes → FitsHead kind.Response fields bytes
-    → ((h : ResponseHead) → IsResponseHead h → head ≡ print_response h → length h.fields ≤ 64 → JudgesResponse (Err e) h head) → ResponseAnswer answer bytes source tally
-response_judged answer e head bytes fields source tally is same fits judges =
-    let h = fits.is_head.0 in
-    let few : length h.fields ≤ 64 = subst (λ (x : List Field). length x ≤ 64) fits.is_head.2 fits.few in
-    inr (inl (record {
-      h = h;
-      whole = record { is_head = fits.is_head.1; printed = fits.is_head.3; few = few; short = fits.short };
-      why = e;
-      answered = is;
-      says = subst (λ (x : List ℕ). JudgesResponse (Err e) h x) same (judges h fits.is_head.1 (same ∙ fits.is_head.3) few);
-    }))
-
 pub response_goes : (answer : Result (Vec ℕ) HttpFault) (f : Framing) (head bytes after : List ℕ) (fields : List Field) (start : ℕ) (source : Told) (tally : Tally) → head ≡ bytes → FitsHead kind.Response fields bytes
     → ((h : ResponseHead) → IsResponseHead h → head ≡ print_response h → length h.fields ≤ 64 → JudgesResponse (Ok f) h head) → start ≡ length bytes → BodyAnswer answer start f after source tally → ResponseAnswer answer (bytes ++ after) source tally
 response_goes answer f head bytes after fields start source tally same fits judges at body =
@@ -56,19 +43,6 @@ response_goes answer f head bytes after fields start source tally same fits judg
       after = after;
       bytes_are = refl;
       body = subst (λ n. BodyAnswer answer n f after source tally) at body;
-    }))
-
-pub request_judged : (answer : Result (Route × Vec ℕ) HttpFault) (e : HttpFault) (head bytes : List ℕ) (fields : List Field) (source : Told) (tally : Tally) → answer ≡ Err e → head ≡ bytes → FitsHead kind.Request fields bytes
-    → ((h : RequestHead) → IsRequestHead h → head ≡ print_request h → length h.fields ≤ 64 → JudgesRequest (Err e) h head) → RequestAnswer answer bytes source tally
-request_judged answer e head bytes fields source tally is same fits judges =
-    let h = fits.is_head.0 in
-    let few : length h.fields ≤ 64 = subst (λ (x : List Field). length x ≤ 64) fits.is_head.2 fits.few in
-    inr (inl (record {
-      h = h;
-      whole = record { is_head = fits.is_head.1; printed = fits.is_head.3; few = few; short = fits.short };
-      why = e;
-      answered = is;
-      says = subst (λ (x : List ℕ). JudgesRequest (Err e) h x) same (judges h fits.is_head.1 (same ∙ fits.is_head.3) few);
     }))
 
 pub request_goes : (answer : Result (Route × Vec ℕ) HttpFault) (read : Result (Vec ℕ) HttpFault) (r : Route) (n : ℕ) (head bytes after : List ℕ) (fields : List Field) (start : ℕ) (source : Told) (tally : Tally) → answer ≡ with_route r read → head ≡ bytes → FitsHead kind.Request fields bytes

@@ -27,9 +27,6 @@ use Rattle.ev_store.specs.FirstDenial.{too_many, written_again, first_again, twi
 pub or-none : {A : Type 0} (a b : Option A) → a ≡ None → option_or a b ≡ b
 or-none a b e = ap (λ o. option_or o b) e
 
-pub or-some : {A : Type 0} (a b : Option A) (x : A) → a ≡ Some x → option_or a b ≡ Some x
-or-some a b x e = ap (λ o. option_or o b) e
-
 or-there : {A : Type 0} (a b : Option A) → is_some (option_or a b) ≡ (is_some a || is_some b)
 or-there None b = refl
 or-there (Some x) b = refl

@@ -92,14 +92,6 @@ lapse_done s mid new id cs there all room added dropped =
     ∙ ap (λ b. cond b None (Some (grown (record s { leases = remove s.leases id }) cs))) (sym (full-there s cs) ∙ ap is_some room)
     ∙ ap Some (grown-leases s id cs ∙ ap (λ (m : Store). record m { leases = remove m.leases id }) (sym added) ∙ sym dropped)
 
-pub lapse_denial-full : (s : Store) (id : ℤ) (cs : List Change) → has_lease s id ≡ true → cs ≡ removals (leased_keys s id) → full s cs ≡ lapse_denial s id
-unfolding lapse_denial
-lapse_denial-full s id cs there all = ap (full s) all ∙ sym (ap (λ b. cond b (full s (removals (leased_keys s id))) (Some (denied.NoLease id))) there)
-
-pub lapse_denial-none : (s : Store) (id : ℤ) → has_lease s id ≡ false → lapse_denial s id ≡ Some (denied.NoLease id)
-unfolding lapse_denial
-lapse_denial-none s id gone = ap (λ b. cond b (full s (removals (leased_keys s id))) (Some (denied.NoLease id))) gone
-
 none-there : {A : Type 0} (b : Bool) (x : A) → is_none (cond b None (Some x)) ≡ b
 none-there true x = refl
 none-there false x = refl

@@ -8,12 +8,6 @@ use Rattle.std.specs.List.{list_all}
 pub front_of : {A : Type 0} (xs : List A) (i : ℕ) (x : A) → i < length xs → x ≡ get_or xs i x → drop i xs ≡ x ∷ drop (i + 1) xs
 front_of xs i x within here = drop_more xs i x within ∙ ap (λ y. y ∷ drop (i + 1) xs) (sym here)
 
--- what passes from a place on passes as a whole, where a further item before it changes nothing
-pub from_drop : {A : Type 0} (P : List A → Bool) → ((x : A) (xs : List A) → P xs ≡ true → P (x ∷ xs) ≡ true) → (xs : List A) (i : ℕ) → P (drop i xs) ≡ true → P xs ≡ true
-from_drop P more xs zero h = h
-from_drop P more [] (suc i) h = h
-from_drop P more (x ∷ xs) (suc i) h = more x xs (from_drop P more xs i h)
-
 pub all-take : {A : Type 0} (p : A → Bool) (n : ℕ) (xs : List A) → list_all p xs ≡ true → list_all p (take n xs) ≡ true
 all-take p zero xs h = refl
 all-take p (suc n) [] h = refl

@@ -1,5 +1,5 @@
 -- The puts of revisions: a walk that keeps the first so many, and what the walk tells of a store.
-use Rattle.std.proofs.Common.{◌≡◌, ℕ, zero, suc, ◌+◌, ◌-◌, ◌≤◌, ◌<◌, ◌^◌, true, cond, ℤ, pos, List, [], ◌∷◌, ◌++◌, length, take, drop, Option, None, refl, sym, ap, ◌∙◌, subst, append_assoc, append-nil, arith}
+use Rattle.std.proofs.Common.{◌≡◌, ℕ, zero, suc, ◌+◌, ◌-◌, ◌≤◌, ◌<◌, ◌^◌, true, cond, ℤ, pos, List, [], ◌∷◌, ◌++◌, length, take, drop, Option, None, refl, sym, ap, ◌∙◌, subst, append_assoc, arith}
 use Rattle.std.specs.Option.{option_to_list}
 use Rattle.std.specs.List.{list_all}
 use Rattle.std.specs.FinMap.{get, empty, get-empty}
@@ -7,7 +7,7 @@ use Rattle.std.specs.Ordering.{nat_cmp}
 use Rattle.std.specs.Cmp.Lexicographic.{slice_cmp}
 use Rattle.std.proofs.Math.ListN.{drop_of_length-le}
 use Rattle.std.proofs.lemmas.Bool.{and_parts}
-use Rattle.std.proofs.lemmas.List.{take_all, take_at, length-take, length-take-le, length-drop}
+use Rattle.std.proofs.lemmas.List.{take_all, length-take, length-take-le, length-drop}
 use Rattle.zx_base.specs.Maps.{Bytes}
 use Rattle.zx_base.proofs.MapLaws.{same-refl}
 use Rattle.ev_types.specs.declared.answer.Kv.{Kv}
@@ -31,14 +31,6 @@ taken_more n kept mid here rest is =
 
 pub taken_few : {A : Type 0} (n : ℕ) (xs ys : List A) → ys ≡ take n xs → length ys ≤ n
 taken_few n xs ys is = let e : length ys ≡ length (take n xs) = ap length is in omega (arith, length-take n xs)
-
--- nothing more fits, or comes
-pub taken_full : {A : Type 0} (n : ℕ) (kept rest total : List A) → length kept ≡ n → take n (kept ++ rest) ≡ total → kept ≡ total
-taken_full n kept rest total full so_far = sym (take_at kept rest n full) ∙ so_far
-
-pub taken_all : {A : Type 0} (n : ℕ) (kept rest total : List A) → length kept ≤ n → rest ≡ [] → take n (kept ++ rest) ≡ total → kept ≡ total
-taken_all n kept rest total few none so_far =
-    sym (take_all n kept few) ∙ ap (take n) (sym (append-nil kept) ∙ ap (λ xs. kept ++ xs) (sym none)) ∙ so_far
 
 -- ---- a step of each loop
 

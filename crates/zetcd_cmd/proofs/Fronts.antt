@@ -1,16 +1,10 @@
 -- Writes that took some front of what there was to write.
-use Rattle.std.proofs.Common.{ℕ, List, [], ◌++◌, take, drop, refl, sym, ap, ◌∙◌, subst, append_assoc, append-nil}
+use Rattle.std.proofs.Common.{ℕ, List, ◌++◌, take, drop, sym, ap, ◌∙◌, subst, append_assoc}
 use Rattle.std.specs.Prelude.{Option}
 use Rattle.std.proofs.lemmas.List.{take-append-drop}
 use Rattle.zx_outside.specs.Writing.{Takes, TakesFront}
-use Rattle.zx_outside.proofs.Streams.{append_known-nil, Takes-append}
+use Rattle.zx_outside.proofs.Streams.{Takes-append}
 use Rattle.zetcd_cmd.specs.Outcomes.{TakesSome}
-
-pub TakesSome-none : (whole : List ℕ) (taken : Option (List ℕ)) → TakesSome whole taken taken
-TakesSome-none whole taken = ([], whole, refl, sym (append_known-nil taken))
-
-pub TakesSome-all : (whole : List ℕ) (taken taken' : Option (List ℕ)) → Takes whole taken taken' → TakesSome whole taken taken'
-TakesSome-all whole taken taken' takes = (whole, [], sym (append-nil whole), takes)
 
 pub TakesSome-front : (whole : List ℕ) (taken taken' : Option (List ℕ)) → TakesFront whole taken taken' → TakesSome whole taken taken'
 TakesSome-front whole taken taken' front = (take front.0 whole, drop front.0 whole, sym (take-append-drop front.0 whole), front.2)

@@ -10,7 +10,6 @@ use Rattle.zetcd_cmd.specs.Replayed.{IsReplayed, IsStopped, IsCutShort, IsOver, 
 use Rattle.zt_text.specs.Faults.{done_text, fault_text, unread_text, why_text}
 use Rattle.zt_text.specs.Transcripts.{transcript_text}
 use Rattle.zx_outside.specs.Counts.{InputCounts}
-use Rattle.zx_outside.specs.Reading.{Gives}
 use Rattle.zx_outside.specs.Writing.{Takes}
 use Rattle.zp_happen.specs.Worlds.{World}
 use Rattle.zp_step.specs.Stages.{max_count}
@@ -24,7 +23,6 @@ use Rattle.zetcd_cmd.specs.Ending.{EndsAt, EndsReading}
 use Rattle.zetcd_cmd.specs.Outcomes.{Did, IsAtItsEnd, IsFront, StopsAt, ReplayWrites, Replays, TakesSome, IsUnharmed, Failed}
 use Rattle.zetcd_cmd.specs.Reporting.{ending_text, status_after}
 use Rattle.zetcd_cmd.specs.Scripting.{HasNoLineFeed, Stands, IsApplied, IsHalted, IsAgainst, EndsEarly}
-use Rattle.zx_outside.proofs.Streams.{append_known-nil}
 use Rattle.zetcd_cmd.proofs.Progress.{script-lines}
 use Rattle.zetcd_cmd.proofs.Reaching.{reached-claims}
 
@@ -177,10 +175,6 @@ pub Did-memory : (ended : Bool) (given given' left left' taken taken' : Option (
     Did (λ read output. IsFront (λ other whole. ReplayWrites other ended left' read whole) output) given given' left left' taken taken' →
     Did (Replays status.Memory ended left') given given' left left' taken taken'
 Did-memory ended given given' left left' taken taken' did = record { read = did.read; output = did.output; gives = did.gives; takes = did.takes; holds = inr did.holds }
-
-pub Did-nothing : (ended : Bool) (read : List ℕ) (given given' left left' taken : Option (List ℕ)) → Gives read given given' left left' →
-    Did (Replays status.Memory ended left') given given' left left' taken taken
-Did-nothing ended read given given' left left' taken gives = record { read = read; output = []; gives = gives; takes = sym (append_known-nil taken); holds = inl refl }
 
 -- ---- which status comes of which end
 

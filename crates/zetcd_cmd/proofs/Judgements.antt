@@ -9,15 +9,14 @@ use Rattle.zk_lines.specs.Transcripts.{Transcript, is_last_line, lines_from, not
 use Rattle.zt_text.specs.Scripts.{max_script, pieces}
 use Rattle.zt_text.proofs.PieceLaws.{pieces-some}
 use Rattle.zx_outside.specs.Reading.{Gives}
-use Rattle.zx_outside.specs.Writing.{Takes}
 use Rattle.zx_outside.proofs.Streams.{append_known-nil}
 use Rattle.zetcd_cmd.specs.declared.judge.Reading.{Reading}
 use Rattle.zetcd_cmd.specs.declared.judge.Reading.TheVariants as reading
 use Rattle.zetcd_cmd.specs.declared.status.Status.{Status}
 use Rattle.zetcd_cmd.specs.declared.status.Status.TheVariants as status
-use Rattle.zetcd_cmd.specs.Judged.{Finds, IsJudged}
+use Rattle.zetcd_cmd.specs.Judged.{Finds}
 use Rattle.zetcd_cmd.specs.Judging.{IsRead, Tells}
-use Rattle.zetcd_cmd.specs.Outcomes.{Did, IsAtItsEnd, IsFront, JudgeWrites, Judges}
+use Rattle.zetcd_cmd.specs.Outcomes.{Did, IsAtItsEnd, JudgeWrites, Judges}
 
 -- ---- a text that is too long
 
@@ -90,16 +89,6 @@ Did-judged status.Memory text ended given given' left left' taken taken' gives s
     record { read = text; output = []; gives = gives; takes = tells ∙ sym (append_known-nil taken); holds = refl }
 Did-judged status.Usage text ended given given' left left' taken taken' gives settled tells = absurd tells.1
 Did-judged status.ReadFault text ended given given' left left' taken taken' gives settled tells = absurd tells.1
-
--- the input failed, or memory was refused, and nothing was written
-pub Did-unjudged : (s : Status) (read : List ℕ) (ended : Bool) (given given' left left' taken : Option (List ℕ)) → (s ≡ status.ReadFault) ⊎ (s ≡ status.Memory) → Gives read given given' left left' →
-    Did (Judges s ended left') given given' left left' taken taken
-Did-unjudged s read ended given given' left left' taken (inl is) gives =
-    subst (λ (t : Status). Did (Judges t ended left') given given' left left' taken taken) (sym is)
-    (record { read = read; output = []; gives = gives; takes = sym (append_known-nil taken); holds = refl })
-Did-unjudged s read ended given given' left left' taken (inr is) gives =
-    subst (λ (t : Status). Did (Judges t ended left') given given' left left' taken taken) (sym is)
-    (record { read = read; output = []; gives = gives; takes = sym (append_known-nil taken); holds = refl })
 
 -- it came whole
 Did-whole : (how : Reading) (s : Status) (text shown : List ℕ) (ended : Bool) (given given' left left' taken taken' : Option (List ℕ)) → how ≡ reading.Whole → shown ≡ text →

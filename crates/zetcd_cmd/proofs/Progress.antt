@@ -15,7 +15,7 @@ use Rattle.zetcd_cmd.specs.declared.script.Stop.{Stop}
 use Rattle.zetcd_cmd.specs.declared.script.Stop.TheVariants as stop
 use Rattle.zetcd_cmd.specs.Replayed.{IsOver}
 use Rattle.zetcd_cmd.specs.Scripting.{HasNoLineFeed, Plays, Halts, IsKeptOut, Says, behind, HasRead, Stands, IsApplied, Ends, EndsEarly, IsOverAt}
-use Rattle.zetcd_cmd.proofs.ScriptLaws.{Says-nil, Says-line, script_from-line, line_read-long, script_from-long, script_from-last, script_from-cut}
+use Rattle.zetcd_cmd.proofs.ScriptLaws.{Says-line, script_from-line, line_read-long, script_from-long, script_from-last, script_from-cut}
 
 abbrev no_line_feed : ℕ → Type 0
 no_line_feed b = (b == 10) ≡ false
@@ -149,9 +149,6 @@ Ends-begun seen bytes rest old new stop.Memory lacks out world line r fits = tt 
 abbrev pub Goes : Script → List ℕ → Script → List ℕ → Type 0
 Goes old bytes now rest = (seen : List ℕ) → HasRead seen old → length (seen ++ bytes) ≤ max_script → (done : List ℕ) × HasRead done now × (seen ++ bytes ≡ done ++ rest)
 
-pub Goes-none : (old : Script) (bytes : List ℕ) → Goes old bytes old bytes
-Goes-none old bytes seen r fits = (seen, r, refl)
-
 -- what is left of the room, when a line ends within it
 line_fits : (whole done line later : List ℕ) → whole ≡ done ++ (line ++ 10 ∷ later) → length whole ≤ max_script → length (done ++ line) < max_script
 line_fits whole done line later parts fits =
@@ -194,29 +191,8 @@ Goes-kept_out old now new bytes rest why lacks out world line goes seen behind r
 
 -- ---- whole pieces
 
-pub Stands-nil : (s : Script) → s.pending.items ≡ [] → s.line ≡ 1 → s.room ≡ max_script → Reached [] s.world → Stands [] s
-Stands-nil s empty line room reached = record {
-  read = record {
-    lines = [];
-    happenings = [];
-    says = Says-nil;
-    parts = sym empty;
-    begun = subst HasNoLineFeed (sym empty) (All-nil no_line_feed);
-    short = rw empty (omega arith);
-    number = line;
-    reached = reached;
-  };
-  room = omega arith;
-}
-
 piece_fits : (seen piece : List ℕ) (room : ℕ) → length seen + room ≡ max_script → length piece ≤ room → length (seen ++ piece) ≤ max_script
 piece_fits seen piece room left fits = rw (length-append seen piece) (omega arith)
-
-pub Stands-piece : (seen piece : List ℕ) (old new : Script) → length piece ≤ old.room → new.room + length piece ≡ old.room →
-    ((seen : List ℕ) → HasRead seen old → length (seen ++ piece) ≤ max_script → HasRead (seen ++ piece) new) → Stands seen old → Stands (seen ++ piece) new
-Stands-piece seen piece old new fits room one s =
-    let left = s.room in
-    record { read = one seen s.read (piece_fits seen piece old.room left fits); room = rw (length-append seen piece) (omega arith) }
 
 pub Ends-piece : (seen piece rest : List ℕ) (old new : Script) (why : Stop) → length piece ≤ old.room →
     ((seen behind : List ℕ) → HasRead seen old → length (seen ++ piece) ≤ max_script → Ends ((seen ++ piece) ++ behind) new why) → Stands seen old → Ends ((seen ++ piece) ++ rest) new why

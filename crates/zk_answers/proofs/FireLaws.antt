@@ -1,17 +1,13 @@
 -- Changes that fire one after another, and paths that are seen one after another.
-use Rattle.std.proofs.Common.{◌≡◌, ℕ, ◌+◌, ◌<◌, ◌≤◌, List, [], ◌∷◌, ◌++◌, length, drop, get_or, refl, sym, ap, ◌∙◌, append_assoc, append-nil}
+use Rattle.std.proofs.Common.{◌≡◌, ℕ, ◌+◌, ◌<◌, ◌≤◌, List, ◌∷◌, ◌++◌, length, drop, get_or, sym, ap, ◌∙◌, append_assoc, append-nil}
 use Rattle.std.proofs.lemmas.List.{at_drop_more, at_drop_all}
-use Rattle.zx_base.specs.Maps.{Bytes}
 use Rattle.zk_model.specs.declared.node.Trigger.{Trigger}
 use Rattle.zk_model.specs.declared.reply.Notice.{Notice}
-use Rattle.zk_model.specs.Watches.{Watches, Seen, fire, fire_all, see_all}
+use Rattle.zk_model.specs.Watches.{Watches, fire, fire_all}
 
 -- what further changes leave armed, and their notices after those that were given before
 abbrev pub fired_on : Watches → List Notice → List Trigger → Watches × List Notice
 fired_on w ns ts = ((fire_all w ts).0, ns ++ (fire_all w ts).1)
-
-pub fired_on-start : (w : Watches) (ts : List Trigger) → fired_on w [] ts ≡ fire_all w ts
-fired_on-start w ts = refl
 
 pub fired_on-done : (w : Watches) (ns : List Notice) (ts : List Trigger) (i : ℕ) → length ts ≤ i → fired_on w ns (drop i ts) ≡ (w, ns)
 unfolding fire_all
@@ -28,15 +24,3 @@ fired_on-more w u ns told ts i t h is fires =
     ∙ ap (λ (x : Trigger). fired_on w ns (x ∷ drop (i + 1) ts)) (sym is)
     ∙ fired_on-cons w ns t (drop (i + 1) ts)
     ∙ ap (λ (f : Watches × List Notice). fired_on f.0 (ns ++ f.1) (drop (i + 1) ts)) (sym fires)
-
--- ---- setWatches
-
-pub see_all-more : (f : Seen → Bytes → Seen) (s next : Seen) (ps : List Bytes) (i : ℕ) (p : Bytes) → i < length ps → p ≡ get_or ps i p → next ≡ f s p
-    → see_all f s (drop i ps) ≡ see_all f next (drop (i + 1) ps)
-see_all-more f s next ps i p h is sees =
-    at_drop_more (see_all f s) ps i p h
-    ∙ ap (λ (x : Bytes). see_all f (f s x) (drop (i + 1) ps)) (sym is)
-    ∙ ap (λ (x : Seen). see_all f x (drop (i + 1) ps)) (sym sees)
-
-pub see_all-done : (f : Seen → Bytes → Seen) (s : Seen) (ps : List Bytes) (i : ℕ) → length ps ≤ i → see_all f s (drop i ps) ≡ s
-see_all-done f s ps i h = at_drop_all (see_all f s) ps i h

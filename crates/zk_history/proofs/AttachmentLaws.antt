@@ -274,13 +274,6 @@ attached-first m pairs c id s stand first is =
       | None ↦ λ e h. absurd (cc)
     ] refl there
 
--- the session with the least number on a connection is open
-pub first-open : (m : Sessions) (pairs : BTreeSet Pair) (c : ℕ) (id : ℤ) → AreAttached m pairs → IsLeastAttached pairs c (Some id) → get m id ≡ None → ⊥
-first-open m pairs c id stand first none =
-    let off : has pairs c id ≡ false = stand.each c id ∙ ap (is_on c) none in
-    let on : has pairs c id ≡ true = first.0 in
-    absurd (cc)
-
 pub attached-none : (m : Sessions) (pairs : BTreeSet Pair) (c : ℕ) → AreAttached m pairs → IsLeastAttached pairs c None → attached_in c (entries m) ≡ None
 attached-none m pairs c stand none =
     none-in c (entries m) (entries_sorted m) (λ other. ap (is_on c) (sym (get-entries m other)) ∙ off other)

@@ -1,7 +1,6 @@
 -- What is kept of each line of a transcript.
-use Rattle.std.proofs.Common.{◌≡◌, ℕ, zero, suc, ◌+◌, ◌-◌, ◌<◌, ◌≤◌, ◌⊎◌, List, [], ◌∷◌, ◌++◌, length, get_or, take, refl, sym, ap, ◌∙◌, subst, inl, inr, arith}
+use Rattle.std.proofs.Common.{◌≡◌, ℕ, zero, suc, ◌+◌, ◌-◌, ◌<◌, ◌⊎◌, List, [], ◌∷◌, ◌++◌, length, get_or, take, refl, sym, ap, ◌∙◌, subst, inl, inr}
 use Rattle.std.specs.Prelude.{false, is_some, Some, slice_get}
-use Rattle.std.proofs.Math.Nat.{eq-or-lt_of_le}
 use Rattle.std.proofs.lemmas.Option.{same_Some, slice_get_read}
 use Rattle.zk_transcript.specs.declared.transcript.UpdateRec.{UpdateRec}
 use Rattle.zk_transcript.specs.declared.transcript.TranscriptLine.{TranscriptLine}
@@ -40,29 +39,10 @@ kept-at all kept place e u each len within is shown = each place (Update u) e sh
 
 -- ---- the first update from a place on
 
-pub next-here : (all : List TranscriptLine) (place : ℕ) → place < length all → IsNext all place place
-next-here all place within = (omega arith, omega (arith, within), λ j u from before. absurd (omega (arith, from, before)))
-
-pub next-end : (all : List TranscriptLine) → IsNext all (length all - 0) (length all)
-next-end all = (omega arith, omega arith, λ j u from before. absurd (omega (arith, from, before)))
-
 no_update : (l : TranscriptLine) (u : UpdateRec) → is_some (update_zxid l) ≡ false → l ≡ Update u → ⊥
 no_update l u lacks is =
     let yes = ap (λ (m : TranscriptLine). is_some (update_zxid m)) is in
     cc
-
-pub next-kept : (all : List TranscriptLine) (place n : ℕ) (l : TranscriptLine) → slice_get all place ≡ Some l → is_some (update_zxid l) ≡ false → IsNext all (place + 1) n → IsNext all place n
-next-kept all place n l shown lacks next = (
-  omega (arith, next.0),
-  next.1,
-  λ j u from before there. elim (split j from) [
-    | inl at ↦ no_update l u lacks (same_Some l (Update u) (sym shown ∙ ap (λ k. slice_get all k) at ∙ there))
-    | inr later ↦ next.2 j u later before there
-  ],
-)
-  where
-    split : (j : ℕ) → place ≤ j → (place ≡ j) ⊎ (place + 1 ≤ j)
-    split j from = elim (eq-or-lt_of_le from) [ inl at ↦ inl at | inr less ↦ inr (omega (arith, less)) ]
 
 pub nexts-more : (all : List TranscriptLine) (nexts more : List ℕ) (n : ℕ) → more ≡ nexts ++ n ∷ [] → AreNexts all nexts → IsNext all (length all - length nexts) n → AreNexts all more
 nexts-more all nexts more n is stand next = λ j m here.

@@ -10,7 +10,7 @@ use Rattle.std.specs.Ordering.{int_cmp, is_lt, eq_by_cmp}
 use Rattle.std.specs.Cmp.{int_cmp_total, eq_by_cmp_equiv}
 use Rattle.std.specs.Map.{lookup, keys_of}
 use Rattle.std.specs.BTreeMap.{is_at}
-use Rattle.std.specs.FinMap.{find, is_sorted, get, insert, remove, entries, from_entries, from_sorted, same_map, int_cmp-IsAntisymmetric, get-from_entries, get-from_sorted, get-insert, get-remove, entries-from_sorted}
+use Rattle.std.specs.FinMap.{find, is_sorted, get, insert, remove, from_entries, same_map, int_cmp-IsAntisymmetric, get-from_entries, get-insert, get-remove}
 use Rattle.zk_transcript.specs.History.{Session, Sessions}
 
 abbrev pub Entries : Type 0
@@ -57,9 +57,3 @@ is_sorted-from_keys : (es : Entries) → IsStrictlySortedBy int_cmp (keys_of es)
 unfolding IsStrictlySortedBy
 is_sorted-from_keys [] h = tt
 is_sorted-from_keys (e ∷ es) h = both _ _ (below_all-from_sorted e.0 es h.0) (is_sorted-from_keys es h.1)
-
-pub entries-numbered : (es : Entries) → IsStrictlySortedBy int_cmp (keys_of es) → entries (numbered es) ≡ es
-entries-numbered es ordered =
-    let sorted : T (is_sorted int_cmp es) = is_sorted-from_keys es ordered in
-    let same : numbered es ≡ from_sorted es = same_map int_cmp_total int_cmp-IsAntisymmetric _ _ (λ q. get-from_entries int_cmp_total es q ∙ sym (get-from_sorted int_cmp es q sorted)) in
-    ap (λ (m : Sessions). entries m) same ∙ entries-from_sorted int_cmp es sorted

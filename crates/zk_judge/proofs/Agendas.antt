@@ -4,8 +4,7 @@ use Rattle.std.specs.Prelude.{◌⊎◌, option_map, slice_get}
 use Rattle.std.specs.Global.{Vec}
 use Rattle.std.specs.List.{All, Contains}
 use Rattle.std.proofs.lemmas.Bool.{cases_eq}
-use Rattle.std.proofs.lemmas.List.Elements.{All-get_or, All-nil, All-push, Contains-append_left, Contains-push}
-use Rattle.std.proofs.lemmas.Option.{get_or_from_slice_get}
+use Rattle.std.proofs.lemmas.List.Elements.{All-push, Contains-append_left, Contains-push}
 use Rattle.zk_transcript.specs.declared.transcript.TranscriptLine.{TranscriptLine}
 use Rattle.zk_transcript.proofs.Lookups.{front, back, slice_get-back, slice_get-front, within}
 use Rattle.zk_least.proofs.Queues.{before-end}
@@ -161,14 +160,3 @@ module _ (before rest : List (Vec Conversation)) (last : Vec Conversation) (are 
       only : (j : ℕ) (v : Vec Conversation) → slice_get (last ∷ []) j ≡ Some v → v ≡ last
       only zero v at = cc
       only (suc j) v at = absurd (cc)
-
--- ---- an agenda
-
-pub no-list : (lists : List (Vec Conversation)) (c : ℕ) → length lists ≡ 0 → IsListed lists c → ⊥
-no-list lists c none l = omega (arith, none, before-end lists l.place l.list l.there)
-
-pub none-waits : (lines : List TranscriptLine) (lists : List (Vec Conversation)) → All (λ (list : Vec Conversation). list.items ≡ []) lists → AreWaiting lines lists
-none-waits lines lists empty j xs at =
-    let none : xs.items ≡ [] =
-    subst (λ (v : Vec Conversation). v.items ≡ []) (get_or_from_slice_get lists j xs xs at) (All-get_or (λ (list : Vec Conversation). list.items ≡ []) lists j xs (before-end lists j xs at) empty) in
-    subst (λ (ys : List Conversation). All (IsStanding lines (length lines - j)) ys) (sym none) (All-nil (IsStanding lines (length lines - j)))

@@ -5,9 +5,7 @@ use Rattle.std.proofs.lemmas.Bool.Decides.{nat_tests}
 use Rattle.zk_jute.specs.Requests.{Frame, read_request}
 use Rattle.zk_transcript.specs.declared.transcript.UpdateRec.{UpdateRec}
 use Rattle.zk_transcript.specs.declared.transcript.TranscriptLine.{TranscriptLine}
-use Rattle.zk_transcript.specs.Walks.{Answer, Due, Plain, Walker, answer_as_of, answer_plainly, fired_above, has_header, may_answer_at, move, own_update, placed_frame, reply_step_if, told_as_of}
-use Rattle.zk_model.specs.Watches.{Watches}
-use Rattle.zk_transcript.specs.Answers.{Told, xid_of}
+use Rattle.zk_transcript.specs.Walks.{Answer, Due, Walker, answer_as_of, has_header, may_answer_at, move, own_update, placed_frame}
 use Rattle.zk_judge.specs.Seen.{answer_behind}
 
 if-is : {A : Type 0} (b : Bool) (o p : A) → b ≡ true → (if b then o else p) ≡ o
@@ -54,18 +52,6 @@ answer-moves lines c id w m over within =
 pub no-frame : (past : List TranscriptLine) (c : ℕ) (id : ℤ) (w : Walker) (own : Option (ℕ × UpdateRec)) → None ≡ answer_as_of past c id w own None
 unfolding answer_as_of
 no-frame past c id w own = refl
-
-pub plain-over : (lines : List TranscriptLine) (c : ℕ) (id : ℤ) (w : Walker) → w.over ≡ true → None ≡ move lines c id w Plain
-unfolding move
-plain-over lines c id w over = rw over refl
-
-pub plain-moves : (lines : List TranscriptLine) (c : ℕ) (id : ℤ) (w : Walker) → w.over ≡ false → answer_plainly w (placed_frame c w.next lines) ≡ move lines c id w Plain
-unfolding move
-plain-moves lines c id w over = rw over refl
-
-pub behind-is : (past : List TranscriptLine) (c : ℕ) (id : ℤ) (w : Walker) (own : Option (ℕ × UpdateRec)) (k : ℕ) (x : Frame) (xid : ℤ) (watches : Watches) (fired : List Due) (e : Option (Bool × Told))
-    → (watches, fired) ≡ fired_above past w.zxid w.watches → xid ≡ xid_of x → e ≡ told_as_of past c id x watches own → reply_step_if past w k xid fired e ≡ answer_behind past c id w own k x
-behind-is past c id w own k x xid watches fired e is same told = rw (← is, same, told) refl
 
 pub answer-framed : (lines past : List TranscriptLine) (c : ℕ) (id : ℤ) (w : Walker) (m : ℕ) (own : Option (ℕ × UpdateRec)) (f : ℕ × List ℕ)
     → past ≡ take m lines → w.over ≡ false → m ≤ length lines → own ≡ own_update c w.next lines → Some f ≡ placed_frame c w.next lines → answer_as_of past c id w own (Some f) ≡ move lines c id w (Answer m)

@@ -1,5 +1,5 @@
 -- The first lines of a transcript: what fires among them, and where their updates stand.
-use Rattle.std.proofs.Common.{◌≡◌, ℕ, zero, suc, ℤ, ◌+◌, ◌-◌, ◌<◌, ◌≤◌, Bool, true, false, List, [], ◌∷◌, ◌++◌, append-nil, length, length-take, take, drop, take-append-drop, Option, Some, None, refl, ap, sym, ◌∙◌, subst, arith}
+use Rattle.std.proofs.Common.{◌≡◌, ℕ, zero, suc, ℤ, ◌+◌, ◌-◌, ◌<◌, ◌≤◌, Bool, true, false, List, [], ◌∷◌, ◌++◌, append-nil, length, take, drop, take-append-drop, Option, Some, None, refl, ap, sym, ◌∙◌, subst, arith}
 use Rattle.std.specs.Prelude.{nat_le, slice_get}
 use Rattle.std.specs.Ordering.{int_eq}
 use Rattle.std.proofs.lemmas.Bool.Decides.{nat_tests}
@@ -20,9 +20,6 @@ use Rattle.zk_least.proofs.Queues.{none-fires, queue-law, unarmed-fires}
 use Rattle.zk_least.proofs.SameZxid.{get-take}
 use Rattle.zk_judge.specs.Fronts.{IsFront, IsTold}
 use Rattle.zk_judge.proofs.Opened.{take-end}
-
-pub front-length : (past lines : List TranscriptLine) → IsFront past lines → length past ≤ length lines
-front-length past lines front = omega (arith, length-take (length past) lines, ap (λ (ls : List TranscriptLine). length ls) front)
 
 pub front-get : (past lines : List TranscriptLine) (k : ℕ) (l : TranscriptLine) → IsFront past lines → slice_get past k ≡ Some l → slice_get lines k ≡ Some l
 front-get past lines k l front at = (get-take (length past) k lines l (ap (λ (ls : List TranscriptLine). slice_get ls k) (sym front) ∙ at)).1

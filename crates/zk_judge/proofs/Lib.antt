@@ -9,7 +9,6 @@ pub mod LeastFaults
 pub mod OneVerdict
 pub mod PacketPlaces
 pub mod Opened
-pub mod OneMore
 pub mod Tries
 pub mod Replied
 pub mod Stages

@@ -8,7 +8,7 @@ use Rattle.std.proofs.lemmas.List.Elements.{Contains-push_cases}
 use Rattle.zk_transcript.specs.declared.transcript.TranscriptLine.{TranscriptLine}
 use Rattle.zk_transcript.specs.declared.transcript.TranscriptLine.TheVariants.{Update, Open, Frame as FrameLine, Send, Lapse, Close}
 use Rattle.zk_transcript.specs.Conversations.{IsLawfulAndFresh}
-use Rattle.zk_transcript.specs.History.{after, nothing_yet, open_shown, opening, state_at}
+use Rattle.zk_transcript.specs.History.{open_shown, opening}
 use Rattle.zk_transcript.proofs.Lookups.{first_shown-skip}
 use Rattle.zk_legal.specs.Faults.{history_fault}
 use Rattle.zk_judge.specs.Faults.{IsLeastFault}
@@ -91,7 +91,3 @@ take-end (x ∷ xs) (suc k) le = ap (λ ys. x ∷ ys) (take-end xs k (omega (ari
 pub none-contained : (xs : List Conversation) (c : ℕ) → length xs ≡ 0 → Contains (connections xs) c → ⊥
 none-contained [] c none in' = omega (arith, in'.1)
 none-contained (x ∷ xs) c none in' = omega (arith, none)
-
-pub start-state : (lines : List TranscriptLine) → nothing_yet ≡ state_at lines 0
-unfolding after
-start-state lines = refl

@@ -1,5 +1,5 @@
 -- Lines that are updates.
-use Rattle.std.proofs.Common.{◌≡◌, ℕ, ℤ, Bool, true, false, ◌&&◌, List, refl, sym, ap, ◌∙◌, arith}
+use Rattle.std.proofs.Common.{◌≡◌, ℕ, Bool, true, false, ◌&&◌, List, sym, ap, ◌∙◌, arith}
 use Rattle.std.specs.Prelude.{Option, Some, None, IfSome, slice_get, ◌==◌}
 use Rattle.std.proofs.lemmas.Option.{same_Some}
 use Rattle.zk_transcript.specs.declared.transcript.UpdateRec.{UpdateRec}
@@ -8,16 +8,8 @@ use Rattle.zk_transcript.specs.declared.transcript.UpdateKind.TheVariants.{Begin
 use Rattle.zk_transcript.specs.declared.transcript.TranscriptLine.{TranscriptLine}
 use Rattle.zk_transcript.specs.declared.transcript.TranscriptLine.TheVariants.{Update, Open, Frame, Send, Lapse, Close}
 use Rattle.zk_transcript.specs.History.{when}
-use Rattle.zk_transcript.specs.Walks.{is_above, own_update, own_update_in, own_update_shown}
+use Rattle.zk_transcript.specs.Walks.{own_update, own_update_in, own_update_shown}
 use Rattle.zk_least.proofs.FirstPlaces.{first_place-at}
-
-pub above-update : (z : ℤ) (l : TranscriptLine) → is_above z l ≡ true → (u : UpdateRec) × (l ≡ Update u)
-above-update z (Update u) h = (u, refl)
-above-update z (Open c p id pw) h = absurd (cc)
-above-update z (Frame c i y bytes) h = absurd (cc)
-above-update z (Send c bytes) h = absurd (cc)
-above-update z (Lapse r id) h = absurd (cc)
-above-update z (Close c e) h = absurd (cc)
 
 when_is : (b : Bool) (u v : UpdateRec) → when b u ≡ Some v → u ≡ v
 when_is true u v h = same_Some u v h

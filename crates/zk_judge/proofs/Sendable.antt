@@ -1,5 +1,5 @@
 -- What a client is told in a run can be sent: the lengths of replies and notices fit their int.
-use Rattle.std.proofs.Common.{◌≡◌, ℕ, ℤ, pos, ◌+◌, ◌*◌, ◌^◌, ◌<◌, ◌≤◌, Bool, true, false, not, List, [], ◌∷◌, ◌++◌, length, Option, Some, None, refl, ap, subst, arith}
+use Rattle.std.proofs.Common.{◌≡◌, ℕ, ℤ, pos, ◌+◌, ◌*◌, ◌^◌, ◌<◌, ◌≤◌, Bool, true, false, not, List, [], ◌∷◌, ◌++◌, length, Option, Some, None, refl, ap, arith}
 use Rattle.std.specs.Prelude.{⊤, bytes_eq, codes, flat_map, if◌then◌else◌, int_lt, nat_lt, nat_le}
 use Rattle.std.specs.List.{All, AllByRecursion}
 use Rattle.std.proofs.lemmas.Bool.{leb-true}
@@ -258,9 +258,6 @@ IfTold (Some t) = CanBeTold t
 
 pub only-fits : (w : Watches) (r : Reply) → CanBeSent r → CanBeTold (only w r)
 only-fits w r fits = record { reply = fits; notices = All-from_recursion NoticeCanBeSent [] tt }
-
-pub is-told : (o : Option Told) (t : Told) → IfTold o → o ≡ Some t → CanBeTold t
-is-told o t fits is = subst IfTold is fits
 
 refusal-told : (w : Watches) (o : Option ℤ) → IfTold (told_refusal w o)
 refusal-told w None = tt

@@ -76,24 +76,7 @@ pub record IsCrowd (ps : List Due) (p : Due) : Type 0 where
   pub rest : List Due
   pub is : ps ≡ p ∷ next ∷ rest
 
-pub more-sent : (ps : List Due) (p : Due) → Some p ≡ slice_get ps 0 → (length ps ≡ 1 → ⊥) → IsCrowd ps p
-more-sent [] p e not = absurd (cc)
-more-sent (q ∷ []) p e not = absurd (not refl)
-more-sent (q ∷ r ∷ ps) p e not = let same : p ≡ q = cc in record { next = r; rest = ps; is = ap (λ (x : Due). x ∷ r ∷ ps) (sym same) }
-
 -- ---- conversations that are told by their first packets
-
-pub late-unlawful : (lines : List TranscriptLine) (c : ℕ) → IsRunning lines → are_before_close lines c ≡ false → IsTrue false ↔ IsLawfulAndFresh lines c
-late-unlawful lines c run late = (λ e. absurd (cc), λ lawful. let in_time = (judged-when lines c run lawful).in_time in absurd (cc))
-
-pub crowded-unlawful : (lines : List TranscriptLine) (c : ℕ) (p q : Due) (ps : List Due) → IsRunning lines → attach_of c lines ≡ None → packets c lines ≡ p ∷ q ∷ ps → IsTrue false ↔ IsLawfulAndFresh lines c
-crowded-unlawful lines c p q ps run unattached sent =
-    (λ e. absurd (cc), λ lawful. by (packets c lines) (attach_of c lines) sent unattached (judged-when lines c run lawful).connected)
-  where
-    by : (xs : List Due) (o : Option (ℕ × Attachment)) → xs ≡ p ∷ q ∷ ps → o ≡ None → IsConnectAnswered lines c xs o → IsTrue false
-    by [] o e n answered = absurd (cc)
-    by (x ∷ xs) (Some a) e n answered = absurd (cc)
-    by (x ∷ xs) None e n answered = let none = answered.1 in let more : xs ≡ q ∷ ps = cc in absurd (cc)
 
 -- what the connect was answered with decides, where no session was attached
 pub refused-lawful : (lines : List TranscriptLine) (c : ℕ) (p : Due) → IsRunning lines → attach_of c lines ≡ None → are_before_close lines c ≡ true → packets c lines ≡ p ∷ []
@@ -113,13 +96,6 @@ pub record IsAttached (lines : List TranscriptLine) (c place : ℕ) (zxid id : �
 
 abbrev Answers : List TranscriptLine → ℕ → ℕ → ℤ → Due → Type 0
 Answers lines c place id p = IsWelcomed lines c place id p (connect c lines) (session_at id (state_at lines (place + 1)))
-
-pub unwelcome-unlawful : (lines : List TranscriptLine) (c place : ℕ) (zxid id : ℤ) (p : Due) (ps : List Due) → IsAttached lines c place zxid id → packets c lines ≡ p ∷ ps → (Answers lines c place id p → IsTrue false)
-    → IsTrue false ↔ IsLawfulAndFresh lines c
-unwelcome-unlawful lines c place zxid id p ps at sent not = (
-  λ e. absurd (cc),
-  λ lawful. not (subst (λ (o : Option (ℕ × Attachment)). IsConnectAnswered lines c (p ∷ ps) o) at.line (subst (λ (xs : List Due). IsConnectAnswered lines c xs (attach_of c lines)) sent (judged-when lines c at.run lawful).connected)),
-)
 
 -- after a welcome the least walk decides
 pub welcome-lawful : (lines : List TranscriptLine) (c place : ℕ) (zxid id : ℤ) (p : Due) (ps : List Due) → IsAttached lines c place zxid id → are_before_close lines c ≡ true → packets c lines ≡ p ∷ ps → Answers lines c place id p

@@ -127,9 +127,6 @@ count_again : (n : ℕ) (front rest : List ℕ) → IsCount n front → count_at
 count_again n front rest (inl is) = rw (int_again (pos n) front rest is) refl
 count_again n front rest (inr is) = rw (int_again (negsuc 0) front rest is.1, is.0) refl
 
-pub count_field : IsField IsCount count_at
-count_field = record { takes = count_takes; again = count_again }
-
 buffer_takes : (bytes content rest : List ℕ) → buffer_at bytes ≡ Ok (content, rest) → Takes IsBuffer bytes content rest
 buffer_takes bytes content rest e =
     let b = bind_ok (count_at bytes) (λ n. bytes_after bytes (pos n.0) n.1) (content, rest) e in

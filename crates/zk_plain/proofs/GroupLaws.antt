@@ -189,14 +189,6 @@ family-gone m n q g removes is = λ p. ap (λ (x : Families). family x p) remove
     (λ (a : p ≢ q). ap group_of (get-remove_other m q p a) ∙ sym (kept _ (same-false p q a) g (family m p)))
     (either p q)
 
-pub owner-put : (m mid n : Owners) (id : ℤ) (g h : Group) → ((s : ℤ) → btree.get int_cmp mid s ≡ cond (int_eq id s) None (btree.get int_cmp m s))
-    → ((s : ℤ) → btree.get int_cmp n s ≡ cond (int_eq id s) (Some h) (btree.get int_cmp mid s)) → h ≡ g → HasOwner m n id g
-owner-put m mid n id g h removes puts is = λ s. ap group_of (puts s ∙ ap (cond (int_eq id s) (Some h)) (removes s)) ∙ by s (int_eq id s)
-  where
-    by : (s : ℤ) (b : Bool) → group_of (cond b (Some h) (cond b None (btree.get int_cmp m s))) ≡ cond b g (owned_group m s)
-    by s true = is
-    by s false = refl
-
 pub owner-gone : (m n : Owners) (id : ℤ) (g : Group) → ((s : ℤ) → btree.get int_cmp n s ≡ cond (int_eq id s) None (btree.get int_cmp m s)) → g ≡ empty → HasOwner m n id g
 owner-gone m n id g removes is = λ s. ap group_of (removes s) ∙ by s (int_eq id s)
   where

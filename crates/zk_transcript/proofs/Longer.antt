@@ -1,5 +1,5 @@
 -- Walks over more lines, and one choice longer.
-use Rattle.std.proofs.Common.{◌≡◌, ℕ, ◌+◌, ◌≤◌, ◌<◌, List, [], ◌∷◌, ◌++◌, take, refl, sym, ap, ◌∙◌, subst, arith, Bool, true, false, ℤ, append_assoc, append-nil}
+use Rattle.std.proofs.Common.{◌≡◌, ℕ, ◌+◌, ◌≤◌, ◌<◌, List, [], ◌∷◌, ◌++◌, take, refl, sym, ap, subst, arith, Bool, true, false, ℤ}
 use Rattle.std.specs.Prelude.{Option, Some, None, ◌&&◌, if◌then◌else◌}
 use Rattle.zk_transcript.specs.declared.transcript.UpdateRec.{UpdateRec}
 use Rattle.zk_transcript.specs.declared.transcript.TranscriptLine.{TranscriptLine}
@@ -122,29 +122,6 @@ walk-push lines more c id w (x ∷ xs) r stays h = go (move lines c id w x) refl
         let same : s.0.0.next ≡ r.0.next = ap (λ (v : Walker). v.next) s.2 in
         let small : y.0.next ≤ r.0.next = omega (arith, walk-next lines c id y.0 xs s.0 s.1, same) in
         rw (step-push lines more c id w x y r.0.next stays small e, later y.0 s.0 (subst (Stays lines more c) (sym same) stays) s.1) (rw s.1 at t)
-
--- one choice more
-pub walk-more : (lines : List TranscriptLine) (c : ℕ) (id : ℤ) (w : Walker) (xs : List Choice) (x : Choice) (r y : Walker × List Due)
-    → walk lines c id w xs ≡ Some r → move lines c id r.0 x ≡ Some y → walk lines c id w (xs ++ x ∷ []) ≡ Some (y.0, r.1 ++ y.1)
-unfolding walk
-walk-more lines c id w [] x r y h m =
-    let e : (w, []) ≡ r = cc in
-    let at_w : move lines c id w x ≡ Some y = rw (ap (λ (p : Walker × List Due). p.0) e) m in
-    one (move lines c id w x) at_w (ap (λ l. Some (y.0, l)) (append-nil y.1 ∙ ap (λ (p : Walker × List Due). p.1 ++ y.1) e))
-  where
-    one : (o : Option (Walker × List Due)) → o ≡ Some y → ◌≡◌ {A = Option (Walker × List Due)} (Some (y.0, y.1 ++ [])) (Some (y.0, r.1 ++ y.1)) → ◌≡◌ {A = Option (Walker × List Due)} (elim o [ None ↦ None | Some u ↦ then_due u.1 (Some (u.0, [])) ]) (Some (y.0, r.1 ++ y.1))
-    one o e t = rw e t
-walk-more lines c id w (z ∷ xs) x r y h m = go (move lines c id w z) refl (λ v q e n. walk-more lines c id v xs x q y e n) h
-  where
-    go : (o : Option (Walker × List Due)) → move lines c id w z ≡ o
-        → ((v : Walker) (q : Walker × List Due) → walk lines c id v xs ≡ Some q → move lines c id q.0 x ≡ Some y → walk lines c id v (xs ++ x ∷ []) ≡ Some (y.0, q.1 ++ y.1))
-        → (elim o [ None ↦ None | Some u ↦ then_due u.1 (walk lines c id u.0 xs) ]) ≡ Some r
-        → ◌≡◌ {A = Option (Walker × List Due)} (elim o [ None ↦ None | Some u ↦ then_due u.1 (walk lines c id u.0 (xs ++ x ∷ [])) ]) (Some (y.0, r.1 ++ y.1))
-    go None e later t = absurd (cc)
-    go (Some u) e later t =
-        let s = then_due-next u.1 (walk lines c id u.0 xs) r t in
-        let n : move lines c id s.0.0 x ≡ Some y = rw s.2 m in
-        rw (later u.0 s.0 s.1 n) (ap (λ l. Some (y.0, l)) (sym (append_assoc u.1 s.0.1 y.1) ∙ ap (λ l. l ++ y.1) s.3))
 
 -- a line that carries out none of them
 pub stays-line : (lines : List TranscriptLine) (l : TranscriptLine) (c n : ℕ) → ((j : ℕ) → j < n → own_update_shown c j l ≡ None) → Stays lines (l ∷ []) c n

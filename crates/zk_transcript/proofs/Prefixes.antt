@@ -6,7 +6,7 @@ use Rattle.zk_transcript.specs.declared.transcript.UpdateRec.{UpdateRec}
 use Rattle.zk_transcript.specs.declared.transcript.TranscriptLine.{TranscriptLine}
 use Rattle.zk_transcript.specs.declared.transcript.TranscriptLine.TheVariants.{Update, Open, Frame as FrameLine, Send, Lapse, Close}
 use Rattle.zk_transcript.specs.History.{State, change, nothing_yet}
-use Rattle.zk_transcript.specs.Legal.{begins, is_legal, is_legal_from, is_legal_line, is_in_order, is_ordered, is_ordered_from}
+use Rattle.zk_transcript.specs.Legal.{begins, is_legal, is_legal_from, is_legal_line, is_in_order, is_ordered_from}
 
 legal_from-take : (before : List TranscriptLine) (s : State) (ls : List TranscriptLine) (k : ℕ) → is_legal_from before s ls ≡ true → is_legal_from before s (take k ls) ≡ true
 legal_from-take before s [] zero h = refl
@@ -50,7 +50,3 @@ ordered_from-take before (l ∷ ls) zero h = refl
 ordered_from-take before (l ∷ ls) (suc k) h =
     let both = and_parts (is_in_order before l) (is_ordered_from (before ++ l ∷ []) ls) h in
     and_from (is_in_order before l) (is_ordered_from (before ++ l ∷ []) (take k ls)) both.0 (ordered_from-take (before ++ l ∷ []) ls k both.1)
-
-pub is_ordered-take : (lines : List TranscriptLine) (k : ℕ) → is_ordered lines ≡ true → is_ordered (take k lines) ≡ true
-unfolding is_ordered
-is_ordered-take lines k h = ordered_from-take [] lines k h

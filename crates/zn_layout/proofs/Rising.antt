@@ -20,9 +20,6 @@ less Greater h = cc
 abbrev pub AreRisingTo : ℕ → List Bytes → Type 0
 AreRisingTo i ps = (k : ℕ) → k + 1 < i → slice_cmp nat_cmp (get_or ps k []) (get_or ps (k + 1) []) ≡ Less
 
-pub rising-start : (i : ℕ) (ps : List Bytes) → i ≤ 1 → AreRisingTo i ps
-rising-start i ps le k lt = absurd (omega arith)
-
 -- two neighbours, as code reads them
 neighbours : (ps : List Bytes) (i : ℕ) (p q : Bytes) → 1 ≤ i → i < length ps → p ≡ get_or ps (i - 1) p → q ≡ get_or ps i q → (p ≡ get_or ps (i - 1) []) × (q ≡ get_or ps i [])
 neighbours ps i p q low high left right = (left ∙ get_or_default ps (i - 1) p [] (omega arith), right ∙ get_or_default ps i q [] high)

@@ -62,11 +62,6 @@ moved-tested r who v n saw apart plain =
     subst (IsTestedBy who (Moved n)) (sym saw.1)
     (subst (λ (b : Bool). MatchBool b (is_by_tree (Moved n) ≡ true) (Moved n ≡ Moved (saw.0).mod_revision)) (sym (ap (λ (k : ℤ). int_eq k who.mine) saw.2 ∙ apart)) (ap Moved (sym saw.2)))
 
-pub tree-tested : (r : Request) (who : Who) (v : View) (d : Decision) → IsAttached who v → is_by_tree d ≡ true → IsTested r who v d
-tree-tested r who v d attached tree plain =
-    subst (IsTestedBy who d) (sym attached.1)
-    (subst (λ (b : Bool). MatchBool b (is_by_tree d ≡ true) (d ≡ Moved (attached.0).mod_revision)) (sym (int_eq-same (attached.0).mod_revision who.mine attached.2)) tree)
-
 pub read-by_tree : (d : Decision) → IsAnswered d → is_by_tree d ≡ true
 read-by_tree (Planned p) h = absurd h
 read-by_tree (Answered x arm) h = refl

@@ -7,7 +7,7 @@ use Rattle.zk_model.specs.declared.node.Stat.{Stat}
 use Rattle.zk_model.specs.Znodes.{stat, cversion}
 use Rattle.zn_layout.specs.declared.record.NodeRec.{NodeRec}
 use Rattle.zn_layout.specs.declared.record.CountRec.{CountRec}
-use Rattle.zn_layout.specs.Reading.{IsValueOf, IsNoValue, node_record}
+use Rattle.zn_layout.specs.Reading.{IsValueOf, node_record}
 use Rattle.zn_layout.specs.Records.{node_value, counts_value, IsNodeRec, IsCountRec}
 use Rattle.zn_layout.specs.StandsFor.{czxid_of, data_record, counts_record, IsData, IsCounts}
 use Rattle.zn_layout.specs.declared.test.NodeNumbers.{NodeNumbers}
@@ -74,10 +74,3 @@ content-read own n r of_data read = ap (λ (x : NodeRec). x.content) (data_read 
 
 pub version-read : (own : Kv) (n : Node) (r : NodeRec) → IsData (stored own) n → IsValueOf node_value IsNodeRec own.value r → n.version ≡ r.version
 version-read own n r of_data read = sym (ap (λ (x : NodeRec). x.version) (data_read (stored own) n r of_data read))
-
--- a value that means a node is a record
-pub data-damaged : (own : Kv) (n : Node) → IsData (stored own) n → IsNoValue node_value IsNodeRec own.value → ⊥
-data-damaged own n of_data none = none (data_record n of_data.stored) of_data.fits of_data.value
-
-pub counts-damaged : (counts : Kv) (n : Node) (k : ℕ) → IsCounts (stored counts) n k → IsNoValue counts_value IsCountRec counts.value → ⊥
-counts-damaged counts n k of_counts none = none (counts_record n k) of_counts.fits of_counts.value

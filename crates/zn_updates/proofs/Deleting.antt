@@ -7,7 +7,7 @@ use Rattle.zk_model.specs.declared.node.Node.{Node}
 use Rattle.zk_model.specs.Paths.{parent, is_child}
 use Rattle.zk_model.specs.Znodes.{Tree, below, num_children}
 use Rattle.zk_model.proofs.Paths.{is_child-yes, is_child-no, apart_from_parent}
-use Rattle.zk_transcript.proofs.Children.{get-below_child, num_children-change, none-from_count}
+use Rattle.zk_transcript.proofs.Children.{get-below_child, num_children-change}
 
 num_children-less : (t : Tree) (q : Bytes) (old : Node) (p : Bytes) → get t q ≡ Some old → parent q ≡ Some p → num_children (remove t q) p ≡ num_children t p - 1
 num_children-less t q old p there h =
@@ -18,10 +18,6 @@ get-below_none t p q h = get-retain t (is_child p) q ∙ ap (λ b. cond b (get t
 
 num_children-other : (t : Tree) (q p : Bytes) → is_child p q ≡ false → num_children (remove t q) p ≡ num_children t p
 num_children-other t q p h = ap len (retain-remove t (is_child p) q ∙ remove-absent (below t p) q (get-below_none t p q h))
-
--- a node's parent has a child
-pub some_child : (t : Tree) (q p : Bytes) (node : Node) → get t q ≡ Some node → parent q ≡ Some p → num_children t p ≢ 0
-some_child t q p node there h e = let bad : Some node ≡ None = sym there ∙ none-from_count t p q e h in cc
 
 abbrev pub delete_tree : Tree → Bytes → Node → Bytes → Tree
 delete_tree t q above p = insert (remove t p) q above

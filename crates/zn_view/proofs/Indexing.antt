@@ -34,15 +34,6 @@ taken-in show x value old new is free writes q = go (same x.key q) refl
         ap (option_map show) (writes q ∙ ap (λ b. cond b (Some value) (old q)) (names-tie x.key q ∙ e))
         ∙ absent (option_map show (old q)) e
 
--- one that is a key of it stays as it was found first
-pub kept-in : (x : SeenKey) (old : Bytes → Option (Option Kv)) (f : Option Kv) → old x.key ≡ Some f → (q : Bytes) → old q ≡ or_seen q (old q) x
-kept-in x old f there q = go (same x.key q) refl (old q) refl
-  where
-    go : (b : Bool) → same x.key q ≡ b → (o : Option (Option Kv)) → old q ≡ o → o ≡ or_seen q o x
-    go b e (Some g) h = refl
-    go true e None h = let bad : None ≡ Some f = sym h ∙ ap old (sym (same-true x.key q e)) ∙ there in absurd (cc)
-    go false e None h = ap (λ b. if b then Some x.found else None) (sym e)
-
 later : (q : Bytes) (f : Option Kv) (xs : List SeenKey) → seen_from q (Some f) xs ≡ Some f
 later q f [] = refl
 later q f (x ∷ xs) = later q f xs

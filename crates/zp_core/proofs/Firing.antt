@@ -12,9 +12,6 @@ use Rattle.zw_watch.specs.Armed.{fired_of}
 abbrev pub Fires : Watches → List Trigger → Watches → List Notice → List Trigger → Type 0
 Fires start all w ns rest = fire_all start all ≡ ((fire_all w rest).0, ns ++ (fire_all w rest).1)
 
-pub fires-none : (w : Watches) (ts : List Trigger) → Fires w ts w [] ts
-fires-none w ts = refl
-
 one-more : (w : Watches) (t : Trigger) (rest : List Trigger) → fire_all w (t ∷ rest) ≡ ((fire_all (fire w t).0 rest).0, (fire w t).1 ++ (fire_all (fire w t).0 rest).1)
 unfolding fire_all
 one-more w t rest = refl

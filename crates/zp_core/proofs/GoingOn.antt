@@ -49,9 +49,6 @@ pub record Continues (now : ℕ) (c : Core) (first : List Action) (d : Core) (so
   pub on : (c' : Core) (out : List Action) → GoesOn now d so_far c' out → GoesOn now c first c' out
   pub held : IsHeld d
 
-pub continues-none : (now : ℕ) (c : Core) (first : List Action) → IsHeld c → Continues now c first c first
-continues-none now c first held = record { on = λ c' out g. g; held = held }
-
 pub continues-takes : (now : ℕ) (c d e : Core) (begun so_far first : List Action) (frame : List ℕ) (more : List (List ℕ)) → Continues now c begun d so_far → d.stage ≡ Ready → d.waiting ≡ frame ∷ more
     → TakesUp (record d { stage = Ready; waiting = more }) frame now e first → Continues now c begun e (so_far ++ first)
 continues-takes now c d e begun so_far first frame more k ready w t =

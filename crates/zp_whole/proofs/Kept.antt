@@ -68,9 +68,6 @@ Frameless more = (c i : ℕ) → frame c i more ≡ None
 pub small-more : (lines lines' more : List TranscriptLine) → lines' ≡ lines ++ more → Frameless more → ((c : ℕ) → HasSmallFrames lines c) → (c : ℕ) → HasSmallFrames lines' c
 small-more lines lines' more e n h c = subst (λ l. HasSmallFrames l c) (sym e) (λ i bytes f. h c i bytes (sym (frame-append c i lines more (n c i)) ∙ f))
 
-pub small-same : (lines lines' : List TranscriptLine) → lines' ≡ lines → ((c : ℕ) → HasSmallFrames lines c) → (c : ℕ) → HasSmallFrames lines' c
-small-same lines lines' e h c = subst (λ l. HasSmallFrames l c) (sym e) (h c)
-
 -- ---- closed connections
 
 pub closed-same : (w w' : World) (c : ℕ) → conn_at c w' ≡ conn_at c w → IsClosedAt w c → IsClosedAt w' c

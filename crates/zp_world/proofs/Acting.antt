@@ -50,19 +50,6 @@ out-as c kind lines o (action.Send bytes) = refl
 out-as c kind lines o (action.Ask a) = refl
 out-as c kind lines o (action.Close why) = refl
 
-pub send-added : (c : ℕ) (kind : Option UpdateKind) (lines : List TranscriptLine) (w w' : World) (flight : Option Flight) (bytes : List ℕ) → w' ≡ record w { lines = w.lines ++ Send c bytes ∷ [] }
-    → w' ≡ added w (acts c kind lines (quiet flight) (action.Send bytes))
-send-added c kind lines w w' flight bytes is = is ∙ (λ i. record w { lines = w.lines ++ Send c bytes ∷ []; strays = sym (append-nil w.strays) i })
-
-pub ask-added : (c : ℕ) (kind : Option UpdateKind) (lines : List TranscriptLine) (w : World) (flight : Option Flight) (a : Ask) → w ≡ added w (acts c kind lines (quiet flight) (action.Ask a))
-ask-added c kind lines w flight a = added-quiet w flight
-
-pub close-added : (c : ℕ) (kind : Option UpdateKind) (lines : List TranscriptLine) (w mid w' : World) (flight : Option Flight) (why : Cause) → mid ≡ record w { lines = w.lines ++ lines }
-    → w' ≡ record mid { lines = mid.lines ++ Close c (ended.Cause why) ∷ []; strays = mid.strays ++ left_by flight } → w' ≡ added w (acts c kind lines (quiet flight) (action.Close why))
-close-added c kind lines w mid w' flight why shown is =
-    is ∙ ap (λ (v : World). record v { lines = v.lines ++ Close c (ended.Cause why) ∷ []; strays = v.strays ++ left_by flight }) shown
-    ∙ (λ i. record w { lines = append_assoc w.lines lines (Close c (ended.Cause why) ∷ []) i; strays = w.strays ++ left_by flight })
-
 -- ---- what is still to be done
 
 -- nothing closed so far, or nothing is to come

@@ -59,14 +59,8 @@ insert-same m k v there = same_map nat_cmp_total exact_unsigned _ _ (λ q.
 pub conn-inserted : (c : ℕ) (w : World) (x : Conn) → conn_at c (with_conn w c x) ≡ Some x
 conn-inserted c w x = get-inserted w.conns c x
 
-pub conn-removed : (c : ℕ) (w : World) → conn_at c (without c w) ≡ None
-conn-removed c w = get-removed w.conns c
-
 pub with_conn-without : (c : ℕ) (w : World) (x : Conn) → with_conn (without c w) c x ≡ with_conn w c x
 with_conn-without c w x = ap (λ (m : Conns). record w { conns = m }) (insert-removed w.conns c x)
-
-pub with_conn-twice : (c : ℕ) (w : World) (x y : Conn) → with_conn (with_conn w c x) c y ≡ with_conn w c y
-with_conn-twice c w x y = ap (λ (m : Conns). record w { conns = m }) (insert-twice w.conns c x y)
 
 pub with_conn-same : (c : ℕ) (w : World) (x : Conn) → conn_at c w ≡ Some x → with_conn w c x ≡ w
 with_conn-same c w x there = ap (λ (m : Conns). record w { conns = m }) (insert-same w.conns c x there)

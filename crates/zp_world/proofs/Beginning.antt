@@ -5,7 +5,7 @@ use Rattle.std.specs.FinMap.{empty}
 use Rattle.ev_types.specs.declared.answer.Kv.{Kv}
 use Rattle.ev_types.specs.Denials.{carry}
 use Rattle.ev_types.specs.Ranges.{Keys}
-use Rattle.ev_types.specs.Store.{Store, mod_of, new_store, present, revision}
+use Rattle.ev_types.specs.Store.{Store, mod_of, new_store}
 use Rattle.ev_types.specs.declared.answer.Answer.{Answer}
 use Rattle.zk_model.specs.declared.node.Trigger.{Trigger}
 use Rattle.zk_transcript.specs.History.{after}
@@ -22,23 +22,13 @@ use Rattle.zp_happen.specs.Entries.{AreTriggersOf, IsEntryOf, triggers_of}
 use Rattle.zp_happen.specs.Runs.{first_entry, world_over}
 use Rattle.zp_happen.specs.Worlds.{World}
 use Rattle.zp_ledger.specs.Entering.{IsAdded}
-use Rattle.zx_base.proofs.Options.{some_none, some_is}
+use Rattle.zx_base.proofs.Options.{some_is}
 use Rattle.zx_base.specs.Maps.{Bytes}
 
 -- ---- its store
 
--- the first transaction on a new store is not denied
-pub begin-not-denied : Begins 0 → carry new_store (begin_ask 0) ≡ None → ⊥
-begin-not-denied b h = some_none (sym b.carried ∙ h)
-
 begun : (b : Begins 0) (s : Store) (a : Answer) → carry new_store (begin_ask 0) ≡ Some (s, a) → b.new ≡ s
 begun b s a h = ap (λ (p : Store × Answer). p.0) (some_is (sym b.carried ∙ h))
-
-pub begun-revision : (s : Store) (a : Answer) → Begins 0 → carry new_store (begin_ask 0) ≡ Some (s, a) → revision s ≡ pos 2
-begun-revision s a b h = subst (λ (t : Store). revision t ≡ pos 2) (begun b s a h) b.revision_is
-
-pub begun-stands : (s : Store) (a : Answer) → Begins 0 → carry new_store (begin_ask 0) ≡ Some (s, a) → StandsFor (present s) (after (begin_lines 0))
-begun-stands s a b h = subst (λ (t : Store). StandsFor (present t) (after (begin_lines 0))) (begun b s a h) b.stands
 
 -- ---- its entry
 

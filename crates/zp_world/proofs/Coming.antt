@@ -26,9 +26,6 @@ ends-open c w w' place n opened at handed = rw opened (go at.conn.actor refl at.
     go (Reaper reap) e served live = absurd (cc)
     go Closed e served live = absurd (cc)
 
-pub ends-closed : (c : ℕ) (w : World) (place : ℕ) (n : ℤ) → is_open_conn (conn_at c w) ≡ false → EndsBadly c w place (Some n) w
-ends-closed c w place n closed = rw closed refl
-
 -- ---- what is left of its stream
 
 pub kept-inbox : (c : ℕ) (w old : World) (conns taken : Conns) (x y : Conn) (seat : Seat) (role : Actor) (flight : Option Flight) (inbox : Stream) → old ≡ w → conn_at c w ≡ Some x → conn_at c w ≡ Some y → seated seat role flight ≡ y

@@ -1,7 +1,6 @@
 -- What is cut from the front of a stream, and what is left.
 use Rattle.std.proofs.Common.{◌≡◌, ℕ, ◌+◌, ◌-◌, ◌<◌, ◌≤◌, min, List, [], ◌∷◌, ◌++◌, length, drop, get_or, refl, sym, ap, ◌∙◌, subst, arith, inl, inr, length-append}
-use Rattle.std.specs.Prelude.{Option, Some, None, Ok, Err, ℤ, pos, sum_by, Result, All}
-use Rattle.std.specs.Global.{Vec}
+use Rattle.std.specs.Prelude.{Option, Some, None, ℤ, pos, sum_by, All}
 use Rattle.std.specs.Int.{w32}
 use Rattle.std.specs.Int.RustNames.{FitsSigned}
 use Rattle.std.proofs.lemmas.Int.{ints}
@@ -15,8 +14,6 @@ use Rattle.zk_jute.specs.JuteValues.{Spelled}
 use Rattle.zk_jute.specs.JuteWriting.{int_bytes, with_length}
 use Rattle.zk_model.specs.Limits.{max_frame}
 use Rattle.zk_wire.specs.Cutting.{Hands, Refuses, Stands, Stream, unread}
-use Rattle.zk_wire.specs.declared.cutter.CutFault.{CutFault}
-use Rattle.zk_wire.specs.declared.cutter.CutFault.TheVariants.{BadLength}
 use Rattle.zp_happen.specs.Arriving.{Cuts}
 use Rattle.zp_step.specs.Stages.{counted_up, max_count}
 use Rattle.zp_world.proofs.Shortness.{spelled-short}
@@ -38,18 +35,6 @@ stands-bad stream frames place n old new e none h =
 pub stands-short : (stream : List ℕ) (frames : List (List ℕ)) (state : Stream) → Stands stream frames state → All (λ (f : List ℕ). length f ≤ max_frame) frames
 stands-short stream frames state s = spelled-short frames s.framed.0 s.framed.1
 
--- ---- the length after the frames
-
-pub not-bad : (bytes : List ℕ) (place : ℕ) (r : Result (Vec (List ℕ)) CutFault) (frames : Vec (List ℕ)) → r ≡ Ok frames → ((n : ℤ) → bad_length bytes ≡ Some n → r ≡ Err (BadLength place n)) → None ≡ bad_length bytes
-not-bad bytes place r frames is refused = go (bad_length bytes) refused
-  where
-    go : (o : Option ℤ) → ((n : ℤ) → o ≡ Some n → r ≡ Err (BadLength place n)) → None ≡ o
-    go None h = refl
-    go (Some n) h = absurd (let e = sym is ∙ h n refl in cc)
-
-pub bad-front : (old new : Stream) (place : ℕ) (n : ℤ) → Refuses old [] place n new → Some n ≡ bad_length old.rest
-bad-front old new place n h = sym h.bad ∙ ap bad_length (append-nil old.rest)
-
 -- ---- the bytes of the frames
 
 spelled-size : (frames : List (List ℕ)) (front : List ℕ) → Spelled IsFrame frames front → length front ≡ sum_by framed_size frames
@@ -66,8 +51,6 @@ size-more size four next i total frames x within is four_is next_is so_far =
     let left : sum_by framed_size (drop i frames) ≡ (4 + length x) + sum_by framed_size (drop (i + 1) frames) = sum_by-drop_more framed_size frames i [] within ∙ ap (λ (f : List ℕ). (4 + length f) + sum_by framed_size (drop (i + 1) frames)) is in
     size-sum size four next (length x) (sum_by framed_size (drop (i + 1) frames)) (sum_by framed_size (drop i frames)) total left four_is next_is so_far
   where
-    size-sum : (size four next x more all total : ℕ) → all ≡ (4 + x) + more → four ≡ min (size + 4) max_count → next ≡ min (four + x) max_count → min (size + all) max_count ≡ total → min (next + more) max_count ≡ total
-    size-sum size four next x more all total a f n t = omega arith
 
 -- ---- what a client's stream is cut into
 

@@ -1,30 +1,24 @@
 -- What the tests of a line say where they pass.
-use Rattle.std.proofs.Common.{◌≡◌, ◌≢◌, ℕ, ℤ, refl, sym, ap, ◌∙◌, subst, Bool, true, false}
-use Rattle.std.specs.Prelude.{IfSome, Option, Some, None, is_none, is_some, not}
+use Rattle.std.proofs.Common.{◌≡◌, ℕ, ℤ, refl, sym, ap, ◌∙◌, subst, Bool, true, false}
+use Rattle.std.specs.Prelude.{Option, Some, None, is_none, is_some, not}
 use Rattle.std.specs.Option.{option_and_then}
-use Rattle.ev_store.specs.Asks.{IsGrantable}
 use Rattle.ev_types.specs.declared.ask.Ask.{Ask}
 use Rattle.ev_types.specs.declared.ask.Ask.TheVariants as ask
 use Rattle.ev_types.specs.declared.answer.Answer.{Answer}
 use Rattle.zn_layout.specs.declared.entry.Entry.{Entry}
 use Rattle.zp_happen.specs.declared.flight.Asking.{Asking}
 use Rattle.zp_happen.specs.declared.flight.Flight.{Flight}
-use Rattle.zp_happen.specs.declared.flight.Flight.TheVariants.{Out, Carried, Denied}
+use Rattle.zp_happen.specs.declared.flight.Flight.TheVariants.{Out}
 use Rattle.zp_happen.specs.Entries.{cursor_at, entry_behind, is_lagging, next_entry}
 use Rattle.zp_happen.specs.Faults.{ask_fault, carry_fault, connection_fault, entry_fault, fault, flight_at, if_fails, is_reaper_at, is_to_carry_out, new_fault, open_fault}
 use Rattle.zp_happen.specs.Worlds.{Actor, Closed, Conn, Connection, Reaper, World, conn_at, is_closed, is_reaper}
-use Rattle.zp_step.specs.Stages.{Core, asked_of}
-use Rattle.zk_transcript.specs.declared.transcript.UpdateKind.{UpdateKind}
-use Rattle.zs_reap.specs.Steps.{IsTxn, IsWaiting}
-use Rattle.zs_reap.specs.declared.reap.Reap.{Reap}
+use Rattle.zp_step.specs.Stages.{Core}
 use Rattle.zs_reap.specs.declared.reap.ReapStep.TheVariants as reaped
 use Rattle.zs_session.specs.Answering.{IsAwaited}
-use Rattle.zt_text.specs.Transcripts.{IsWellFormedKind}
 use Rattle.zt_text.specs.declared.script.Happening.TheVariants as line
 use Rattle.zt_text.specs.declared.script.Why.{Why}
 use Rattle.zt_text.specs.declared.script.Why.TheVariants as why
 use Rattle.zx_base.proofs.Options.{none_some, some_is, some_none}
-use Rattle.zp_world.specs.Flying.{IsActive, IsFlyingOf, IsReapFlying, MayFail}
 
 -- ---- one test
 
@@ -192,23 +186,3 @@ entry-missing c w cursor e at none = none_some (sym (next-is c w (Some cursor) a
 awaited-none : (o : Option Ask) (a : Answer) → o ≡ None → IsAwaited o (Some a) → ⊥
 awaited-none None a e h = h
 awaited-none (Some q) a e h = some_none e
-
-flying-asked : (core : Core) (f : Flight) → IsFlyingOf core (Some f) → asked_of core.who core.stage ≢ None
-flying-asked core (Out x) h none = none_some (sym none ∙ h.asked)
-flying-asked core (Carried a) h none = awaited-none (asked_of core.who core.stage) a none h
-flying-asked core Denied h none = h none
-
-pub may-fail : (a : Actor) (f : Flight) → IsActive a (Some f) → MayFail a
-may-fail (Connection core) f h = record { live = h.live; asked = flying-asked core f h.flies }
-may-fail (Reaper reap) f h = tt
-may-fail Closed f h = tt
-
-txn-grantable : (q : Ask) → IsTxn q → IsGrantable q
-txn-grantable (ask.Txn t) h = tt
-txn-grantable (ask.Range q) h = tt
-txn-grantable (ask.Grant id ttl) h = absurd h
-txn-grantable (ask.Alive id) h = tt
-
--- what a reaper asked
-pub reap-out : (reap : Reap) (q : Ask) (kind : Option UpdateKind) → IsWaiting (reaped.Ask q) reap.phase → IfSome kind IsWellFormedKind → IsReapFlying reap (Some (Out (record { ask = q; kind = kind })))
-reap-out reap q kind waits formed = record { asked = waits.0; txn = waits.1; fit = record { grantable = txn-grantable q waits.1; formed = formed } }

@@ -1,6 +1,6 @@
 -- The tests of lines, one after the other.
 use Rattle.std.proofs.Common.{◌≡◌, ℕ, refl, sym, ap, ◌∙◌, Bool, true, false}
-use Rattle.std.specs.Prelude.{Option, Some, None, Err, is_none, is_some, not, pos, ℤ, List, ◌∷◌, [], nat_lt, ◌+◌, length}
+use Rattle.std.specs.Prelude.{Option, Some, None, Err, is_none, not, pos, ℤ, List, ◌∷◌, [], nat_lt, ◌+◌, length}
 use Rattle.ev_types.specs.Store.{Puts}
 use Rattle.ev_types.specs.Lapses.{leased_keys, removals}
 use Rattle.ev_types.specs.Denials.{has_lease}
@@ -9,7 +9,7 @@ use Rattle.zt_text.specs.declared.script.Happening.{Happening}
 use Rattle.zt_text.specs.declared.script.Happening.TheVariants as line
 use Rattle.zt_text.specs.declared.script.Why.{Why}
 use Rattle.zt_text.specs.declared.script.Why.TheVariants as why
-use Rattle.zp_happen.specs.Entries.{is_lagging, next_entry}
+use Rattle.zp_happen.specs.Entries.{is_lagging}
 use Rattle.zp_happen.specs.Faults.{fault, if_fails, new_fault, open_fault, connection_fault, ask_fault, carry_fault, entry_fault, flight_at, full_fault, has_part, is_kept_key, is_reaper_at, is_to_carry_out, left_at}
 use Rattle.zp_happen.specs.Worlds.{World, Conn, conn_at, is_closed}
 use Rattle.zp_world.specs.declared.fault.ApplyFault.{ApplyFault}
@@ -124,21 +124,3 @@ connection-fails w c later x h = connection-first w c later ∙ ap (λ o. or_els
 pub connection-passes : (w : World) (c : ℕ) (later : Option Why) → connection_fault c w None ≡ None → connection_fault c w later ≡ later
 unfolding or_else
 connection-passes w c later h = connection-first w c later ∙ ap (λ o. or_else o later) h
-
-pub entry-first : (w : World) (c : ℕ) (later : Option Why) → entry_fault c w later ≡ or_else (entry_fault c w None) later
-unfolding or_else
-entry-first w c later =
-    connection-first w c _ ∙ go (connection_fault c w None) ∙ ap (λ o. or_else o later) (sym (connection-first w c _))
-  where
-    go : (o : Option Why) → or_else o (if_fails (is_some (flight_at c w)) why.RequestOut (if_fails (is_none (next_entry c w)) why.NoEntry later))
-        ≡ or_else (or_else o (if_fails (is_some (flight_at c w)) why.RequestOut (if_fails (is_none (next_entry c w)) why.NoEntry None))) later
-    go None = two-tests (is_some (flight_at c w)) (is_none (next_entry c w)) why.RequestOut why.NoEntry later
-    go (Some x) = refl
-
-pub entry-fails : (w : World) (c : ℕ) (later : Option Why) (x : Why) → entry_fault c w None ≡ Some x → entry_fault c w later ≡ Some x
-unfolding or_else
-entry-fails w c later x h = entry-first w c later ∙ ap (λ o. or_else o later) h
-
-pub entry-passes : (w : World) (c : ℕ) (later : Option Why) → entry_fault c w None ≡ None → entry_fault c w later ≡ later
-unfolding or_else
-entry-passes w c later h = entry-first w c later ∙ ap (λ o. or_else o later) h

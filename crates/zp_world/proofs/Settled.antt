@@ -147,25 +147,9 @@ move-possible c w Enter is = entry-possible c w is
 
 -- ---- the line that it does, by what stands there
 
-pub settling-none : (c : ℕ) (w : World) → conn_at c w ≡ None → settling c w ≡ None
-settling-none c w none = ap (settling_conn c w) none
-
-pub settling-closed : (c : ℕ) (w : World) (x : Conn) → conn_at c w ≡ Some x → is_closed x.actor ≡ true → settling c w ≡ None
-settling-closed c w x there closed = ap (settling_conn c w) there ∙ ap (λ (b : Bool). if b then None else flight_line c w x x.flight) closed
-
-pub settling-flight : (c : ℕ) (w : World) (x : Conn) (f : Option Flight) → conn_at c w ≡ Some x → is_closed x.actor ≡ false → x.flight ≡ f → settling c w ≡ flight_line c w x f
-settling-flight c w x f there live flies =
-    ap (settling_conn c w) there ∙ ap (λ (b : Bool). if b then None else flight_line c w x x.flight) live ∙ ap (flight_line c w x) flies
-
-pub entry-waits : (c : ℕ) (w : World) (x : Conn) → is_waiting x.actor ≡ true → is_some (next_entry c w) ≡ true → entry_line c w x ≡ Some (line.Entry c)
-entry-waits c w x waits next = ap (λ (b : Bool). if b then (if is_some (next_entry c w) then Some (line.Entry c) else None) else None) waits ∙ ap (λ (b : Bool). if b then Some (line.Entry c) else None) next
-
 pub entry-idle : (c : ℕ) (w : World) (x : Conn) → is_waiting x.actor ≡ false → entry_line c w x ≡ None
 entry-idle c w x idle = ap (λ (b : Bool). if b then (if is_some (next_entry c w) then Some (line.Entry c) else None) else None) idle
 
 lacking : (b d : Bool) (h : Happening) → d ≡ false → (if b then (if d then Some h else None) else None) ≡ None
 lacking true d h e = ap (λ (x : Bool). if x then Some h else None) e
 lacking false d h e = refl
-
-pub entry-lacks : (c : ℕ) (w : World) (x : Conn) → is_some (next_entry c w) ≡ false → entry_line c w x ≡ None
-entry-lacks c w x lacks = lacking (is_waiting x.actor) (is_some (next_entry c w)) (line.Entry c) lacks

@@ -5,11 +5,7 @@ use Rattle.std.proofs.lemmas.List.Elements.{All-nil, All-cons}
 use Rattle.zk_jute.specs.Frames.{IsFrame}
 use Rattle.zk_jute.specs.JuteValues.{Spelled}
 use Rattle.zk_model.specs.Limits.{max_frame}
-use Rattle.zk_wire.specs.Cutting.{Hands, Stream}
 
 pub spelled-short : (frames : List (List ℕ)) (front : List ℕ) → Spelled IsFrame frames front → All (λ (f : List ℕ). length f ≤ max_frame) frames
 spelled-short [] front h = All-nil _
 spelled-short (f ∷ frames) front (first, rest, frame, more, is) = All-cons (λ (g : List ℕ). length g ≤ max_frame) f frames frame.2 (spelled-short frames rest more)
-
-pub hands-short : (old : Stream) (piece : List ℕ) (frames : List (List ℕ)) (new : Stream) → Hands old piece frames new → All (λ (f : List ℕ). length f ≤ max_frame) frames
-hands-short old piece frames new h = spelled-short frames h.framed.0 h.framed.1

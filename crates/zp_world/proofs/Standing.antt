@@ -23,7 +23,7 @@ use Rattle.zp_step.specs.declared.action.Action.{Action}
 use Rattle.zp_step.specs.declared.action.Action.TheVariants as action
 use Rattle.zp_step.specs.declared.input.Input.{Input}
 use Rattle.zp_step.specs.declared.input.Input.TheVariants as input
-use Rattle.zp_world.specs.Flying.{IsFit, IsFlyingOf}
+use Rattle.zp_world.specs.Flying.{IsFlyingOf}
 use Rattle.zp_world.specs.Leaving.{Leaves, flight_after}
 
 -- ---- what a step asks is out
@@ -158,11 +158,3 @@ folded kind f (action.Send bytes ∷ more) well live = folded kind f more well l
 folded kind f (action.Ask a ∷ []) well live = inr (a, refl, refl)
 folded kind f (action.Ask a ∷ x ∷ more) well live = absurd (cc)
 folded kind f (action.Close why ∷ more) well live = absurd (cc)
-
-pub flies-behind : (kind : Option UpdateKind) (f : Option Flight) (core : Core) (out : List Action) → Leaves f core out → is_shut core.stage ≡ false
-    → ((a : Ask) → asked_of core.who core.stage ≡ Some a → IsFit (record { ask = a; kind = kind })) → IsFlyingOf core (flight_after kind f out)
-flies-behind kind f core out l live fit =
-    elim (folded kind f out l.well (l.closes ∙ live)) [
-      | inl n ↦ subst (IsFlyingOf core) (sym n.1) (l.stays live n.0)
-      | inr a ↦ subst (IsFlyingOf core) (sym a.2) (record { asked = l.asks a.0 a.1; fit = fit a.0 (l.asks a.0 a.1) })
-    ]

@@ -1,7 +1,6 @@
 -- No count of frames is at its end; what an iterator has left; and the entries of the map of what answers to numbers.
-use Rattle.std.proofs.Common.{◌≡◌, ℕ, ◌<◌, List, [], ◌∷◌, ◌++◌, map, refl, sym, ap, ◌∙◌, subst, append_assoc, Bool, true, false, cond, length, arith}
-use Rattle.std.proofs.lemmas.List.{append-nil}
-use Rattle.std.specs.Prelude.{Some, None, if◌then◌else◌}
+use Rattle.std.proofs.Common.{◌≡◌, ℕ, ◌<◌, List, [], ◌∷◌, refl, sym, ◌∙◌, subst, Bool, true, false, cond, length, arith}
+use Rattle.std.specs.Prelude.{Some, None}
 use Rattle.std.specs.List.Sorted.{IsStrictlySortedBy}
 use Rattle.std.specs.Map.{keys_of}
 use Rattle.std.specs.Vec.Iter.{into_iter_items, into_iter_len}
@@ -12,11 +11,9 @@ use Rattle.std.proofs.lemmas.Cmp.{nat_cmp_total}
 use Rattle.std.proofs.lemmas.Map.Lookups.{exact_unsigned}
 use Rattle.ev_store.proofs.Entries.{entries_from_gets, get-lookup}
 use Rattle.zx_base.proofs.Options.{none_some, some_is}
-use Rattle.zp_happen.specs.Effects.{is_open_at}
 use Rattle.zp_happen.specs.Worlds.{Conn, Conns}
 use Rattle.zp_step.specs.Stages.{max_count}
 use Rattle.zp_world.specs.Activities.{AreWithin}
-use Rattle.zp_world.proofs.Restarting.{numbers_among, open_among}
 
 -- ---- counts
 
@@ -50,17 +47,3 @@ nothing-left it none = no-length it.rest.items (sym it.rest.ok.0 ∙ none)
 
 pub entries-same : (es : List (ℕ × Conn)) → IsStrictlySortedBy nat_cmp (keys_of es) → entries (from_entries {R = nat_cmp} es) ≡ es
 entries-same es ordered = sym (entries_from_gets nat_cmp_total exact_unsigned (from_entries es) es ordered (λ q. sym (get-lookup nat_cmp_total es q)))
-
--- one more entry
-pub among-more : (p : ℕ) (numbers later : List ℕ) (n : ℕ) (x : Conn) (es rest : List (ℕ × Conn)) (b : Bool) (all : List ℕ) → b ≡ is_open_at p x → later ≡ (if b then numbers ++ n ∷ [] else numbers)
-    → es ≡ (n, x) ∷ rest → numbers ++ numbers_among p es ≡ all → later ++ numbers_among p rest ≡ all
-among-more p numbers later n x es rest b all is then_are first so_far =
-    ap (λ ls. ls ++ numbers_among p rest) then_are ∙ go b ∙ ap (λ v. numbers ++ map (λ (e : ℕ × Conn). e.0) (cond v ((n, x) ∷ open_among p rest) (open_among p rest))) is
-    ∙ ap (λ ls. numbers ++ numbers_among p ls) (sym first) ∙ so_far
-  where
-    go : (v : Bool) → (if v then numbers ++ n ∷ [] else numbers) ++ numbers_among p rest ≡ numbers ++ map (λ (e : ℕ × Conn). e.0) (cond v ((n, x) ∷ open_among p rest) (open_among p rest))
-    go true = append_assoc numbers (n ∷ []) (numbers_among p rest)
-    go false = refl
-
-pub among-all : (p : ℕ) (numbers : List ℕ) (es : List (ℕ × Conn)) (all : List ℕ) → es ≡ [] → numbers ++ numbers_among p es ≡ all → numbers ≡ all
-among-all p numbers es all none so_far = sym (append-nil numbers) ∙ ap (λ ls. numbers ++ numbers_among p ls) (sym none) ∙ so_far

@@ -17,11 +17,10 @@ use Rattle.zn_view.specs.declared.plan.Plan.{Plan}
 use Rattle.zn_view.specs.declared.plan.Who.{Who}
 use Rattle.zn_view.specs.declared.want.Want.{Want}
 use Rattle.zn_view.specs.declared.want.Want.TheVariants as want
-use Rattle.zn_view.specs.Adding.{at_revision}
 use Rattle.zn_view.specs.Asks.{transaction, with_part, with_parts}
 use Rattle.zn_view.specs.Lookups.{sees, IsNodesIn}
 use Rattle.zn_view.specs.Needs.{AreNeeds, IsWhole}
-use Rattle.zn_view.specs.Seen.{View, empty_view}
+use Rattle.zn_view.specs.Seen.{View}
 use Rattle.zn_view.specs.Views.{IsOf}
 use Rattle.zs_close.specs.declared.reap.Reaping.{Reaping}
 use Rattle.zs_close.specs.declared.reap.Reaping.TheVariants.{Planned}
@@ -91,6 +90,3 @@ parts-revision v [] parts = refl
 parts-revision v (w ∷ ws) [] = refl
 parts-revision v (want.Key k ∷ ws) (a ∷ more) = parts-revision (with_part v (want.Key k) a) ws more
 parts-revision v (want.Children p ∷ ws) (a ∷ more) = parts-revision (with_part v (want.Children p) a) ws more
-
-pub viewed-revision : (r : ℤ) (ws : List Want) (parts : List ActAns) → (viewed r ws parts).revision ≡ r
-viewed-revision r ws parts = parts-revision (at_revision empty_view r) ws parts

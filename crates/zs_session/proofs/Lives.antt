@@ -1,18 +1,12 @@
 -- Which record of a session's life a view shows.
-use Rattle.std.proofs.Common.{◌≡◌, sym, ap, ◌∙◌, ℤ, true, false}
-use Rattle.std.specs.Prelude.{Option, Some, is_some}
+use Rattle.std.proofs.Common.{◌≡◌, sym, ap, ◌∙◌, ℤ}
+use Rattle.std.specs.Prelude.{Some}
 use Rattle.ev_types.specs.declared.answer.Kv.{Kv}
 use Rattle.zk_model.specs.declared.connect.ConnectRequest.{ConnectRequest}
 use Rattle.zn_layout.specs.declared.record.LeaseRec.{LeaseRec}
 use Rattle.zn_layout.proofs.Leases.{lease_value-injective}
-use Rattle.zn_view.specs.Seen.{View, found_of}
-use Rattle.zs_session.specs.Connecting.{SawLifeAt, SawNoneOfMine, is_there}
-use Rattle.zs_session.specs.Sessions.{life_key}
-
-pub absent-not_mine : (r : ConnectRequest) (v : View) → is_there v (life_key r.session) ≡ false → SawNoneOfMine r v
-absent-not_mine r v absent seen life mine =
-    let e : true ≡ false = sym (ap (λ (o : Option (Option Kv)). is_some (found_of o)) ((mine.saw).shown)) ∙ absent in
-    absurd (cc)
+use Rattle.zn_view.specs.Seen.{View}
+use Rattle.zs_session.specs.Connecting.{SawLifeAt, SawNoneOfMine}
 
 -- a view shows one record
 life-shown : (v : View) (id seen other : ℤ) (life found : LeaseRec) → SawLifeAt v id seen life → SawLifeAt v id other found → found ≡ life

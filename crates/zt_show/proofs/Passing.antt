@@ -19,9 +19,6 @@ joined-more lines line = flat_map-append (λ (l : List ℕ). l) lines (line ∷ 
 pub joined-append : (lines later : List (List ℕ)) → joined (lines ++ later) ≡ joined lines ++ joined later
 joined-append lines later = flat_map-append (λ (l : List ℕ). l) lines later
 
-pub behind-nil : (shown : Shown) → behind [] shown ≡ shown
-behind-nil shown = refl
-
 abbrev with_ending : List (List ℕ) → Shown → Shown
 with_ending lines shown = record { lines = lines; ending = shown.ending }
 

@@ -27,9 +27,6 @@ newest-push f n xs ys x newest =
     ∙ ap (keep_last n) (map-append f xs (x ∷ []) ∙ ap (λ zs. zs ++ f x ∷ []) newest)
     ∙ keep_last-append n ys (f x ∷ [])
 
-pub length-keep_last : {A : Type 0} (n : ℕ) (xs : List A) → length (keep_last n xs) ≡ length xs - (length xs - n)
-length-keep_last n xs = length-drop (length xs - n) xs
-
 -- one of the newest, by its place among all
 pub newest-get : {A B : Type 0} (f : A → B) (n : ℕ) (xs : List A) (ys : List B) (i : ℕ) (x : A) → map f xs ≡ keep_last n ys → slice_get xs i ≡ Some x → slice_get ys (length ys - n + i) ≡ Some (f x)
 newest-get f n xs ys i x newest at =

@@ -1,14 +1,13 @@
 -- Sets of paths as lists of their members.
-use Rattle.std.proofs.Common.{◌≡◌, ◌≢◌, ℕ, ◌≤◌, arith, true, false, not, ◌||◌, List, [], ◌∷◌, ◌++◌, length, take, drop, sym, ap, ◌∙◌, ⊎_elim, length-take}
+use Rattle.std.proofs.Common.{◌≡◌, ◌≢◌, ◌≤◌, arith, true, false, not, ◌||◌, List, [], ◌∷◌, ◌++◌, length, take, drop, sym, ap, ◌∙◌, ⊎_elim, length-take}
 use Rattle.std.proofs.Math.Bool.{or-false, or-true, or_assoc}
-use Rattle.std.proofs.Math.Seq.{take-append_seam, take-length}
 use Rattle.std.proofs.lemmas.List.{take-append-drop, take-append-le}
 use Rattle.std.proofs.lemmas.Map.Views.{any-filter_same}
 use Rattle.std.specs.FinMap.{get, insert, remove}
 use Rattle.zx_base.specs.Maps.{Bytes, same}
 use Rattle.zx_base.proofs.MapLaws.{ext, either, same-refl, same-true, same-false, get-insert_same, get-insert_other, get-remove_same, get-remove_other}
 use Rattle.zw_watch.specs.declared.lists.PathLists.{PathLists}
-use Rattle.zw_watch.specs.Armed.{watches_of, StartWith}
+use Rattle.zw_watch.specs.Armed.{StartWith}
 use Rattle.zk_model.specs.PathSets.{set_of, has}
 use Rattle.zk_model.proofs.PathSets.{get-set_of, marked}
 use Rattle.zw_watch.specs.Sets.{others, StartsWith}
@@ -52,12 +51,6 @@ set_of-there path ps h = ext _ _ (λ q. ⊎_elim
 
 -- ---- what follows a front
 
-pub starts_with-itself : (ps : List Bytes) → StartsWith ps ps
-starts_with-itself ps = take-length ps
-
-pub starts_with-push : (ps : List Bytes) (p : Bytes) → StartsWith (ps ++ p ∷ []) ps
-starts_with-push ps p = take-append_seam ps (p ∷ [])
-
 front_length : (a b : List Bytes) → StartsWith b a → length a ≤ length b
 front_length a b h = omega (arith, length-take (length a) b, ap (λ (x : List Bytes). length x) h)
 
@@ -70,14 +63,3 @@ starts_with-trans a b c h k =
 pub start_with-trans : (a b c : PathLists) → StartWith b a → StartWith c b → StartWith c a
 start_with-trans a b c h k =
     (starts_with-trans a.on_data.items b.on_data.items c.on_data.items h.0 k.0, starts_with-trans a.on_children.items b.on_children.items c.on_children.items h.1 k.1)
-
--- lists with the same paths are the same watches
-pub watches_of-same : (a b : PathLists) → a.on_data.items ≡ b.on_data.items → a.on_children.items ≡ b.on_children.items → watches_of a ≡ watches_of b
-watches_of-same a b h k = λ i. record { on_data = set_of (h i); on_children = set_of (k i) }
-
--- the paths that a loop added are dropped again
-pub watches_of-restored : (old grown new : PathLists) (m n : ℕ) → m ≡ length old.on_data.items → n ≡ length old.on_children.items → StartWith grown old
-    → new.on_data.items ≡ take m grown.on_data.items → new.on_children.items ≡ take n grown.on_children.items → watches_of new ≡ watches_of old
-watches_of-restored old grown new m n ms ns front h k = watches_of-same new old
-    (h ∙ ap (λ (i : ℕ). take i grown.on_data.items) ms ∙ front.0)
-    (k ∙ ap (λ (i : ℕ). take i grown.on_children.items) ns ∙ front.1)
