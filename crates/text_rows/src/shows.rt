@@ -5,8 +5,8 @@ use std::alloc::Global;
 use zt_show::{Lines, Show};
 use zx_base::Memory;
 
-/// The lines that are shown of a stream, with `;` behind each. Pieces stand on the left with a blank between them; the text is
-/// taken away behind each.
+/// The lines that are shown of a stream, with `;` after each. Its pieces stand on the left with a blank between them; the text is
+/// emptied after each.
 pub fn shown(alloc: Global, row: &str) -> Result<Option<String>, Memory> {
     let mut show = Show::new(alloc);
     let mut text = Lines::new(alloc);

@@ -13,7 +13,7 @@ use Rattle.zt_text.proofs.PieceLaws.{pieces-some}
 use Rattle.zk_lines.specs.Lines.{line_read}
 use Rattle.zk_lines.specs.Transcripts.{Transcript, is_last_line, last_line, lines_from, nothing_behind, onto, then_lines, transcript}
 
--- something stands behind the last line
+-- something follows the last line
 pub nothing_behind-some : (is_cut : Bool) (n : ℕ) (bytes : List ℕ) → 0 < length bytes → (nothing_behind is_cut n (pieces 10 bytes)).1 ≡ Some n
 nothing_behind-some true n bytes some = refl
 nothing_behind-some false n [] some = absurd (omega arith)

@@ -1,4 +1,4 @@
--- The lines of a transcript (this project's own format): the first word tells the form, and the words behind it what it says.
+-- The lines of a transcript (this project's own format): the first word tells the form, and the others what the line says.
 use Rattle.std.specs.Prelude.{ℕ, ℤ, Bool, true, false, ◌||◌, ◌&&◌, List, [], ◌∷◌, length, nat_lt, bytes_eq, codes, Option, Some, None, if◌then◌else◌}
 use Rattle.zk_transcript.specs.declared.transcript.Cause.{Cause}
 use Rattle.zk_transcript.specs.declared.transcript.Cause.TheVariants as cause
@@ -104,14 +104,14 @@ plain_cause form =
     else if bytes_eq form (codes "memory") then Some cause.Memory
     else None
 
--- those that name a place in the client's stream: `client PLACE`, `noheader PLACE`
+-- the causes that name a place in the client's stream: `client PLACE`, `noheader PLACE`
 unfoldable pub place_cause : List ℕ → ℕ → Option Cause
 place_cause form n =
     if bytes_eq form (codes "client") then Some (cause.ClientEnd n)
     else if bytes_eq form (codes "noheader") then Some (cause.NoHeader n)
     else None
 
--- those that name a revision or a zxid: `taken REV`, `expired REV`, and of a reaper `reaped Z`, `kept REV`, `gone REV`
+-- the ends that name a revision or a zxid: `taken REV`, `expired REV`, and of a reaper `reaped Z`, `kept REV`, `gone REV`
 unfoldable pub revision_end : List ℕ → ℤ → Option Ended
 revision_end form z =
     if bytes_eq form (codes "taken") then Some (ended.Cause (cause.Taken z))
@@ -121,7 +121,7 @@ revision_end form z =
     else if bytes_eq form (codes "gone") then Some (ended.Gone z)
     else None
 
--- those of two numbers: `ahead CLIENT HEAD`, `moved MINE FOUND`, `lagged CURSOR FLOOR`
+-- the causes of two numbers: `ahead CLIENT HEAD`, `moved MINE FOUND`, `lagged CURSOR FLOOR`
 unfoldable pub pair_cause : List ℕ → ℤ → ℤ → Option Cause
 pair_cause form a b =
     if bytes_eq form (codes "ahead") then Some (cause.ZxidAhead a b)
@@ -134,11 +134,12 @@ caused o = do
   x ← o
   Some (ended.Cause x)
 
--- of one word behind the form
+-- the first of two ends, or the second where there is no first
 abbrev pub or_end : Option Ended → Option Ended → Option Ended
 or_end (Some x) later = Some x
 or_end None later = later
 
+-- the ends with one word after their form
 unfoldable pub end_of_place : List ℕ → List ℕ → Option Ended
 end_of_place form a = do
   n ← place a
@@ -153,7 +154,7 @@ end_of_revision form a = do
 unfoldable pub end_of_one : List ℕ → List ℕ → Option Ended
 end_of_one form a = or_end (end_of_place form a) (end_of_revision form a)
 
--- of two: `length PLACE LENGTH`, `damaged KEYHEX VALHEX`, and those of two numbers
+-- the ends with two words after their form: `length PLACE LENGTH`, `damaged KEYHEX VALHEX`, and those of two numbers
 unfoldable pub bad_length : List ℕ → List ℕ → Option Ended
 bad_length a b = do
   n ← place a

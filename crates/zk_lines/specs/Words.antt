@@ -2,7 +2,7 @@
 use Rattle.std.specs.Prelude.{ℕ, ℤ, pos, negsuc, ◌-◌, ◌^◌, Bool, true, false, ◌||◌, ◌&&◌, List, [], ◌∷◌, nat_lt, nat_le, ◌==◌, int_lt, bytes_eq, codes, Option, Some, None, if◌then◌else◌}
 use Rattle.zt_text.specs.Scripts.{decimal_digit, digits_value, is_zero_led, not_above, ◌>>=◌}
 
--- the greatest place in a stream, moment or index of a frame
+-- the greatest place in a stream, time of the clock or index of a frame
 abbrev pub max_place : ℕ
 max_place = 18446744073709551615
 
@@ -11,7 +11,7 @@ unfoldable pub natural : ℕ → List ℕ → Option ℕ
 natural most [] = None
 natural most (b ∷ bs) = if is_zero_led (b ∷ bs) then None else (digits_value 10 decimal_digit 0 (b ∷ bs) >>= not_above most)
 
--- places, moments and indices of frames
+-- places in a stream, times of the clock and indices of frames
 abbrev pub place : List ℕ → Option ℕ
 place w = natural max_place w
 

@@ -29,7 +29,7 @@ pub fn close(alloc: Global, words: Words<'_>) -> Result<Option<TranscriptLine>, 
     }
 }
 
-/// An end, by its form and one or two words, or none.
+/// An end: its form, and at most two words after it.
 #[tactic(auto, using(crate::proofs::EndWords::end_read_and_more))]
 fn end(alloc: Global, words: Words<'_>) -> Result<Option<Ended>, Memory>
     ensures { IfOk result (λ e. e ≡ end_read (words_of words.entry)) }
@@ -155,7 +155,7 @@ fn end_of_revision(form: &[u8], a: &[u8]) -> Option<Ended>
     revision_end(form, rev)
 }
 
-/// The ends of one word behind their form.
+/// The ends with one word after their form.
 #[tactic(auto, unfolding(crate::specs::Lines::end_of_one))]
 fn end_of_one(form: &[u8], a: &[u8]) -> Option<Ended>
     ensures { result ≡ end_of_one_of form.now a.now }
@@ -199,7 +199,7 @@ fn end_of_pair(form: &[u8], a: &[u8], b: &[u8]) -> Option<Ended>
     Some(Ended::Cause(pair_cause(form, a, b)?))
 }
 
-/// The ends of two words behind their form.
+/// The ends with two words after their form.
 #[tactic(auto, unfolding(crate::specs::Lines::end_of_two))]
 fn end_of_two(alloc: Global, form: &[u8], a: &[u8], b: &[u8]) -> Result<Option<Ended>, Memory>
     ensures { IfOk result (λ e. e ≡ end_of_two_of form.now a.now b.now) }

@@ -11,7 +11,7 @@ use zt_text::cut;
 
 const BLANK: u8 = b' ';
 
-/// The bytes before the first that is equal to this one, and those behind it.
+/// The bytes before the first that is equal to this one, and those after it; None where there is none.
 pub fn part(bytes: &[u8], at: u8) -> Option<(&[u8], &[u8])>
     ensures parts { seen_parts result ≡ parted at bytes.now }
     ensures pieces { MatchOption result (pieces at bytes.now ≡ bytes.now ∷ []) (λ x. pieces at bytes.now ≡ x.0.now ∷ pieces at x.1.now) }
@@ -51,7 +51,7 @@ fn is_fault(form: &[u8], rest: &[u8]) -> bool
     is(form, b"fault") && is_line_number(number) && is_reason(why)
 }
 
-/// The number of a line, from 1.
+/// Whether this is the number of a line, from 1.
 fn is_line_number(word: &[u8]) -> bool
     ensures { result ≡ is_positive (place_of word.now) }
 {
@@ -61,7 +61,7 @@ fn is_line_number(word: &[u8]) -> bool
     }
 }
 
-/// Why a happening of a script was not possible.
+/// Whether this says why a line of a script stopped the run.
 #[tactic(auto, unfolding(crate::specs::Transcripts::is_reason))]
 fn is_reason(why: &[u8]) -> bool
     ensures { result ≡ is_reason_of why.now }

@@ -5,14 +5,15 @@ ghost use Rattle.zk_lines.specs.Words.{as_length, as_long, as_negative_length, l
 
 use zt_text::decimal_digit;
 
-/// Ten times a number, and a digit.
+/// Ten times a number, plus a digit; None from 2^64 on.
 fn with_digit(value: u64, digit: u8) -> Option<u64>
     ensures { MatchOption result (18446744073709551615 < value * 10 + digit) (λ n. n ≡ value * 10 + digit) }
 {
     value.checked_mul(10)?.checked_add(u64::from(digit))
 }
 
-/// A decimal number without sign or leading zero, up to 2^64 - 1: a place, a moment or the index of a frame.
+/// A decimal number without sign or leading zero, up to 2^64 - 1: a place in a stream, a time of the clock in milliseconds or
+/// the index of a frame.
 #[tactic(auto, unfolding(crate::specs::Words::natural))]
 pub fn place(word: &[u8]) -> Option<u64>
     ensures { result ≡ place_of word.now }
@@ -28,7 +29,7 @@ pub fn place(word: &[u8]) -> Option<u64>
     Some(value)
 }
 
-/// A number from 0 to 2^63 - 1: a zxid, a revision or a count.
+/// A number from 0 to 2^63 - 1: a zxid, a revision or a count of updates.
 #[tactic(auto, unfolding(crate::specs::Words::long))]
 pub fn long(word: &[u8]) -> Option<i64>
     ensures { result ≡ long_of word.now }
@@ -41,7 +42,7 @@ pub fn long(word: &[u8]) -> Option<i64>
     }
 }
 
-/// A length that is not negative.
+/// This number as a length; None from 2^31 on.
 fn as_length(value: u64) -> Option<i32>
     ensures { result ≡ as_length value }
 {
@@ -52,7 +53,7 @@ fn as_length(value: u64) -> Option<i32>
     }
 }
 
-/// A negative length of this size.
+/// The negative of this number as a length; None unless it is from 1 to 2^31.
 fn as_negative_length(value: u64) -> Option<i32>
     ensures { result ≡ as_negative_length value }
 {

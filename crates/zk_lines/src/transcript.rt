@@ -19,8 +19,8 @@ const LINE_FEED: u8 = b'\n';
 /// Why a transcript was not read.
 #[derive(Clone, Copy, Debug, PartialEq, Eq)]
 pub enum TranscriptFault {
-    /// This line, counted from 1, is the first that is of no form, stands behind the last line, is longer than 2,200,000
-    /// bytes, or has the byte behind the first 100,000,000 of the transcript.
+    /// This line, counted from 1, is the first that is of no form, stands after the last line, is longer than 2,200,000
+    /// bytes, or has the transcript's 100,000,001st byte.
     Unreadable { line: u64 },
     Memory,
 }
@@ -93,7 +93,7 @@ fn add_line(
     }
 }
 
-/// These lines, where nothing stands behind the last one: in line `number`.
+/// These lines, if nothing follows the last line of the text; `number` is that of the line that would.
 fn nothing_behind(
     lines: Vec<TranscriptLine>,
     is_cut: bool,
@@ -112,7 +112,7 @@ fn nothing_behind(
     Err(TranscriptFault::Unreadable { line: number })
 }
 
-/// These lines and what stands behind the last line feed, as line `number`.
+/// These lines, and line `number`, which follows the last line feed, if it is one of the transcript.
 fn last_line(
     alloc: Global,
     lines: Vec<TranscriptLine>,

@@ -120,7 +120,7 @@ end_of-words (ended.Reaped z) h = let read = signed-signed_decimal z h in rw rea
 end_of-words (ended.Kept rev) h = let read = signed-signed_decimal rev h in rw read refl
 end_of-words (ended.Gone rev) h = let read = signed-signed_decimal rev h in rw read refl
 
--- a number, and what the words behind it say
+-- a number, and what the words after it say
 abbrev numbered : {A B X : Type 0} → (A → B → X) → Reads A → (Words → Option B) → Words → Option X
 numbered f read others [] = None
 numbered f read others (a ∷ words) = option_and_then (λ x. option_map (f x) (others words)) (read a)

@@ -8,7 +8,7 @@ use Rattle.zt_text.specs.declared.script.Unread.TheVariants.{Unreadable, TooLong
 
 -- ---- words, and what they say
 
--- the pieces before, between and behind the bytes c
+-- the pieces before, between and after the bytes c
 abbrev pub pieces : ℕ → List ℕ → List (List ℕ)
 pieces c bytes = slice_split (λ b. b == c) bytes
 
@@ -27,7 +27,7 @@ decimal_digit b = if nat_le 48 b && nat_le b 57 then Some (b - 48) else None
 abbrev pub hex_digit : ℕ → Option ℕ
 hex_digit b = if nat_le 48 b && nat_le b 57 then Some (b - 48) else if nat_le 97 b && nat_le b 102 then Some (b - 87) else None
 
--- the number that these digits write behind n
+-- the number that n becomes by these further digits
 abbrev pub digits_value : ℕ → (ℕ → Option ℕ) → ℕ → List ℕ → Option ℕ
 digits_value base digit n [] = Some n
 digits_value base digit n (b ∷ bs) = do
@@ -85,7 +85,7 @@ password w = if length w == 32 then hex_pairs w else None
 
 -- ---- the forms of lines
 
--- the words behind the first, where they are so many
+-- the words after the first, if there are exactly so many
 abbrev pub one_word : List (List ℕ) → Option (List ℕ)
 one_word (a ∷ []) = Some a
 one_word _ = None
@@ -212,7 +212,7 @@ abbrev pub then_script : ℕ → Option Happening → Script → Script
 then_script n None later = ([], Some (n, Unreadable))
 then_script n (Some h) later = (h ∷ later.0, later.1)
 
--- what stands behind the last line feed: the last line, or nothing; or the line in which the script's limit is passed
+-- what follows the last line feed: the last line, or nothing; or the line in which the script's limit is passed
 abbrev pub last_line : Bool → ℕ → List ℕ → Script
 last_line true n line = ([], Some (n, if nat_lt max_line (length line) then Unreadable else TooLong))
 last_line false n [] = ([], None)
@@ -223,7 +223,7 @@ lines_from is_cut n [] = ([], None)
 lines_from is_cut n (line ∷ []) = last_line is_cut n line
 lines_from is_cut n (line ∷ more ∷ lines) = then_script n (line_read line) (lines_from is_cut (n + 1) (more ∷ lines))
 
--- what line n and those behind it say, if no more than room bytes are read (10 is a line feed)
+-- what line n and the later ones say, of which at most room bytes are read (10 is a line feed)
 unfoldable pub script_from : ℕ → ℕ → List ℕ → Script
 script_from n room bytes = lines_from (nat_lt room (length bytes)) n (pieces 10 (take room bytes))
 

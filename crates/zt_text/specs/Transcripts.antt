@@ -35,7 +35,7 @@ id_text id = hex_digits (to_be_bytes w64 (nat_abs id))
 
 -- ---- lines
 
--- what an update was, behind its zxid
+-- what an update was, after its zxid
 abbrev pub kind_words : UpdateKind → List (List ℕ)
 kind_words (Begin now) = codes "begin" ∷ decimal now ∷ []
 kind_words (Session id c) = codes "session" ∷ id_text id ∷ decimal c ∷ []

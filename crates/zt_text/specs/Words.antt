@@ -6,12 +6,12 @@ use denote.Ref.{Bor}
 abbrev pub Slice : Type 0
 Slice = Bor (List ℕ)
 
--- what was cut at a byte
+-- what was cut at a byte c, put together again
 abbrev pub joined_at : ℕ → List ℕ → Option Slice → List ℕ
 joined_at c front None = front
 joined_at c front (Some rest) = front ++ c ∷ rest.now
 
--- the words of what stands behind a blank; none, where there is no blank
+-- the words of what follows a blank; none where there is no blank
 abbrev pub words_of : Option Slice → List (List ℕ)
 words_of None = []
 words_of (Some rest) = pieces 32 rest.now

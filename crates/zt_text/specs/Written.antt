@@ -12,7 +12,7 @@ word_text (Signed z) = signed_decimal z
 word_text (Session id) = id_text id
 word_text (Hex bytes) = hex_text bytes.now
 
--- words, each behind a blank
+-- words, each after a blank
 abbrev pub spaced_behind : List Word → List ℕ
 spaced_behind words = flat_map (λ (w : List ℕ). 32 ∷ w) (map word_text words)
 

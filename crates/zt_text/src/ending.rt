@@ -7,7 +7,7 @@ use crate::word::{Word, push_words};
 use crate::{Unread, Why};
 use zx_base::Memory;
 
-/// Adds the line `done`. Without memory, what was there stays, here and below.
+/// Adds the line `done`. Without memory, what was there stays.
 pub fn push_done(out: &mut Vec<u8>) -> Result<(), Memory>
     ensures ok { OnOk result (out.new.items ≡ out.old.items ++ done_text) }
     ensures err { OnErr result (out.new.items ≡ out.old.items) }
@@ -15,7 +15,7 @@ pub fn push_done(out: &mut Vec<u8>) -> Result<(), Memory>
     push_words(out, b"done", &[], &[])
 }
 
-/// Adds the fault of a line, by its number from 1, that is not possible.
+/// Adds the fault of the script's line `line`, counted from 1, which is not possible. Without memory, what was there stays.
 pub fn push_fault(out: &mut Vec<u8>, line: u64, why: Why) -> Result<(), Memory>
     ensures ok { OnOk result (out.new.items ≡ out.old.items ++ fault_text line (why_text why)) }
     ensures err { OnErr result (out.new.items ≡ out.old.items) }
@@ -41,7 +41,7 @@ pub fn push_fault(out: &mut Vec<u8>, line: u64, why: Why) -> Result<(), Memory>
     }
 }
 
-/// Adds the fault of a line, by its number from 1, that cannot be read.
+/// Adds the fault of the script's line `line`, counted from 1, which cannot be read. Without memory, what was there stays.
 pub fn push_unread(out: &mut Vec<u8>, line: u64, unread: Unread) -> Result<(), Memory>
     ensures ok { OnOk result (out.new.items ≡ out.old.items ++ fault_text line (unread_text unread)) }
     ensures err { OnErr result (out.new.items ≡ out.old.items) }

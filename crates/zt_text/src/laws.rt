@@ -1,11 +1,11 @@
-//! What holds of every script and transcript.
+//! What holds of the text of every transcript. Each function does nothing, and its contract is the law.
 
 ghost use Rattle.std.specs.Prelude.{◌≡◌, ◌++◌, ◌∷◌, [], List, ℕ, Contains};
 ghost use Rattle.std.specs.List.{AllByRecursion};
 ghost use Rattle.zk_transcript.specs.declared.transcript.TranscriptLine.{TranscriptLine};
 ghost use Rattle.zt_text.specs.Transcripts.{IsWellFormed, line_text, transcript_text};
 
-/// The text of a transcript has one reading.
+/// Two lists of well-formed lines that have the same text are the same.
 pub fn one_reading()
     ensures { (a b : List TranscriptLine) → AllByRecursion IsWellFormed a → AllByRecursion IsWellFormed b → transcript_text a ≡ transcript_text b → a ≡ b }
 {}

@@ -6,7 +6,8 @@
 //!
 //! Both formats are this project's own; they stand in `specs/Scripts` and `specs/Transcripts`. Reading a line takes
 //! time in proportion to its bytes, and memory for the bytes that its hex digits spell; writing one grows the buffer and
-//! takes no other memory. What holds of every text is said by [`one_reading`] and [`one_line_feed`].
+//! takes no other memory. That a transcript's text has one reading is said by [`one_reading`], and that a line ends in its only
+//! line feed by [`one_line_feed`].
 #![tactic(auto)]
 
 mod argument;

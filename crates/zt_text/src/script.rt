@@ -26,7 +26,7 @@ pub enum Happening {
     Exec {
         connection: u32,
     },
-    /// Its answer is delivered.
+    /// The answer to the ask that is out is delivered.
     Answer {
         connection: u32,
     },
@@ -98,7 +98,7 @@ pub enum Why {
     /// The number is that of another connection or reaper, open or closed.
     NumberInUse,
     NoSuchConnection,
-    /// It has ended.
+    /// The connection has ended.
     ConnectionClosed,
     /// The number is a reaper's.
     NotAConnection,

@@ -20,7 +20,7 @@ pub(crate) enum Word<'a> {
     Hex(&'a [u8]),
 }
 
-/// Adds a number in decimal. Without memory, what was there stays, here and below.
+/// Adds a number in decimal. Without memory, what was there stays.
 pub fn push_number(out: &mut Vec<u8>, n: u64) -> Result<(), Memory>
     ensures ok { OnOk result (out.new.items ≡ out.old.items ++ decimal n) }
     ensures err { OnErr result (out.new.items ≡ out.old.items) }
@@ -30,7 +30,7 @@ pub fn push_number(out: &mut Vec<u8>, n: u64) -> Result<(), Memory>
     Ok(())
 }
 
-/// Adds a signed number in decimal.
+/// Adds a signed number in decimal. Without memory, what was there stays.
 pub fn push_signed(out: &mut Vec<u8>, n: i64) -> Result<(), Memory>
     ensures ok { OnOk result (out.new.items ≡ out.old.items ++ signed_decimal n) }
     ensures err { OnErr result (out.new.items ≡ out.old.items) }
@@ -62,7 +62,7 @@ fn push_hex_digits(out: &mut Vec<u8>, bytes: &[u8]) -> Result<(), Memory>
     Ok(())
 }
 
-/// Adds bytes as hex, two lower-case digits for each, and `-` for none.
+/// Adds bytes as hex, two lower-case digits for each, and `-` for none. Without memory, what was there stays.
 #[tactic(auto, unfolding(crate::specs::Transcripts::hex_text))]
 pub fn push_hex(out: &mut Vec<u8>, bytes: &[u8]) -> Result<(), Memory>
     ensures ok { OnOk result (out.new.items ≡ out.old.items ++ hex_text bytes.now) }
@@ -101,7 +101,7 @@ fn push_word(out: &mut Vec<u8>, word: &Word<'_>) -> Result<(), Memory>
     }
 }
 
-/// Adds words, each behind a blank.
+/// Adds words, each after a blank. Without memory, some of them may have been added.
 fn push_spaced(out: &mut Vec<u8>, words: &[Word<'_>]) -> Result<(), Memory>
     ensures ok { OnOk result (out.new.items ≡ out.old.items ++ spaced_behind words.now) }
     ensures err { OnErr result (take (vec_len out.old) out.new.items ≡ out.old.items) }
@@ -113,7 +113,7 @@ fn push_spaced(out: &mut Vec<u8>, words: &[Word<'_>]) -> Result<(), Memory>
     Ok(())
 }
 
-/// Adds a line: its first word, and the others in two parts.
+/// Adds a line: its first word, and the others in two parts. Without memory, a front of it may have been added.
 fn append_line(
     out: &mut Vec<u8>,
     first: &[u8],
@@ -130,7 +130,7 @@ fn append_line(
     Ok(())
 }
 
-/// The same. Without memory, what was there stays.
+/// Adds a line: its first word, and the others in two parts. Without memory, what was there stays and nothing is added.
 pub(crate) fn push_words(
     out: &mut Vec<u8>,
     first: &[u8],

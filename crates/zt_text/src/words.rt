@@ -8,10 +8,10 @@ use crate::cuts::cut;
 
 const BLANK: u8 = b' ';
 
-/// What stands behind a blank, one word or more; None where the line has no further word.
+/// What follows a blank: one word or more. None where the line has no further word.
 pub type Words<'a> = Option<&'a [u8]>;
 
-/// The first word of a line, and the words behind it.
+/// The first word of a line, and the words after it.
 #[tactic(auto, using(crate::proofs::WordCounts::words_of_cut))]
 pub fn first_word(line: &[u8]) -> (&[u8], Words<'_>)
     ensures { pieces 32 line.now ≡ result.0.now ∷ words_of result.1 }
@@ -19,7 +19,7 @@ pub fn first_word(line: &[u8]) -> (&[u8], Words<'_>)
     cut(line, BLANK)
 }
 
-/// The word, if it is one.
+/// The word, if there is exactly one.
 #[tactic(auto, using(crate::proofs::WordCounts::one_word_and_more))]
 pub fn one_word(words: Words<'_>) -> Option<&[u8]>
     ensures { option_copied result ≡ one_word_of (words_of words.entry) }
@@ -31,7 +31,7 @@ pub fn one_word(words: Words<'_>) -> Option<&[u8]>
     }
 }
 
-/// The words, if they are two.
+/// The words, if there are exactly two.
 #[tactic(auto, using(crate::proofs::WordCounts::two_words_and_more))]
 pub fn two_words(words: Words<'_>) -> Option<(&[u8], &[u8])>
     ensures { seen_two result ≡ two_words_of (words_of words.entry) }
@@ -44,7 +44,7 @@ pub fn two_words(words: Words<'_>) -> Option<(&[u8], &[u8])>
     }
 }
 
-/// The words, if they are three.
+/// The words, if there are exactly three.
 #[tactic(auto, using(crate::proofs::WordCounts::three_words_and_more))]
 pub fn three_words(words: Words<'_>) -> Option<(&[u8], &[u8], &[u8])>
     ensures { seen_three result ≡ three_words_of (words_of words.entry) }
@@ -58,7 +58,7 @@ pub fn three_words(words: Words<'_>) -> Option<(&[u8], &[u8], &[u8])>
     }
 }
 
-/// The words, if they are four.
+/// The words, if there are exactly four.
 #[tactic(auto, using(crate::proofs::WordCounts::four_words_and_more))]
 pub fn four_words(words: Words<'_>) -> Option<(&[u8], &[u8], &[u8], &[u8])>
     ensures { seen_four result ≡ four_words_of (words_of words.entry) }
