@@ -3,5 +3,6 @@ pub mod WordCounts
 pub mod HexDigits
 pub mod PieceLaws
 pub mod WrittenWords
+pub mod ReadWords
 pub mod LineReading
 pub mod TranscriptLaws

@@ -62,7 +62,7 @@ line_words-are_words (line.Close c end) = rw (decimal-is_word c) (end_words-are_
 
 -- ---- the pieces of a line, and of lines
 
-Lacks-word : (c : ℕ) (w : List ℕ) → c ≤ 32 → is_word w ≡ true → Lacks c w
+pub Lacks-word : (c : ℕ) (w : List ℕ) → c ≤ 32 → is_word w ≡ true → Lacks c w
 Lacks-word c [] low word = All-nil (λ b. (b == c) ≡ false)
 Lacks-word c (b ∷ bs) low word =
     let parts = and_parts (nat_lt 32 b) (is_word bs) word in
@@ -91,16 +91,19 @@ Lacks-spaced (w ∷ ws) words =
     let parts = and_parts (is_word w) (are_words ws) words in
     All-append (λ b. (b == 10) ≡ false) w (flat_map (λ (v : List ℕ). 32 ∷ v) ws) (Lacks-word 10 w (omega arith) parts.0) (Lacks-behind ws parts.1)
 
+pub Lacks-line : (l : TranscriptLine) → Lacks 10 (spaced (line_words l))
+Lacks-line l = Lacks-spaced (line_words l) (line_words-are_words l)
+
 -- ---- a text is read back
 
--- a line is never without words
-line_words-some : (l : TranscriptLine) → pieces 32 (spaced (line_words l)) ≡ line_words l
-line_words-some (line.Update u) = pieces-spaced _ _ (line_words-are_words (line.Update u))
-line_words-some (line.Open c p id pw) = pieces-spaced _ _ (line_words-are_words (line.Open c p id pw))
-line_words-some (line.Frame c i z bytes) = pieces-spaced _ _ (line_words-are_words (line.Frame c i z bytes))
-line_words-some (line.Send c bytes) = pieces-spaced _ _ (line_words-are_words (line.Send c bytes))
-line_words-some (line.Lapse rev id) = pieces-spaced _ _ (line_words-are_words (line.Lapse rev id))
-line_words-some (line.Close c end) = pieces-spaced _ _ (line_words-are_words (line.Close c end))
+-- the pieces of a line are its words
+pub pieces-line_words : (l : TranscriptLine) → pieces 32 (spaced (line_words l)) ≡ line_words l
+pieces-line_words (line.Update u) = pieces-spaced _ _ (line_words-are_words (line.Update u))
+pieces-line_words (line.Open c p id pw) = pieces-spaced _ _ (line_words-are_words (line.Open c p id pw))
+pieces-line_words (line.Frame c i z bytes) = pieces-spaced _ _ (line_words-are_words (line.Frame c i z bytes))
+pieces-line_words (line.Send c bytes) = pieces-spaced _ _ (line_words-are_words (line.Send c bytes))
+pieces-line_words (line.Lapse rev id) = pieces-spaced _ _ (line_words-are_words (line.Lapse rev id))
+pieces-line_words (line.Close c end) = pieces-spaced _ _ (line_words-are_words (line.Close c end))
 
 -- lines, read from the pieces between line feeds
 abbrev in_front : Option TranscriptLine → Option (List TranscriptLine) → Option (List TranscriptLine)
@@ -114,7 +117,7 @@ lines_of (p ∷ q ∷ ps) = in_front (line_of (pieces 32 p)) (lines_of (q ∷ ps
 lines_of-more : (p bytes : List ℕ) → lines_of (p ∷ pieces 10 bytes) ≡ in_front (line_of (pieces 32 p)) (lines_of (pieces 10 bytes))
 lines_of-more p bytes = let others = pieces-some 10 bytes in rw others.2 refl
 
-transcript_text-cons : (l : TranscriptLine) (ls : List TranscriptLine) → transcript_text (l ∷ ls) ≡ spaced (line_words l) ++ 10 ∷ transcript_text ls
+pub transcript_text-cons : (l : TranscriptLine) (ls : List TranscriptLine) → transcript_text (l ∷ ls) ≡ spaced (line_words l) ++ 10 ∷ transcript_text ls
 unfolding transcript_text line_text
 transcript_text-cons l ls = append_assoc (spaced (line_words l)) (10 ∷ []) (flat_map line_text ls)
 
@@ -122,8 +125,8 @@ lines_of-text : (ls : List TranscriptLine) → AllByRecursion IsWellFormed ls �
 unfolding transcript_text
 lines_of-text [] h = refl
 lines_of-text (l ∷ ls) h =
-    let cut = pieces-first 10 (spaced (line_words l)) (transcript_text ls) (Lacks-spaced (line_words l) (line_words-are_words l)) in
-    let first : line_of (pieces 32 (spaced (line_words l))) ≡ Some l = ap line_of (line_words-some l) ∙ line_of-words l h.0 in
+    let cut = pieces-first 10 (spaced (line_words l)) (transcript_text ls) (Lacks-line l) in
+    let first : line_of (pieces 32 (spaced (line_words l))) ≡ Some l = ap line_of (pieces-line_words l) ∙ line_of-words l h.0 in
     let others = lines_of-text ls h.1 in
     ap (λ (bytes : List ℕ). lines_of (pieces 10 bytes)) (transcript_text-cons l ls)
     ∙ ap lines_of cut
@@ -139,10 +142,10 @@ transcript_text-injective a b well_a well_b same =
 pub line_text-last : (l : TranscriptLine) → (front : List ℕ) × (line_text l ≡ front ++ 10 ∷ []) × (Contains front 10 → ⊥)
 unfolding line_text
 line_text-last l =
-    let lacks = Lacks-spaced (line_words l) (line_words-are_words l) in
+    let lacks = Lacks-line l in
     (spaced (line_words l), refl, λ found. false≢true (sym (All-contains (λ b. (b == 10) ≡ false) _ 10 lacks found) ∙ eq-eqb 10 10 refl))
 
--- lines behind lines
+-- lines after lines
 pub transcript_text-append : (a b : List TranscriptLine) → transcript_text (a ++ b) ≡ transcript_text a ++ transcript_text b
 unfolding transcript_text
 transcript_text-append a b = flat_map-append line_text a b

@@ -78,15 +78,18 @@ digits_value-append n (x ∷ xs) ys =
 decimal_digit-of : (d : ℕ) → d < 10 → decimal_digit (48 + d) ≡ Some d
 decimal_digit-of d small = grind (arith, common_steps)
 
-pub natural-decimal : (n : ℕ) → n < 2 ^ 64 → natural (decimal n) ≡ Some n
-unfolding natural
-natural-decimal =
-    decimal_by_steps (λ n ds. natural ds ≡ Some n)
+pub digits_value-decimal : (n : ℕ) → n < 2 ^ 64 → digits_value 10 decimal_digit 0 (decimal n) ≡ Some n
+digits_value-decimal =
+    decimal_by_steps (λ n ds. digits_value 10 decimal_digit 0 ds ≡ Some n)
     (λ n small. let digit = decimal_digit-of n small in rw digit (ap Some (zero-add n)))
     (λ n ds large front.
     let digit = decimal_digit-of (n % 10) (omega arith) in
     let whole : n / 10 * 10 + n % 10 ≡ n = omega arith in
     digits_value-append 0 ds ((48 + n % 10) ∷ []) ∙ rw (front, digit, whole) refl)
+
+pub natural-decimal : (n : ℕ) → n < 2 ^ 64 → natural (decimal n) ≡ Some n
+unfolding natural
+natural-decimal n fits = digits_value-decimal n fits
 
 abbrev negative : List ℕ → Option ℤ
 negative [] = None
@@ -107,7 +110,7 @@ signed-signed_decimal (negsuc n) fits =
     let less : suc n - 1 ≡ n = omega arith in
     rw (back, less) refl
 
-hex_digit-of : (d : ℕ) → d < 16 → hex_digit (hex_digit_text d) ≡ Some d
+pub hex_digit-of : (d : ℕ) → d < 16 → hex_digit (hex_digit_text d) ≡ Some d
 hex_digit-of d small = grind (arith, common_steps)
 
 hex_byte-of : (b : ℕ) → b < 256 → hex_byte (hex_digit_text (b / 16)) (hex_digit_text (b % 16)) ≡ Some b
@@ -118,7 +121,7 @@ hex_byte-of b byte =
     let whole : b / 16 * 16 + b % 16 ≡ b = omega arith in
     rw (high, low, whole) refl
 
-hex_pairs-hex_digits : (bytes : List ℕ) → AreBytes bytes → hex_pairs (hex_digits bytes) ≡ Some bytes
+pub hex_pairs-hex_digits : (bytes : List ℕ) → AreBytes bytes → hex_pairs (hex_digits bytes) ≡ Some bytes
 unfolding hex_pairs hex_digits
 hex_pairs-hex_digits [] fits = refl
 hex_pairs-hex_digits (b ∷ bs) fits =
@@ -137,7 +140,7 @@ byte_at-below : (k n : ℕ) → byte_at k n < 256
 byte_at-below zero n = omega arith
 byte_at-below (suc k) n = mod_below (n / 256 ^ suc k) 256 (omega arith)
 
-bytes_high_first-bytes : (k n : ℕ) → AreBytes (bytes_high_first k n)
+pub bytes_high_first-bytes : (k n : ℕ) → AreBytes (bytes_high_first k n)
 bytes_high_first-bytes zero n = tt
 bytes_high_first-bytes (suc k) n = (byte_at-below k n, bytes_high_first-bytes k n)
 
