@@ -1,9 +1,9 @@
 -- Numbers that are too great.
-use Rattle.std.proofs.Common.{◌≡◌, ℕ, ◌+◌, ◌*◌, ◌<◌, List, [], ◌∷◌, length, drop, get_or, true, false, if◌then◌else◌, Option, Some, None, refl, ap, sym, ◌∙◌, arith}
+use Rattle.std.proofs.Common.{◌≡◌, ℕ, ◌+◌, ◌*◌, ◌<◌, List, [], ◌∷◌, length, drop, get_or, true, false, if◌then◌else◌, Option, Some, None, refl, ap, sym, ◌∙◌}
 use Rattle.std.proofs.lemmas.List.{drop_more}
 use Rattle.zt_text.specs.Scripts.{decimal_digit, digits_value, is_zero_led, not_above, ◌>>=◌}
 use Rattle.zt_text.proofs.Digits.{digits_value-above}
-use Rattle.zk_lines.specs.Words.{max_place, natural}
+use Rattle.zk_lines.specs.Words.{natural}
 
 natural-none : (most : ℕ) (word : List ℕ) → (digits_value 10 decimal_digit 0 word >>= not_above most) ≡ None → natural most word ≡ None
 unfolding natural

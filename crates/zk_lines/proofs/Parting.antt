@@ -1,10 +1,10 @@
 -- Bytes that are parted at the first of a kind.
-use Rattle.std.proofs.Common.{◌≡◌, ℕ, ◌+◌, ◌<◌, ◌==◌, Bool, true, false, if◌then◌else◌, List, [], ◌∷◌, ◌++◌, length, Option, Some, None, refl, ap, sym, ◌∙◌, arith, eq-eqb, length-append}
+use Rattle.std.proofs.Common.{◌≡◌, ℕ, ◌<◌, ◌==◌, false, List, [], ◌∷◌, ◌++◌, length, Option, Some, None, refl, ap, sym, ◌∙◌, arith, eq-eqb, length-append}
 use Rattle.std.proofs.lemmas.List.Elements.{All-head, All-tail}
 use Rattle.zt_text.specs.Scripts.{Lacks, pieces}
 use Rattle.zt_text.proofs.PieceLaws.{pieces-first, pieces-none}
 use Rattle.zt_text.specs.Words.{Slice, joined_at}
-use Rattle.zk_lines.specs.Transcripts.{parted, seen_parts}
+use Rattle.zk_lines.specs.Transcripts.{parted}
 
 pub parted-lacks : (c : ℕ) (bytes : List ℕ) → Lacks c bytes → parted c bytes ≡ None
 unfolding parted

@@ -1,5 +1,5 @@
 -- What reading a transcript answers.
-use Rattle.std.specs.Prelude.{◌≡◌, ℕ, List, Option, Some, None, Result, Ok, Err, ⊤}
+use Rattle.std.specs.Prelude.{◌≡◌, ℕ, Option, Some, None, ⊤}
 use Rattle.zk_transcript.specs.declared.transcript.TranscriptLine.{TranscriptLine}
 use Rattle.zk_lines.specs.declared.transcript.TranscriptFault.{TranscriptFault}
 use Rattle.zk_lines.specs.declared.transcript.TranscriptFault.TheVariants.{Unreadable, Memory}

@@ -1,11 +1,10 @@
 -- The text of a transcript: its lines, and after them `done` or a fault of the script, or neither.
-use Rattle.std.specs.Prelude.{ℕ, ◌+◌, Bool, true, false, not, ◌||◌, ◌&&◌, List, [], ◌∷◌, ◌++◌, length, take, nat_lt, ◌==◌, bytes_eq, codes, Option, Some, None, if◌then◌else◌}
-use Rattle.std.specs.List.{list_all}
+use Rattle.std.specs.Prelude.{ℕ, ◌+◌, Bool, true, false, ◌||◌, ◌&&◌, List, [], ◌∷◌, ◌++◌, length, take, nat_lt, ◌==◌, bytes_eq, codes, Option, Some, None, if◌then◌else◌}
 use Rattle.zk_transcript.specs.declared.transcript.TranscriptLine.{TranscriptLine}
 use Rattle.zt_text.specs.Scripts.{max_script, pieces}
 use Rattle.zt_text.specs.Words.{Slice}
 use Rattle.zk_lines.specs.Words.{place}
-use Rattle.zk_lines.specs.Lines.{Words, line_read}
+use Rattle.zk_lines.specs.Lines.{line_read}
 
 -- ---- the last line
 

@@ -1,5 +1,5 @@
 -- What the words of a transcript's line say.
-use Rattle.std.specs.Prelude.{ℕ, ℤ, pos, negsuc, ◌-◌, ◌^◌, Bool, true, false, ◌||◌, ◌&&◌, List, [], ◌∷◌, nat_lt, nat_le, ◌==◌, int_lt, bytes_eq, codes, Option, Some, None, if◌then◌else◌}
+use Rattle.std.specs.Prelude.{ℕ, ℤ, pos, negsuc, ◌-◌, ◌^◌, ◌&&◌, List, [], ◌∷◌, nat_lt, nat_le, ◌==◌, Option, Some, None, if◌then◌else◌}
 use Rattle.zt_text.specs.Scripts.{decimal_digit, digits_value, is_zero_led, not_above, ◌>>=◌}
 
 -- the greatest place in a stream, time of the clock or index of a frame

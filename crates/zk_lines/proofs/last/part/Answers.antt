@@ -1,5 +1,4 @@
-use Rattle.std.proofs.Common.{refl, ap, sym, ◌∙◌, arith}
-use Rattle.std.proofs.lemmas.Grind.{common_steps}
+use Rattle.std.proofs.Common.{ap, sym, ◌∙◌}
 use Rattle.zk_lines.proofs.Parting.{parted_of_cut, parts_of, pieces_of_cut, pieces_uncut, shorter_of_cut}
 use Rattle.zt_text.specs.Words.{joined_at}
 use Rattle.zk_lines.proofs.last.part.Goals as goal

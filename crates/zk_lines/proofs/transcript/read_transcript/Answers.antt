@@ -1,5 +1,4 @@
 use Rattle.std.proofs.Common.{sym, arith}
-use Rattle.std.specs.Prelude.{take}
 use Rattle.std.proofs.lemmas.List.{length-take-le}
 use Rattle.zt_text.specs.Scripts.{max_script}
 use Rattle.zk_lines.proofs.LineLaws.{transcript-short}
