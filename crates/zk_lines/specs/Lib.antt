@@ -2,3 +2,4 @@ pub mod Words
 pub mod Lines
 pub mod Transcripts
 pub mod Outcomes
+pub mod Readable
