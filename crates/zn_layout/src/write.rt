@@ -103,7 +103,9 @@ pub fn write_head(alloc: Global, head: &HeadRec) -> Result<Vec<u8>, Memory>
 fn length_of_paths(paths: &[Path]) -> usize {
     let mut length = LIST_HEAD;
     for path in paths {
-        length = length.saturating_add(PATH_HEAD).saturating_add(path.bytes().len());
+        length = length
+            .saturating_add(PATH_HEAD)
+            .saturating_add(path.bytes().len());
     }
     length
 }
@@ -112,7 +114,9 @@ fn length_of_paths(paths: &[Path]) -> usize {
 fn length_of_triggers(triggers: &[Trigger]) -> usize {
     let mut length = LIST_HEAD;
     for trigger in triggers {
-        length = length.saturating_add(TRIGGER_HEAD).saturating_add(path_of(trigger).len());
+        length = length
+            .saturating_add(TRIGGER_HEAD)
+            .saturating_add(path_of(trigger).len());
     }
     length
 }

@@ -51,6 +51,8 @@ size-more size four next i total frames x within is four_is next_is so_far =
     let left : sum_by framed_size (drop i frames) ≡ (4 + length x) + sum_by framed_size (drop (i + 1) frames) = sum_by-drop_more framed_size frames i [] within ∙ ap (λ (f : List ℕ). (4 + length f) + sum_by framed_size (drop (i + 1) frames)) is in
     size-sum size four next (length x) (sum_by framed_size (drop (i + 1) frames)) (sum_by framed_size (drop i frames)) total left four_is next_is so_far
   where
+    size-sum : (size four next x more all total : ℕ) → all ≡ (4 + x) + more → four ≡ min (size + 4) max_count → next ≡ min (four + x) max_count → min (size + all) max_count ≡ total → min (next + more) max_count ≡ total
+    size-sum size four next x more all total a f n t = omega arith
 
 -- ---- what a client's stream is cut into
 
