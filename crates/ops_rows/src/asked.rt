@@ -124,8 +124,7 @@ fn push_want(text: &mut String, want: &Want) -> Result<(), Memory> {
 }
 
 /// `SESSION REQUEST`: what the request needs
-fn wants_of(alloc: Global, view: &View, words: Words) -> Result<Option<Seq<Want>>, Memory> {
-    let mut words = words;
+fn wants_of(alloc: Global, view: &View, words: &mut Words) -> Result<Option<Seq<Want>>, Memory> {
     let Some(session) = words.long() else {
         return Ok(None);
     };
@@ -136,7 +135,7 @@ fn wants_of(alloc: Global, view: &View, words: Words) -> Result<Option<Seq<Want>
 }
 
 /// `SESSION REQUEST`: its wants, in words
-pub fn needed(alloc: Global, view: &View, words: Words) -> Result<Option<String>, Memory> {
+pub fn needed(alloc: Global, view: &View, words: &mut Words) -> Result<Option<String>, Memory> {
     let Some(wants) = wants_of(alloc, view, words)? else {
         return Ok(None);
     };
@@ -148,7 +147,7 @@ pub fn needed(alloc: Global, view: &View, words: Words) -> Result<Option<String>
 }
 
 /// `SESSION REQUEST`: the ranges that read what it needs, at the view's revision
-pub fn read(alloc: Global, view: &View, words: Words) -> Result<Option<String>, Memory> {
+pub fn read(alloc: Global, view: &View, words: &mut Words) -> Result<Option<String>, Memory> {
     let Some(wants) = wants_of(alloc, view, words)? else {
         return Ok(None);
     };
@@ -183,8 +182,7 @@ fn decision_text(alloc: Global, decision: &Decision) -> Result<String, Memory> {
 }
 
 /// `SESSION MINE NOW REQUEST`: the decision, in words
-pub fn decided(alloc: Global, view: &View, words: Words) -> Result<Option<String>, Memory> {
-    let mut words = words;
+pub fn decided(alloc: Global, view: &View, words: &mut Words) -> Result<Option<String>, Memory> {
     let (Some(session), Some(mine), Some(now)) = (words.long(), words.long(), words.place()) else {
         return Ok(None);
     };
@@ -198,8 +196,7 @@ pub fn decided(alloc: Global, view: &View, words: Words) -> Result<Option<String
 }
 
 /// `SESSION MINE NOW ZXID REQUEST`: the reply that its plan earns at that zxid
-pub fn finished(alloc: Global, view: &View, words: Words) -> Result<Option<String>, Memory> {
-    let mut words = words;
+pub fn finished(alloc: Global, view: &View, words: &mut Words) -> Result<Option<String>, Memory> {
     let (Some(session), Some(mine), Some(now)) = (words.long(), words.long(), words.place()) else {
         return Ok(None);
     };

@@ -80,9 +80,8 @@ fn found_for(
     view: &mut View,
     revision: i64,
     wanted: Option<&str>,
-    words: Words,
+    words: &mut Words,
 ) -> Result<Option<String>, Memory> {
-    let mut words = words;
     let (Some(key), Some(put), Some(version)) = (words.word(), words.long(), words.long()) else {
         return Ok(None);
     };
@@ -105,7 +104,7 @@ pub fn saw(
     alloc: Global,
     view: &mut View,
     revision: i64,
-    words: Words,
+    words: &mut Words,
 ) -> Result<Option<String>, Memory> {
     found_for(alloc, view, revision, None, words)
 }
@@ -115,9 +114,8 @@ pub fn other(
     alloc: Global,
     view: &mut View,
     revision: i64,
-    words: Words,
+    words: &mut Words,
 ) -> Result<Option<String>, Memory> {
-    let mut words = words;
     let wanted = words.word();
     found_for(alloc, view, revision, wanted, words)
 }
@@ -127,9 +125,8 @@ pub fn absent(
     alloc: Global,
     view: &mut View,
     revision: i64,
-    words: Words,
+    words: &mut Words,
 ) -> Result<Option<String>, Memory> {
-    let mut words = words;
     let Some(key) = words.word() else {
         return Ok(None);
     };
@@ -150,9 +147,8 @@ pub fn listed(
     alloc: Global,
     view: &mut View,
     revision: i64,
-    words: Words,
+    words: &mut Words,
 ) -> Result<Option<String>, Memory> {
-    let mut words = words;
     let Some(text) = words.word() else {
         return Ok(None);
     };

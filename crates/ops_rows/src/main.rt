@@ -33,6 +33,28 @@ impl Rows for Looking {
         let Some(kind) = words.word() else {
             return Ok(None);
         };
+        let found = self.of_kind(alloc, kind, &mut words)?;
+        if words.word().is_some() {
+            return Ok(None);
+        }
+        Ok(found)
+    }
+}
+
+/// The zxid and the number of the last update.
+fn last(alloc: Global, view: &View) -> Result<Option<String>, Memory> {
+    let (zxid, number) = (view.zxid(), view.number());
+    Ok(Some(format!(in alloc; "{zxid} {number}")?))
+}
+
+impl Looking {
+    /// What a row of this kind comes to, by its other words.
+    fn of_kind(
+        &mut self,
+        alloc: Global,
+        kind: &str,
+        words: &mut Words,
+    ) -> Result<Option<String>, Memory> {
         match kind {
             "view" => {
                 self.view = View::empty(alloc);
@@ -52,17 +74,8 @@ impl Rows for Looking {
             _ => Ok(None),
         }
     }
-}
 
-/// The zxid and the number of the last update.
-fn last(alloc: Global, view: &View) -> Result<Option<String>, Memory> {
-    let (zxid, number) = (view.zxid(), view.number());
-    Ok(Some(format!(in alloc; "{zxid} {number}")?))
-}
-
-impl Looking {
-    fn at(&mut self, alloc: Global, words: Words) -> Result<Option<String>, Memory> {
-        let mut words = words;
+    fn at(&mut self, alloc: Global, words: &mut Words) -> Result<Option<String>, Memory> {
         let Some(revision) = words.long() else {
             return Ok(None);
         };

@@ -10,8 +10,7 @@ use zx_base::{Bytes, Memory, Seq, Text};
 /// open one, `delete PATH VERSION`, `set PATH DATA VERSION`, `exists`, `get`, `children` and `children2 PATH WATCH`,
 /// `acl PATH`, `check PATH VERSION`, `sync PATH`, `ping`, `auth SCHEME`, `watches SINCE DATA EXIST CHILD` with one path in
 /// each list, `multi PART ; PART ; ..`, `close`. A watch is 1 or 0, `-` is no bytes, and data of `~NUMBER` so many `x`.
-pub fn request(alloc: Global, words: Words) -> Result<Option<Request>, Memory> {
-    let mut words = words;
+pub fn request(alloc: Global, words: &mut Words) -> Result<Option<Request>, Memory> {
     let Some(kind) = words.word() else {
         return Ok(None);
     };
@@ -51,8 +50,7 @@ fn access(alloc: Global, closed: bool) -> Result<Seq<Acl>, Memory> {
     Ok(entries)
 }
 
-fn create(alloc: Global, words: Words) -> Result<Option<Request>, Memory> {
-    let mut words = words;
+fn create(alloc: Global, words: &mut Words) -> Result<Option<Request>, Memory> {
     let (Some(path), Some(content), Some(flags)) = (words.word(), words.word(), words.int()) else {
         return Ok(None);
     };
@@ -64,8 +62,7 @@ fn create(alloc: Global, words: Words) -> Result<Option<Request>, Memory> {
     }))
 }
 
-fn set_data(alloc: Global, words: Words) -> Result<Option<Request>, Memory> {
-    let mut words = words;
+fn set_data(alloc: Global, words: &mut Words) -> Result<Option<Request>, Memory> {
     let (Some(path), Some(content), Some(version)) = (words.word(), words.word(), words.int())
     else {
         return Ok(None);
@@ -77,8 +74,7 @@ fn set_data(alloc: Global, words: Words) -> Result<Option<Request>, Memory> {
     }))
 }
 
-fn versioned(alloc: Global, kind: &str, words: Words) -> Result<Option<Request>, Memory> {
-    let mut words = words;
+fn versioned(alloc: Global, kind: &str, words: &mut Words) -> Result<Option<Request>, Memory> {
     let (Some(path), Some(version)) = (words.word(), words.int()) else {
         return Ok(None);
     };
@@ -89,8 +85,7 @@ fn versioned(alloc: Global, kind: &str, words: Words) -> Result<Option<Request>,
     }))
 }
 
-fn watched(alloc: Global, kind: &str, words: Words) -> Result<Option<Request>, Memory> {
-    let mut words = words;
+fn watched(alloc: Global, kind: &str, words: &mut Words) -> Result<Option<Request>, Memory> {
     let (Some(path), Some(watch)) = (words.word(), words.int()) else {
         return Ok(None);
     };
@@ -104,8 +99,7 @@ fn watched(alloc: Global, kind: &str, words: Words) -> Result<Option<Request>, M
     }))
 }
 
-fn named(alloc: Global, kind: &str, words: Words) -> Result<Option<Request>, Memory> {
-    let mut words = words;
+fn named(alloc: Global, kind: &str, words: &mut Words) -> Result<Option<Request>, Memory> {
     let Some(path) = words.word() else {
         return Ok(None);
     };
@@ -122,8 +116,7 @@ fn one(alloc: Global, word: &str) -> Result<Seq<Text>, Memory> {
     Ok(texts)
 }
 
-fn set_watches(alloc: Global, words: Words) -> Result<Option<Request>, Memory> {
-    let mut words = words;
+fn set_watches(alloc: Global, words: &mut Words) -> Result<Option<Request>, Memory> {
     let (Some(relative), Some(data)) = (words.long(), words.word()) else {
         return Ok(None);
     };
@@ -138,8 +131,7 @@ fn set_watches(alloc: Global, words: Words) -> Result<Option<Request>, Memory> {
     }))
 }
 
-fn auth(alloc: Global, words: Words) -> Result<Option<Request>, Memory> {
-    let mut words = words;
+fn auth(alloc: Global, words: &mut Words) -> Result<Option<Request>, Memory> {
     let Some(scheme) = words.word() else {
         return Ok(None);
     };
@@ -209,14 +201,13 @@ fn closed(alloc: Global, part: Part) -> Result<Part, Memory> {
 }
 
 /// `PART ; PART ; ..`, at most 30 parts; a create may be followed by `closed`
-fn multi(alloc: Global, words: Words) -> Result<Option<Request>, Memory> {
-    let mut words = words;
+fn multi(alloc: Global, words: &mut Words) -> Result<Option<Request>, Memory> {
     let mut parts = Seq::new(alloc);
     for _ in 0..30 {
         let Some(kind) = words.word() else {
             break;
         };
-        let Some(part) = part(alloc, kind, &mut words)? else {
+        let Some(part) = part(alloc, kind, words)? else {
             return Ok(None);
         };
         let (part, end) = match words.word() {

@@ -36,8 +36,7 @@ pub fn push_data(out: &mut Vec<u8>, word: &str) -> Result<(), Memory> {
 
 /// The value that the rest of a row spells: `node CZXID VERSION CTIME MTIME OWNER DATA`, `counts CREATES CHILDREN`,
 /// `life TIMEOUT`, `nodes COUNT PATH..` (at most 40 paths), `head` (without triggers), or `hex DIGITS`.
-pub fn value(alloc: Global, words: Words) -> Result<Option<Vec<u8>>, Memory> {
-    let mut words = words;
+pub fn value(alloc: Global, words: &mut Words) -> Result<Option<Vec<u8>>, Memory> {
     let Some(kind) = words.word() else {
         return Ok(None);
     };
@@ -55,8 +54,7 @@ pub fn value(alloc: Global, words: Words) -> Result<Option<Vec<u8>>, Memory> {
     }
 }
 
-fn node(alloc: Global, words: Words) -> Result<Option<Vec<u8>>, Memory> {
-    let mut words = words;
+fn node(alloc: Global, words: &mut Words) -> Result<Option<Vec<u8>>, Memory> {
     let (Some(czxid), Some(version), Some(ctime)) = (words.long(), words.int(), words.long()) else {
         return Ok(None);
     };
@@ -73,8 +71,7 @@ fn node(alloc: Global, words: Words) -> Result<Option<Vec<u8>>, Memory> {
     Ok(Some(out))
 }
 
-fn counts(alloc: Global, words: Words) -> Result<Option<Vec<u8>>, Memory> {
-    let mut words = words;
+fn counts(alloc: Global, words: &mut Words) -> Result<Option<Vec<u8>>, Memory> {
     let (Some(creates), Some(children)) = (words.int(), words.int()) else {
         return Ok(None);
     };
@@ -85,8 +82,7 @@ fn counts(alloc: Global, words: Words) -> Result<Option<Vec<u8>>, Memory> {
 }
 
 /// The life of a session that was attached once, with a password of zeros.
-fn life(alloc: Global, words: Words) -> Result<Option<Vec<u8>>, Memory> {
-    let mut words = words;
+fn life(alloc: Global, words: &mut Words) -> Result<Option<Vec<u8>>, Memory> {
     let Some(timeout) = words.int() else {
         return Ok(None);
     };
@@ -97,8 +93,7 @@ fn life(alloc: Global, words: Words) -> Result<Option<Vec<u8>>, Memory> {
     Ok(Some(out))
 }
 
-fn nodes(alloc: Global, words: Words) -> Result<Option<Vec<u8>>, Memory> {
-    let mut words = words;
+fn nodes(alloc: Global, words: &mut Words) -> Result<Option<Vec<u8>>, Memory> {
     let Some(count) = words.int() else {
         return Ok(None);
     };

@@ -29,8 +29,7 @@ fn push_path(alloc: Global, lists: &mut Lists, list: &str, path: &str) -> Result
     Ok(true)
 }
 
-fn lists_of(alloc: Global, words: Words) -> Result<Option<Lists>, Memory> {
-    let mut words = words;
+fn lists_of(alloc: Global, words: &mut Words) -> Result<Option<Lists>, Memory> {
     let mut lists = Lists {
         datas: Vec::new(alloc),
         exists: Vec::new(alloc),
@@ -68,7 +67,7 @@ fn push_seen(alloc: Global, text: &mut String, seen: &SeenPath) -> Result<(), Me
 }
 
 /// `LIST PATH LIST PATH ..`, at most 20 paths, LIST `datas`, `exists` or `children`: what was found at each
-pub fn seen(alloc: Global, view: &View, words: Words) -> Result<Option<String>, Memory> {
+pub fn seen(alloc: Global, view: &View, words: &mut Words) -> Result<Option<String>, Memory> {
     let Some(lists) = lists_of(alloc, words)? else {
         return Ok(None);
     };

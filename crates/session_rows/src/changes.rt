@@ -31,8 +31,7 @@ fn done(alloc: Global, store: &mut Store, act: Act) -> Result<Option<String>, Me
 }
 
 /// `put KEY VALUE LEASE`: the revision after it, or the denial; none where the words are others
-pub fn put(alloc: Global, store: &mut Store, words: Words) -> Result<Option<String>, Memory> {
-    let mut words = words;
+pub fn put(alloc: Global, store: &mut Store, words: &mut Words) -> Result<Option<String>, Memory> {
     let (Some(key), Some(digits), Some(lease)) = (words.word(), words.word(), words.long()) else {
         return Ok(None);
     };
@@ -45,8 +44,11 @@ pub fn put(alloc: Global, store: &mut Store, words: Words) -> Result<Option<Stri
 }
 
 /// `delete KEY`: the revision after it, or the denial; none where the words are others
-pub fn delete(alloc: Global, store: &mut Store, words: Words) -> Result<Option<String>, Memory> {
-    let mut words = words;
+pub fn delete(
+    alloc: Global,
+    store: &mut Store,
+    words: &mut Words,
+) -> Result<Option<String>, Memory> {
     let Some(key) = words.word() else {
         return Ok(None);
     };
@@ -55,8 +57,11 @@ pub fn delete(alloc: Global, store: &mut Store, words: Words) -> Result<Option<S
 }
 
 /// `grant ID SECONDS`: the revision then, or the denial; none where the words are others
-pub fn grant(alloc: Global, store: &mut Store, words: Words) -> Result<Option<String>, Memory> {
-    let mut words = words;
+pub fn grant(
+    alloc: Global,
+    store: &mut Store,
+    words: &mut Words,
+) -> Result<Option<String>, Memory> {
     let (Some(id), Some(ttl)) = (words.long(), words.long()) else {
         return Ok(None);
     };
@@ -64,8 +69,11 @@ pub fn grant(alloc: Global, store: &mut Store, words: Words) -> Result<Option<St
 }
 
 /// `lapse ID`: the revision after it, or the denial; none where the words are others
-pub fn lapse(alloc: Global, store: &mut Store, words: Words) -> Result<Option<String>, Memory> {
-    let mut words = words;
+pub fn lapse(
+    alloc: Global,
+    store: &mut Store,
+    words: &mut Words,
+) -> Result<Option<String>, Memory> {
     let Some(id) = words.long() else {
         return Ok(None);
     };

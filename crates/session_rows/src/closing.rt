@@ -25,8 +25,11 @@ enum Round {
 }
 
 /// `SESSION MINE`: reads what the close needs, and carries out its plan; none where the words are others
-pub fn close(alloc: Global, store: &mut Store, words: Words) -> Result<Option<String>, Memory> {
-    let mut words = words;
+pub fn close(
+    alloc: Global,
+    store: &mut Store,
+    words: &mut Words,
+) -> Result<Option<String>, Memory> {
     let (Some(session), Some(mine)) = (words.long(), words.long()) else {
         return Ok(None);
     };

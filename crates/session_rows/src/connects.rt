@@ -37,8 +37,7 @@ fn password(alloc: Global, digits: &str) -> Result<Option<[u8; 16]>, Memory> {
 }
 
 /// `SESSION PASSWORD TIMEOUT ZXID FRESH FRESHPASSWORD`: the first step; none where the words are others
-pub fn begin(alloc: Global, words: Words) -> Result<Option<(String, Option<Begun>)>, Memory> {
-    let mut words = words;
+pub fn begin(alloc: Global, words: &mut Words) -> Result<Option<(String, Option<Begun>)>, Memory> {
     let (Some(session), Some(digits)) = (words.long(), words.word()) else {
         return Ok(None);
     };
@@ -114,8 +113,7 @@ fn end_text(alloc: Global, end: &ConnectStep) -> Result<String, Memory> {
 }
 
 /// `LAST NOW TIMEOUT`, in milliseconds: whether a keepalive is due; none where the words are others
-pub fn alive(alloc: Global, words: Words) -> Result<Option<String>, Memory> {
-    let mut words = words;
+pub fn alive(alloc: Global, words: &mut Words) -> Result<Option<String>, Memory> {
     let (Some(last), Some(now)) = (words.number(), words.number()) else {
         return Ok(None);
     };

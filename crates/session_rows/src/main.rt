@@ -45,6 +45,22 @@ impl Rows for Sessions {
         let Some(kind) = words.word() else {
             return Ok(None);
         };
+        let found = self.of_kind(alloc, kind, &mut words)?;
+        if words.word().is_some() {
+            return Ok(None);
+        }
+        Ok(found)
+    }
+}
+
+impl Sessions {
+    /// What a row of this kind comes to, by its other words.
+    fn of_kind(
+        &mut self,
+        alloc: Global,
+        kind: &str,
+        words: &mut Words,
+    ) -> Result<Option<String>, Memory> {
         match kind {
             "new" => self.renew(alloc),
             "put" => put(alloc, &mut self.store, words),
@@ -59,9 +75,7 @@ impl Rows for Sessions {
             _ => Ok(None),
         }
     }
-}
 
-impl Sessions {
     fn renew(&mut self, alloc: Global) -> Result<Option<String>, Memory> {
         self.store = Store::new(alloc)?;
         self.waiting = Waiting::Nothing;
@@ -69,7 +83,7 @@ impl Sessions {
         Ok(Some(format!(in alloc; "{revision}")?))
     }
 
-    fn connect(&mut self, alloc: Global, words: Words) -> Result<Option<String>, Memory> {
+    fn connect(&mut self, alloc: Global, words: &mut Words) -> Result<Option<String>, Memory> {
         let Some((text, begun)) = begin(alloc, words)? else {
             return Ok(None);
         };
@@ -80,7 +94,7 @@ impl Sessions {
         Ok(Some(text))
     }
 
-    fn reap(&mut self, alloc: Global, words: Words) -> Result<Option<String>, Memory> {
+    fn reap(&mut self, alloc: Global, words: &mut Words) -> Result<Option<String>, Memory> {
         let Some((text, begun)) = begin_reap(alloc, words)? else {
             return Ok(None);
         };

@@ -37,9 +37,8 @@ impl Model for BegunReap {
 /// `SESSION`: the first step; none where the words are others
 pub fn begin_reap(
     alloc: Global,
-    words: Words,
+    words: &mut Words,
 ) -> Result<Option<(String, Option<BegunReap>)>, Memory> {
-    let mut words = words;
     let Some(session) = words.long() else {
         return Ok(None);
     };
