@@ -6,3 +6,9 @@ pub mod WrittenNumbers
 pub mod WrittenLines
 pub mod LastLines
 pub mod WrittenTranscripts
+pub mod Steps
+pub mod ReadNumbers
+pub mod ReadHex
+pub mod ReadLines
+pub mod ReadLast
+pub mod ReadTranscripts

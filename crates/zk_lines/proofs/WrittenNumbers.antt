@@ -20,7 +20,7 @@ natural-decimal : (most n : ℕ) → n ≤ most → n < 2 ^ 64 → natural most 
 natural-decimal most n fits small =
     natural-value most n (decimal n) (decimal_nonempty n small) (is_zero_led-decimal n small) (digits_value-decimal n small) fits
 
-number-natural : (w : List ℕ) → number w ≡ natural max_number w
+pub number-natural : (w : List ℕ) → number w ≡ natural max_number w
 unfolding number natural
 number-natural [] = refl
 number-natural (b ∷ bs) = refl

@@ -1,5 +1,6 @@
--- Which lines of a transcript are read back as they were written: their fields are in range, and their text is not too long.
-use Rattle.std.specs.Prelude.{◌≡◌, ℕ, ℤ, pos, negsuc, ◌≤◌, ◌≤ℤ◌, ⊤, List, length, None}
+-- Which lines of a transcript are read back as they were written: their fields are in range, and their text is not too long. And
+-- which texts are read as given lines.
+use Rattle.std.specs.Prelude.{◌≡◌, ◌⊎◌, ℕ, ℤ, pos, negsuc, ◌<◌, ◌≤◌, ◌≤ℤ◌, ⊤, List, [], ◌∷◌, ◌++◌, length, None}
 use Rattle.zk_model.specs.Limits.{max_long}
 use Rattle.zk_transcript.specs.declared.transcript.Cause.{Cause}
 use Rattle.zk_transcript.specs.declared.transcript.Cause.TheVariants as cause
@@ -9,8 +10,11 @@ use Rattle.zk_transcript.specs.declared.transcript.UpdateKind.{UpdateKind}
 use Rattle.zk_transcript.specs.declared.transcript.UpdateKind.TheVariants as kind
 use Rattle.zk_transcript.specs.declared.transcript.TranscriptLine.{TranscriptLine}
 use Rattle.zk_transcript.specs.declared.transcript.TranscriptLine.TheVariants as line
+use Rattle.zt_text.specs.declared.script.Unread.{Unread}
+use Rattle.zt_text.specs.declared.script.Why.{Why}
+use Rattle.zt_text.specs.Faults.{done_text, fault_text, unread_text, why_text}
 use Rattle.zt_text.specs.Scripts.{max_line, max_number, max_script}
-use Rattle.zt_text.specs.Transcripts.{AreBytes, line_words, spaced}
+use Rattle.zt_text.specs.Transcripts.{AreBytes, line_words, spaced, transcript_text}
 use Rattle.zk_lines.specs.Words.{max_place}
 use Rattle.zk_lines.specs.Transcripts.{transcript}
 
@@ -86,3 +90,19 @@ pub record IsReadable (l : TranscriptLine) : Type 0 where
 -- bytes that say these lines, unless they are more than are read
 abbrev pub IsReadBack : List ℕ → List TranscriptLine → Type 0
 IsReadBack bytes lines = length bytes ≤ max_script → transcript bytes ≡ (lines, None)
+
+-- why a line of a script stopped the run: it was not possible, or can't be read
+abbrev pub IsReason : List ℕ → Type 0
+IsReason reason = ((w : Why) × (reason ≡ why_text w)) ⊎ ((u : Unread) × (reason ≡ unread_text u))
+
+-- `done` or the fault of a line of the script, with its line feed; lines are counted from 1
+abbrev pub IsLastLine : List ℕ → Type 0
+IsLastLine bytes = (bytes ≡ done_text) ⊎ ((n : ℕ) × (reason : List ℕ) × (0 < n) × (n ≤ max_place) × IsReason reason × (bytes ≡ fault_text n reason))
+
+-- the text of these lines, with such a last line after them or with none
+abbrev pub IsTextOf : List TranscriptLine → List ℕ → Type 0
+IsTextOf lines bytes = (end : List ℕ) × ((end ≡ []) ⊎ IsLastLine end) × (bytes ≡ transcript_text lines ++ end)
+
+-- that text, or that text without its last line feed (10)
+abbrev pub IsReadFrom : List TranscriptLine → List ℕ → Type 0
+IsReadFrom lines bytes = IsTextOf lines bytes ⊎ IsTextOf lines (bytes ++ 10 ∷ [])
