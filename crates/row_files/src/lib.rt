@@ -5,9 +5,11 @@
 #![tactic(auto)]
 
 mod hexes;
+mod pieces;
 mod tries;
 mod words;
 
 pub use hexes::{bytes_of, hex_of};
+pub use pieces::{Piece, joined};
 pub use tries::{Rows, try_file};
 pub use words::Words;

@@ -1,7 +1,7 @@
 //! Records, which are read and written again.
 
 use crate::words::word_of;
-use row_files::hex_of;
+use row_files::{Piece, hex_of, joined};
 use std::alloc::Global;
 use zk_model::{Path, Trigger};
 use zn_layout::{
@@ -68,16 +68,21 @@ fn node(alloc: Global, value: &[u8]) -> Result<Option<String>, Memory> {
 
 fn node_text(alloc: Global, node: &NodeRec) -> Result<String, Memory> {
     let content = hex_of(alloc, node.content.as_slice())?;
-    let (czxid, version, ctime, mtime, owner) = (
-        node.czxid,
-        node.version,
-        node.ctime,
-        node.mtime,
-        node.owner,
-    );
-    Ok(format!(in alloc;
-        "czxid {czxid} version {version} ctime {ctime} mtime {mtime} owner {owner} data {content}"
-    )?)
+    let pieces = [
+        Piece::Text("czxid "),
+        Piece::Number(node.czxid),
+        Piece::Text(" version "),
+        Piece::Number(i64::from(node.version)),
+        Piece::Text(" ctime "),
+        Piece::Number(node.ctime),
+        Piece::Text(" mtime "),
+        Piece::Number(node.mtime),
+        Piece::Text(" owner "),
+        Piece::Number(node.owner),
+        Piece::Text(" data "),
+        Piece::Text(content.as_str()),
+    ];
+    joined(alloc, &pieces)
 }
 
 fn counts(alloc: Global, value: &[u8]) -> Result<Option<String>, Memory> {
