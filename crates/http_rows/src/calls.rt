@@ -15,16 +15,16 @@ pub fn outcome(
     cut: u32,
 ) -> Result<Option<Vec<u8>>, AllocError> {
     let found = match call {
-        "response" => response(alloc, source_of(alloc, given, cut)?)?,
-        "request" => request(alloc, given, cut)?,
-        "lines" => lines(alloc, source_of(alloc, given, cut)?)?,
-        "idle" => response(alloc, idle_source(alloc, given)?)?,
-        "paused" => lines(alloc, paused_source(alloc, given)?)?,
-        "ask" => ask(alloc, given)?,
-        "answer" => answer(alloc, given)?,
+        "response" => response(alloc, source_of(alloc, given, cut)?),
+        "request" => request(alloc, source_of(alloc, given, cut)?),
+        "lines" => lines(alloc, source_of(alloc, given, cut)?),
+        "idle" => response(alloc, idle_source(alloc, given)?),
+        "paused" => lines(alloc, paused_source(alloc, given)?),
+        "ask" => ask(alloc, given),
+        "answer" => answer(alloc, given),
         _ => return Ok(None),
     };
-    Ok(Some(found))
+    Ok(Some(found?))
 }
 
 /// Appends what a source has left, in at most 1,000 reads.
@@ -46,28 +46,33 @@ fn text_of(alloc: Global, fault: HttpFault) -> Result<Vec<u8>, AllocError> {
     Vec::from_slice(alloc, text.as_bytes())
 }
 
+/// `FIRST BODY left REST`
+fn taken(
+    alloc: Global,
+    first: &[u8],
+    body: &[u8],
+    source: &mut MemSource,
+) -> Result<Vec<u8>, AllocError> {
+    let mut found = Vec::from_slice(alloc, first)?;
+    found.extend_from_slice(body)?;
+    append_rest(source, &mut found)?;
+    Ok(found)
+}
+
 fn response(alloc: Global, source: MemSource) -> Result<Vec<u8>, AllocError> {
     let mut source = source;
     match read_response(alloc, &mut source) {
-        Ok(body) => {
-            let mut found = Vec::from_slice(alloc, b"ok ")?;
-            found.extend_from_slice(body.as_slice())?;
-            append_rest(&mut source, &mut found)?;
-            Ok(found)
-        }
+        Ok(body) => taken(alloc, b"ok ", body.as_slice(), &mut source),
         Err(fault) => text_of(alloc, fault),
     }
 }
 
-fn request(alloc: Global, text: &str, cut: u32) -> Result<Vec<u8>, AllocError> {
-    let mut source = source_of(alloc, text, cut)?;
+fn request(alloc: Global, source: MemSource) -> Result<Vec<u8>, AllocError> {
+    let mut source = source;
     match read_request(alloc, &mut source) {
         Ok((route, body)) => {
             let name = format!(in alloc; "ok {route:?} ")?;
-            let mut found = Vec::from_slice(alloc, name.as_bytes())?;
-            found.extend_from_slice(body.as_slice())?;
-            append_rest(&mut source, &mut found)?;
-            Ok(found)
+            taken(alloc, name.as_bytes(), body.as_slice(), &mut source)
         }
         Err(fault) => text_of(alloc, fault),
     }
@@ -77,19 +82,34 @@ fn lines(alloc: Global, source: MemSource) -> Result<Vec<u8>, AllocError> {
     let mut lines = Lines::new(alloc, source);
     let mut found = Vec::new(alloc);
     for _ in 0..1000 {
-        match lines.next() {
-            Ok(line) => {
-                found.extend_from_slice(line.as_slice())?;
-                found.push(b'\n')?;
-            }
-            Err(HttpFault::Idle) => found.extend_from_slice(b"Idle\n")?,
-            Err(fault) => {
-                found.extend_from_slice(text_of(alloc, fault)?.as_slice())?;
-                return Ok(found);
-            }
+        if !append_next(alloc, &mut lines, &mut found)? {
+            break;
         }
     }
     Ok(found)
+}
+
+/// Appends the next line, or the fault in its place; false after a fault but `Idle`.
+fn append_next(
+    alloc: Global,
+    lines: &mut Lines<MemSource>,
+    found: &mut Vec<u8>,
+) -> Result<bool, AllocError> {
+    match lines.next() {
+        Ok(line) => {
+            found.extend_from_slice(line.as_slice())?;
+            found.push(b'\n')?;
+            Ok(true)
+        }
+        Err(HttpFault::Idle) => {
+            found.extend_from_slice(b"Idle\n")?;
+            Ok(true)
+        }
+        Err(fault) => {
+            found.extend_from_slice(text_of(alloc, fault)?.as_slice())?;
+            Ok(false)
+        }
+    }
 }
 
 fn route_named(name: &str) -> Route {

@@ -35,29 +35,46 @@ const CUTS: [u32; 4] = [1, 2, 7, 0];
 const MAX_CUT: usize = 100_000;
 
 fn main(rt: HostRuntime) -> Result<ExitCode> {
-    let alloc = rt.alloc();
     let text = fs::read_to_string(&rt, "rows").context("rows")?;
-    let mut passed = 0u64;
-    let mut failed = 0u64;
+    let mut counts = Counts {
+        passed: 0,
+        failed: 0,
+    };
     for (index, line) in text.lines().enumerate() {
-        if line.is_empty() || line.starts_with('#') {
-            continue;
-        }
-        match problem_in(alloc, line)? {
-            None => passed = passed.saturating_add(1),
-            Some(problem) => {
-                let number = index.saturating_add(1);
-                eprintln!(rt; "differs line {number}: {problem}")?;
-                failed = failed.saturating_add(1);
-            }
-        }
+        counts.add(&rt, index, line)?;
     }
+    let (passed, failed) = (counts.passed, counts.failed);
     eprintln!(rt; "{passed} passed, {failed} failed")?;
     Ok(if failed == 0 && passed != 0 {
         ExitCode::SUCCESS
     } else {
         ExitCode::FAILURE
     })
+}
+
+/// How many lines passed, and how many differ.
+#[derive(Clone, Copy)]
+struct Counts {
+    passed: u64,
+    failed: u64,
+}
+
+impl Counts {
+    /// Counts a line, and says on standard error what is wrong with it.
+    fn add(&mut self, rt: &HostRuntime, index: usize, line: &str) -> Result<()> {
+        if line.is_empty() || line.starts_with('#') {
+            return Ok(());
+        }
+        match problem_in(rt.alloc(), line)? {
+            None => self.passed = self.passed.saturating_add(1),
+            Some(problem) => {
+                let number = index.saturating_add(1);
+                eprintln!(rt; "differs line {number}: {problem}")?;
+                self.failed = self.failed.saturating_add(1);
+            }
+        }
+        Ok(())
+    }
 }
 
 /// What is wrong with a line, or what came out instead; `None` where it is right.
@@ -74,13 +91,28 @@ fn problem_in(alloc: Global, line: &str) -> Result<Option<String>, AllocError> {
         if *cut > 0 && size > MAX_CUT {
             continue;
         }
-        let Some(found) = outcome(alloc, call, given, *cut)? else {
-            return Ok(Some(String::from_str(alloc, "no such call")?));
-        };
-        if found.as_slice() != wanted.as_slice() {
-            let shown = escaped(alloc, found.as_slice())?;
-            return Ok(Some(format!(in alloc; "in pieces of {cut}: {shown}")?));
+        let problem = problem_at(alloc, call, given, *cut, wanted.as_slice())?;
+        if problem.is_some() {
+            return Ok(problem);
         }
     }
     Ok(None)
+}
+
+/// What is wrong where the words are read in pieces of this size.
+fn problem_at(
+    alloc: Global,
+    call: &str,
+    given: &str,
+    cut: u32,
+    wanted: &[u8],
+) -> Result<Option<String>, AllocError> {
+    let Some(found) = outcome(alloc, call, given, cut)? else {
+        return Ok(Some(String::from_str(alloc, "no such call")?));
+    };
+    if found.as_slice() == wanted {
+        return Ok(None);
+    }
+    let shown = escaped(alloc, found.as_slice())?;
+    Ok(Some(format!(in alloc; "in pieces of {cut}: {shown}")?))
 }

@@ -13,16 +13,30 @@ const PAUSE: usize = 6000;
 /// A source of these bytes in pieces of this size, the first 500 of them each after an idle turn; size 0 does not cut them.
 pub fn source_of(alloc: Global, text: &str, cut: u32) -> Result<MemSource, AllocError> {
     let bytes = unescaped(alloc, text.as_bytes())?;
+    let pieces = pieces_of(alloc, bytes.len(), cut)?;
+    Ok(MemSource::new(bytes, pieces, Vec::new(alloc)))
+}
+
+/// The pieces that so many bytes are cut into.
+fn pieces_of(alloc: Global, length: usize, cut: u32) -> Result<Vec<u32>, AllocError> {
     let mut pieces = Vec::new(alloc);
     if cut > 0 {
-        for number in 0..bytes.len() {
+        for number in 0..length {
             if number < IDLE_TURNS {
                 pieces.push(0)?;
             }
             pieces.push(cut)?;
         }
     }
-    Ok(MemSource::new(bytes, pieces, Vec::new(alloc)))
+    Ok(pieces)
+}
+
+/// Adds so many pieces of one size.
+fn push_times(pieces: &mut Vec<u32>, size: u32, times: usize) -> Result<(), AllocError> {
+    for _ in 0..times {
+        pieces.push(size)?;
+    }
+    Ok(())
 }
 
 /// The number that a text begins with and the text after it; 0 and the whole text where there is none.
@@ -40,9 +54,7 @@ fn number_before(text: &str) -> (usize, &str) {
 pub fn idle_source(alloc: Global, text: &str) -> Result<MemSource, AllocError> {
     let (turns, rest) = number_before(text);
     let mut pieces = Vec::new(alloc);
-    for _ in 0..turns {
-        pieces.push(0)?;
-    }
+    push_times(&mut pieces, 0, turns)?;
     let bytes = unescaped(alloc, rest.as_bytes())?;
     Ok(MemSource::new(bytes, pieces, Vec::new(alloc)))
 }
@@ -52,13 +64,9 @@ pub fn paused_source(alloc: Global, text: &str) -> Result<MemSource, AllocError>
     let (ones, rest) = number_before(text);
     let (next, rest) = number_before(rest);
     let mut pieces = Vec::new(alloc);
-    for _ in 0..ones {
-        pieces.push(1)?;
-    }
+    push_times(&mut pieces, 1, ones)?;
     pieces.push(u32::try_from(next).unwrap_or(1))?;
-    for _ in 0..PAUSE {
-        pieces.push(0)?;
-    }
+    push_times(&mut pieces, 0, PAUSE)?;
     let bytes = unescaped(alloc, rest.as_bytes())?;
     Ok(MemSource::new(bytes, pieces, Vec::new(alloc)))
 }
