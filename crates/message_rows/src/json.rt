@@ -30,14 +30,14 @@ pub fn difference_in(alloc: Global, row: &str) -> Result<Option<String>, Memory>
         return Ok(Some(String::from_str(alloc, "no row")?));
     };
     let found = match kind {
-        "ask" => ask(alloc, given)?,
-        "answer" => answer(alloc, given)?,
-        "watch" => watch(alloc, given)?,
-        "line" => line(alloc, given)?,
-        "repeated" => repeated(alloc, given)?,
-        _ => String::from_str(alloc, "no kind of row")?,
+        "ask" => ask(alloc, given),
+        "answer" => answer(alloc, given),
+        "watch" => watch(alloc, given),
+        "line" => line(alloc, given),
+        "repeated" => repeated(alloc, given),
+        _ => Ok(String::from_str(alloc, "no kind of row")?),
     };
-    Ok(unless_same(found, wanted))
+    Ok(unless_same(found?, wanted))
 }
 
 /// What was found, unless it is exactly what was wanted.

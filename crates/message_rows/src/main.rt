@@ -28,14 +28,8 @@ fn main(rt: HostRuntime) -> Result<ExitCode> {
         Some(folder) => folder.as_str(),
         None => ".",
     };
-    let mut passed = 0u64;
-    let mut failed = 0u64;
-    let folder = format!(in rt.alloc(); "{root}/json")?;
-    for name in &names_in(&rt, folder.as_str())? {
-        let counts = try_file(&rt, folder.as_str(), name.as_str())?;
-        passed = passed.saturating_add(counts.passed);
-        failed = failed.saturating_add(counts.failed);
-    }
+    let counts = try_folder(&rt, root)?;
+    let (passed, failed) = (counts.passed, counts.failed);
     eprintln!(rt; "{passed} passed, {failed} failed")?;
     Ok(if failed == 0 && passed >= least {
         ExitCode::SUCCESS
@@ -51,6 +45,38 @@ struct Counts {
     failed: u64,
 }
 
+impl Counts {
+    /// Counts a line, and says on standard error what was found where it differs.
+    fn add(&mut self, rt: &HostRuntime, name: &str, index: usize, line: &str) -> Result<()> {
+        if line.is_empty() || line.starts_with('#') {
+            return Ok(());
+        }
+        match json::difference_in(rt.alloc(), line) {
+            Ok(None) => self.passed = self.passed.saturating_add(1),
+            Ok(Some(found)) => {
+                let number = index.saturating_add(1);
+                eprintln!(rt; "differs {name} line {number}: {found}")?;
+                self.failed = self.failed.saturating_add(1);
+            }
+            Err(Memory) => bail!("out of memory"),
+        }
+        Ok(())
+    }
+}
+
+/// Tries the rows of each file of the folder `json`.
+fn try_folder(rt: &HostRuntime, root: &str) -> Result<Counts> {
+    let folder = format!(in rt.alloc(); "{root}/json")?;
+    let mut counts = Counts {
+        passed: 0,
+        failed: 0,
+    };
+    for name in &names_in(rt, folder.as_str())? {
+        try_file(rt, folder.as_str(), name.as_str(), &mut counts)?;
+    }
+    Ok(counts)
+}
+
 /// The names of a folder's files, in order.
 fn names_in<R: Files + AllocGlobal + Clone + Drop>(rt: &R, folder: &str) -> Result<Vec<String>> {
     let mut names = Vec::new(rt.alloc());
@@ -63,26 +89,11 @@ fn names_in<R: Files + AllocGlobal + Clone + Drop>(rt: &R, folder: &str) -> Resu
 }
 
 /// Tries the rows of one file.
-fn try_file(rt: &HostRuntime, folder: &str, name: &str) -> Result<Counts> {
-    let alloc = rt.alloc();
-    let text = fs::read_to_string(rt, format!(in alloc; "{folder}/{name}")?)?;
-    let mut counts = Counts {
-        passed: 0,
-        failed: 0,
-    };
+fn try_file(rt: &HostRuntime, folder: &str, name: &str, counts: &mut Counts) -> Result<()> {
+    let path = format!(in rt.alloc(); "{folder}/{name}")?;
+    let text = fs::read_to_string(rt, path)?;
     for (index, line) in text.lines().enumerate() {
-        if line.is_empty() || line.starts_with('#') {
-            continue;
-        }
-        match json::difference_in(alloc, line) {
-            Ok(None) => counts.passed = counts.passed.saturating_add(1),
-            Ok(Some(found)) => {
-                let number = index.saturating_add(1);
-                eprintln!(rt; "differs {name} line {number}: {found}")?;
-                counts.failed = counts.failed.saturating_add(1);
-            }
-            Err(Memory) => bail!("out of memory"),
-        }
+        counts.add(rt, name, index, line)?;
     }
-    Ok(counts)
+    Ok(())
 }
