@@ -11,5 +11,5 @@ mod words;
 
 pub use hexes::{bytes_of, hex_of};
 pub use pieces::{Piece, joined};
-pub use tries::{Rows, try_file};
+pub use tries::{Rows, argument_or, status_of, try_file, try_file_in};
 pub use words::Words;

@@ -4,13 +4,42 @@ ghost use Rattle.std.specs.Prelude.{◌≡◌, None, string_bytes};
 
 use anyhow::{Context, Result, bail};
 use std::alloc::Global;
-use std::fs;
+use std::process::ExitCode;
+use std::{env, fs};
 use zx_base::Memory;
 
 /// Rows of one kind, by what their left sides come to.
 pub trait Rows {
     /// What comes of the left side of a row; `None` where it cannot be read.
     fn found(&mut self, alloc: Global, left: &str) -> Result<Option<String>, Memory>;
+}
+
+/// The first argument of the program, or this text where it has none.
+pub fn argument_or(rt: &HostRuntime, without: &str) -> Result<String> {
+    match env::args(rt)?.nth(1) {
+        Some(given) => Ok(given),
+        None => Ok(String::from_str(rt.alloc(), without)?),
+    }
+}
+
+/// The status of a program that found so many rows to differ: success where it is none.
+pub fn status_of(failed: u64) -> ExitCode {
+    if failed == 0 {
+        ExitCode::SUCCESS
+    } else {
+        ExitCode::FAILURE
+    }
+}
+
+/// How many rows differ in the file of this name in a folder, as [`try_file`] counts them.
+pub fn try_file_in<T: Rows>(
+    rt: &HostRuntime,
+    folder: &str,
+    name: &str,
+    rows: &mut T,
+) -> Result<u64> {
+    let path = format!(in rt.alloc(); "{folder}/{name}")?;
+    try_file(rt, path.as_str(), rows)
 }
 
 /// How many rows of a file differ, and one more where no row passes. Fails where the file cannot be read, standard error
