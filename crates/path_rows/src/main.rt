@@ -11,26 +11,17 @@
 #![tactic(auto)]
 
 use anyhow::Result;
-use row_files::{Rows, Words, bytes_of, hex_of, try_file};
+use row_files::{Piece, Rows, Words, argument_or, bytes_of, hex_of, joined, status_of, try_file};
 use std::alloc::Global;
-use std::env;
 use std::process::ExitCode;
 use zk_model::{Path, PathFault};
 use zx_base::Memory;
 
 /// Tries the file that the first argument names, or `paths` without one.
 fn main(rt: HostRuntime) -> Result<ExitCode> {
-    let given = env::args(&rt)?.nth(1);
-    let file = match &given {
-        Some(file) => file.as_str(),
-        None => "paths",
-    };
+    let file = argument_or(&rt, "paths")?;
     let mut rows = Paths;
-    Ok(if try_file(&rt, file, &mut rows)? == 0 {
-        ExitCode::SUCCESS
-    } else {
-        ExitCode::FAILURE
-    })
+    Ok(status_of(try_file(&rt, file.as_str(), &mut rows)?))
 }
 
 /// Rows of paths.
@@ -106,13 +97,28 @@ fn names(alloc: Global, text: &[u8]) -> Result<Option<String>, Memory> {
     let Ok(path) = Path::read(alloc, text, false) else {
         return Ok(None);
     };
-    let depth = path.depth();
+    Ok(Some(names_text(alloc, &path)?))
+}
+
+fn names_text(alloc: Global, path: &Path) -> Result<String, Memory> {
     let name = hex_of(alloc, path.last_name())?;
-    let parent = match path.parent(alloc)? {
-        Some(parent) => hex_of(alloc, parent.copy(alloc)?.bytes())?,
-        None => String::from_str(alloc, "none")?,
-    };
-    Ok(Some(format!(in alloc; "{depth} {name} {parent}")?))
+    let parent = parent_text(alloc, path)?;
+    let pieces = [
+        Piece::Count(u64::from(path.depth())),
+        Piece::Text(" "),
+        Piece::Text(name.as_str()),
+        Piece::Text(" "),
+        Piece::Text(parent.as_str()),
+    ];
+    joined(alloc, &pieces)
+}
+
+/// A path's parent, which is copied first.
+fn parent_text(alloc: Global, path: &Path) -> Result<String, Memory> {
+    match path.parent(alloc)? {
+        Some(parent) => hex_of(alloc, parent.copy(alloc)?.bytes()),
+        None => Ok(String::from_str(alloc, "none")?),
+    }
 }
 
 /// The path of a sequence node, which has to be a child of its parent.
@@ -121,16 +127,28 @@ fn numbered(alloc: Global, rest: &str) -> Result<Option<String>, Memory> {
     let (Some(prefix), Some(number)) = (words.word(), words.number()) else {
         return Ok(None);
     };
-    let Some(prefix) = bytes_of(alloc, prefix)? else {
-        return Ok(None);
-    };
-    if Path::read(alloc, prefix.as_slice(), true).is_err() {
+    match bytes_of(alloc, prefix)? {
+        Some(prefix) => numbered_after(alloc, prefix.as_slice(), number),
+        None => Ok(None),
+    }
+}
+
+fn numbered_after(alloc: Global, prefix: &[u8], number: u32) -> Result<Option<String>, Memory> {
+    if Path::read(alloc, prefix, true).is_err() {
         return said(alloc, "no prefix");
     }
-    let path = Path::numbered(alloc, prefix.as_slice(), number)?;
+    let path = Path::numbered(alloc, prefix, number)?;
+    if !is_child(alloc, &path)? {
+        return said(alloc, "no child of its parent");
+    }
+    Ok(Some(hex_of(alloc, path.bytes())?))
+}
+
+/// Whether a path has a parent and is a child of it.
+fn is_child(alloc: Global, path: &Path) -> Result<bool, Memory> {
     match path.parent(alloc)? {
-        Some(parent) if path.is_child_of(parent.bytes()) => Ok(Some(hex_of(alloc, path.bytes())?)),
-        _ => said(alloc, "no child of its parent"),
+        Some(parent) => Ok(path.is_child_of(parent.bytes())),
+        None => Ok(false),
     }
 }
 
