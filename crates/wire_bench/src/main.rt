@@ -42,11 +42,19 @@ fn stream_of(alloc: Global, count: u32) -> Result<Vec<u8>, Memory> {
 fn paths_of(alloc: Global, frames: &[Bytes]) -> u64 {
     let mut paths: u64 = 0;
     for frame in frames {
-        if let Ok((_, Request::Create { path, .. })) = read_request(alloc, frame.as_slice()) {
-            paths = paths.saturating_add(path.len() as u64);
+        if let Ok(numbered) = read_request(alloc, frame.as_slice()) {
+            paths = paths.saturating_add(path_length(&numbered.1));
         }
     }
     paths
+}
+
+/// How many bytes the path of a create has; 0 of another request.
+fn path_length(request: &Request) -> u64 {
+    match request {
+        Request::Create { path, .. } => path.len() as u64,
+        _ => 0,
+    }
 }
 
 /// Cuts and reads a stream, and counts the bytes of its paths.
@@ -83,11 +91,22 @@ fn run(rt: &HostRuntime, count: u32, timed: bool) -> io::Result<()> {
         return Err(io::Error::from(io::ErrorKind::OutOfMemory));
     };
     let reply = Reply::Good(Body::Content(content, STAT));
+    measure(rt, stream.as_slice(), count, &reply, timed)
+}
+
+fn measure(
+    rt: &HostRuntime,
+    stream: &[u8],
+    count: u32,
+    reply: &Reply,
+    timed: bool,
+) -> io::Result<()> {
+    let alloc = rt.alloc();
     let start = Instant::now(rt)?;
-    let paths = read_all(alloc, &stream);
+    let paths = read_all(alloc, stream);
     let reading = start.elapsed(rt)?.as_micros();
     let start = Instant::now(rt)?;
-    let bytes = write_all(alloc, count, &reply);
+    let bytes = write_all(alloc, count, reply);
     let writing = start.elapsed(rt)?.as_micros();
     println!(rt; "{} bytes of paths read", paths)?;
     println!(rt; "{} bytes of replies written", bytes)?;
