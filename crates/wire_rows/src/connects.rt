@@ -1,7 +1,7 @@
 //! Rows of connects, of their answers and of notifications.
 
 use crate::packets::frame_of;
-use row_files::{Words, bytes_of, hex_of};
+use row_files::{Piece, Words, bytes_of, hex_of, joined};
 use std::alloc::Global;
 use zk_model::{ConnectRequest, ConnectResponse, Notice};
 use zk_wire::{WireFault, notice_can_be_sent, read_connect, write_connect, write_notice};
@@ -9,16 +9,24 @@ use zx_base::{Memory, Text};
 
 /// The fields of a connect's packet, or that it is none.
 pub fn read(alloc: Global, packet: &str) -> Result<Option<String>, Memory> {
-    let Some(packet) = bytes_of(alloc, packet)? else {
-        return Ok(None);
-    };
-    let Some(frame) = frame_of(alloc, packet.as_slice())? else {
-        return Ok(None);
-    };
-    match read_connect(alloc, frame.as_slice()) {
-        Ok(connect) => Ok(Some(said_of(alloc, &connect)?)),
+    match bytes_of(alloc, packet)? {
+        Some(packet) => read_packet(alloc, packet.as_slice()),
+        None => Ok(None),
+    }
+}
+
+fn read_packet(alloc: Global, packet: &[u8]) -> Result<Option<String>, Memory> {
+    match frame_of(alloc, packet)? {
+        Some(frame) => Ok(Some(read_frame(alloc, frame.as_slice())?)),
+        None => Ok(None),
+    }
+}
+
+fn read_frame(alloc: Global, frame: &[u8]) -> Result<String, Memory> {
+    match read_connect(alloc, frame) {
+        Ok(connect) => said_of(alloc, &connect),
         Err(WireFault::Memory) => Err(Memory),
-        Err(_) => Ok(Some(String::from_str(alloc, "no connect")?)),
+        Err(_) => Ok(String::from_str(alloc, "no connect")?),
     }
 }
 
@@ -29,14 +37,21 @@ fn said_of(alloc: Global, connect: &ConnectRequest) -> Result<String, Memory> {
         Some(false) => "false",
         None => "-",
     };
-    let protocol = connect.protocol;
-    let last_zxid = connect.last_zxid;
-    let timeout = connect.timeout;
-    let session = connect.session;
-    Ok(format!(in alloc;
-        "protocolVersion {protocol} lastZxidSeen {last_zxid} timeOut {timeout} sessionId {session} passwd {} readOnly {read_only}",
-        passwd.as_str()
-    )?)
+    let pieces = [
+        Piece::Text("protocolVersion "),
+        Piece::Number(i64::from(connect.protocol)),
+        Piece::Text(" lastZxidSeen "),
+        Piece::Number(connect.last_zxid),
+        Piece::Text(" timeOut "),
+        Piece::Number(i64::from(connect.timeout)),
+        Piece::Text(" sessionId "),
+        Piece::Number(connect.session),
+        Piece::Text(" passwd "),
+        Piece::Text(passwd.as_str()),
+        Piece::Text(" readOnly "),
+        Piece::Text(read_only),
+    ];
+    joined(alloc, &pieces)
 }
 
 /// The packet of a notification. On the left stand its type and its path.

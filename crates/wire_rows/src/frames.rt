@@ -1,6 +1,6 @@
 //! Rows of streams that are cut into frames.
 
-use row_files::{bytes_of, hex_of};
+use row_files::{Piece, bytes_of, hex_of, joined};
 use std::alloc::Global;
 use zk_wire::{CutFault, Cutter};
 use zx_base::{Bytes, Memory};
@@ -11,23 +11,42 @@ pub fn cut(alloc: Global, row: &str) -> Result<Option<String>, Memory> {
     let mut cutter = Cutter::new(alloc);
     let mut all = String::new(alloc);
     for piece in row.split(" ") {
-        let Some(piece) = bytes_of(alloc, piece)? else {
+        if !push_given(alloc, &mut cutter, &mut all, piece)? {
             return Ok(None);
-        };
-        let given = given_by(alloc, cutter.take(piece.as_slice()))?;
-        if !all.is_empty() {
-            all.push_str(" ")?;
         }
-        all.push_str(given.as_str())?;
     }
     Ok(Some(all))
+}
+
+/// Adds what a piece gives; false where the piece is unreadable.
+fn push_given(
+    alloc: Global,
+    cutter: &mut Cutter,
+    all: &mut String,
+    piece: &str,
+) -> Result<bool, Memory> {
+    let Some(piece) = bytes_of(alloc, piece)? else {
+        return Ok(false);
+    };
+    if !all.is_empty() {
+        all.push_str(" ")?;
+    }
+    let given = given_by(alloc, cutter.take(piece.as_slice()))?;
+    all.push_str(given.as_str())?;
+    Ok(true)
 }
 
 fn given_by(alloc: Global, cut: Result<Vec<Bytes>, CutFault>) -> Result<String, Memory> {
     match cut {
         Ok(frames) => frames_of(alloc, frames.as_slice()),
         Err(CutFault::BadLength { place, length }) => {
-            Ok(format!(in alloc; "length:{place}:{length}")?)
+            let pieces = [
+                Piece::Text("length:"),
+                Piece::Count(place),
+                Piece::Text(":"),
+                Piece::Number(i64::from(length)),
+            ];
+            joined(alloc, &pieces)
         }
         Err(CutFault::Memory) => Err(Memory),
     }
@@ -39,9 +58,14 @@ fn frames_of(alloc: Global, frames: &[Bytes]) -> Result<String, Memory> {
     }
     let mut all = String::new(alloc);
     for frame in frames {
-        let digits = hex_of(alloc, frame.as_slice())?;
-        all.push_str(digits.as_str())?;
-        all.push_str(",")?;
+        push_frame(alloc, &mut all, frame)?;
     }
     Ok(all)
+}
+
+fn push_frame(alloc: Global, all: &mut String, frame: &Bytes) -> Result<(), Memory> {
+    let digits = hex_of(alloc, frame.as_slice())?;
+    all.push_str(digits.as_str())?;
+    all.push_str(",")?;
+    Ok(())
 }

@@ -5,22 +5,31 @@ use zk_wire::{CutFault, Cutter};
 use zx_base::{Bytes, Memory, Text};
 
 /// A text as it stands, `-` for the empty one.
-pub fn text_of(alloc: Global, text: &Text) -> Result<String, Memory> {
-    match str::from_utf8(text.as_slice()) {
-        Ok("") => Ok(String::from_str(alloc, "-")?),
-        Ok(text) => Ok(String::from_str(alloc, text)?),
-        Err(_) => Ok(String::from_str(alloc, "no UTF-8")?),
+pub fn word_of<'a>(text: &'a Text) -> &'a str {
+    let bytes = text.as_slice();
+    if bytes.is_empty() {
+        return "-";
+    }
+    match str::from_utf8(bytes) {
+        Ok(word) => word,
+        Err(_) => "no UTF-8",
     }
 }
 
-/// A blank and a text, for each text.
-pub fn texts_of(alloc: Global, texts: &[Text]) -> Result<String, Memory> {
-    let mut all = String::new(alloc);
+/// Adds a blank and a word.
+pub fn push_word(all: &mut String, word: &str) -> Result<(), Memory> {
+    all.push_str(" ")?;
+    all.push_str(word)?;
+    Ok(())
+}
+
+/// Adds a blank and a name, and then a blank and a text for each text.
+pub fn push_texts(all: &mut String, name: &str, texts: &[Text]) -> Result<(), Memory> {
+    push_word(all, name)?;
     for text in texts {
-        all.push_str(" ")?;
-        all.push_str(text_of(alloc, text)?.as_str())?;
+        push_word(all, word_of(text))?;
     }
-    Ok(all)
+    Ok(())
 }
 
 /// The one frame of a packet; None where the packet is not one frame.
@@ -41,4 +50,9 @@ pub fn frame_of(alloc: Global, packet: &[u8]) -> Result<Option<Bytes>, Memory> {
 /// Whether a packet that was written is this one, in no more room than it needs.
 pub fn is_written(written: &Vec<u8>, packet: &[u8]) -> bool {
     written.capacity() == written.len() && written.as_slice() == packet
+}
+
+/// What stands after the fields of a packet that was read, by whether it is written again as it was.
+pub fn note_of(same: bool) -> &'static str {
+    if same { "" } else { " (written otherwise)" }
 }

@@ -1,8 +1,8 @@
 //! Rows of replies.
 
-use crate::packets::{frame_of, is_written, text_of, texts_of};
+use crate::packets::{frame_of, is_written, note_of, push_texts, push_word, word_of};
 use crate::requests::fault_of;
-use row_files::{Words, bytes_of, hex_of};
+use row_files::{Piece, Words, bytes_of, hex_of, joined};
 use std::alloc::Global;
 use zk_model::{Body, PartResult, Reply, Stat};
 use zk_wire::{read_reply, reply_can_be_sent, write_reply};
@@ -11,28 +11,51 @@ use zx_base::Memory;
 /// The fields of a reply's packet, or its fault. On the left stand the type of the request that it answers and the packet.
 pub fn read(alloc: Global, row: &str) -> Result<Option<String>, Memory> {
     let mut words = Words::new(row);
-    let Some(kind) = words.int() else {
+    let (Some(kind), Some(packet)) = (words.int(), words.word()) else {
         return Ok(None);
     };
-    let Some(packet) = words.word() else {
-        return Ok(None);
-    };
-    let Some(packet) = bytes_of(alloc, packet)? else {
-        return Ok(None);
-    };
-    let Some(frame) = frame_of(alloc, packet.as_slice())? else {
-        return Ok(None);
-    };
-    match read_reply(alloc, frame.as_slice(), kind) {
-        Ok((xid, zxid, reply)) => {
-            let said = said_of(alloc, &reply)?;
-            let again = again(alloc, xid, zxid, &reply)?;
-            let same = is_written(&again, packet.as_slice());
-            let note = if same { "" } else { " (written otherwise)" };
-            Ok(Some(format!(in alloc; "xid {xid} zxid {zxid} {}{note}", said.as_str())?))
-        }
-        Err(fault) => Ok(Some(fault_of(alloc, fault)?)),
+    match bytes_of(alloc, packet)? {
+        Some(packet) => read_packet(alloc, packet.as_slice(), kind),
+        None => Ok(None),
     }
+}
+
+fn read_packet(alloc: Global, packet: &[u8], kind: i32) -> Result<Option<String>, Memory> {
+    match frame_of(alloc, packet)? {
+        Some(frame) => Ok(Some(read_frame(alloc, frame.as_slice(), packet, kind)?)),
+        None => Ok(None),
+    }
+}
+
+/// The fields of the frame that a packet holds.
+fn read_frame(alloc: Global, frame: &[u8], packet: &[u8], kind: i32) -> Result<String, Memory> {
+    match read_reply(alloc, frame, kind) {
+        Ok((xid, zxid, reply)) => {
+            let again = again(alloc, xid, zxid, &reply)?;
+            numbered_text(alloc, xid, zxid, &reply, is_written(&again, packet))
+        }
+        Err(fault) => fault_of(alloc, fault),
+    }
+}
+
+fn numbered_text(
+    alloc: Global,
+    xid: i32,
+    zxid: i64,
+    reply: &Reply,
+    same: bool,
+) -> Result<String, Memory> {
+    let said = said_of(alloc, reply)?;
+    let pieces = [
+        Piece::Text("xid "),
+        Piece::Number(i64::from(xid)),
+        Piece::Text(" zxid "),
+        Piece::Number(zxid),
+        Piece::Text(" "),
+        Piece::Text(said.as_str()),
+        Piece::Text(note_of(same)),
+    ];
+    joined(alloc, &pieces)
 }
 
 /// The packet of a reply, empty where it cannot be sent.
@@ -47,89 +70,89 @@ fn again(alloc: Global, xid: i32, zxid: i64, reply: &Reply) -> Result<Vec<u8>, M
 fn said_of(alloc: Global, reply: &Reply) -> Result<String, Memory> {
     match reply {
         Reply::Refused(code) => Ok(format!(in alloc; "err {code}")?),
-        Reply::Good(Body::Empty) => Ok(String::from_str(alloc, "err 0")?),
-        Reply::Good(Body::Path(path)) => {
-            let path = text_of(alloc, path)?;
-            Ok(format!(in alloc; "err 0 path {}", path.as_str())?)
+        Reply::Good(body) => {
+            let mut all = String::from_str(alloc, "err 0")?;
+            push_body(alloc, &mut all, body)?;
+            Ok(all)
         }
-        Reply::Good(Body::Stat(stat)) => {
-            let stat = stat_of(alloc, stat)?;
-            Ok(format!(in alloc; "err 0 stat {}", stat.as_str())?)
-        }
-        Reply::Good(Body::Content(content, stat)) => {
-            let content = hex_of(alloc, content.as_slice())?;
-            let stat = stat_of(alloc, stat)?;
-            Ok(format!(in alloc; "err 0 data {} stat {}", content.as_str(), stat.as_str())?)
-        }
-        Reply::Good(Body::Names(names)) => {
-            let names = texts_of(alloc, names.as_slice())?;
-            Ok(format!(in alloc; "err 0 children{}", names.as_str())?)
-        }
-        Reply::Good(Body::NamesStat(names, stat)) => {
-            let names = texts_of(alloc, names.as_slice())?;
-            let stat = stat_of(alloc, stat)?;
-            Ok(format!(in alloc; "err 0 children{} stat {}", names.as_str(), stat.as_str())?)
-        }
-        Reply::Good(Body::OpenAcl(stat)) => {
-            let stat = stat_of(alloc, stat)?;
-            Ok(format!(in alloc; "err 0 acl 31:world:anyone stat {}", stat.as_str())?)
-        }
-        Reply::Good(Body::Parts(results)) => results_of(alloc, results.as_slice()),
     }
+}
+
+fn push_body(alloc: Global, all: &mut String, body: &Body) -> Result<(), Memory> {
+    match body {
+        Body::Empty => Ok(()),
+        Body::Path(path) => push_named(all, "path", word_of(path)),
+        Body::Stat(stat) => push_stat(alloc, all, stat),
+        Body::Content(content, stat) => {
+            push_data(alloc, all, content.as_slice())?;
+            push_stat(alloc, all, stat)
+        }
+        Body::Names(names) => push_texts(all, "children", names.as_slice()),
+        Body::NamesStat(names, stat) => {
+            push_texts(all, "children", names.as_slice())?;
+            push_stat(alloc, all, stat)
+        }
+        Body::OpenAcl(stat) => {
+            push_named(all, "acl", "31:world:anyone")?;
+            push_stat(alloc, all, stat)
+        }
+        Body::Parts(results) => push_results(alloc, all, results.as_slice()),
+    }
+}
+
+fn push_data(alloc: Global, all: &mut String, content: &[u8]) -> Result<(), Memory> {
+    push_named(all, "data", hex_of(alloc, content)?.as_str())
+}
+
+fn push_named(all: &mut String, name: &str, word: &str) -> Result<(), Memory> {
+    push_word(all, name)?;
+    push_word(all, word)
 }
 
 /// The results of a multi, with `;` after each.
-fn results_of(alloc: Global, results: &[PartResult]) -> Result<String, Memory> {
-    let mut all = String::from_str(alloc, "err 0 multi")?;
+fn push_results(alloc: Global, all: &mut String, results: &[PartResult]) -> Result<(), Memory> {
+    push_word(all, "multi")?;
     for outcome in results {
-        let said = result_of(alloc, outcome)?;
-        all.push_str(" ")?;
-        all.push_str(said.as_str())?;
+        push_result(alloc, all, outcome)?;
         all.push_str(";")?;
     }
-    Ok(all)
+    Ok(())
 }
 
-fn result_of(alloc: Global, outcome: &PartResult) -> Result<String, Memory> {
+fn push_result(alloc: Global, all: &mut String, outcome: &PartResult) -> Result<(), Memory> {
     match outcome {
-        PartResult::Created(path) => {
-            let path = text_of(alloc, path)?;
-            Ok(format!(in alloc; "create path {}", path.as_str())?)
-        }
-        PartResult::Deleted => Ok(String::from_str(alloc, "delete")?),
+        PartResult::Created(path) => push_named(all, "create path", word_of(path)),
+        PartResult::Deleted => push_word(all, "delete"),
         PartResult::Set(stat) => {
-            let stat = stat_of(alloc, stat)?;
-            Ok(format!(in alloc; "setData stat {}", stat.as_str())?)
+            push_word(all, "setData")?;
+            push_stat(alloc, all, stat)
         }
-        PartResult::Checked => Ok(String::from_str(alloc, "check")?),
-        PartResult::Code(code) => Ok(format!(in alloc; "err {code}")?),
+        PartResult::Checked => push_word(all, "check"),
+        PartResult::Code(code) => push_word(all, format!(in alloc; "err {code}")?.as_str()),
     }
 }
 
 /// The fields of a Stat in the order of zookeeper.jute.
-fn stat_of(alloc: Global, stat: &Stat) -> Result<String, Memory> {
-    let Stat {
-        czxid,
-        mzxid,
-        ctime,
-        mtime,
-        version,
-        cversion,
-        aversion,
-        ephemeral_owner,
-        data_length,
-        num_children,
-        pzxid,
-    } = *stat;
-    let times = format!(in alloc; "czxid {czxid} mzxid {mzxid} ctime {ctime} mtime {mtime}")?;
-    let versions = format!(in alloc; "version {version} cversion {cversion} aversion {aversion}")?;
-    let sizes = format!(in alloc;
-        "ephemeralOwner {ephemeral_owner} dataLength {data_length} numChildren {num_children} pzxid {pzxid}"
-    )?;
-    Ok(format!(in alloc;
-        "{} {} {}",
-        times.as_str(),
-        versions.as_str(),
-        sizes.as_str()
-    )?)
+fn push_stat(alloc: Global, all: &mut String, stat: &Stat) -> Result<(), Memory> {
+    let fields = [
+        ("stat czxid", stat.czxid),
+        ("mzxid", stat.mzxid),
+        ("ctime", stat.ctime),
+        ("mtime", stat.mtime),
+        ("version", i64::from(stat.version)),
+        ("cversion", i64::from(stat.cversion)),
+        ("aversion", i64::from(stat.aversion)),
+        ("ephemeralOwner", stat.ephemeral_owner),
+        ("dataLength", i64::from(stat.data_length)),
+        ("numChildren", i64::from(stat.num_children)),
+        ("pzxid", stat.pzxid),
+    ];
+    for (name, number) in fields {
+        push_number(alloc, all, name, number)?;
+    }
+    Ok(())
+}
+
+fn push_number(alloc: Global, all: &mut String, name: &str, number: i64) -> Result<(), Memory> {
+    push_named(all, name, format!(in alloc; "{number}")?.as_str())
 }

@@ -1,53 +1,85 @@
 //! Rows of requests.
 
-use crate::packets::{frame_of, is_written, text_of, texts_of};
-use row_files::{bytes_of, hex_of};
+use crate::packets::{frame_of, is_written, note_of, push_texts, push_word, word_of};
+use row_files::{Piece, bytes_of, hex_of, joined};
 use std::alloc::Global;
 use zk_model::{Acl, Part, Request};
 use zk_wire::{WireFault, read_request, request_can_be_sent, write_request};
-use zx_base::Memory;
+use zx_base::{Memory, Text};
 
 /// The fields of a request's packet, or its fault. Fields have their names of zookeeper.jute; bytes are hex, `-` for none.
 pub fn read(alloc: Global, packet: &str) -> Result<Option<String>, Memory> {
-    let Some(packet) = bytes_of(alloc, packet)? else {
-        return Ok(None);
-    };
-    let Some(frame) = frame_of(alloc, packet.as_slice())? else {
-        return Ok(None);
-    };
-    match read_request(alloc, frame.as_slice()) {
-        Ok((xid, request)) => {
-            let said = said_of(alloc, &request)?;
-            let again = again(alloc, xid, &request)?;
-            let same = is_written(&again, packet.as_slice());
-            let note = if same { "" } else { " (written otherwise)" };
-            Ok(Some(format!(in alloc; "xid {xid} {}{note}", said.as_str())?))
-        }
-        Err(fault) => Ok(Some(fault_of(alloc, fault)?)),
+    match bytes_of(alloc, packet)? {
+        Some(packet) => read_packet(alloc, packet.as_slice()),
+        None => Ok(None),
     }
+}
+
+fn read_packet(alloc: Global, packet: &[u8]) -> Result<Option<String>, Memory> {
+    match frame_of(alloc, packet)? {
+        Some(frame) => Ok(Some(read_frame(alloc, frame.as_slice(), packet)?)),
+        None => Ok(None),
+    }
+}
+
+/// The fields of the frame that a packet holds.
+fn read_frame(alloc: Global, frame: &[u8], packet: &[u8]) -> Result<String, Memory> {
+    match read_request(alloc, frame) {
+        Ok(numbered) => {
+            let same = is_same(alloc, &numbered, packet)?;
+            numbered_text(alloc, &numbered, same)
+        }
+        Err(fault) => fault_of(alloc, fault),
+    }
+}
+
+/// Whether a request is written as this packet.
+fn is_same(alloc: Global, numbered: &(i32, Request), packet: &[u8]) -> Result<bool, Memory> {
+    Ok(is_written(&again(alloc, numbered)?, packet))
+}
+
+fn numbered_text(alloc: Global, numbered: &(i32, Request), same: bool) -> Result<String, Memory> {
+    let said = said_of(alloc, &numbered.1)?;
+    let pieces = [
+        Piece::Text("xid "),
+        Piece::Number(i64::from(numbered.0)),
+        Piece::Text(" "),
+        Piece::Text(said.as_str()),
+        Piece::Text(note_of(same)),
+    ];
+    joined(alloc, &pieces)
 }
 
 /// The packet of a request as it is written again.
 pub fn written_again(alloc: Global, packet: &str) -> Result<Option<String>, Memory> {
-    let Some(packet) = bytes_of(alloc, packet)? else {
-        return Ok(None);
-    };
-    let Some(frame) = frame_of(alloc, packet.as_slice())? else {
-        return Ok(None);
-    };
-    match read_request(alloc, frame.as_slice()) {
-        Ok((xid, request)) => {
-            let again = again(alloc, xid, &request)?;
-            Ok(Some(hex_of(alloc, again.as_slice())?))
-        }
-        Err(fault) => Ok(Some(fault_of(alloc, fault)?)),
+    match bytes_of(alloc, packet)? {
+        Some(packet) => packet_again(alloc, packet.as_slice()),
+        None => Ok(None),
     }
 }
 
+fn packet_again(alloc: Global, packet: &[u8]) -> Result<Option<String>, Memory> {
+    match frame_of(alloc, packet)? {
+        Some(frame) => Ok(Some(frame_again(alloc, frame.as_slice())?)),
+        None => Ok(None),
+    }
+}
+
+fn frame_again(alloc: Global, frame: &[u8]) -> Result<String, Memory> {
+    match read_request(alloc, frame) {
+        Ok(numbered) => again_text(alloc, &numbered),
+        Err(fault) => fault_of(alloc, fault),
+    }
+}
+
+fn again_text(alloc: Global, numbered: &(i32, Request)) -> Result<String, Memory> {
+    hex_of(alloc, again(alloc, numbered)?.as_slice())
+}
+
 /// The packet of a request, empty where it cannot be sent.
-fn again(alloc: Global, xid: i32, request: &Request) -> Result<Vec<u8>, Memory> {
-    if request_can_be_sent(request) {
-        write_request(alloc, xid, request)
+fn again(alloc: Global, numbered: &(i32, Request)) -> Result<Vec<u8>, Memory> {
+    if request_can_be_sent(&numbered.1) {
+        write_request(alloc, numbered.0, &numbered.1)
     } else {
         Ok(Vec::new(alloc))
     }
@@ -58,11 +90,28 @@ pub fn fault_of(alloc: Global, fault: WireFault) -> Result<String, Memory> {
     match fault {
         WireFault::NoHeader => Ok(String::from_str(alloc, "no header")?),
         WireFault::Unreadable { xid, place } => {
-            Ok(format!(in alloc; "xid {xid} unreadable at {place}")?)
+            numbered_fault(alloc, xid, " unreadable at ", Piece::Count(place))
         }
-        WireFault::Unknown { xid, kind } => Ok(format!(in alloc; "xid {xid} unknown {kind}")?),
+        WireFault::Unknown { xid, kind } => {
+            numbered_fault(alloc, xid, " unknown ", Piece::Number(i64::from(kind)))
+        }
         WireFault::Memory => Err(Memory),
     }
+}
+
+fn numbered_fault<'a>(
+    alloc: Global,
+    xid: i32,
+    words: &'a str,
+    number: Piece<'a>,
+) -> Result<String, Memory> {
+    let pieces = [
+        Piece::Text("xid "),
+        Piece::Number(i64::from(xid)),
+        Piece::Text(words),
+        number,
+    ];
+    joined(alloc, &pieces)
 }
 
 fn said_of(alloc: Global, request: &Request) -> Result<String, Memory> {
@@ -72,60 +121,24 @@ fn said_of(alloc: Global, request: &Request) -> Result<String, Memory> {
             content,
             acl,
             flags,
-        } => {
-            let path = text_of(alloc, path)?;
-            let content = hex_of(alloc, content.as_slice())?;
-            let acl = acls_of(alloc, acl.as_slice())?;
-            Ok(format!(in alloc;
-                "create path {} data {} acl{} flags {flags}",
-                path.as_str(),
-                content.as_str(),
-                acl.as_str()
-            )?)
-        }
-        Request::Delete { path, version } => numbered(
-            alloc,
-            "delete path",
-            path,
-            "version",
-            *version,
-        ),
-        Request::Exists { path, watch } => watched(alloc, "exists path", path, *watch),
-        Request::GetData { path, watch } => watched(alloc, "getData path", path, *watch),
+        } => made(alloc, path, content.as_slice(), acl.as_slice(), *flags),
+        Request::Delete { path, version } => versioned(alloc, "delete path ", path, *version),
+        Request::Exists { path, watch } => watched(alloc, "exists path ", path, *watch),
+        Request::GetData { path, watch } => watched(alloc, "getData path ", path, *watch),
         Request::SetData {
             path,
             content,
             version,
-        } => {
-            let path = text_of(alloc, path)?;
-            let content = hex_of(alloc, content.as_slice())?;
-            Ok(format!(in alloc;
-                "setData path {} data {} version {version}",
-                path.as_str(),
-                content.as_str()
-            )?)
-        }
-        Request::GetAcl { path } => named(alloc, "getACL path", path),
-        Request::GetChildren { path, watch } => watched(alloc, "getChildren path", path, *watch),
-        Request::GetChildren2 { path, watch } => watched(alloc, "getChildren2 path", path, *watch),
-        Request::Sync { path } => named(alloc, "sync path", path),
+        } => filled(alloc, path, content.as_slice(), *version),
+        Request::GetAcl { path } => named(alloc, "getACL path ", path),
+        Request::GetChildren { path, watch } => watched(alloc, "getChildren path ", path, *watch),
+        Request::GetChildren2 { path, watch } => watched(alloc, "getChildren2 path ", path, *watch),
+        Request::Sync { path } => named(alloc, "sync path ", path),
         Request::Ping => Ok(String::from_str(alloc, "ping")?),
-        Request::Check { path, version } => numbered(
-            alloc,
-            "check path",
-            path,
-            "version",
-            *version,
-        ),
+        Request::Check { path, version } => versioned(alloc, "check path ", path, *version),
         Request::Multi { parts } => parts_of(alloc, parts.as_slice()),
         Request::Auth { kind, scheme, auth } => {
-            let scheme = text_of(alloc, scheme)?;
-            let auth = hex_of(alloc, auth.as_slice())?;
-            Ok(format!(in alloc;
-                "auth type {kind} scheme {} auth {}",
-                scheme.as_str(),
-                auth.as_str()
-            )?)
+            authorized(alloc, *kind, scheme, auth.as_slice())
         }
         Request::SetWatches {
             relative,
@@ -133,64 +146,165 @@ fn said_of(alloc: Global, request: &Request) -> Result<String, Memory> {
             datas,
             children,
         } => {
-            let datas = texts_of(alloc, datas.as_slice())?;
-            let exists = texts_of(alloc, exists.as_slice())?;
-            let children = texts_of(alloc, children.as_slice())?;
-            Ok(format!(in alloc;
-                "setWatches relativeZxid {relative} dataWatches{} existWatches{} childWatches{}",
-                datas.as_str(),
-                exists.as_str(),
-                children.as_str()
-            )?)
+            let mut all = format!(in alloc; "setWatches relativeZxid {relative}")?;
+            push_lists(
+                &mut all,
+                datas.as_slice(),
+                exists.as_slice(),
+                children.as_slice(),
+            )?;
+            Ok(all)
         }
         Request::Close => Ok(String::from_str(alloc, "closeSession")?),
     }
 }
 
-fn named(alloc: Global, name: &str, path: &zx_base::Text) -> Result<String, Memory> {
-    let path = text_of(alloc, path)?;
-    Ok(format!(in alloc; "{name} {}", path.as_str())?)
+fn push_lists(
+    all: &mut String,
+    datas: &[Text],
+    exists: &[Text],
+    children: &[Text],
+) -> Result<(), Memory> {
+    push_texts(all, "dataWatches", datas)?;
+    push_texts(all, "existWatches", exists)?;
+    push_texts(all, "childWatches", children)
 }
 
-fn watched(alloc: Global, name: &str, path: &zx_base::Text, watch: bool) -> Result<String, Memory> {
-    let path = text_of(alloc, path)?;
-    Ok(format!(in alloc; "{name} {} watch {watch}", path.as_str())?)
+fn named<'a>(alloc: Global, name: &'a str, path: &'a Text) -> Result<String, Memory> {
+    let pieces = [Piece::Text(name), Piece::Text(word_of(path))];
+    joined(alloc, &pieces)
 }
 
-fn numbered(
+fn watched<'a>(
     alloc: Global,
-    name: &str,
-    path: &zx_base::Text,
-    field: &str,
-    number: i32,
+    name: &'a str,
+    path: &'a Text,
+    watch: bool,
 ) -> Result<String, Memory> {
-    let path = text_of(alloc, path)?;
-    Ok(format!(in alloc; "{name} {} {field} {number}", path.as_str())?)
+    let pieces = [
+        Piece::Text(name),
+        Piece::Text(word_of(path)),
+        Piece::Text(" watch "),
+        Piece::Text(if watch { "true" } else { "false" }),
+    ];
+    joined(alloc, &pieces)
+}
+
+fn versioned<'a>(
+    alloc: Global,
+    name: &'a str,
+    path: &'a Text,
+    version: i32,
+) -> Result<String, Memory> {
+    let pieces = [
+        Piece::Text(name),
+        Piece::Text(word_of(path)),
+        Piece::Text(" version "),
+        Piece::Number(i64::from(version)),
+    ];
+    joined(alloc, &pieces)
+}
+
+fn made(
+    alloc: Global,
+    path: &Text,
+    content: &[u8],
+    entries: &[Acl],
+    flags: i32,
+) -> Result<String, Memory> {
+    let digits = hex_of(alloc, content)?;
+    let acl = acls_of(alloc, entries)?;
+    made_text(alloc, word_of(path), digits.as_str(), acl.as_str(), flags)
+}
+
+fn made_text<'a>(
+    alloc: Global,
+    path: &'a str,
+    digits: &'a str,
+    acl: &'a str,
+    flags: i32,
+) -> Result<String, Memory> {
+    let pieces = [
+        Piece::Text("create path "),
+        Piece::Text(path),
+        Piece::Text(" data "),
+        Piece::Text(digits),
+        Piece::Text(" acl"),
+        Piece::Text(acl),
+        Piece::Text(" flags "),
+        Piece::Number(i64::from(flags)),
+    ];
+    joined(alloc, &pieces)
+}
+
+fn filled(alloc: Global, path: &Text, content: &[u8], version: i32) -> Result<String, Memory> {
+    let digits = hex_of(alloc, content)?;
+    filled_text(alloc, word_of(path), digits.as_str(), version)
+}
+
+fn filled_text<'a>(
+    alloc: Global,
+    path: &'a str,
+    digits: &'a str,
+    version: i32,
+) -> Result<String, Memory> {
+    let pieces = [
+        Piece::Text("setData path "),
+        Piece::Text(path),
+        Piece::Text(" data "),
+        Piece::Text(digits),
+        Piece::Text(" version "),
+        Piece::Number(i64::from(version)),
+    ];
+    joined(alloc, &pieces)
+}
+
+fn authorized(alloc: Global, kind: i32, scheme: &Text, auth: &[u8]) -> Result<String, Memory> {
+    let auth = hex_of(alloc, auth)?;
+    let pieces = [
+        Piece::Text("auth type "),
+        Piece::Number(i64::from(kind)),
+        Piece::Text(" scheme "),
+        Piece::Text(word_of(scheme)),
+        Piece::Text(" auth "),
+        Piece::Text(auth.as_str()),
+    ];
+    joined(alloc, &pieces)
 }
 
 /// A blank and an entry, for each entry.
 fn acls_of(alloc: Global, entries: &[Acl]) -> Result<String, Memory> {
     let mut all = String::new(alloc);
     for entry in entries {
-        let scheme = text_of(alloc, &entry.scheme)?;
-        let id = text_of(alloc, &entry.id)?;
-        let perms = entry.perms;
-        let said = format!(in alloc; " {perms}:{}:{}", scheme.as_str(), id.as_str())?;
-        all.push_str(said.as_str())?;
+        push_acl(alloc, &mut all, entry)?;
     }
     Ok(all)
+}
+
+fn push_acl(alloc: Global, all: &mut String, entry: &Acl) -> Result<(), Memory> {
+    let pieces = [
+        Piece::Number(i64::from(entry.perms)),
+        Piece::Text(":"),
+        Piece::Text(word_of(&entry.scheme)),
+        Piece::Text(":"),
+        Piece::Text(word_of(&entry.id)),
+    ];
+    push_word(all, joined(alloc, &pieces)?.as_str())
 }
 
 /// The parts of a multi, with `;` after each.
 fn parts_of(alloc: Global, parts: &[Part]) -> Result<String, Memory> {
     let mut all = String::from_str(alloc, "multi")?;
     for part in parts {
-        let said = part_of(alloc, part)?;
-        all.push_str(" ")?;
-        all.push_str(said.as_str())?;
-        all.push_str(";")?;
+        push_part(alloc, &mut all, part)?;
     }
     Ok(all)
+}
+
+fn push_part(alloc: Global, all: &mut String, part: &Part) -> Result<(), Memory> {
+    push_word(all, part_of(alloc, part)?.as_str())?;
+    all.push_str(";")?;
+    Ok(())
 }
 
 fn part_of(alloc: Global, part: &Part) -> Result<String, Memory> {
@@ -200,31 +314,13 @@ fn part_of(alloc: Global, part: &Part) -> Result<String, Memory> {
             content,
             acl,
             flags,
-        } => {
-            let path = text_of(alloc, path)?;
-            let content = hex_of(alloc, content.as_slice())?;
-            let acl = acls_of(alloc, acl.as_slice())?;
-            Ok(format!(in alloc;
-                "create path {} data {} acl{} flags {flags}",
-                path.as_str(),
-                content.as_str(),
-                acl.as_str()
-            )?)
-        }
-        Part::Delete { path, version } => numbered(alloc, "delete path", path, "version", *version),
+        } => made(alloc, path, content.as_slice(), acl.as_slice(), *flags),
+        Part::Delete { path, version } => versioned(alloc, "delete path ", path, *version),
         Part::SetData {
             path,
             content,
             version,
-        } => {
-            let path = text_of(alloc, path)?;
-            let content = hex_of(alloc, content.as_slice())?;
-            Ok(format!(in alloc;
-                "setData path {} data {} version {version}",
-                path.as_str(),
-                content.as_str()
-            )?)
-        }
-        Part::Check { path, version } => numbered(alloc, "check path", path, "version", *version),
+        } => filled(alloc, path, content.as_slice(), *version),
+        Part::Check { path, version } => versioned(alloc, "check path ", path, *version),
     }
 }
