@@ -1,9 +1,10 @@
 //! Asks and their answers.
 
 use crate::changes::{compact, events, foreign, lapse};
-use crate::words::{bytes_of, number, word_of};
+use crate::words::{bytes_of, number, push, word_of};
 use ev_store::{Denied, Store, StoreFault};
 use ev_types::{Act, ActAns, Answer, Ask, Guard, Kv, RangeAns, RangeReq, TxnReq};
+use row_files::{Piece, joined};
 use std::alloc::Global;
 use zx_base::{Memory, Seq};
 
@@ -72,41 +73,54 @@ fn transact(alloc: Global, store: &mut Store, rest: &str) -> Result<Option<Strin
 }
 
 fn txn(alloc: Global, rest: &str) -> Result<Option<TxnReq>, Memory> {
-    let Some((given, lists)) = rest.split_once(" | ") else {
-        return Ok(None);
+    let mut txn = TxnReq {
+        guards: Seq::new(alloc),
+        success: Seq::new(alloc),
+        failure: Seq::new(alloc),
     };
-    let Some((first, second)) = lists.split_once(" | ") else {
-        return Ok(None);
-    };
-    let Some(guards) = guards(alloc, given)? else {
-        return Ok(None);
-    };
-    let Some(success) = acts(alloc, first)? else {
-        return Ok(None);
-    };
-    let Some(failure) = acts(alloc, second)? else {
-        return Ok(None);
-    };
-    Ok(Some(TxnReq {
-        guards,
-        success,
-        failure,
-    }))
+    Ok(if push_lists(alloc, &mut txn, rest)? {
+        Some(txn)
+    } else {
+        None
+    })
 }
 
-/// `KEY@REVISION`, or `-` for none
-fn guards(alloc: Global, words: &str) -> Result<Option<Seq<Guard>>, Memory> {
-    let mut guards = Seq::new(alloc);
+/// Adds what the words of a transaction say; false where they are others.
+fn push_lists(alloc: Global, txn: &mut TxnReq, rest: &str) -> Result<bool, Memory> {
+    let Some((given, lists)) = rest.split_once(" | ") else {
+        return Ok(false);
+    };
+    let Some((first, second)) = lists.split_once(" | ") else {
+        return Ok(false);
+    };
+    Ok(
+        push_guards(alloc, &mut txn.guards, given)?
+            && push_list(alloc, &mut txn.success, first)?
+            && push_list(alloc, &mut txn.failure, second)?,
+    )
+}
+
+/// `KEY@REVISION`, or `-` for none; false where a word is another
+fn push_guards(alloc: Global, guards: &mut Seq<Guard>, words: &str) -> Result<bool, Memory> {
     if words == "-" {
-        return Ok(Some(guards));
+        return Ok(true);
     }
     for word in words.split(' ') {
-        match guard(alloc, word)? {
-            Some(guard) => guards.push(guard)?,
-            None => return Ok(None),
+        if !push_guard(alloc, guards, word)? {
+            return Ok(false);
         }
     }
-    Ok(Some(guards))
+    Ok(true)
+}
+
+fn push_guard(alloc: Global, guards: &mut Seq<Guard>, word: &str) -> Result<bool, Memory> {
+    match guard(alloc, word)? {
+        Some(guard) => {
+            guards.push(guard)?;
+            Ok(true)
+        }
+        None => Ok(false),
+    }
 }
 
 fn guard(alloc: Global, word: &str) -> Result<Option<Guard>, Memory> {
@@ -122,18 +136,17 @@ fn guard(alloc: Global, word: &str) -> Result<Option<Guard>, Memory> {
     }))
 }
 
-/// Operations, each perhaps followed by `*COUNT`, or `-` for none
-fn acts(alloc: Global, words: &str) -> Result<Option<Seq<Act>>, Memory> {
-    let mut acts = Seq::new(alloc);
+/// Operations, each perhaps followed by `*COUNT`, or `-` for none; false where a word is another
+fn push_list(alloc: Global, acts: &mut Seq<Act>, words: &str) -> Result<bool, Memory> {
     if words == "-" {
-        return Ok(Some(acts));
+        return Ok(true);
     }
     for word in words.split(' ') {
-        if !push_acts(alloc, &mut acts, word)? {
-            return Ok(None);
+        if !push_acts(alloc, acts, word)? {
+            return Ok(false);
         }
     }
-    Ok(Some(acts))
+    Ok(true)
 }
 
 /// Adds an operation as often as its word says; false where the word is no operation.
@@ -146,12 +159,21 @@ fn push_acts(alloc: Global, acts: &mut Seq<Act>, word: &str) -> Result<bool, Mem
         return Ok(false);
     };
     for _ in 0..count {
-        match act(alloc, word)? {
-            Some(act) => acts.push(act)?,
-            None => return Ok(false),
+        if !push_act(alloc, acts, word)? {
+            return Ok(false);
         }
     }
     Ok(true)
+}
+
+fn push_act(alloc: Global, acts: &mut Seq<Act>, word: &str) -> Result<bool, Memory> {
+    match act(alloc, word)? {
+        Some(act) => {
+            acts.push(act)?;
+            Ok(true)
+        }
+        None => Ok(false),
+    }
 }
 
 /// `put:KEY:VALUE:LEASE`, `delete:KEY`, `range:KEY:END:REVISION:LIMIT:KEYS`
@@ -237,8 +259,9 @@ fn answer_text(alloc: Global, answer: &Answer) -> Result<String, Memory> {
             succeeded,
             parts,
         } => {
-            let choice = if *succeeded { "success" } else { "failure" };
-            let mut text = format!(in alloc; "{revision} {choice}")?;
+            let choice = if *succeeded { " success" } else { " failure" };
+            let mut text = format!(in alloc; "{revision}")?;
+            push(&mut text, choice)?;
             for part in parts.as_slice() {
                 push_part(alloc, &mut text, part)?;
             }
@@ -249,26 +272,38 @@ fn answer_text(alloc: Global, answer: &Answer) -> Result<String, Memory> {
             push_found(alloc, &mut text, found)?;
             Ok(text)
         }
-        Answer::Granted { revision, id, ttl } => Ok(format!(in alloc;
-            "{revision} granted {id} {ttl}"
-        )?),
-        Answer::Alive { revision, id, ttl } => Ok(format!(in alloc;
-            "{revision} alive {id} {ttl}"
-        )?),
+        Answer::Granted { revision, id, ttl } => lease_text(
+            alloc,
+            *revision,
+            " granted ",
+            *id,
+            *ttl,
+        ),
+        Answer::Alive { revision, id, ttl } => lease_text(alloc, *revision, " alive ", *id, *ttl),
     }
+}
+
+fn lease_text(
+    alloc: Global,
+    revision: i64,
+    words: &str,
+    id: i64,
+    ttl: i64,
+) -> Result<String, Memory> {
+    let pieces = [
+        Piece::Number(revision),
+        Piece::Text(words),
+        Piece::Number(id),
+        Piece::Text(" "),
+        Piece::Number(ttl),
+    ];
+    joined(alloc, &pieces)
 }
 
 fn push_part(alloc: Global, text: &mut String, part: &ActAns) -> Result<(), Memory> {
     match part {
-        ActAns::Put => {
-            text.push_str(" put")?;
-            Ok(())
-        }
-        ActAns::Deleted(count) => {
-            let word = format!(in alloc; " deleted:{count}")?;
-            text.push_str(word.as_str())?;
-            Ok(())
-        }
+        ActAns::Put => push(text, " put"),
+        ActAns::Deleted(count) => push(text, format!(in alloc; " deleted:{count}")?.as_str()),
         ActAns::Range(found) => push_found(alloc, text, found),
     }
 }
@@ -276,41 +311,80 @@ fn push_part(alloc: Global, text: &mut String, part: &ActAns) -> Result<(), Memo
 /// ` COUNT{(KEY=VALUE@CREATE/MOD/VERSION/LEASE)..}`, with `+` after the count where a limit left some out
 fn push_found(alloc: Global, text: &mut String, found: &RangeAns) -> Result<(), Memory> {
     let count = found.count;
-    let more = if found.more { "+" } else { "" };
-    let front = format!(in alloc; " {count}{more}{{")?;
-    text.push_str(front.as_str())?;
-    for kv in found.kvs.as_slice() {
-        push_kv(alloc, text, kv)?;
-    }
-    text.push_str("}")?;
-    Ok(())
+    push(text, format!(in alloc; " {count}")?.as_str())?;
+    push(text, if found.more { "+{" } else { "{" })?;
+    push_kvs(alloc, text, found.kvs.as_slice())
 }
 
-/// `(KEY=VALUE@CREATE/MOD/VERSION/LEASE)`
-pub fn push_kv(alloc: Global, text: &mut String, kv: &Kv) -> Result<(), Memory> {
-    let key = word_of(kv.key.as_slice());
-    let value = word_of(kv.value.as_slice());
-    let (made, put, version, lease) = (kv.create_revision, kv.mod_revision, kv.version, kv.lease);
-    let word = format!(in alloc; "({key}={value}@{made}/{put}/{version}/{lease})")?;
-    text.push_str(word.as_str())?;
-    Ok(())
+/// `(KEY=VALUE@CREATE/MOD/VERSION/LEASE)` for each, and `}` after them
+pub fn push_kvs(alloc: Global, text: &mut String, kvs: &[Kv]) -> Result<(), Memory> {
+    for kv in kvs {
+        push_kv(alloc, text, kv)?;
+    }
+    push(text, "}")
+}
+
+fn push_kv(alloc: Global, text: &mut String, kv: &Kv) -> Result<(), Memory> {
+    push(text, kv_text(alloc, kv)?.as_str())
+}
+
+fn kv_text(alloc: Global, kv: &Kv) -> Result<String, Memory> {
+    let pieces = [
+        Piece::Text("("),
+        Piece::Text(word_of(kv.key.as_slice())),
+        Piece::Text("="),
+        Piece::Text(word_of(kv.value.as_slice())),
+        Piece::Text("@"),
+        Piece::Number(kv.create_revision),
+        Piece::Text("/"),
+        Piece::Number(kv.mod_revision),
+        Piece::Text("/"),
+        Piece::Number(kv.version),
+        Piece::Text("/"),
+        Piece::Number(kv.lease),
+        Piece::Text(")"),
+    ];
+    joined(alloc, &pieces)
 }
 
 fn denial_text(alloc: Global, denied: &Denied) -> Result<String, Memory> {
-    Ok(match denied {
-        Denied::LeaseExists { id } => format!(in alloc; "denied: lease {id} exists")?,
-        Denied::NoLease { id } => format!(in alloc; "denied: no lease {id}")?,
-        Denied::Future { asked, revision } => format!(in alloc;
-            "denied: {asked} is above {revision}"
-        )?,
-        Denied::Compacted { asked, floor } => format!(in alloc;
-            "denied: {asked} is below {floor}"
-        )?,
-        Denied::TooMany { count } => format!(in alloc; "denied: {count} are too many")?,
+    match denied {
+        Denied::LeaseExists { id } => numbered(alloc, "lease ", *id, " exists"),
+        Denied::NoLease { id } => numbered(alloc, "no lease ", *id, ""),
+        Denied::Future { asked, revision } => compared(alloc, *asked, " is above ", *revision),
+        Denied::Compacted { asked, floor } => compared(alloc, *asked, " is below ", *floor),
+        Denied::TooMany { count } => Ok(format!(in alloc; "denied: {count} are too many")?),
         Denied::Twice { key } => {
             let key = word_of(key.as_slice());
-            format!(in alloc; "denied: {key} twice")?
+            Ok(format!(in alloc; "denied: {key} twice")?)
         }
-        Denied::Full { revision } => format!(in alloc; "denied: full at {revision}")?,
-    })
+        Denied::Full { revision } => numbered(alloc, "full at ", *revision, ""),
+    }
+}
+
+/// The text of a denial with a number in it.
+fn numbered<'a>(
+    alloc: Global,
+    front: &'a str,
+    number: i64,
+    end: &'a str,
+) -> Result<String, Memory> {
+    let pieces = [
+        Piece::Text("denied: "),
+        Piece::Text(front),
+        Piece::Number(number),
+        Piece::Text(end),
+    ];
+    joined(alloc, &pieces)
+}
+
+/// The text of a denial that compares two numbers.
+fn compared(alloc: Global, first: i64, words: &str, second: i64) -> Result<String, Memory> {
+    let pieces = [
+        Piece::Text("denied: "),
+        Piece::Number(first),
+        Piece::Text(words),
+        Piece::Number(second),
+    ];
+    joined(alloc, &pieces)
 }

@@ -1,8 +1,9 @@
 //! What is done to a store besides asks, and what its watchers are told.
 
-use crate::asks::{fault_text, push_kv};
+use crate::asks::{fault_text, push_kvs};
 use crate::words::{bytes_of, count, number};
 use ev_store::{Store, StoreFault};
+use ev_types::Kv;
 use std::alloc::Global;
 use zx_base::Memory;
 
@@ -54,14 +55,13 @@ pub fn events(alloc: Global, store: &Store, rest: &str) -> Result<Option<String>
         return Ok(None);
     };
     match store.events_since(revision, most) {
-        Ok(puts) => {
-            let mut text = String::from_str(alloc, "{")?;
-            for kv in puts.as_slice() {
-                push_kv(alloc, &mut text, kv)?;
-            }
-            text.push_str("}")?;
-            Ok(Some(text))
-        }
+        Ok(puts) => { Ok(Some(puts_text(alloc, puts.as_slice())?)) }
         Err(fault) => fault_text(alloc, fault),
     }
+}
+
+fn puts_text(alloc: Global, puts: &[Kv]) -> Result<String, Memory> {
+    let mut text = String::from_str(alloc, "{")?;
+    push_kvs(alloc, &mut text, puts)?;
+    Ok(text)
 }

@@ -13,9 +13,8 @@ mod words;
 
 use anyhow::{Result, bail};
 use ev_store::Store;
-use row_files::{Rows, try_file};
+use row_files::{Rows, argument_or, status_of, try_file_in};
 use std::alloc::Global;
-use std::env;
 use std::process::ExitCode;
 use zx_base::Memory;
 
@@ -56,24 +55,19 @@ impl Rows for Vectors {
 
 /// Looks in the folder that its first argument names, and without one in `vectors`.
 fn main(rt: HostRuntime) -> Result<ExitCode> {
-    let alloc = rt.alloc();
-    let given = env::args(&rt)?.nth(1);
-    let folder = match &given {
-        Some(folder) => folder.as_str(),
-        None => "vectors",
-    };
+    let folder = argument_or(&rt, "vectors")?;
     let mut failed = 0u64;
     for (name, kind) in FILES {
-        let Ok(store) = Store::new(alloc) else {
-            bail!("out of memory");
-        };
-        let mut rows = Vectors { kind, store };
-        let path = format!(in alloc; "{folder}/{name}")?;
-        failed = failed.saturating_add(try_file(&rt, path.as_str(), &mut rows)?);
+        failed = failed.saturating_add(tried(&rt, folder.as_str(), name, kind)?);
     }
-    Ok(if failed == 0 {
-        ExitCode::SUCCESS
-    } else {
-        ExitCode::FAILURE
-    })
+    Ok(status_of(failed))
+}
+
+/// How many rows of a file differ.
+fn tried(rt: &HostRuntime, folder: &str, name: &str, kind: Kind) -> Result<u64> {
+    let Ok(store) = Store::new(rt.alloc()) else {
+        bail!("out of memory");
+    };
+    let mut rows = Vectors { kind, store };
+    try_file_in(rt, folder, name, &mut rows)
 }

@@ -1,6 +1,6 @@
 //! Records, which are read and written again.
 
-use crate::words::word_of;
+use crate::words::{push, word_of};
 use row_files::{Piece, hex_of, joined};
 use std::alloc::Global;
 use zk_model::{Path, Trigger};
@@ -96,8 +96,13 @@ fn counts(alloc: Global, value: &[u8]) -> Result<Option<String>, Memory> {
 }
 
 fn counts_text(alloc: Global, counts: &CountRec) -> Result<String, Memory> {
-    let (creates, children) = (counts.creates, counts.children);
-    Ok(format!(in alloc; "creates {creates} children {children}")?)
+    let pieces = [
+        Piece::Text("creates "),
+        Piece::Number(i64::from(counts.creates)),
+        Piece::Text(" children "),
+        Piece::Number(i64::from(counts.children)),
+    ];
+    joined(alloc, &pieces)
 }
 
 fn session(alloc: Global, value: &[u8]) -> Result<Option<String>, Memory> {
@@ -124,9 +129,8 @@ fn session_text(alloc: Global, session: &SessionRec) -> Result<String, Memory> {
 }
 
 fn push_word(text: &mut String, bytes: &[u8]) -> Result<(), Memory> {
-    text.push_str(" ")?;
-    text.push_str(word_of(bytes))?;
-    Ok(())
+    push(text, " ")?;
+    push(text, word_of(bytes))
 }
 
 fn life(alloc: Global, value: &[u8]) -> Result<Option<String>, Memory> {
@@ -141,8 +145,15 @@ fn life(alloc: Global, value: &[u8]) -> Result<Option<String>, Memory> {
 
 fn life_text(alloc: Global, life: &LeaseRec) -> Result<String, Memory> {
     let passwd = hex_of(alloc, &life.passwd)?;
-    let (timeout, attaches) = (life.timeout, life.attaches);
-    Ok(format!(in alloc; "timeout {timeout} attaches {attaches} passwd {passwd}")?)
+    let pieces = [
+        Piece::Text("timeout "),
+        Piece::Number(i64::from(life.timeout)),
+        Piece::Text(" attaches "),
+        Piece::Number(life.attaches),
+        Piece::Text(" passwd "),
+        Piece::Text(passwd.as_str()),
+    ];
+    joined(alloc, &pieces)
 }
 
 fn head(alloc: Global, value: &[u8]) -> Result<Option<String>, Memory> {
@@ -173,6 +184,6 @@ fn push_trigger(text: &mut String, trigger: &Trigger) -> Result<(), Memory> {
 }
 
 fn push_kind(text: &mut String, kind: &str, path: &Path) -> Result<(), Memory> {
-    text.push_str(kind)?;
+    push(text, kind)?;
     push_word(text, path.bytes())
 }

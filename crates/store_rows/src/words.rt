@@ -5,15 +5,14 @@ use zx_base::{Bytes, Memory};
 
 /// A word's bytes, `-` for none; `~` stands for the byte 0.
 pub fn bytes_of(alloc: Global, word: &str) -> Result<Bytes, Memory> {
-    let mut bytes = Vec::new(alloc);
-    if word == "-" {
-        return Ok(Bytes::from_vec(bytes));
-    }
-    for byte in word.as_bytes() {
-        let byte = if *byte == b'~' { 0 } else { *byte };
-        bytes.push(byte)?;
-    }
-    Ok(Bytes::from_vec(bytes))
+    let written = if word == "-" { "" } else { word };
+    Ok(Bytes::from_vec(written.replace(alloc, "~", "\0")?.into_bytes()))
+}
+
+/// Adds to a text.
+pub fn push(text: &mut String, words: &str) -> Result<(), Memory> {
+    text.push_str(words)?;
+    Ok(())
 }
 
 /// Bytes as a word.
