@@ -30,29 +30,35 @@ fn main(rt: HostRuntime) -> Result<ExitCode> {
     let folder = format!(in rt.alloc(); "{root}/transcripts")?;
     let (mut passed, mut failed) = (0u64, 0u64);
     for name in &names_in(&rt, folder.as_str())? {
-        let path = format!(in rt.alloc(); "{folder}/{name}")?;
-        match problem_of(&rt, path.as_str()) {
-            Ok(None) => passed = passed.saturating_add(1),
-            Ok(Some(found)) => {
-                eprintln!(rt; "{name} is judged {found}")?;
-                failed = failed.saturating_add(1);
-            }
-            Err(error) => {
-                eprintln!(rt; "{name}: {error}")?;
-                failed = failed.saturating_add(1);
-            }
+        if is_passed(&rt, folder.as_str(), name.as_str())? {
+            passed = passed.saturating_add(1);
+        } else {
+            failed = failed.saturating_add(1);
         }
     }
     let wanted = text_of(&rt, format!(in rt.alloc(); "{root}/count")?.as_str())?;
-    eprintln!(rt;
-        "{passed} passed, {failed} failed, {} wanted",
-        wanted.trim()
-    )?;
-    Ok(if failed == 0 && wanted.trim().parse::<u64>() == Ok(passed) {
+    status_of(&rt, passed, failed, wanted.trim())
+}
+
+/// Says how many passed, failed and are wanted.
+fn status_of(rt: &HostRuntime, passed: u64, failed: u64, wanted: &str) -> Result<ExitCode> {
+    eprintln!(rt; "{passed} passed, {failed} failed, {wanted} wanted")?;
+    Ok(if failed == 0 && wanted.parse::<u64>() == Ok(passed) {
         ExitCode::SUCCESS
     } else {
         ExitCode::FAILURE
     })
+}
+
+/// Whether the verdict on a transcript is the one that stands beside it; if not, says what differs.
+fn is_passed(rt: &HostRuntime, folder: &str, name: &str) -> Result<bool> {
+    let path = format!(in rt.alloc(); "{folder}/{name}")?;
+    match problem_of(rt, path.as_str()) {
+        Ok(None) => return Ok(true),
+        Ok(Some(found)) => eprintln!(rt; "{name} is judged {found}")?,
+        Err(error) => eprintln!(rt; "{name}: {error}")?,
+    }
+    Ok(false)
 }
 
 /// The names in a folder without their endings, each once and in order.

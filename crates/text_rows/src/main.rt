@@ -10,9 +10,8 @@ mod shows;
 mod transcripts;
 
 use anyhow::Result;
-use row_files::{Rows, try_file};
+use row_files::{Rows, argument_or, status_of, try_file_in};
 use std::alloc::Global;
-use std::env;
 use std::process::ExitCode;
 use zx_base::Memory;
 
@@ -42,25 +41,20 @@ const FILES: [(&'static str, Kind); 3] = [
 
 /// Looks in the folder that its first argument names, and without one in `vectors`.
 fn main(rt: HostRuntime) -> Result<ExitCode> {
-    let alloc = rt.alloc();
-    let given = env::args(&rt)?.nth(1);
-    let folder = match &given {
-        Some(folder) => folder.as_str(),
-        None => "vectors",
-    };
+    let folder = argument_or(&rt, "vectors")?;
     let mut failed = 0u64;
     for (name, kind) in FILES {
-        let path = format!(in alloc; "{folder}/{name}")?;
-        let mut rows = kind;
-        failed = failed.saturating_add(try_file(&rt, path.as_str(), &mut rows)?);
+        failed = failed.saturating_add(tried(&rt, folder.as_str(), name, kind)?);
     }
-    if longest::problem(alloc) != Ok(false) {
+    if longest::problem(rt.alloc()) != Ok(false) {
         eprintln!(rt; "differs: the longest line of a script")?;
         failed = failed.saturating_add(1);
     }
-    Ok(if failed == 0 {
-        ExitCode::SUCCESS
-    } else {
-        ExitCode::FAILURE
-    })
+    Ok(status_of(failed))
+}
+
+/// How many rows of a file differ.
+fn tried(rt: &HostRuntime, folder: &str, name: &str, kind: Kind) -> Result<u64> {
+    let mut rows = kind;
+    try_file_in(rt, folder, name, &mut rows)
 }

@@ -8,32 +8,56 @@ use zx_base::{Bytes, Memory};
 
 /// The line of a transcript that has these fields; they stand in the order of the types.
 pub fn written(alloc: Global, row: &str) -> Result<Option<String>, Memory> {
-    let mut words = Words::new(row);
     let mut out = Vec::new(alloc);
-    let form = words.word();
-    let Some(()) = (match form {
-        Some("Done") => Some(push_done(&mut out)?),
-        Some("Fault") => push_why(&mut out, &mut words)?,
-        Some("Unread") => push_cause(&mut out, &mut words)?,
-        Some(form) => push_form(alloc, &mut out, form, &mut words)?,
-        None => None,
-    }) else {
+    if !push_row(alloc, &mut out, row)? {
+        return Ok(None);
+    }
+    line_in(alloc, out.as_slice())
+}
+
+/// The one line of a text.
+fn line_in(alloc: Global, text: &[u8]) -> Result<Option<String>, Memory> {
+    let Ok(text) = str::from_utf8(text) else {
         return Ok(None);
     };
-    match str::from_utf8(out.as_slice()) {
-        Ok(text) => match text.strip_suffix("\n") {
-            Some(line) => Ok(Some(String::from_str(alloc, line)?)),
-            None => Ok(None),
-        },
-        Err(_) => Ok(None),
+    match text.strip_suffix("\n") {
+        Some(line) => Ok(Some(String::from_str(alloc, line)?)),
+        None => Ok(None),
     }
 }
 
-fn push_why(out: &mut Vec<u8>, words: &mut Words<'_>) -> Result<Option<()>, Memory> {
-    let (Some(line), Some(why)) = (words.place(), words.word()) else {
-        return Ok(None);
+/// Adds the line; false where the words say none.
+fn push_row(alloc: Global, out: &mut Vec<u8>, row: &str) -> Result<bool, Memory> {
+    let mut words = Words::new(row);
+    let Some(form) = words.word() else {
+        return Ok(false);
     };
-    let why = match why {
+    match form {
+        "Done" => {
+            push_done(out)?;
+            Ok(true)
+        }
+        "Fault" => push_why(out, &mut words),
+        "Unread" => push_cause(out, &mut words),
+        form => push_form(alloc, out, form, &mut words),
+    }
+}
+
+fn push_why(out: &mut Vec<u8>, words: &mut Words<'_>) -> Result<bool, Memory> {
+    let (Some(line), Some(why)) = (words.place(), words.word()) else {
+        return Ok(false);
+    };
+    match why_of(why) {
+        Some(why) => {
+            push_fault(out, line, why)?;
+            Ok(true)
+        }
+        None => Ok(false),
+    }
+}
+
+fn why_of(word: &str) -> Option<Why> {
+    Some(match word {
         "NumberInUse" => Why::NumberInUse,
         "NoSuchConnection" => Why::NoSuchConnection,
         "ConnectionClosed" => Why::ConnectionClosed,
@@ -51,23 +75,21 @@ fn push_why(out: &mut Vec<u8>, words: &mut Words<'_>) -> Result<Option<()>, Memo
         "StoreFull" => Why::StoreFull,
         "KeyKept" => Why::KeyKept,
         "ClockLimit" => Why::ClockLimit,
-        _ => return Ok(None),
-    };
-    push_fault(out, line, why)?;
-    Ok(Some(()))
+        _ => return None,
+    })
 }
 
-fn push_cause(out: &mut Vec<u8>, words: &mut Words<'_>) -> Result<Option<()>, Memory> {
+fn push_cause(out: &mut Vec<u8>, words: &mut Words<'_>) -> Result<bool, Memory> {
     let (Some(line), Some(unread)) = (words.place(), words.word()) else {
-        return Ok(None);
+        return Ok(false);
     };
     let unread = match unread {
         "Unreadable" => Unread::Unreadable,
         "TooLong" => Unread::TooLong,
-        _ => return Ok(None),
+        _ => return Ok(false),
     };
     push_unread(out, line, unread)?;
-    Ok(Some(()))
+    Ok(true)
 }
 
 fn push_form(
@@ -75,12 +97,14 @@ fn push_form(
     out: &mut Vec<u8>,
     form: &str,
     words: &mut Words<'_>,
-) -> Result<Option<()>, Memory> {
-    let Some(line) = line_of(alloc, form, words)? else {
-        return Ok(None);
-    };
-    push_line(out, &line)?;
-    Ok(Some(()))
+) -> Result<bool, Memory> {
+    match line_of(alloc, form, words)? {
+        Some(line) => {
+            push_line(out, &line)?;
+            Ok(true)
+        }
+        None => Ok(false),
+    }
 }
 
 fn line_of(
