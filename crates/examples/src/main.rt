@@ -40,6 +40,31 @@ struct Tally {
     failed: u64,
 }
 
+impl Tally {
+    /// Counts a comparison, and says on standard error what was found where it does not pass.
+    fn add(
+        &mut self,
+        rt: &HostRuntime,
+        word: &str,
+        name: &str,
+        verb: &str,
+        outcome: Result<Option<String>>,
+    ) -> Result<()> {
+        match outcome {
+            Ok(None) => self.passed = self.passed.saturating_add(1),
+            Ok(Some(problem)) => {
+                eprintln!(rt; "{word}/{name} {verb} {problem}")?;
+                self.failed = self.failed.saturating_add(1);
+            }
+            Err(error) => {
+                eprintln!(rt; "{word}/{name}: {error}")?;
+                self.failed = self.failed.saturating_add(1);
+            }
+        }
+        Ok(())
+    }
+}
+
 /// Looks in the folder that its first argument names, and without one in `examples`.
 fn main(rt: HostRuntime) -> Result<ExitCode> {
     let given = env::args(&rt)?.nth(1);
@@ -78,17 +103,8 @@ fn files_of(
     let folder = format!(in rt.alloc(); "{root}/{word}")?;
     for name in &names_in(rt, folder.as_str())? {
         let path = format!(in rt.alloc(); "{folder}/{name}")?;
-        match problem_of(rt, word, path.as_str(), from, to) {
-            Ok(None) => tally.passed = tally.passed.saturating_add(1),
-            Ok(Some(problem)) => {
-                eprintln!(rt; "{word}/{name} differs {problem}")?;
-                tally.failed = tally.failed.saturating_add(1);
-            }
-            Err(error) => {
-                eprintln!(rt; "{word}/{name}: {error}")?;
-                tally.failed = tally.failed.saturating_add(1);
-            }
-        }
+        let problem = problem_of(rt, word, path.as_str(), from, to);
+        tally.add(rt, word, name.as_str(), "differs", problem)?;
     }
     Ok(())
 }
@@ -101,32 +117,90 @@ fn problem_of<R: Files + AllocGlobal>(
     from: &str,
     to: &str,
 ) -> Result<Option<String>> {
-    let alloc = rt.alloc();
-    let input = bytes_of(rt, format!(in alloc; "{path}.{from}")?.as_str())?;
-    let wanted = bytes_of(rt, format!(in alloc; "{path}.{to}")?.as_str())?;
-    let status_file = format!(in alloc; "{path}.status")?;
-    let wanted_status = if exists(rt, status_file.as_str())? {
-        number_of(rt, status_file.as_str())?
+    let input = bytes_beside(rt, path, from)?;
+    let wanted = bytes_beside(rt, path, to)?;
+    let status = status_beside(rt, path)?;
+    problem_with(
+        rt.alloc(),
+        word,
+        input.as_slice(),
+        wanted.as_slice(),
+        status,
+    )
+}
+
+/// The bytes of the file that has this ending.
+fn bytes_beside<R: Files + AllocGlobal>(rt: &R, path: &str, ending: &str) -> Result<Vec<u8>> {
+    let file = format!(in rt.alloc(); "{path}.{ending}")?;
+    bytes_of(rt, file.as_str())
+}
+
+/// The status that is wanted: 0 where no file says it.
+fn status_beside<R: Files + AllocGlobal>(rt: &R, path: &str) -> Result<u64> {
+    let file = format!(in rt.alloc(); "{path}.status")?;
+    if exists(rt, file.as_str())? {
+        number_of(rt, file.as_str())
     } else {
-        0
-    };
+        Ok(0)
+    }
+}
+
+/// Runs a command on an input, in pieces of each size, and says where the output differs.
+fn problem_with(
+    alloc: Global,
+    word: &str,
+    input: &[u8],
+    wanted: &[u8],
+    wanted_status: u64,
+) -> Result<Option<String>> {
     for size in SIZES {
-        let pieces = vec![in alloc; size; input.len()]?;
-        let mut source = MemSource::new(
-            Vec::from_slice(alloc, input.as_slice())?,
-            pieces,
-            Vec::new(alloc),
-        );
-        let mut out = MemSink::new(alloc, Vec::new(alloc));
-        let status = zetcd(alloc, &[word], &mut source, &mut out).number();
-        if let Some(at) = first_difference(out.bytes(), wanted.as_slice()) {
-            return Ok(Some(format!(in alloc; "at byte {at}, in pieces of {size}")?));
-        }
-        if u64::from(status) != wanted_status {
-            return Ok(Some(format!(in alloc; "in its status, {status} for {wanted_status}")?));
+        let problem = problem_in_pieces(alloc, word, input, size, wanted, wanted_status)?;
+        if problem.is_some() {
+            return Ok(problem);
         }
     }
     Ok(None)
+}
+
+/// Runs a command on an input in pieces of one size, and says where the output differs.
+fn problem_in_pieces(
+    alloc: Global,
+    word: &str,
+    input: &[u8],
+    size: u32,
+    wanted: &[u8],
+    wanted_status: u64,
+) -> Result<Option<String>> {
+    let mut source = source_of(alloc, input, size)?;
+    let mut out = MemSink::new(alloc, Vec::new(alloc));
+    let status = zetcd(alloc, &[word], &mut source, &mut out).number();
+    if let Some(at) = first_difference(out.bytes(), wanted) {
+        return other_bytes(alloc, at, size);
+    }
+    if u64::from(status) == wanted_status {
+        Ok(None)
+    } else {
+        other_status(alloc, u64::from(status), wanted_status)
+    }
+}
+
+/// An input in pieces of one size.
+fn source_of(alloc: Global, input: &[u8], size: u32) -> Result<MemSource> {
+    let pieces = vec![in alloc; size; input.len()]?;
+    let bytes = Vec::from_slice(alloc, input)?;
+    Ok(MemSource::new(bytes, pieces, Vec::new(alloc)))
+}
+
+/// Says that the output differs.
+fn other_bytes(alloc: Global, at: usize, size: u32) -> Result<Option<String>> {
+    let problem = format!(in alloc; "at byte {at}, in pieces of {size}")?;
+    Ok(Some(problem))
+}
+
+/// Says that the status differs.
+fn other_status(alloc: Global, status: u64, wanted: u64) -> Result<Option<String>> {
+    let problem = format!(in alloc; "in its status, {status} for {wanted}")?;
+    Ok(Some(problem))
 }
 
 /// Judges the transcript of each script.
@@ -134,17 +208,8 @@ fn judged(rt: &HostRuntime, root: &str, tally: &mut Tally) -> Result<()> {
     let folder = format!(in rt.alloc(); "{root}/replay")?;
     for name in &names_in(rt, folder.as_str())? {
         let path = format!(in rt.alloc(); "{folder}/{name}.transcript")?;
-        match verdict_in(rt, path.as_str()) {
-            Ok(None) => tally.passed = tally.passed.saturating_add(1),
-            Ok(Some(verdict)) => {
-                eprintln!(rt; "replay/{name} is judged {verdict}")?;
-                tally.failed = tally.failed.saturating_add(1);
-            }
-            Err(error) => {
-                eprintln!(rt; "replay/{name}: {error}")?;
-                tally.failed = tally.failed.saturating_add(1);
-            }
-        }
+        let verdict = verdict_in(rt, path.as_str());
+        tally.add(rt, "replay", name.as_str(), "is judged", verdict)?;
     }
     Ok(())
 }
@@ -160,10 +225,15 @@ fn verdict_on(alloc: Global, text: Vec<u8>) -> Result<Option<String>> {
     let mut source = MemSource::new(text, Vec::new(alloc), Vec::new(alloc));
     let mut out = MemSink::new(alloc, Vec::new(alloc));
     let status = zetcd(alloc, &["judge"], &mut source, &mut out).number();
-    if status == 0 && first_difference(out.bytes(), b"lawful\n").is_none() {
+    verdict_of(alloc, status, out.bytes())
+}
+
+/// The verdict that was written. None: the transcript is lawful.
+fn verdict_of(alloc: Global, status: u8, written: &[u8]) -> Result<Option<String>> {
+    if status == 0 && first_difference(written, b"lawful\n").is_none() {
         return Ok(None);
     }
-    match str::from_utf8(out.bytes()) {
+    match str::from_utf8(written) {
         Ok(verdict) => Ok(Some(format!(in alloc; "{verdict}, with status {status}")?)),
         Err(_) => bail!("the verdict is no text"),
     }
@@ -174,17 +244,8 @@ fn runs_of(rt: &HostRuntime, root: &str, tally: &mut Tally) -> Result<()> {
     let folder = format!(in rt.alloc(); "{root}/runs")?;
     for name in &names_in(rt, folder.as_str())? {
         let path = format!(in rt.alloc(); "{folder}/{name}.run")?;
-        match outcome_of(rt, path.as_str()) {
-            Ok(None) => tally.passed = tally.passed.saturating_add(1),
-            Ok(Some(problem)) => {
-                eprintln!(rt; "runs/{name} differs {problem}")?;
-                tally.failed = tally.failed.saturating_add(1);
-            }
-            Err(error) => {
-                eprintln!(rt; "runs/{name}: {error}")?;
-                tally.failed = tally.failed.saturating_add(1);
-            }
-        }
+        let problem = outcome_of(rt, path.as_str());
+        tally.add(rt, "runs", name.as_str(), "differs", problem)?;
     }
     Ok(())
 }
@@ -213,7 +274,7 @@ fn outcome_of<R: Files + AllocGlobal>(rt: &R, path: &str) -> Result<Option<Strin
         return Ok(Some(format!(in alloc; "at byte {at}")?));
     }
     if u64::from(status) != wanted {
-        return Ok(Some(format!(in alloc; "in its status, {status} for {wanted}")?));
+        return other_status(alloc, u64::from(status), wanted);
     }
     if wanted != 0 || words.first() != Some(&"replay") {
         return Ok(None);

@@ -95,12 +95,18 @@ impl Run {
         let Some((count, size)) = rest.split_once(' ') else {
             bail!("pieces want a count and a size");
         };
-        let Ok(size) = size.parse::<u32>() else {
-            bail!("no size: {size}");
-        };
+        let size = size_of_read(size)?;
         for _read in 0..number(count)? {
             self.pieces.push(size)?;
         }
         Ok(())
+    }
+}
+
+/// The size that a text spells.
+fn size_of_read(text: &str) -> Result<u32> {
+    match text.parse::<u32>() {
+        Ok(size) => Ok(size),
+        Err(_) => bail!("no size: {text}"),
     }
 }
