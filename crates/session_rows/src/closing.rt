@@ -6,7 +6,7 @@ use crate::answers::answer_of;
 use crate::words::{damaged_text, txn_text};
 use ev_store::Store;
 use ev_types::{ActAns, Answer, Ask, TxnReq};
-use row_files::Words;
+use row_files::{Piece, Words, joined};
 use std::alloc::Global;
 use zk_model::Reply;
 use zn_view::{Decision, Plan, View, ViewFault, Want, Who, are_numbers, is_count, ranges, reading};
@@ -145,12 +145,29 @@ fn planned(alloc: Global, store: &mut Store, plan: Plan, rounds: u32) -> Result<
                 succeeded,
                 ..
             },
-        ) => {
-            let done = if succeeded { "done" } else { "failed" };
-            let words = text.as_str();
-            Ok(format!(in alloc; "{rounds} rounds, {words}, {done} at {revision}")?)
-        }
+        ) => done_text(alloc, rounds, text.as_str(), succeeded, revision),
         Ok(_) => Ok(String::from_str(alloc, "no answer")?),
         Err(denial) => Ok(denial),
     }
+}
+
+fn done_text(
+    alloc: Global,
+    rounds: u32,
+    words: &str,
+    succeeded: bool,
+    revision: i64,
+) -> Result<String, Memory> {
+    let pieces = [
+        Piece::Count(u64::from(rounds)),
+        Piece::Text(" rounds, "),
+        Piece::Text(words),
+        Piece::Text(if succeeded {
+            ", done at "
+        } else {
+            ", failed at "
+        }),
+        Piece::Number(revision),
+    ];
+    joined(alloc, &pieces)
 }

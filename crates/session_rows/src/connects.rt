@@ -7,9 +7,10 @@ use crate::answers::answer_of;
 use crate::words::{ask_text, damaged_text};
 use ev_store::Store;
 use ev_types::{Answer, Ask};
-use row_files::{Words, bytes_of, hex_of};
+use row_files::{Piece, Words, bytes_of, hex_of, joined};
 use std::alloc::Global;
-use zk_model::ConnectRequest;
+use zk_model::{ConnectRequest, ConnectResponse};
+use zn_view::Who;
 use zs_session::{ConnectStep, Connecting, Fresh, StepFault, alive_due};
 use zx_base::{Bytes, Memory};
 
@@ -98,18 +99,52 @@ fn end_text(alloc: Global, end: &ConnectStep) -> Result<String, Memory> {
             timeout,
             number,
             zxid,
-        } => {
-            let (answered, session) = (response.timeout, response.session);
-            let digits = hex_of(alloc, &response.passwd)?;
-            let (mine, of) = (who.mine, who.session);
-            Ok(format!(in alloc;
-                "attached {session} {digits} {answered}; {of} at {mine}, {timeout} ms, number {number}, zxid {zxid}"
-            )?)
-        }
-        ConnectStep::Ahead { client, head } => Ok(format!(in alloc; "ahead {client} {head}")?),
+        } => attached_text(alloc, response, who, *timeout, *number, *zxid),
+        ConnectStep::Ahead { client, head } => ahead_text(alloc, *client, *head),
         ConnectStep::Unknown => Ok(String::from_str(alloc, "unknown")?),
         ConnectStep::Taken { rev } => Ok(format!(in alloc; "taken {rev}")?),
     }
+}
+
+fn ahead_text(alloc: Global, client: i64, head: i64) -> Result<String, Memory> {
+    let pieces = [
+        Piece::Text("ahead "),
+        Piece::Number(client),
+        Piece::Text(" "),
+        Piece::Number(head),
+    ];
+    joined(alloc, &pieces)
+}
+
+/// `attached SESSION PASSWORD TIMEOUT` of the response, and then whom it is attached to
+fn attached_text(
+    alloc: Global,
+    response: &ConnectResponse,
+    who: &Who,
+    timeout: i32,
+    number: i64,
+    zxid: i64,
+) -> Result<String, Memory> {
+    let digits = hex_of(alloc, &response.passwd)?;
+    let pieces = [
+        Piece::Text("attached "),
+        Piece::Number(response.session),
+        Piece::Text(" "),
+        Piece::Text(digits.as_str()),
+        Piece::Text(" "),
+        Piece::Number(i64::from(response.timeout)),
+        Piece::Text("; "),
+        Piece::Number(who.session),
+        Piece::Text(" at "),
+        Piece::Number(who.mine),
+        Piece::Text(", "),
+        Piece::Number(i64::from(timeout)),
+        Piece::Text(" ms, number "),
+        Piece::Number(number),
+        Piece::Text(", zxid "),
+        Piece::Number(zxid),
+    ];
+    joined(alloc, &pieces)
 }
 
 /// `LAST NOW TIMEOUT`, in milliseconds: whether a keepalive is due; none where the words are others

@@ -18,9 +18,8 @@ use crate::connects::{Begun, alive, begin};
 use crate::reaps::{BegunReap, begin_reap};
 use anyhow::{Result, bail};
 use ev_store::Store;
-use row_files::{Rows, Words, try_file};
+use row_files::{Rows, Words, argument_or, status_of, try_file};
 use std::alloc::Global;
-use std::env;
 use std::process::ExitCode;
 use zx_base::Memory;
 
@@ -130,11 +129,7 @@ impl Sessions {
 
 /// Looks in the file that its first argument names, and without one in `sessions`.
 fn main(rt: HostRuntime) -> Result<ExitCode> {
-    let given = env::args(&rt)?.nth(1);
-    let file = match &given {
-        Some(file) => file.as_str(),
-        None => "sessions",
-    };
+    let file = argument_or(&rt, "sessions")?;
     let Ok(store) = Store::new(rt.alloc()) else {
         bail!("out of memory");
     };
@@ -142,9 +137,5 @@ fn main(rt: HostRuntime) -> Result<ExitCode> {
         store,
         waiting: Waiting::Nothing,
     };
-    Ok(if try_file(&rt, file, &mut rows)? == 0 {
-        ExitCode::SUCCESS
-    } else {
-        ExitCode::FAILURE
-    })
+    Ok(status_of(try_file(&rt, file.as_str(), &mut rows)?))
 }

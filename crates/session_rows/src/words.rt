@@ -1,7 +1,7 @@
 //! Asks in words.
 
 use ev_types::{Act, Ask, Guard, TxnReq};
-use row_files::hex_of;
+use row_files::{Piece, hex_of, joined};
 use std::alloc::Global;
 use zx_base::Memory;
 
@@ -16,19 +16,21 @@ pub fn word_of<'a>(bytes: &'a [u8]) -> &'a str {
     }
 }
 
-fn push_word(text: &mut String, word: &str) -> Result<(), Memory> {
-    text.push_str(" ")?;
-    text.push_str(word)?;
+fn push(text: &mut String, words: &str) -> Result<(), Memory> {
+    text.push_str(words)?;
     Ok(())
+}
+
+fn push_word(text: &mut String, word: &str) -> Result<(), Memory> {
+    push(text, " ")?;
+    push(text, word)
 }
 
 /// ` KEY@MOD_REVISION`
 fn push_guard(alloc: Global, text: &mut String, guard: &Guard) -> Result<(), Memory> {
-    let key = word_of(guard.key.as_slice());
     let revision = guard.mod_revision;
-    let word = format!(in alloc; " {key}@{revision}")?;
-    text.push_str(word.as_str())?;
-    Ok(())
+    push_word(text, word_of(guard.key.as_slice()))?;
+    push(text, format!(in alloc; "@{revision}")?.as_str())
 }
 
 /// ` put KEY VALUE`, with `lease ID` after it if it has one; ` delete KEY`; ` get KEY`, with `at REVISION` after it where it is not
@@ -38,7 +40,7 @@ fn push_act(alloc: Global, text: &mut String, act: &Act) -> Result<(), Memory> {
         Act::Put { key, value, lease } => {
             push_word(text, "put")?;
             push_word(text, word_of(key.as_slice()))?;
-            push_word(text, hex_of(alloc, value.as_slice())?.as_str())?;
+            push_bytes(alloc, text, value.as_slice())?;
             push_number(alloc, text, "lease", *lease)
         }
         Act::Delete { key } => {
@@ -53,14 +55,18 @@ fn push_act(alloc: Global, text: &mut String, act: &Act) -> Result<(), Memory> {
     }
 }
 
+/// A blank and bytes in hex
+fn push_bytes(alloc: Global, text: &mut String, bytes: &[u8]) -> Result<(), Memory> {
+    push_word(text, hex_of(alloc, bytes)?.as_str())
+}
+
 /// ` WORD NUMBER`, nothing for 0
 fn push_number(alloc: Global, text: &mut String, word: &str, number: i64) -> Result<(), Memory> {
     if number == 0 {
         return Ok(());
     }
-    let words = format!(in alloc; " {word} {number}")?;
-    text.push_str(words.as_str())?;
-    Ok(())
+    push_word(text, word)?;
+    push(text, format!(in alloc; " {number}")?.as_str())
 }
 
 fn push_acts(alloc: Global, text: &mut String, acts: &[Act]) -> Result<(), Memory> {
@@ -72,27 +78,31 @@ fn push_acts(alloc: Global, text: &mut String, acts: &[Act]) -> Result<(), Memor
 
 /// `if GUARDS do OPERATIONS else OPERATIONS`, or the operations alone where nothing is guarded
 pub fn txn_text(alloc: Global, txn: &TxnReq) -> Result<String, Memory> {
-    if txn.guards.as_slice().is_empty() {
-        let mut text = String::from_str(alloc, "do")?;
-        push_acts(alloc, &mut text, txn.success.as_slice())?;
-        return Ok(text);
-    }
-    let mut text = String::from_str(alloc, "if")?;
-    for guard in txn.guards.as_slice() {
-        push_guard(alloc, &mut text, guard)?;
-    }
-    push_word(&mut text, "do")?;
-    push_acts(alloc, &mut text, txn.success.as_slice())?;
-    push_word(&mut text, "else")?;
-    push_acts(alloc, &mut text, txn.failure.as_slice())?;
+    let mut text = String::new(alloc);
+    push_txn(alloc, &mut text, txn)?;
     Ok(text)
+}
+
+fn push_txn(alloc: Global, text: &mut String, txn: &TxnReq) -> Result<(), Memory> {
+    if txn.guards.as_slice().is_empty() {
+        push(text, "do")?;
+        return push_acts(alloc, text, txn.success.as_slice());
+    }
+    push(text, "if")?;
+    for guard in txn.guards.as_slice() {
+        push_guard(alloc, text, guard)?;
+    }
+    push(text, " do")?;
+    push_acts(alloc, text, txn.success.as_slice())?;
+    push(text, " else")?;
+    push_acts(alloc, text, txn.failure.as_slice())
 }
 
 /// A transaction, `grant ID SECONDS`, `keep ID` or `range KEY`
 pub fn ask_text(alloc: Global, ask: &Ask) -> Result<String, Memory> {
     match ask {
         Ask::Txn(txn) => txn_text(alloc, txn),
-        Ask::Grant { id, ttl } => Ok(format!(in alloc; "grant {id} {ttl}")?),
+        Ask::Grant { id, ttl } => grant_text(alloc, *id, *ttl),
         Ask::Alive { id } => Ok(format!(in alloc; "keep {id}")?),
         Ask::Range(range) => {
             let key = word_of(range.key.as_slice());
@@ -101,9 +111,24 @@ pub fn ask_text(alloc: Global, ask: &Ask) -> Result<String, Memory> {
     }
 }
 
+fn grant_text(alloc: Global, id: i64, ttl: i64) -> Result<String, Memory> {
+    let pieces = [
+        Piece::Text("grant "),
+        Piece::Number(id),
+        Piece::Text(" "),
+        Piece::Number(ttl),
+    ];
+    joined(alloc, &pieces)
+}
+
 /// `damaged KEY VALUE`
 pub fn damaged_text(alloc: Global, key: &[u8], value: &[u8]) -> Result<String, Memory> {
-    let key = word_of(key);
     let digits = hex_of(alloc, value)?;
-    Ok(format!(in alloc; "damaged {key} {digits}")?)
+    let pieces = [
+        Piece::Text("damaged "),
+        Piece::Text(word_of(key)),
+        Piece::Text(" "),
+        Piece::Text(digits.as_str()),
+    ];
+    joined(alloc, &pieces)
 }
