@@ -7,7 +7,7 @@ use crate::field::Field;
 use std::alloc::{AllocError, AllocFailed};
 
 /// Why a body could not be read.
-#[derive(Clone, Copy, Debug, PartialEq, Eq)]
+#[derive(Clone, Copy, PartialEq, Eq)]
 pub enum JsonFault {
     /// The body is not UTF-8, is not JSON, or nests deeper than 127.
     NotJson,

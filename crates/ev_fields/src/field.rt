@@ -4,7 +4,7 @@ ghost use Rattle.std.specs.Prelude.{◌≡◌, ◌++◌, ◌∷◌, []};
 ghost use Rattle.ev_fields.specs.Names.{snake, camel};
 
 /// A member of a message of etcd's JSON gateway, by its name in etcd's protobuf messages. `Kind` is the member `type`.
-#[derive(Clone, Copy, Debug, PartialEq, Eq)]
+#[derive(Clone, Copy, PartialEq, Eq)]
 pub enum Field {
     Header,
     Revision,

@@ -4,7 +4,7 @@ use ev_types::Kv;
 use zx_base::Seq;
 
 /// One line of a watch's stream (etcd API reference, `WatchResponse`).
-#[derive(Debug, Drop)]
+#[derive(Drop)]
 pub enum Line {
     /// The watch was created. Events in such a line are passed over.
     Created,
@@ -17,7 +17,7 @@ pub enum Line {
 }
 
 /// One event: the key as a put left it, or `None` for a deletion.
-#[derive(Debug, Drop)]
+#[derive(Drop)]
 pub struct Event {
     pub kv: Option<Kv>,
 }

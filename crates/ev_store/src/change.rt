@@ -4,7 +4,7 @@ use std::marker::Model;
 use zx_base::Bytes;
 
 /// What a put wrote.
-#[derive(Debug, Drop)]
+#[derive(Drop)]
 pub struct Content {
     pub value: Bytes,
     /// The lease that the key then has, or 0.
@@ -12,7 +12,7 @@ pub struct Content {
 }
 
 /// One key with what was put; `content` is `None` where the key was removed.
-#[derive(Debug, Drop)]
+#[derive(Drop)]
 pub struct Change {
     pub key: Bytes,
     pub content: Option<Content>,

@@ -6,7 +6,7 @@ use std::alloc::AllocFailed;
 use zx_base::{Bytes, Memory};
 
 /// Why an ask, or another call of the store, is denied (etcd's server errors). What is denied changes nothing.
-#[derive(Debug, Drop)]
+#[derive(Drop)]
 pub enum Denied {
     /// A grant names a lease that is there (`ErrLeaseExists`).
     LeaseExists { id: i64 },
@@ -26,7 +26,7 @@ pub enum Denied {
 }
 
 /// Why a call did nothing. The store is as before.
-#[derive(Debug, Drop)]
+#[derive(Drop)]
 pub enum StoreFault {
     /// An etcd would deny it.
     Denied(Denied),

@@ -6,7 +6,7 @@ ghost use Rattle.ev_types.specs.Answers.{revision_in};
 use zx_base::{Bytes, Seq};
 
 /// A key with its value, as etcd keeps it (API reference, `KeyValue`).
-#[derive(Debug, Drop)]
+#[derive(Drop)]
 pub struct Kv {
     pub key: Bytes,
     pub value: Bytes,
@@ -21,7 +21,7 @@ pub struct Kv {
 }
 
 /// What a range found (`RangeResponse`).
-#[derive(Debug, Drop)]
+#[derive(Drop)]
 pub struct RangeAns {
     /// In the order of the keys' bytes, at most as many as the limit.
     pub kvs: Seq<Kv>,
@@ -32,7 +32,7 @@ pub struct RangeAns {
 }
 
 /// What an operation of a transaction answers (`ResponseOp`).
-#[derive(Debug, Drop)]
+#[derive(Drop)]
 pub enum ActAns {
     Put,
     /// How many keys were deleted: 0 or 1, since a delete names one key.
@@ -41,7 +41,7 @@ pub enum ActAns {
 }
 
 /// The answer to an ask of the same name. Each has the store's revision after the ask (`ResponseHeader`).
-#[derive(Debug, Drop)]
+#[derive(Drop)]
 pub enum Answer {
     /// Whether all guards held, and one part for each operation of the list that was then carried out.
     Txn {

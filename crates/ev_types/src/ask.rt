@@ -3,7 +3,7 @@
 use zx_base::{Bytes, Seq};
 
 /// A range of keys, in the order of their bytes (API reference, `RangeRequest`).
-#[derive(Debug, Drop)]
+#[derive(Drop)]
 pub struct RangeReq {
     /// The first key.
     pub key: Bytes,
@@ -18,14 +18,14 @@ pub struct RangeReq {
 }
 
 /// A compare: the key's mod_revision is this one, 0 for a key that is not there (`Compare` with target MOD, result EQUAL).
-#[derive(Debug, Drop)]
+#[derive(Drop)]
 pub struct Guard {
     pub key: Bytes,
     pub mod_revision: i64,
 }
 
 /// An operation of a transaction (`RequestOp`).
-#[derive(Debug, Drop)]
+#[derive(Drop)]
 pub enum Act {
     /// `lease` is the number of the lease that the key then has, 0 for none.
     Put {
@@ -42,7 +42,7 @@ pub enum Act {
 
 /// A transaction: where all guards hold the success list is carried out, otherwise the failure list (`TxnRequest`). Each of the
 /// three has at most 128 members, or the transaction is denied.
-#[derive(Debug, Drop)]
+#[derive(Drop)]
 pub struct TxnReq {
     pub guards: Seq<Guard>,
     pub success: Seq<Act>,
@@ -50,7 +50,7 @@ pub struct TxnReq {
 }
 
 /// One request to etcd.
-#[derive(Debug, Drop)]
+#[derive(Drop)]
 pub enum Ask {
     Txn(TxnReq),
     Range(RangeReq),

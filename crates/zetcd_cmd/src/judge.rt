@@ -19,7 +19,7 @@ use zx_base::Memory;
 use zx_outside::{Sink, Source};
 
 /// How the reading of a transcript ended.
-#[derive(Clone, Copy, Debug, PartialEq, Eq)]
+#[derive(Clone, Copy, PartialEq, Eq)]
 pub enum Reading {
     /// All of it was read.
     Whole,

@@ -19,7 +19,7 @@ use zx_outside::Sink;
 const MAX_KEPT: usize = 65_536;
 
 /// How the reading of a script ended.
-#[derive(Clone, Copy, Debug, PartialEq, Eq)]
+#[derive(Clone, Copy, PartialEq, Eq)]
 pub enum End {
     /// All of it was applied.
     Whole,
@@ -30,7 +30,7 @@ pub enum End {
 }
 
 /// Why not all was written.
-#[derive(Clone, Copy, Debug, PartialEq, Eq)]
+#[derive(Clone, Copy, PartialEq, Eq)]
 pub enum Unwritten {
     /// The sink had a fault.
     Sink,

@@ -14,7 +14,7 @@ use zx_base::Memory;
 const LINE_FEED: u8 = b'\n';
 
 /// Why no further line is applied.
-#[derive(Clone, Copy, Debug, PartialEq, Eq)]
+#[derive(Clone, Copy, PartialEq, Eq)]
 pub enum Stop {
     /// The line cannot be read.
     Unread(Unread),

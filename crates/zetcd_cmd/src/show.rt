@@ -15,7 +15,7 @@ use zt_show::{Ending, Lines, Show};
 use zx_outside::{Sink, Source};
 
 /// Why no more of a stream is shown.
-#[derive(Clone, Copy, Debug, PartialEq, Eq)]
+#[derive(Clone, Copy, PartialEq, Eq)]
 pub enum Close {
     /// The stream ended like this, and the last line was written.
     Ended(Ending),

@@ -4,7 +4,7 @@ ghost use Rattle.std.specs.Prelude.{◌≡◌};
 ghost use Rattle.zetcd_cmd.specs.Outcomes.{number_of};
 
 /// How a command ended. What was read and written then is said by `specs/Outcomes.antt`.
-#[derive(Clone, Copy, Debug, PartialEq, Eq)]
+#[derive(Clone, Copy, PartialEq, Eq)]
 pub enum Status {
     /// The input was read to its end. Of `show`: that is a frame's end. Of `judge`: the verdict is `lawful`.
     Done,

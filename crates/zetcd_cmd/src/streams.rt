@@ -13,7 +13,7 @@ use zx_outside::{Got, Sink, Source, Took};
 pub const PATIENCE: u32 = 1000;
 
 /// What the next bytes of a source are.
-#[derive(Clone, Copy, Debug, PartialEq, Eq)]
+#[derive(Clone, Copy, PartialEq, Eq)]
 pub enum Piece {
     /// This many bytes, at the front of the buffer.
     Bytes(usize),

@@ -9,7 +9,7 @@ use std::marker::Model;
 use zx_base::Memory;
 
 /// A finite set of paths. A call takes the logarithm of the number of paths, a copy takes a step for each.
-#[derive(Debug, Drop)]
+#[derive(Drop)]
 pub struct PathSet {
     /// The bytes of each.
     paths: BTreeSet<Vec<u8>>,

@@ -11,7 +11,7 @@ use zk_model::{Body, Notice, Reply};
 use zx_base::Seq;
 
 /// A reply, the notices that stand before it, and what is armed after it.
-#[derive(Debug, Drop)]
+#[derive(Drop)]
 pub struct Told {
     pub reply: Reply,
     pub notices: Seq<Notice>,

@@ -24,7 +24,7 @@ pub const CHANGED: u8 = 3;
 pub const CHILDREN: u8 = 4;
 
 /// The data watches and the child watches of a connection.
-#[derive(Debug, Drop)]
+#[derive(Drop)]
 pub struct Watches {
     on_data: PathSet,
     on_children: PathSet,
@@ -42,7 +42,7 @@ impl Model for Watches {
 }
 
 /// What is armed, and the notices that were given so far.
-#[derive(Debug, Drop)]
+#[derive(Drop)]
 pub struct Seen {
     pub watches: Watches,
     pub notices: Seq<Notice>,

@@ -21,7 +21,7 @@ use zx_base::{Memory, Seq};
 
 /// What is kept of a line: of an update, what watches see of it and the body of the reply to the request that it carried out,
 /// unless that is a closeSession; of any other line, nothing.
-#[derive(Debug, Drop)]
+#[derive(Drop)]
 pub struct Effect {
     triggers: Seq<Trigger>,
     response: Option<Body>,

@@ -11,7 +11,7 @@ use zx_base::Memory;
 pub type Mark = (u32, u64);
 
 /// The place of the first line with each mark.
-#[derive(Debug, Drop)]
+#[derive(Drop)]
 pub struct Firsts {
     places: BTreeMap<Mark, usize>,
 }

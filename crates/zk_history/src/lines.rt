@@ -140,7 +140,7 @@ pub fn planned_commit(
 }
 
 /// The state after a line, and what the line answers.
-#[derive(Debug, Drop)]
+#[derive(Drop)]
 pub struct Applied {
     pub state: State,
     /// The body of the reply to the create, delete, setData or multi that the line carried out; `None` for any other line.

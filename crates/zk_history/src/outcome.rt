@@ -9,7 +9,7 @@ use zk_plain::{Edit, Tree, Write};
 use zx_base::{Memory, Seq};
 
 /// What a request changes of a tree.
-#[derive(Debug, Drop)]
+#[derive(Drop)]
 pub enum Change {
     /// What a single request planned.
     Edited(Option<Edit>),
@@ -38,7 +38,7 @@ impl Change {
 }
 
 /// What a create, delete, setData or multi that is not refused does.
-#[derive(Debug, Drop)]
+#[derive(Drop)]
 pub struct Commit {
     /// The body of its reply.
     pub response: Body,

@@ -10,7 +10,7 @@ use zk_model::limit::{MAX_TIMEOUT, MIN_TIMEOUT};
 use zx_base::{Bytes, Memory};
 
 /// An open session, with its password, its timeout, and the connection that it is attached to.
-#[derive(Debug, Drop)]
+#[derive(Drop)]
 pub struct Session {
     passwd: Bytes,
     /// The granted timeout, in milliseconds.

@@ -12,7 +12,7 @@ use std::marker::Model;
 use zx_base::Memory;
 
 /// The open sessions by their numbers. Each call takes the logarithm of how many are open.
-#[derive(Debug, Drop)]
+#[derive(Drop)]
 pub struct Sessions {
     open: BTreeMap<i64, Session>,
     attachments: Attachments,

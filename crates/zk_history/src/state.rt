@@ -17,7 +17,7 @@ use zk_plain::{Fault, Tree};
 use zx_base::{Memory, Seq};
 
 /// The state of the service: its tree, its open sessions, and of the last update the zxid, the number and what watches see.
-#[derive(Debug, Drop)]
+#[derive(Drop)]
 pub struct State {
     tree: Tree,
     zxid: i64,

@@ -8,7 +8,7 @@ use std::collections::BTreeMap;
 use zx_base::Memory;
 
 /// The place of the first update with each zxid.
-#[derive(Debug, Drop)]
+#[derive(Drop)]
 pub struct Zxids {
     places: BTreeMap<i64, usize>,
 }

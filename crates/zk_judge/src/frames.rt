@@ -16,7 +16,7 @@ use zk_wire::{WireFault, read_request};
 use zx_base::{Memory, Seq};
 
 /// What a frame is read as.
-#[derive(Debug, Drop)]
+#[derive(Drop)]
 pub enum FrameRead {
     /// It is too short for a header (`RequestHeader`).
     NoHeader,

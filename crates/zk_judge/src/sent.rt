@@ -11,7 +11,7 @@ use zk_transcript::TranscriptLine;
 use zx_base::Memory;
 
 /// For each connection the places of the packets that it was sent, in order.
-#[derive(Debug, Drop)]
+#[derive(Drop)]
 pub struct Sent {
     places: BTreeMap<u32, Vec<usize>>,
 }

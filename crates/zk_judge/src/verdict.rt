@@ -1,7 +1,7 @@
 //! The verdict on a transcript.
 
 /// Whether the service could have made a transcript. Lines are counted from 1.
-#[derive(Clone, Copy, Debug, PartialEq, Eq)]
+#[derive(Clone, Copy, PartialEq, Eq)]
 pub enum Verdict {
     /// The service could have made it.
     Lawful,

@@ -4,7 +4,7 @@ ghost use Rattle.std.specs.Prelude.{◌≡◌};
 ghost use Rattle.zk_jute.specs.Numbers.{number_of, opcode_numbered, part_number, part_numbered};
 
 /// The kinds of requests that are read. Other types of release 3.4, such as `setACL` (7) and `sasl` (102), are not listed.
-#[derive(Clone, Copy, Debug, PartialEq, Eq)]
+#[derive(Clone, Copy, PartialEq, Eq)]
 pub enum Opcode {
     Create,
     Delete,
@@ -75,7 +75,7 @@ impl Opcode {
 }
 
 /// The kinds of parts of a multi. Each has the number of that kind of request.
-#[derive(Clone, Copy, Debug, PartialEq, Eq)]
+#[derive(Clone, Copy, PartialEq, Eq)]
 pub enum PartKind {
     Create,
     Delete,

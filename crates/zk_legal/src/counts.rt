@@ -10,7 +10,7 @@ use zk_transcript::TranscriptLine;
 use zx_base::Memory;
 
 /// How many frames each connection sent.
-#[derive(Debug, Drop)]
+#[derive(Drop)]
 pub struct Counts {
     frames: BTreeMap<u32, u64>,
 }

@@ -10,7 +10,7 @@ use zk_transcript::{TranscriptLine, UpdateKind};
 use zx_base::Memory;
 
 /// The greatest index of a request that was carried out for each connection.
-#[derive(Debug, Drop)]
+#[derive(Drop)]
 pub struct Lasts {
     indices: BTreeMap<u32, u64>,
 }

@@ -17,7 +17,7 @@ use zx_base::Memory;
 const LINE_FEED: u8 = b'\n';
 
 /// Why a transcript was not read.
-#[derive(Clone, Copy, Debug, PartialEq, Eq)]
+#[derive(Clone, Copy, PartialEq, Eq)]
 pub enum TranscriptFault {
     /// This line, counted from 1, is the first that is of no form, stands after the last line, is longer than 2,200,000
     /// bytes, or has the transcript's 100,000,001st byte.

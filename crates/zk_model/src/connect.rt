@@ -3,7 +3,7 @@
 use zx_base::Bytes;
 
 /// What a client says first on a connection: it begins a session, or resumes one.
-#[derive(Debug, Drop)]
+#[derive(Drop)]
 pub struct ConnectRequest {
     /// The version of the protocol, 0 in clients of release 3.4. The service does not look at it.
     pub protocol: i32,
@@ -20,7 +20,7 @@ pub struct ConnectRequest {
 }
 
 /// The answer to a connect: the session that the connection is attached to, or that it has none.
-#[derive(Clone, Copy, Debug)]
+#[derive(Clone, Copy)]
 pub struct ConnectResponse {
     /// The timeout granted, in milliseconds; 0 where the session was refused.
     pub timeout: i32,

@@ -5,7 +5,7 @@ use crate::path::Path;
 use zx_base::Bytes;
 
 /// What a client is shown of a znode (zookeeper.jute, `Stat`). Times are readings of the service's clock in milliseconds.
-#[derive(Clone, Copy, Debug)]
+#[derive(Clone, Copy)]
 pub struct Stat {
     /// The zxid of the update that made the node.
     pub czxid: i64,
@@ -31,7 +31,7 @@ pub struct Stat {
 }
 
 /// A znode. Fields as in [`Stat`].
-#[derive(Debug, Drop)]
+#[derive(Drop)]
 pub struct Node {
     /// Its data, at most 1,048,575 bytes.
     pub content: Bytes,
@@ -48,7 +48,7 @@ pub struct Node {
 }
 
 /// A change of one znode, by which watches fire (Programmer's Guide, "ZooKeeper Watches").
-#[derive(Debug, Drop)]
+#[derive(Drop)]
 pub enum Trigger {
     Created(Path),
     Deleted(Path),

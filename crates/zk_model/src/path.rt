@@ -13,7 +13,7 @@ use std::str;
 use zx_base::Memory;
 
 /// A valid path, of at most 1,024 bytes. Contracts see its bytes.
-#[derive(Debug, Drop)]
+#[derive(Drop)]
 pub struct Path {
     text: Vec<u8>,
 }
@@ -31,7 +31,7 @@ impl Model for Path {
 
 /// Why a text is no path. Of several faults the earliest in the text is told, and of two that begin at one byte the first
 /// of this list.
-#[derive(Clone, Copy, Debug, PartialEq, Eq)]
+#[derive(Clone, Copy, PartialEq, Eq)]
 pub enum PathFault {
     /// It does not begin with a slash.
     NoSlash,

@@ -5,7 +5,7 @@ use crate::node::Stat;
 use zx_base::{Bytes, Seq, Text};
 
 /// What a part of a multi came to.
-#[derive(Debug, Drop)]
+#[derive(Drop)]
 pub enum PartResult {
     /// The path of the new node, with its number where it is a sequence node.
     Created(Text),
@@ -19,7 +19,7 @@ pub enum PartResult {
 }
 
 /// What comes after the header of a reply that is no error.
-#[derive(Debug, Drop)]
+#[derive(Drop)]
 pub enum Body {
     /// To a delete, a check, a ping, an auth, a setWatches and a close.
     Empty,
@@ -40,7 +40,7 @@ pub enum Body {
 }
 
 /// The answer to a request, without the xid and the zxid of its header.
-#[derive(Debug, Drop)]
+#[derive(Drop)]
 pub enum Reply {
     /// A code other than 0, and no body.
     Refused(i32),
@@ -49,7 +49,7 @@ pub enum Reply {
 }
 
 /// A notification of a watch.
-#[derive(Debug, Drop)]
+#[derive(Drop)]
 pub struct Notice {
     /// The type of the event (`Watcher.Event.EventType`): 1 created, 2 deleted, 3 data changed, 4 children changed.
     pub kind: i32,

@@ -6,7 +6,7 @@
 use zx_base::{Bytes, Seq, Text};
 
 /// An entry of an access control list (zookeeper.jute, `ACL` with its `Id`).
-#[derive(Debug, Drop)]
+#[derive(Drop)]
 pub struct Acl {
     /// The sum of what is allowed (`ZooDefs.Perms`): 1 read, 2 write, 4 create, 8 delete, 16 admin.
     pub perms: i32,
@@ -16,7 +16,7 @@ pub struct Acl {
 }
 
 /// A request that may be part of a multi, with the fields that it has as a [`Request`].
-#[derive(Debug, Drop)]
+#[derive(Drop)]
 pub enum Part {
     Create {
         path: Text,
@@ -40,7 +40,7 @@ pub enum Part {
 }
 
 /// A request of a client, by its type in `ZooDefs.OpCode`. A `watch` that is true arms a watch of the connection.
-#[derive(Debug, Drop)]
+#[derive(Drop)]
 pub enum Request {
     Create {
         path: Text,

@@ -13,7 +13,7 @@ use zk_model::Node;
 
 /// A tree as it is after some writes, which are not made in it. A look-up takes a step for each write, besides what it takes in the
 /// tree.
-#[derive(Debug, Drop)]
+#[derive(Drop)]
 pub struct Draft<'a> {
     tree: &'a Tree,
     writes: &'a [Write],

@@ -11,7 +11,7 @@ use zk_model::{Node, Path};
 use zx_base::Memory;
 
 /// What one request changes of a tree.
-#[derive(Debug, Drop)]
+#[derive(Drop)]
 pub enum Edit {
     /// `node` is put at `path`; its parent then has this count of creates, and `zxid` as its pzxid.
     Made {

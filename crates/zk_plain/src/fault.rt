@@ -3,7 +3,7 @@
 use zx_base::Memory;
 
 /// Why the machine gives no answer.
-#[derive(Clone, Copy, Debug, PartialEq, Eq)]
+#[derive(Clone, Copy, PartialEq, Eq)]
 pub enum Fault {
     /// Out of memory.
     Memory,

@@ -28,7 +28,7 @@ use zk_model::{Part, PartResult, Path, Trigger};
 use zx_base::{Memory, Seq};
 
 /// What the parts make of the tree in turn.
-#[derive(Debug, Drop)]
+#[derive(Drop)]
 pub enum Parts {
     /// The place of the first part that is refused, counted from 0, and its code.
     Stopped {
@@ -263,7 +263,7 @@ pub fn row_of(alloc: Global, len: usize, place: usize, code: i32) -> Result<Vec<
 }
 
 /// What comes of a multi.
-#[derive(Debug, Drop)]
+#[derive(Drop)]
 pub enum Transaction {
     /// The transaction is refused as a whole, with this code.
     Denied(i32),

@@ -5,7 +5,7 @@ use zk_model::{PartResult, Trigger};
 use zx_base::Seq;
 
 /// What a single request makes of a tree.
-#[derive(Debug, Drop)]
+#[derive(Drop)]
 pub enum Outcome {
     /// The request is refused with this code (`KeeperException.Code`); the tree stays as it is.
     Refused(i32),

@@ -12,7 +12,7 @@ use zx_base::{Memory, Seq, Text};
 
 /// A finite map from paths, in the order of their bytes. A call takes the logarithm of the number of paths; one that lists them
 /// takes a step for each.
-#[derive(Debug, Drop)]
+#[derive(Drop)]
 pub struct PathMap<V> {
     /// By the bytes of their paths.
     entries: BTreeMap<Vec<u8>, (Path, V)>,

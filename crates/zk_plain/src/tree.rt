@@ -17,7 +17,7 @@ use zx_base::{Memory, Seq, Text};
 
 /// A finite map from paths to nodes. A call about one node takes the logarithm of the number of nodes; one that gives a list takes
 /// a step for each of its items besides.
-#[derive(Debug, Drop)]
+#[derive(Drop)]
 pub struct Tree {
     nodes: PathMap<Node>,
     families: Families,

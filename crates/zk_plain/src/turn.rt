@@ -3,7 +3,7 @@
 ghost use Rattle.std.specs.Prelude.{◌<◌, ◌^◌};
 
 /// The session that asks, how many ephemeral nodes it may own, and the zxid and time of its update.
-#[derive(Clone, Copy, Debug)]
+#[derive(Clone, Copy)]
 pub struct Turn {
     /// How many ephemeral nodes the session may own.
     pub limit: usize,

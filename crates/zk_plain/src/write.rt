@@ -3,7 +3,7 @@
 use zk_model::{Node, Path};
 
 /// A node that is put at a path, in place of the one that was there, or the removal of the node at a path.
-#[derive(Debug, Drop)]
+#[derive(Drop)]
 pub struct Write {
     pub path: Path,
     /// The node that is put there; `None` takes out the one that is there.

@@ -6,7 +6,7 @@
 use zx_base::{Bytes, Seq};
 
 /// What an update was.
-#[derive(Clone, Copy, Debug)]
+#[derive(Clone, Copy)]
 pub enum UpdateKind {
     /// The first update of a store, at time `now`: the root is made.
     Begin {
@@ -41,14 +41,14 @@ pub enum UpdateKind {
 }
 
 /// An update and its zxid.
-#[derive(Clone, Copy, Debug)]
+#[derive(Clone, Copy)]
 pub struct UpdateRec {
     pub zxid: i64,
     pub kind: UpdateKind,
 }
 
 /// Why a connection ended. `place` counts the bytes of the client's stream; `rev` is a revision of etcd.
-#[derive(Debug, Drop)]
+#[derive(Drop)]
 pub enum Cause {
     /// A closeSession was answered.
     Closed,
@@ -89,7 +89,7 @@ pub enum Cause {
 }
 
 /// How a connection or a reaper ended.
-#[derive(Debug, Drop)]
+#[derive(Drop)]
 pub enum Ended {
     /// A connection ended, or a reaper failed.
     Cause(Cause),
@@ -102,7 +102,7 @@ pub enum Ended {
 }
 
 /// A line of a transcript.
-#[derive(Debug, Drop)]
+#[derive(Drop)]
 pub enum TranscriptLine {
     /// An update was committed.
     Update(UpdateRec),
@@ -138,7 +138,7 @@ pub enum TranscriptLine {
 }
 
 /// The lines of one connection, in order.
-#[derive(Debug, Drop)]
+#[derive(Drop)]
 pub struct Conversation {
     pub connection: u32,
     pub lines: Seq<TranscriptLine>,

@@ -12,7 +12,7 @@ use zk_model::limit::MAX_FRAME;
 use zx_base::Bytes;
 
 /// Why a stream is not cut any further. A bad length is for good; memory may be there at a later call.
-#[derive(Clone, Copy, Debug, PartialEq, Eq)]
+#[derive(Clone, Copy, PartialEq, Eq)]
 pub enum CutFault {
     /// The length that stands after `place` bytes of the stream is below 0 or above [`MAX_FRAME`].
     BadLength { place: u64, length: i32 },
@@ -22,7 +22,7 @@ pub enum CutFault {
 
 /// A stream that comes in pieces. Contracts see the bytes of it that were not handed out yet, and how many bytes came before
 /// them.
-#[derive(Debug, Drop)]
+#[derive(Drop)]
 pub struct Cutter {
     alloc: Global,
     /// How many bytes stand before `rest` in the stream, at most 2^64 - 1.

@@ -6,7 +6,7 @@ ghost use Rattle.zk_wire.specs.declared.fault.Fault.TheVariants.{Memory as NoMem
 use std::alloc::{AllocError, AllocFailed};
 
 /// Why a frame cannot be read. A place is an offset in the frame, without its length.
-#[derive(Clone, Copy, Debug, PartialEq, Eq)]
+#[derive(Clone, Copy, PartialEq, Eq)]
 pub enum WireFault {
     /// The frame is too short for its header, of 8 bytes in a request and 16 in a reply; or it is no connect.
     NoHeader,
@@ -19,7 +19,7 @@ pub enum WireFault {
 }
 
 /// Why a value cannot be read.
-#[derive(Debug, Drop)]
+#[derive(Drop)]
 pub enum Fault {
     /// Memory was refused. Nothing is said of the value.
     Memory,

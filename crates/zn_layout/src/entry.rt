@@ -4,7 +4,7 @@ use zk_model::Trigger;
 use zx_base::Seq;
 
 /// An update of the service: its number, its zxid, and the changes by which watches fire.
-#[derive(Debug, Drop)]
+#[derive(Drop)]
 pub struct Entry {
     /// 1 for the store's first update, then one more for each.
     pub number: i64,

@@ -7,7 +7,7 @@ use std::alloc::Global;
 use zx_base::{Bytes, Memory};
 
 /// Why a stored value is not read as a record.
-#[derive(Debug, Drop)]
+#[derive(Drop)]
 pub enum RecordFault {
     /// The value under this key is no record of its kind, or one out of its bounds.
     Damaged { key: Bytes, value: Bytes },

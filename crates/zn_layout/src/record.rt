@@ -4,7 +4,7 @@ use zk_model::{Path, Trigger};
 use zx_base::{Bytes, Seq};
 
 /// A znode's data, and the fields of its Stat that no key's revision gives.
-#[derive(Debug, Drop)]
+#[derive(Drop)]
 pub struct NodeRec {
     /// The zxid of its create, or 0 where that is the revision of this record.
     pub czxid: i64,
@@ -21,7 +21,7 @@ pub struct NodeRec {
 }
 
 /// How many children of a znode were created so far, and how many there are now.
-#[derive(Clone, Copy, Debug)]
+#[derive(Clone, Copy)]
 pub struct CountRec {
     /// At most 1,073,741,823.
     pub creates: i32,
@@ -30,13 +30,13 @@ pub struct CountRec {
 }
 
 /// The paths of the nodes that a session owns, strictly rising by bytes.
-#[derive(Debug, Drop)]
+#[derive(Drop)]
 pub struct SessionRec {
     pub paths: Seq<Path>,
 }
 
 /// A session's life. Its key is attached to the session's lease, and goes when the lease lapses.
-#[derive(Clone, Copy, Debug)]
+#[derive(Clone, Copy)]
 pub struct LeaseRec {
     /// Milliseconds, 4,000 to 40,000.
     pub timeout: i32,
@@ -46,7 +46,7 @@ pub struct LeaseRec {
 }
 
 /// The last update, as watches see it.
-#[derive(Debug, Drop)]
+#[derive(Drop)]
 pub struct HeadRec {
     /// In the order in which they fire.
     pub triggers: Seq<Trigger>,

@@ -15,7 +15,7 @@ use zk_model::limit::MAX_FRAME;
 const BEFORE_DATA: usize = 37;
 
 /// A znode's record without its data.
-#[derive(Clone, Copy, Debug)]
+#[derive(Clone, Copy)]
 pub struct NodeNumbers {
     /// The zxid of its create, or 0 where that is the revision of this record.
     pub czxid: i64,

@@ -19,7 +19,7 @@ use zn_view::View;
 use zx_base::{Memory, Seq};
 
 /// A node's record without its content and the time of its last change.
-#[derive(Clone, Copy, Debug)]
+#[derive(Clone, Copy)]
 pub struct SeenData {
     /// The zxid of the node's create; 0 is that of the update itself.
     pub czxid: i64,
@@ -32,7 +32,7 @@ pub struct SeenData {
 }
 
 /// The counts of a node's children, and the zxid of their last change.
-#[derive(Clone, Copy, Debug)]
+#[derive(Clone, Copy)]
 pub struct SeenCounts {
     pub counts: CountRec,
     /// 0 is the zxid of the update itself.

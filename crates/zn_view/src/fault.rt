@@ -3,7 +3,7 @@
 use zx_base::Bytes;
 
 /// Why a view was not extended.
-#[derive(Debug, Drop)]
+#[derive(Drop)]
 pub enum ViewFault {
     /// The view is of the revision `view`, and what was found is of `found`.
     OtherRevision { view: i64, found: i64 },

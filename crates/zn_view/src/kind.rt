@@ -10,7 +10,7 @@ use zn_layout::{head_in, is_counts_record, is_lease_record, is_node_record, sess
 use zx_base::Memory;
 
 /// The kinds of key of the layout.
-#[derive(Clone, Copy, Debug)]
+#[derive(Clone, Copy)]
 pub enum Kind {
     /// The last update.
     Head,

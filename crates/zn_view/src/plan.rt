@@ -6,7 +6,7 @@ use zk_model::{Path, Reply, Trigger};
 use zx_base::Seq;
 
 /// A session, as one of its connections knows it.
-#[derive(Clone, Copy, Debug)]
+#[derive(Clone, Copy)]
 pub struct Who {
     /// The session's number.
     pub session: i64,
@@ -15,7 +15,7 @@ pub struct Who {
 }
 
 /// A watch that a reply leaves behind (Programmer's Guide, "ZooKeeper Watches").
-#[derive(Debug, Drop)]
+#[derive(Drop)]
 pub struct Arm {
     pub path: Path,
     /// A child watch; otherwise a data watch.
@@ -23,7 +23,7 @@ pub struct Arm {
 }
 
 /// An update: a transaction, and the reply that it earns where it succeeds.
-#[derive(Debug, Drop)]
+#[derive(Drop)]
 pub struct Plan {
     /// Each key that it was decided on, but for the head, at the revision that was seen.
     pub guards: Seq<Guard>,
@@ -38,7 +38,7 @@ pub struct Plan {
 }
 
 /// What a request comes to on a view.
-#[derive(Debug, Drop)]
+#[derive(Drop)]
 pub enum Decision {
     /// A reply that changes nothing, and the watch that is armed with it.
     Answered { reply: Reply, arm: Option<Arm> },

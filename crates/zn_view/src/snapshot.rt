@@ -5,7 +5,7 @@ use zk_model::Path;
 use zx_base::{Bytes, Seq};
 
 /// A key that was looked up, and what it had.
-#[derive(Debug, Drop)]
+#[derive(Drop)]
 pub struct SeenKey {
     pub key: Bytes,
     /// `None` where the key was absent.
@@ -13,14 +13,14 @@ pub struct SeenKey {
 }
 
 /// A node whose children were listed, and their paths in the order in which they were found: an etcd's is that of the bytes.
-#[derive(Debug, Drop)]
+#[derive(Drop)]
 pub struct SeenChildren {
     pub path: Path,
     pub paths: Seq<Bytes>,
 }
 
 /// What some keys had at one revision of an etcd.
-#[derive(Debug, Drop)]
+#[derive(Drop)]
 pub struct Snapshot {
     /// 0 where nothing was looked up yet.
     pub revision: i64,

@@ -12,7 +12,7 @@ use std::marker::Model;
 use zx_base::{Memory, Seq};
 
 /// What some keys had at one revision. Every value is a record of its key's kind.
-#[derive(Debug, Drop)]
+#[derive(Drop)]
 pub struct View {
     /// 0 where nothing was looked up yet.
     revision: i64,

@@ -4,7 +4,7 @@ use zk_model::Path;
 use zx_base::Bytes;
 
 /// What a request still has to read.
-#[derive(Debug, Drop)]
+#[derive(Drop)]
 pub enum Want {
     /// What is kept under this key.
     Key(Bytes),

@@ -11,7 +11,7 @@ use zx_base::{Bytes, Seq};
 use zx_history::GhostHistory;
 
 /// What a reply does to the watches.
-#[derive(Debug, Drop)]
+#[derive(Drop)]
 pub enum WatchChange {
     /// The watch that a read asks for, if any.
     Adds(Option<Arm>),
@@ -21,7 +21,7 @@ pub enum WatchChange {
 }
 
 /// A reply that is ready, and is sent once the entries up to its number were told.
-#[derive(Debug, Drop)]
+#[derive(Drop)]
 pub struct Pending {
     /// The number of the last update in the state that the reply is computed at.
     pub number: i64,

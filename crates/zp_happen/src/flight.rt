@@ -4,7 +4,7 @@ use ev_types::{Answer, Ask};
 use zk_transcript::UpdateKind;
 
 /// An ask, with the update that the transcript shows for it where it changes the head.
-#[derive(Debug, Drop)]
+#[derive(Drop)]
 pub struct Asking {
     pub ask: Ask,
     /// None for an ask that is no update: a read, a grant, a keepalive.
@@ -12,7 +12,7 @@ pub struct Asking {
 }
 
 /// How far the ask of a connection or a reaper has come, until its answer is delivered.
-#[derive(Debug, Drop)]
+#[derive(Drop)]
 pub enum Flight {
     /// It is not carried out yet.
     Out(Asking),

@@ -5,7 +5,7 @@ use zk_transcript::Cause;
 use zx_base::Bytes;
 
 /// What a connection does at an input: packets first, and then one ask, or the close, or neither.
-#[derive(Debug, Drop)]
+#[derive(Drop)]
 pub enum Action {
     /// For etcd to carry out. The next answer or failure that is handed in belongs to this ask.
     Ask(Ask),

@@ -7,7 +7,7 @@ use zn_layout::Entry;
 use zx_base::Bytes;
 
 /// What a connection is handed. A `place` is a number of bytes from the start of the client's stream.
-#[derive(Debug, Drop)]
+#[derive(Drop)]
 pub enum Input {
     /// A whole frame of the client, without its length: at most 1,048,575 bytes. The first one is its connect.
     Frame(Bytes),

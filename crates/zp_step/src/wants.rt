@@ -1,7 +1,7 @@
 //! What a connection waits for.
 
 /// What a connection waits for. `cursor` is the number of the update up to which its client has been told.
-#[derive(Clone, Copy, Debug)]
+#[derive(Clone, Copy)]
 pub enum Wants {
     /// The next frame of the client.
     Frame,

@@ -7,7 +7,7 @@ use zt_text::Why;
 use zx_base::Memory;
 
 /// Why a line of a script was not applied.
-#[derive(Clone, Copy, Debug, PartialEq, Eq)]
+#[derive(Clone, Copy, PartialEq, Eq)]
 pub enum ApplyFault {
     /// It is not possible in this world, which stays as it was; `why` is the first of its tests that fails.
     NotPossible { why: Why },

@@ -7,7 +7,7 @@ use std::marker::Model;
 use zx_base::Memory;
 
 /// A count of frames, below 2^64 - 1. Contracts see the number.
-#[derive(Debug, Drop)]
+#[derive(Drop)]
 pub struct Frames {
     number: u64,
 }

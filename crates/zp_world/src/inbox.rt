@@ -15,7 +15,7 @@ use zk_wire::{CutFault, Cutter};
 use zx_base::{Bytes, Memory};
 
 /// The bytes of a stream that are no whole frame yet, and how many bytes came before them.
-#[derive(Debug, Drop)]
+#[derive(Drop)]
 pub struct Inbox {
     alloc: Global,
     /// How many bytes came before `rest`. At 2^64 - 1 the count stays.
@@ -32,7 +32,7 @@ impl Model for Inbox {
 }
 
 /// What came with some bytes.
-#[derive(Debug, Drop)]
+#[derive(Drop)]
 pub struct Cut {
     /// The frames that are whole with them.
     pub frames: Vec<Bytes>,

@@ -22,7 +22,7 @@ use zn_view::{Plan, View, Want};
 use zx_base::{Memory, Seq};
 
 /// What becomes of a session that a reaper looks at.
-#[derive(Debug, Drop)]
+#[derive(Drop)]
 pub enum Reaping {
     /// It has lapsed, and this ends it.
     Planned(Plan),

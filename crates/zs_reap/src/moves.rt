@@ -17,7 +17,7 @@ use zs_close::{Reaping, needs_reap, plan_reap};
 use zx_base::{Memory, Seq};
 
 /// What a step answers, and what is waited for then.
-#[derive(Debug, Drop)]
+#[derive(Drop)]
 pub(crate) struct Move {
     pub phase: Phase,
     pub step: ReapStep,

@@ -5,7 +5,7 @@ use zn_view::Want;
 use zx_base::Seq;
 
 /// What a reaper waits for.
-#[derive(Debug, Drop)]
+#[derive(Drop)]
 pub enum Phase {
     /// Nothing was asked yet.
     Unasked,
@@ -20,7 +20,7 @@ pub enum Phase {
 }
 
 /// A reap and how far it has come.
-#[derive(Debug, Drop)]
+#[derive(Drop)]
 pub struct Reap {
     /// The session's number; at least 1.
     pub session: i64,
@@ -28,7 +28,7 @@ pub struct Reap {
 }
 
 /// What a step of a reap answers.
-#[derive(Debug, Drop)]
+#[derive(Drop)]
 pub enum ReapStep {
     /// This is to be carried out; the next step takes its answer.
     Ask(Ask),

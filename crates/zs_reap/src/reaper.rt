@@ -65,7 +65,7 @@ fn moved(alloc: Global, reap: &Reap, answer: Option<&Answer>) -> Result<Move, St
 }
 
 /// The end of a session that has lapsed, one ask a step.
-#[derive(Debug, Drop)]
+#[derive(Drop)]
 pub struct Reaper {
     reap: Reap,
     alloc: Global,

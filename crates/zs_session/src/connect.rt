@@ -6,7 +6,7 @@ use zn_layout::LeaseRec;
 use zn_view::Who;
 
 /// What a new session is made with.
-#[derive(Clone, Copy, Debug)]
+#[derive(Clone, Copy)]
 pub struct Fresh {
     /// The session's number, and that of its lease; at least 1.
     pub id: i64,
@@ -14,7 +14,7 @@ pub struct Fresh {
 }
 
 /// What a connecting connection waits for.
-#[derive(Clone, Copy, Debug)]
+#[derive(Clone, Copy)]
 pub enum Phase {
     /// Nothing was asked yet.
     Unasked,
@@ -35,7 +35,7 @@ pub enum Phase {
 }
 
 /// A connect and how far it has come.
-#[derive(Debug, Drop)]
+#[derive(Drop)]
 pub struct Connect {
     pub request: ConnectRequest,
     pub fresh: Fresh,
@@ -43,7 +43,7 @@ pub struct Connect {
 }
 
 /// What a step of a connect answers.
-#[derive(Debug, Drop)]
+#[derive(Drop)]
 pub enum ConnectStep {
     /// This is to be carried out; the next step takes its answer.
     Ask(Ask),

@@ -46,7 +46,7 @@ fn moved(alloc: Global, connect: &Connect, answer: Option<&Answer>) -> Result<Mo
 }
 
 /// A connect that gets its session, one ask a step.
-#[derive(Debug, Drop)]
+#[derive(Drop)]
 pub struct Connecting {
     connect: Connect,
     alloc: Global,

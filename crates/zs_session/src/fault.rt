@@ -3,7 +3,7 @@
 use zx_base::Bytes;
 
 /// Why a step of a connect or of a reap could not be made.
-#[derive(Debug, Drop)]
+#[derive(Drop)]
 pub enum StepFault {
     /// The value that was found under this key is no record of the key's kind.
     Damaged { key: Bytes, value: Bytes },

@@ -14,7 +14,7 @@ use zn_view::reading;
 use zx_base::Memory;
 
 /// What a step answers, and what is waited for then.
-#[derive(Debug, Drop)]
+#[derive(Drop)]
 pub(crate) struct Move {
     pub phase: Phase,
     pub step: ConnectStep,

@@ -12,7 +12,7 @@ use zx_base::{Memory, Text};
 
 /// Lines in the making, which contracts see as their bytes. Where memory was refused, part of a line may stand at their end;
 /// nobody reads them then, since every later call on their stream fails.
-#[derive(Debug, Drop)]
+#[derive(Drop)]
 pub(crate) struct Draft {
     text: Vec<u8>,
 }

@@ -7,7 +7,7 @@ use crate::draft::Draft;
 use zx_base::Memory;
 
 /// How a stream ended. A place is an offset in the stream; a frame's is that of the first byte of its length.
-#[derive(Clone, Copy, Debug, PartialEq, Eq)]
+#[derive(Clone, Copy, PartialEq, Eq)]
 pub enum Ending {
     /// After a whole frame, or before the first, at this many bytes.
     End { place: u64 },

@@ -7,7 +7,7 @@ use std::marker::Model;
 use zx_base::Memory;
 
 /// Text that grows at its end by whole lines, and that contracts see as its bytes.
-#[derive(Debug, Drop)]
+#[derive(Drop)]
 pub struct Lines {
     text: Vec<u8>,
 }

@@ -19,7 +19,7 @@ const LENGTH: u64 = 4;
 const MAX_STREAM: u64 = 100_000_000;
 
 /// How far a stream is shown.
-#[derive(Clone, Copy, Debug)]
+#[derive(Clone, Copy)]
 pub(crate) struct Progress {
     /// Whether the first frame came.
     pub(crate) is_begun: bool,

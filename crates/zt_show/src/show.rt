@@ -15,7 +15,7 @@ use zx_base::Memory;
 /// A stream of which some bytes came. The line of a frame is added once the frame is whole, so that between calls no more
 /// than one frame is kept. Once a call has answered an ending, nothing is said of what later calls add. Once memory was
 /// refused, every later call answers so too.
-#[derive(Debug, Drop)]
+#[derive(Drop)]
 pub struct Show {
     alloc: Global,
     cutter: Cutter,

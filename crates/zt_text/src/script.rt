@@ -84,7 +84,7 @@ pub enum Happening {
 }
 
 /// Why a script cannot be read on.
-#[derive(Clone, Copy, Debug, PartialEq, Eq)]
+#[derive(Clone, Copy, PartialEq, Eq)]
 pub enum Unread {
     /// The line is of no form, or longer than 2,200,000 bytes.
     Unreadable,
@@ -93,7 +93,7 @@ pub enum Unread {
 }
 
 /// Why a happening is not possible.
-#[derive(Clone, Copy, Debug, PartialEq, Eq)]
+#[derive(Clone, Copy, PartialEq, Eq)]
 pub enum Why {
     /// The number is that of another connection or reaper, open or closed.
     NumberInUse,

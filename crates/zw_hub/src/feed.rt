@@ -22,7 +22,7 @@ pub enum FeedEnd {
 }
 
 /// What a read of a feed gives.
-#[derive(Debug, Drop)]
+#[derive(Drop)]
 pub enum Fed {
     /// The entry after the cursor: its number is the cursor's plus 1.
     Entry(Arc<Entry, Global>),

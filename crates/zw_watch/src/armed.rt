@@ -14,7 +14,7 @@ use zx_base::Memory;
 
 /// The data watches and child watches of a connection. Contracts see two sets of paths. The watch of an `exists` is a
 /// data watch.
-#[derive(Debug, Drop)]
+#[derive(Drop)]
 pub struct Armed {
     paths: PathLists,
     alloc: Global,

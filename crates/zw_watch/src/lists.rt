@@ -13,7 +13,7 @@ use zk_model::{Notice, Trigger};
 use zx_base::{Memory, Text};
 
 /// The paths that have a watch, each once in its list, in the order in which they were armed.
-#[derive(Debug, Drop)]
+#[derive(Drop)]
 pub(crate) struct PathLists {
     pub(crate) on_data: Vec<Text>,
     pub(crate) on_children: Vec<Text>,

@@ -13,7 +13,7 @@ use zk_model::{Notice, Path, PathFault};
 use zx_base::Memory;
 
 /// What becomes of a watch that a setWatches names: it fires at once with a notice of this kind, or is armed, or neither.
-#[derive(Clone, Copy, Debug)]
+#[derive(Clone, Copy)]
 pub(crate) enum Rearming {
     Tells(u8),
     ArmsData,

@@ -3,7 +3,7 @@
 use zx_base::Text;
 
 /// The list of a setWatches that a path stands in (zookeeper.jute, `SetWatches`).
-#[derive(Clone, Copy, Debug)]
+#[derive(Clone, Copy)]
 pub enum WatchList {
     /// Data watches on nodes that were there.
     Datas,
@@ -13,7 +13,7 @@ pub enum WatchList {
 }
 
 /// A path of a setWatches, and what was found there.
-#[derive(Debug, Drop)]
+#[derive(Drop)]
 pub struct SeenPath {
     pub path: Text,
     pub list: WatchList,
