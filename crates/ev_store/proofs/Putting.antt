@@ -103,13 +103,9 @@ puts_from-read before later f once_before once_later short gets =
 
 -- ---- of a store
 
-pub puts_above-read : (s : Store) (r : ℕ) (css : List (List Change)) → css ≡ s.revisions → r ≤ length css →
-    puts_from (length (take r css) + 1) (keys_from 1 empty (take r css)) (take (length css - r) (drop r css)) ≡ puts_above s r
+pub puts_above-read : (s : Store) (r : ℕ) (css : List (List Change)) → css ≡ s.revisions → puts_from (r + 1) (keys_from 1 empty (take r css)) (drop r css) ≡ puts_above s r
 unfolding puts_above store_at
-puts_above-read s r css all within =
-    let count : length (take r css) ≡ r = length-take-le r css within in
-    let rest : take (length css - r) (drop r css) ≡ drop r css = take_all (length css - r) (drop r css) (omega (arith, length-drop r css)) in
-    (λ i. puts_from (count i + 1) (keys_from 1 empty (take r css)) (rest i)) ∙ ap (λ xs. puts_from (r + 1) (keys_from 1 empty (take r xs)) (drop r xs)) all
+puts_above-read s r css all = ap (λ xs. puts_from (r + 1) (keys_from 1 empty (take r xs)) (drop r xs)) all
 
 pub puts_above-none : (s : Store) (r : ℕ) → length s.revisions ≤ r → puts_above s r ≡ []
 unfolding puts_above

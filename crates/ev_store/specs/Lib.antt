@@ -6,3 +6,4 @@ pub mod Codes
 pub mod Compaction
 pub mod Events
 pub mod Folds
+pub mod Versions

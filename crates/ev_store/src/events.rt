@@ -19,7 +19,8 @@ ghost use Rattle.zx_base.specs.Maps.{Bytes as ByteList};
 use crate::change::Change;
 use crate::fault::{Denied, StoreFault};
 use crate::key::{Found, after_put};
-use crate::range::{Held, all_keys, held_after, hold};
+use crate::chronicle::History;
+use crate::range::{Held, all_keys, hold};
 use crate::store::Store;
 use ev_types::{Kv, Name, RangeReq};
 use std::alloc::Global;
@@ -52,29 +53,24 @@ impl Store {
         ensures { IfOk result (λ kvs. kvs ≡ take n (puts_above self.now rev)) }
     {
         let history = self.history();
-        if rev >= history.len() {
+        if rev >= history.revisions().len() {
             return Ok(Seq::new(self.alloc()));
         }
-        puts(self.alloc(), &history[..rev], &history[rev..], n)
+        puts(self.alloc(), history, rev, n)
     }
 }
 
-/// The first `most` puts of the later revisions.
-fn puts(
-    alloc: Global,
-    before: &[Seq<Change>],
-    later: &[Seq<Change>],
-    most: usize,
-) -> Result<Seq<Kv>, Memory>
-    requires short { length before.now + length later.now < 2 ^ 62 }
-    requires once_before { list_all puts_once before.now ≡ true }
-    requires once_later { list_all puts_once later.now ≡ true }
-    ensures { IfOk result (λ kvs. kvs ≡ take most (puts_from (length before.now + 1) (etcd.keys_from 1 empty before.now) later.now)) }
+/// The first `most` puts of the revisions after the first `before`.
+fn puts(alloc: Global, history: &History, before: usize, most: usize) -> Result<Seq<Kv>, Memory>
+    requires short { length history.now < 2 ^ 62 }
+    requires within { before ≤ length history.now }
+    requires once { list_all puts_once history.now ≡ true }
+    ensures { IfOk result (λ kvs. kvs ≡ take most (puts_from (before + 1) (etcd.keys_from 1 empty (take before history.now)) (drop before history.now))) }
 {
     let all = all_keys(alloc)?;
-    let mut held = held_after(alloc, before, &all)?;
+    let mut held = history.held(alloc, &all, before)?;
     let mut puts = Seq::new(alloc);
-    push_puts_of_all(alloc, &mut puts, most, &mut held, &all, before.len(), later)?;
+    push_puts_of_all(alloc, &mut puts, most, &mut held, &all, before, &history.revisions()[before..])?;
     Ok(puts)
 }
 

@@ -1,11 +1,13 @@
 //! One key as the changes leave it, found by reading all of them.
 
-ghost use Rattle.std.specs.Prelude.{◌≡◌, ◌<◌, ◌^◌, length, IfOk, Option};
+ghost use Rattle.std.specs.Prelude.{◌≡◌, ◌<◌, ◌+◌, ◌^◌, length, IfOk, Option};
 ghost use Rattle.std.specs.Option.{option_copied};
 ghost use Rattle.ev_types.specs.Ranges.{shown};
 ghost use Rattle.ev_store.specs.Folds.{kv_after_put, key_after_change, key_after_changes, key_after_revisions};
+ghost use Rattle.ev_store.specs.Versions.{kept_kv};
 
 use crate::change::{Change, Content};
+use crate::versions::Kept;
 use ev_types::Kv;
 use std::alloc::Global;
 use std::marker::Model;
@@ -38,6 +40,33 @@ impl<'a> Model for Found<'a> {
 }
 
 impl<'a> Found<'a> {
+    /// A key with what was kept of it.
+    pub fn of(key: &'a Bytes, kept: &'a Kept) -> Found<'a>
+        ensures { result ≡ kept_kv key.now kept.now }
+    {
+        Found {
+            key,
+            value: &kept.value,
+            create_revision: kept.create_revision,
+            mod_revision: kept.mod_revision,
+            version: kept.version,
+            lease: kept.lease,
+        }
+    }
+
+    /// A copy to keep, without the key.
+    pub fn kept(&self, alloc: Global) -> Result<Kept, Memory>
+        ensures { IfOk result (λ k. kept_kv self.now.key k ≡ self.now) }
+    {
+        Ok(Kept {
+            value: Bytes::copy_of(alloc, self.value.as_slice())?,
+            create_revision: self.create_revision,
+            mod_revision: self.mod_revision,
+            version: self.version,
+            lease: self.lease,
+        })
+    }
+
     /// The revision of its last put.
     pub fn mod_revision(&self) -> i64
         ensures { result ≡ self.now.mod_revision }
@@ -96,7 +125,7 @@ pub fn after_put<'a>(
 }
 
 /// What a key has after one change at this revision.
-fn after_change<'a>(
+pub fn after_change<'a>(
     revision: i64,
     before: Option<Found<'a>>,
     change: &'a Change,
@@ -132,14 +161,19 @@ pub fn after_changes<'a>(
     found
 }
 
-/// What a key has after these revisions, of which the first is revision 1.
-pub fn after_revisions<'a>(revisions: &'a [Seq<Change>], key: &[u8]) -> Option<Found<'a>>
-    requires { length revisions.now < 2 ^ 62 }
-    ensures { result ≡ key_after_revisions 1 key.now Option.None revisions.now }
+/// What a key has after these revisions. `before` is the number of revisions before them.
+pub fn after_revisions<'a>(
+    before: usize,
+    found: Option<Found<'a>>,
+    revisions: &'a [Seq<Change>],
+    key: &[u8],
+) -> Option<Found<'a>>
+    requires { before + length revisions.now < 2 ^ 62 }
+    ensures { result ≡ key_after_revisions (before + 1) key.now found.entry revisions.now }
 {
-    let mut found = None;
+    let mut found = found;
     for (index, changes) in revisions.iter().enumerate() {
-        found = after_changes(index as i64 + 1, found, changes.as_slice(), key);
+        found = after_changes((before + index) as i64 + 1, found, changes.as_slice(), key);
     }
     found
 }

@@ -16,7 +16,7 @@ use crate::change::Change;
 use crate::fault::{Denied, StoreFault};
 use crate::key::Found;
 use crate::operations::{put, removal};
-use crate::range::{Held, all_keys, held_after};
+use crate::range::{Held, all_keys};
 use crate::store::Store;
 use std::alloc::Global;
 use zx_base::{Memory, Seq};
@@ -58,7 +58,8 @@ impl Store {
     {
         let alloc = self.alloc();
         let all = all_keys(alloc)?;
-        let held = held_after(alloc, self.history(), &all)?;
+        let history = self.history();
+        let held = history.held(alloc, &all, history.revisions().len())?;
         removals(alloc, &held, id)
     }
 

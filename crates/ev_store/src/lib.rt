@@ -12,9 +12,11 @@
 #![tactic(auto)]
 
 mod change;
+mod chronicle;
 mod compaction;
 mod events;
 mod fault;
+
 mod key;
 mod lapse;
 mod laws;
@@ -24,6 +26,8 @@ mod range;
 mod refusal;
 mod store;
 mod transaction;
+mod versions;
+mod within;
 
 pub use fault::{Denied, StoreFault};
 pub use laws::{

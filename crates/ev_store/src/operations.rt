@@ -1,6 +1,6 @@
 //! The operations of a transaction, over the changes that the earlier ones of its list made.
 
-ghost use Rattle.std.specs.Prelude.{◌≡◌, ◌+ℤ◌, ◌++◌, ◌∷◌, [], pos, nat_abs, true, false, is_some, take, IfOk, OnOk, Option};
+ghost use Rattle.std.specs.Prelude.{◌≡◌, ◌+ℤ◌, ◌++◌, ◌∷◌, [], pos, nat_abs, true, false, is_some, take, length, ◌≤◌, List, IfOk, OnOk, Option};
 ghost use Rattle.std.specs.List.{list_all};
 ghost use Rattle.std.specs.FinMap.{get};
 ghost use Rattle.std.specs.Ordering.{int_eq};
@@ -10,7 +10,7 @@ ghost use Rattle.ev_types.specs.Denials.{writes_twice};
 ghost use Rattle.ev_store.specs.Changes.{puts_once};
 
 use crate::change::{Change, Content};
-use crate::key::{Found, after_changes, after_revisions};
+use crate::key::{Found, after_changes};
 use crate::range::look;
 use crate::store::Store;
 use ev_types::{Act, ActAns, Guard, RangeAns, RangeReq};
@@ -22,23 +22,25 @@ impl Store {
     fn next_revision(&self) -> i64
         ensures { result ≡ (etcd.revision self.now +ℤ pos 1) }
     {
-        self.history().len() as i64 + 1
+        self.history().revisions().len() as i64 + 1
     }
 
     /// Whether a key is there after some changes of the next revision.
-    fn has_key(&self, changes: &[Change], key: &[u8]) -> bool
+    fn has_key(&self, changes: &[Change], key: &Bytes) -> bool
         requires { puts_once changes.now ≡ true }
         ensures { result ≡ is_some (get (etcd.after_changes (etcd.revision self.now +ℤ pos 1) (etcd.present self.now) changes.now) key.now) }
     {
-        let before = after_revisions(self.history(), key);
-        after_changes(self.next_revision(), before, changes, key).is_some()
+        let history = self.history();
+        let before = history.find(key, history.revisions().len());
+        after_changes(self.next_revision(), before, changes, key.as_slice()).is_some()
     }
 
     /// Whether the guard's key has the guard's revision.
     fn holds(&self, guard: &Guard) -> bool
         ensures { result ≡ etcd.holds (etcd.present self.now) guard.now }
     {
-        let found = after_revisions(self.history(), guard.key.as_slice());
+        let history = self.history();
+        let found = history.find(&guard.key, history.revisions().len());
         is_at(&found, guard.mod_revision)
     }
 
@@ -55,10 +57,11 @@ impl Store {
         ensures { IfOk result (λ a. a ≡ found range.now (etcd.looked_at self.now (etcd.after_changes (etcd.revision self.now +ℤ pos 1) (etcd.present self.now) changes.now) range.now.revision)) }
     {
         let history = self.history();
+        let all = history.revisions().len();
         if is_present(range.revision) {
-            look(self.alloc(), history, changes, range)
+            look(self.alloc(), history, all, changes, range)
         } else {
-            look(self.alloc(), first(history, range.revision), &[], range)
+            look(self.alloc(), history, first(all, range.revision), &[], range)
         }
     }
 
@@ -74,7 +77,7 @@ impl Store {
                 Ok(ActAns::Put)
             }
             Act::Delete { key } => {
-                if !self.has_key(changes.as_slice(), key.as_slice()) {
+                if !self.has_key(changes.as_slice(), key) {
                     return Ok(ActAns::Deleted(0));
                 }
                 changes.push(removal(self.alloc(), key.as_slice())?)?;
@@ -125,12 +128,13 @@ fn is_present(revision: i64) -> bool
     revision == 0
 }
 
-/// The first so many revisions, or all where there are fewer.
-fn first(history: &[Seq<Change>], revision: i64) -> &[Seq<Change>]
-    ensures { result.now ≡ take (nat_abs revision) history.now }
+/// So many revisions, or all where there are fewer.
+fn first(all: usize, revision: i64) -> usize
+    ensures most { result ≤ all }
+    ensures first { (css : List (List etcd.Change)) → length css ≡ all → take result css ≡ take (nat_abs revision) css }
 {
     let count = revision.unsigned_abs() as usize;
-    &history[..count.min(history.len())]
+    count.min(all)
 }
 
 /// The change that puts a key; lease 0 is none. Copies the key and the value.

@@ -14,6 +14,7 @@ ghost use Rattle.ev_store.specs.Folds.{within_change, within_changes, within_rev
 ghost use Rattle.zx_base.specs.Maps.{Bytes as ByteList};
 
 use crate::change::Change;
+use crate::chronicle::History;
 use crate::key::{Found, after_put};
 use ev_types::{Kv, Name, RangeAns, RangeReq};
 use std::alloc::Global;
@@ -99,18 +100,19 @@ fn hold_changes<'a>(
     Ok(())
 }
 
-/// The keys of the range after these revisions, of which the first is revision 1.
+/// The keys of the range after further revisions. `before` is the number of revisions before them.
 pub fn held_after<'a>(
-    alloc: Global,
+    held: Held<'a>,
+    before: usize,
     revisions: &'a [Seq<Change>],
     range: &RangeReq,
 ) -> Result<Held<'a>, Memory>
-    requires { length revisions.now < 2 ^ 62 }
-    ensures { IfOk result (λ held. (q : ByteList) → tree.get (slice_cmp nat_cmp) held q ≡ within_revisions range.now 1 q Option.None revisions.now) }
+    requires { before + length revisions.now < 2 ^ 62 }
+    ensures { IfOk result (λ after. (q : ByteList) → tree.get (slice_cmp nat_cmp) after q ≡ within_revisions range.now (before + 1) q (tree.get (slice_cmp nat_cmp) held.entry q) revisions.now) }
 {
-    let mut held = BTreeMap::new(alloc);
+    let mut held = held;
     for (index, changes) in revisions.iter().enumerate() {
-        hold_changes(&mut held, range, index as i64 + 1, changes.as_slice())?;
+        hold_changes(&mut held, range, (before + index) as i64 + 1, changes.as_slice())?;
     }
     Ok(held)
 }
@@ -166,19 +168,21 @@ fn answer(alloc: Global, held: &Held<'_>, range: &RangeReq) -> Result<RangeAns, 
     })
 }
 
-/// What a range finds after these revisions and some changes of the next one.
+/// What a range finds in these revisions, of which it reads the first `count`, and in some changes of the next one.
 pub fn look(
     alloc: Global,
-    revisions: &[Seq<Change>],
+    history: &History,
+    count: usize,
     changes: &[Change],
     range: &RangeReq,
 ) -> Result<RangeAns, Memory>
-    requires short { length revisions.now < 2 ^ 62 }
-    requires once { list_all puts_once revisions.now ≡ true }
+    requires within { count ≤ length history.now }
+    requires short { length history.now < 2 ^ 62 }
+    requires once { list_all puts_once history.now ≡ true }
     requires next_once { puts_once changes.now ≡ true }
-    ensures { IfOk result (λ a. a ≡ found range.now (keys_after_changes (pos (length revisions.now + 1)) (keys_from 1 empty revisions.now) changes.now)) }
+    ensures { IfOk result (λ a. a ≡ found range.now (keys_after_changes (pos (count + 1)) (keys_from 1 empty (take count history.now)) changes.now)) }
 {
-    let mut held = held_after(alloc, revisions, range)?;
-    hold_changes(&mut held, range, revisions.len() as i64 + 1, changes)?;
+    let mut held = history.held(alloc, range, count)?;
+    hold_changes(&mut held, range, count as i64 + 1, changes)?;
     answer(alloc, &held, range)
 }

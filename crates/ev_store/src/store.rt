@@ -14,6 +14,7 @@ ghost use Rattle.ev_store.specs.Numbers.{HasNumbers};
 
 use crate::change::Change;
 use crate::fault::{Denied, StoreFault};
+use crate::chronicle::History;
 use crate::leases::Leases;
 use ev_types::{Answer, Ask, RangeReq};
 use std::alloc::Global;
@@ -27,7 +28,7 @@ pub(crate) const MAX_REVISION: i64 = 4_611_686_018_427_387_903;
 #[derive(Drop)]
 pub struct Store {
     /// The changes of each revision, from revision 1 on.
-    revisions: Vec<Seq<Change>>,
+    revisions: History,
     leases: Leases,
     /// The greatest revision that was compacted, 0 for none.
     floor: i64,
@@ -46,12 +47,12 @@ impl Model for Store {
     ghost coded = { store_code };
 
     ghost view = { λ s. record {
-      revisions = s.revisions.items;
+      revisions = s.revisions;
       leases = s.leases;
       floor = s.floor;
     } };
 
-    ghost invariant = { λ s. (length s.revisions.items ≤ etcd.max_revisions) × (list_all puts_once s.revisions.items ≡ true) };
+    ghost invariant = { λ s. (list_all puts_once s.revisions ≡ true) };
 }
 
 impl Store {
@@ -59,10 +60,8 @@ impl Store {
     pub fn new(alloc: Global) -> Result<Store, Memory>
         ensures { IfOk result (λ s. s ≡ etcd.new_store) }
     {
-        let mut revisions = Vec::new(alloc);
-        revisions.push(Seq::new(alloc))?;
         Ok(Store {
-            revisions,
+            revisions: History::new(alloc)?,
             leases: Leases::new(alloc),
             floor: 0,
             alloc,
@@ -73,7 +72,7 @@ impl Store {
     pub fn revision(&self) -> i64
         ensures { result ≡ etcd.revision self.now }
     {
-        self.revisions.len() as i64
+        self.revisions.revisions().len() as i64
     }
 
     pub(crate) fn alloc(&self) -> Global {
@@ -81,12 +80,14 @@ impl Store {
     }
 
     /// The changes of each revision, from revision 1 on.
-    pub(crate) fn history(&self) -> &[Seq<Change>]
+    pub(crate) fn history(&self) -> &History
         ensures all { result.now ≡ self.now.revisions }
         ensures short { length self.now.revisions ≤ etcd.max_revisions }
         ensures once { list_all puts_once self.now.revisions ≡ true }
     {
-        self.revisions.as_slice()
+        // Proof only: the history is short.
+        self.revisions.revisions();
+        &self.revisions
     }
 
     /// The greatest revision that was compacted, 0 for none.
@@ -118,7 +119,7 @@ impl Store {
         if revision >= MAX_REVISION {
             return Err(StoreFault::Denied(Denied::Full { revision }));
         }
-        self.revisions.push(changes)?;
+        self.revisions.push(self.alloc, changes)?;
         Ok(())
     }
 

@@ -1,9 +1,10 @@
-use Rattle.std.proofs.Common.{◌≡◌, ◌<◌, ◌^◌, ℤ, List, IfOk, length, sym, ap, ◌∙◌, subst, None, arith, w64}
+use Rattle.std.proofs.Common.{◌≡◌, ◌<◌, ◌^◌, ℤ, List, IfOk, length, take, sym, ap, ◌∙◌, subst, None, arith, w64}
 use Rattle.std.specs.BTreeMap as tree
 use Rattle.std.specs.Ordering.{nat_cmp}
 use Rattle.std.specs.Cmp.Lexicographic.{slice_cmp}
 use Rattle.std.specs.FinMap.{get}
 use Rattle.std.specs.Map.{keys_of}
+use Rattle.std.proofs.lemmas.List.{take_all}
 use Rattle.std.proofs.lemmas.Int.{to_z-of_z}
 use Rattle.std.proofs.lemmas.Result.{IfOk-weaker}
 use Rattle.zx_base.specs.Maps.{Bytes}
@@ -20,10 +21,10 @@ pub returns-clause-all : goal.returns-clause-all
 returns-clause-all c =
     let s = c.args.self.now in
     let held = c.in_ok-held.held in
-    let short : length s.revisions < 2 ^ 62 = omega (arith, c.history.ensures.short) in
+    let short : length s.revisions < 2 ^ 62 = omega (arith, c.history-history.ensures.short) in
     let gets : (q : Bytes) → tree.get (slice_cmp nat_cmp) held q ≡ get (present s) q =
-    λ q. held_all c.in_ok-all.all c.history.result.now (tree.get (slice_cmp nat_cmp) held) c.in_ok-all.ensures c.in_ok-held.ensures q
-    ∙ ap (key_after_revisions 1 q None) c.history.ensures.all ∙ sym (get-present s q c.history.ensures.once short) in
+    λ q. held_all c.in_ok-all.all (take (length c.revisions.result.now) c.history-history.result.now) (tree.get (slice_cmp nat_cmp) held) c.in_ok-all.ensures c.in_ok-held.ensures q
+    ∙ ap (key_after_revisions 1 q None) (take_all (length c.revisions.result.now) c.history-history.result.now (let e = ap (λ xs. length xs) c.revisions.ensures.all in omega (arith, e)) ∙ c.history-history.ensures.all) ∙ sym (get-present s q c.history-history.ensures.once short) in
     subst (λ (ks : List Bytes). IfOk c.removals.result (λ cs. cs ≡ lapses.removals ks)) (keys-leased s c.args.id held.entries c.removals.ensures.in_order gets)
     (subst (λ (id : ℤ). IfOk c.removals.result (λ cs. cs ≡ lapses.removals (keys_of (leased_among id held.entries)))) (to_z-of_z w64 c.args.id c.ranges.id) c.removals.ensures.all)
 
