@@ -12,6 +12,7 @@ use Rattle.zn_reads.specs.Deciding.{IsAnswered, IsReadDecision}
 use Rattle.zn_view.specs.declared.plan.Plan.{Plan}
 use Rattle.zn_view.specs.Asks.{WritesOnce}
 use Rattle.zn_view.specs.Deciding.{IfPlanned, IsGood, IsTested, IsTestedBy, is_by_tree}
+use Rattle.zn_view.specs.Keeping.{IsKeepable}
 use Rattle.zn_updates.specs.Deciding.{IsAttached, IsBySound, IsGuarded}
 use Rattle.zn_updates.proofs.Meanings.{int_eq-same}
 use Rattle.zn_view.specs.declared.plan.Decision.{Decision}
@@ -81,6 +82,12 @@ update-once r who now v (Planned p) h = h.writes
 update-once r who now v (Answered x arm) h = tt
 update-once r who now v Expired h = tt
 update-once r who now v (Moved found) h = tt
+
+pub update-keepable : (r : Request) (who : Who) (now : ℕ) (v : View) (d : Decision) → IfPlanned (IsGuarded r who now v) d → IfPlanned (IsKeepable r v) d
+update-keepable r who now v (Planned p) h = h.keepable
+update-keepable r who now v (Answered x arm) h = tt
+update-keepable r who now v Expired h = tt
+update-keepable r who now v (Moved found) h = tt
 
 -- a read plans nothing
 pub read-planned : (P : Plan → Type 0) (d : Decision) → IsAnswered d → IfPlanned P d

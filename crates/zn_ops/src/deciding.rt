@@ -9,6 +9,7 @@ ghost use Rattle.zn_layout.specs.Keys.{LeaseKey};
 ghost use Rattle.zn_ops.specs.Deciding.{IsAttachedAt};
 ghost use Rattle.zn_view.specs.Asks.{WritesOnce};
 ghost use Rattle.zn_view.specs.Deciding.{IfPlanned, IsGood, IsTested, is_by_tree};
+ghost use Rattle.zn_view.specs.Keeping.{IsKeepable};
 ghost use Rattle.zn_view.specs.Needs.{IsWhole};
 ghost use Rattle.zn_updates.specs.Deciding.{content_in, IsAttached};
 ghost use Rattle.zn_view.specs.Lookups.{HasSeen, sees};
@@ -55,6 +56,7 @@ fn decide_by_tree(
     ensures tree { IfOk result (λ d. is_by_tree d ≡ true) }
     ensures plan { IfOk result (IfPlanned (IsGood request.now who now view.now)) }
     ensures once { IfOk result (IfPlanned WritesOnce) }
+    ensures keepable { IfOk result (IfPlanned (IsKeepable request.now view.now)) }
 {
     if is_update(request) {
         return Ok(decide_update(alloc, request, who, now, view)?);
@@ -80,6 +82,7 @@ fn decide_by_session(
     ensures tested { IfOk result (IsTested request.now who view.now) }
     ensures plan { IfOk result (IfPlanned (IsGood request.now who now view.now)) }
     ensures once { IfOk result (IfPlanned WritesOnce) }
+    ensures keepable { IfOk result (IfPlanned (IsKeepable request.now view.now)) }
 {
     let Some(found) = attached_at(view, who.session)? else {
         return Ok(Decision::Expired);
@@ -97,7 +100,8 @@ fn decide_by_session(
 ///
 /// Where the request's form decides, the decision is that answer. Otherwise the session has expired where the record of its
 /// life is not there, and has moved where that was put at another revision than `who.mine`; and otherwise the tree decides. A
-/// plan is a good one (`IsGood` of `zn_view`), and writes no key twice.
+/// plan is a good one (`IsGood` of `zn_view`), and writes no key twice. What the plan of an update leaves of the view may be kept
+/// for the next request of its path (`IsKeepable` of `zn_view`).
 pub fn decide(
     alloc: Global,
     request: &Request,
@@ -114,6 +118,7 @@ pub fn decide(
     ensures tested { IfOk result (IsTested request.now who view.now) }
     ensures plan { IfOk result (IfPlanned (IsGood request.now who now view.now)) }
     ensures once { IfOk result (IfPlanned WritesOnce) }
+    ensures keepable { IfOk result (IfPlanned (IsKeepable request.now view.now)) }
 {
     match plain_reply(alloc, request)? {
         Some(reply) => Ok(Decision::Answered { reply, arm: None }),

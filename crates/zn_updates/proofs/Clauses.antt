@@ -1,6 +1,6 @@
 -- From the decision of a choice to what is promised of it.
 use Rattle.std.proofs.Common.{◌^◌, ◌<◌, ◌≡◌, ℕ, ◌≤◌, ℤ, pos, true, false, Bool, cond, length, List, None, refl, sym, ap, ◌∙◌, subst, arith}
-use Rattle.std.specs.Prelude.{◌≤ℤ◌, nat_abs, map, All, Contains}
+use Rattle.std.specs.Prelude.{◌≤ℤ◌, nat_abs, map, All, Contains, IfSome, Option, Some}
 use Rattle.std.proofs.lemmas.List.{length-map}
 use Rattle.std.proofs.lemmas.List.Elements.{All-map}
 use Rattle.zx_base.specs.Maps.{Bytes}
@@ -21,24 +21,27 @@ use Rattle.zn_view.specs.declared.plan.Who.{Who}
 use Rattle.zn_view.specs.declared.want.Want.{Want}
 use Rattle.zn_view.specs.declared.want.Want.TheVariants as want
 use Rattle.zn_view.specs.Asks.{again_of, WritesOnce}
-use Rattle.zn_view.specs.Lookups.{sees}
-use Rattle.zn_view.specs.Needs.{key_want, GuardsReads, IsRead}
+use Rattle.zn_view.specs.Lookups.{HasSeen, sees}
+use Rattle.zn_view.specs.Needs.{key_want, GuardsReads, IsRead, IsWhole}
 use Rattle.zn_view.specs.Seen.{View}
 use Rattle.zn_view.specs.Views.{IsByTree, IsOf, IsSmallPlan}
 use Rattle.zn_view.proofs.Elements.{contains-map, mapped-contained}
 use Rattle.zn_view.proofs.Members.{In, contains_in, in_contains, in_mapped}
 use Rattle.zn_view.proofs.Narrowing.{narrowed-asked, narrowed-plan, narrowed-seen}
+use Rattle.zn_view.proofs.NewKeys.{IsAccounted, accounted-new}
 use Rattle.zn_view.proofs.PlanSizes.{plan-small}
 use Rattle.zn_view.proofs.TakenPlans.{small-taken}
 use Rattle.zn_view.proofs.Sizes.{again-present}
 use Rattle.zn_updates.specs.declared.chosen.Chosen.{Chosen}
 use Rattle.zn_updates.specs.Choices.{Choice, Refuse, Make}
 use Rattle.zn_view.specs.Deciding.{IfPlanned, IsToldByForm}
+use Rattle.zn_view.specs.Keeping.{PutsNewKeys, update_path}
 use Rattle.zn_updates.specs.Deciding.{IfMakes, IfMade, IsAttached, IsBySound, IsGuarded, decision_of, on_keys, plan_of}
 use Rattle.zn_updates.specs.Making.{chosen_of}
 use Rattle.zn_updates.specs.Layers.{IsChosen}
 use Rattle.zn_updates.proofs.Deciding.{IsPart, by_tree, plan_is}
 use Rattle.zn_updates.specs.Parts.{IfChanges}
+use Rattle.zn_updates.proofs.NewKeys.{AreAccounted}
 use Rattle.zn_updates.proofs.WellMade.{AreWellMade}
 
 pub makes_cond : (P : List Trigger → Type 0) (b : Bool) (x y : Choice) → IfMakes P x → IfMakes P y → IfMakes P (cond b x y)
@@ -73,6 +76,10 @@ abbrev key_in : Want → Bytes
 key_in (want.Key k) = k
 key_in (want.Children q) = q
 
+if_some : (P : Type 0) (o : Option Bytes) → P → IfSome o (λ q. P)
+if_some P None h = tt
+if_some P (Some q) h = h
+
 -- ---- all that is promised
 
 module _ (r : Request) (p : Part) (who : Who) (v : View) (ks : List Key) (choice : ℕ → Choice) (now : ℕ) (part : IsPart r p) (chosen : IsChosen p who v choice) (time : now < 2 ^ 62) (real : pos 1 ≤ℤ who.session)
@@ -86,7 +93,10 @@ module _ (r : Request) (p : Part) (who : Who) (v : View) (ks : List Key) (choice
 
   -- ---- a plan
 
-  module _ (near : IsChosen p who (on_keys v ks) choice) (keys : AreKeys r who v ks) where
+  module _ (near : IsChosen p who (on_keys v ks) choice) (keys : AreKeys r who v ks) (whole : IsWhole r who v) where
+    looked_up : (k : Key) → In k ks → HasSeen v k
+    looked_up k inside none = whole plain (key_want k) (keys.from k inside) none
+
     key_read : (k : Bytes) → Contains (map key_bytes ks) k → IsRead r who v (want.Key k)
     key_read k has =
         let key = mapped-contained key_bytes ks k has in
@@ -97,7 +107,7 @@ module _ (r : Request) (p : Part) (who : Who) (v : View) (ks : List Key) (choice
         let key = keys.to (want.Key k) reads in
         subst (Contains (map key_bytes ks)) (sym (ap key_in key.2)) (contains-map key_bytes ks key.0 (in_contains key.0 ks key.1))
 
-    module _ (cs : List Change) (ts : List Trigger) (draft : PartResult) (made : choice now ≡ Make cs ts draft) (well : AreWellMade v cs ts) where
+    module _ (cs : List Change) (ts : List Trigger) (draft : PartResult) (made : choice now ≡ Make cs ts draft) (well : AreWellMade v cs ts) (accounted : All (IsAccounted v ks) cs) where
       abbrev plan : Plan
       plan = plan_of (on_keys v ks) cs ts draft
 
@@ -129,14 +139,15 @@ module _ (r : Request) (p : Part) (who : Who) (v : View) (ks : List Key) (choice
         reads = guards_reads;
         writes = writes;
         taken = λ s sound of. small-taken plan writes (small s sound of);
+        keepable = if_some (PutsNewKeys v plan) (update_path r) (accounted-new v ks plan refl looked_up cs ts refl accounted);
       }
 
-    planned_by : (c : Choice) → choice now ≡ c → IfChanges (AreWellMade v) c → IfPlanned (IsGuarded r who now v) (decision_of (on_keys v ks) c)
-    planned_by (Refuse code) e h = tt
-    planned_by (Make cs ts draft) e h = guarded cs ts draft e h
+    planned_by : (c : Choice) → choice now ≡ c → IfChanges (AreWellMade v) c → AreAccounted v ks c → IfPlanned (IsGuarded r who now v) (decision_of (on_keys v ks) c)
+    planned_by (Refuse code) e h accounted = tt
+    planned_by (Make cs ts draft) e h accounted = guarded cs ts draft e h accounted
 
-    pub planned : IfChanges (AreWellMade v) (choice now) → IfPlanned (IsGuarded r who now v) d
-    planned well = subst (IfPlanned (IsGuarded r who now v)) (sym is) (planned_by (choice now) refl well)
+    pub planned : IfChanges (AreWellMade v) (choice now) → AreAccounted v ks (choice now) → IfPlanned (IsGuarded r who now v) d
+    planned well accounted = subst (IfPlanned (IsGuarded r who now v)) (sym is) (planned_by (choice now) refl well accounted)
 
 -- a refusal is no plan
 pub refused_plans : (r : Request) (who : Who) (v near : View) (now : ℕ) (code : ℤ) (d : Decision) → d ≡ decision_of near (Refuse code) → IfPlanned (IsGuarded r who now v) d

@@ -58,6 +58,7 @@ use Rattle.zn_updates.proofs.Clauses.{AreKeys, IsShortKey, makes_cond, by_form, 
 use Rattle.zn_updates.proofs.CreateRight.{create_right, created_under}
 use Rattle.zn_updates.specs.Layers.{code_of, IsChosen, Shows}
 use Rattle.zn_updates.proofs.Deciding.{IsPart}
+use Rattle.zn_updates.proofs.NewKeys.{create-new}
 use Rattle.zn_updates.proofs.WellMade.{create-made, paths-listed, two_triggers}
 use Rattle.zn_updates.proofs.Meanings.{of_abs}
 use Rattle.zn_updates.proofs.Showing.{data-shown, counts-shown, paths-shown, there-shown}
@@ -322,7 +323,7 @@ module _ (path content : Bytes) (acl : List Acl) (flags : ℤ) (formed : form_re
   own_looked_up who v whole e = fixed_seen who v whole (SessionKey (nat_abs who.session)) (in_right _ (about_parent (parent (named flags path)) ++ plain_data (is_sequential flags) path) (session_nodes (is_ephemeral flags) who.session)
       (subst (λ b. In (SessionKey (nat_abs who.session)) (session_nodes b who.session)) (sym e) (inl refl)))
 
-  pub path_looked_up : (who : Who) (v : View) → IsWhole (req.Create path content acl flags) who v → (w : SeenCounts) (q : Bytes) → parent (named flags path) ≡ Some q → IsCountsSeen (sees v (CountsKey q)) (Some w) → HasSeen v (DataKey (path_for (is_sequential flags) path (Some w)))
+  path_looked_up : (who : Who) (v : View) → IsWhole (req.Create path content acl flags) who v → (w : SeenCounts) (q : Bytes) → parent (named flags path) ≡ Some q → IsCountsSeen (sees v (CountsKey q)) (Some w) → HasSeen v (DataKey (path_for (is_sequential flags) path (Some w)))
   path_looked_up who v whole w q up counts_seen = elim (is_sequential flags) as (λ b. is_sequential flags ≡ b → HasSeen v (DataKey (path_for b path (Some w)))) [
     | false ↦ λ e. fixed_seen who v whole (DataKey path) (in_left _ _ (session_nodes (is_ephemeral flags) who.session) (in_right _ (about_parent (parent (named flags path))) (plain_data (is_sequential flags) path) (subst (λ b. In (DataKey path) (plain_data b path)) (sym e) (inl refl))))
     | true ↦ λ e none. whole create_formed (key_want (DataKey (sequence_path path (nat_abs w.counts.creates)))) (inr (inr (inr (number_follows who v q (nat_abs w.counts.creates) e up (creates_of (sees v (CountsKey q)) counts_seen))))) none
@@ -373,9 +374,8 @@ module _ (path content : Bytes) (acl : List Acl) (flags : ℤ) (formed : form_re
 
   -- ---- what is promised
 
-  module _ (who : Who) (v : View) (now : ℕ) (time : now < 2 ^ 62) (short : length content ≤ max_frame) (real : pos 1 ≤ℤ who.session) (long : IsLongCount who.session) (d : Decision) where
-    module _ (q : Bytes) (up : parent (named flags path) ≡ Some q) (looked_up : (w : SeenCounts) → IsCountsSeen (sees v (CountsKey q)) (Some w) → HasSeen v (DataKey (path_for (is_sequential flags) path (Some w))))
-        (is : IsCreate v path content now (is_sequential flags) (is_ephemeral flags) who.session (Some q) d) where
+  module _ (who : Who) (v : View) (now : ℕ) (time : now < 2 ^ 62) (short : length content ≤ max_frame) (real : pos 1 ≤ℤ who.session) (long : IsLongCount who.session) (whole : IsWhole (req.Create path content acl flags) who v) (d : Decision) where
+    module _ (q : Bytes) (up : parent (named flags path) ≡ Some q) (is : IsCreate v path content now (is_sequential flags) (is_ephemeral flags) who.session (Some q) d) where
       abbrev node : Bytes
       node = path_for (is_sequential flags) path is.1
 
@@ -386,14 +386,17 @@ module _ (path content : Bytes) (acl : List Acl) (flags : ℤ) (formed : form_re
       decided at_time = create_choice node q content at_time (is_ephemeral flags) who.session is.0 is.1 (has_found (sees v (DataKey node))) is.2
 
       path_seen : (w : SeenCounts) → is.1 ≡ Some w → HasSeen v (DataKey node)
-      path_seen w e = subst (λ (o : Option SeenCounts). HasSeen v (DataKey (path_for (is_sequential flags) path o))) (sym e) (looked_up w (subst (λ (o : Option SeenCounts). IsCountsSeen (sees v (CountsKey q)) o) e is.4))
+      path_seen w e = subst (λ (o : Option SeenCounts). HasSeen v (DataKey (path_for (is_sequential flags) path o))) (sym e) (path_looked_up who v whole w q up (subst (λ (o : Option SeenCounts). IsCountsSeen (sees v (CountsKey q)) o) e is.4))
 
       chosen : IsChosen (Create path content acl flags) who v decided
       chosen = below_chosen who v q up short long is.0 is.1 is.2 is.3 is.4 is.5 path_seen
 
       -- the key of the node's record is among those that were looked up
+      node_in : (w : SeenCounts) → is.1 ≡ Some w → In (DataKey node) keys
+      node_in w e = subst (λ (o : Option SeenCounts). In (DataKey (path_for (is_sequential flags) path o)) (create_keys (is_sequential flags) (is_ephemeral flags) path (Some q) who.session (creates_seen o))) (sym e) (path-in (is_sequential flags) (is_ephemeral flags) path q who.session w)
+
       path_near : (w : SeenCounts) → is.1 ≡ Some w → sees (on_keys v keys) (DataKey node) ≡ sees v (DataKey node)
-      path_near w e = near_sees v keys (DataKey node) (subst (λ (o : Option SeenCounts). In (DataKey (path_for (is_sequential flags) path o)) (create_keys (is_sequential flags) (is_ephemeral flags) path (Some q) who.session (creates_seen o))) (sym e) (path-in (is_sequential flags) (is_ephemeral flags) path q who.session w))
+      path_near w e = near_sees v keys (DataKey node) (node_in w e)
 
       near_taken : (o : Option SeenCounts) → is.1 ≡ o → (at_time : ℕ) → create_choice node q content at_time (is_ephemeral flags) who.session is.0 is.1 (has_found (sees (on_keys v keys) (DataKey node))) is.2 ≡ decided at_time
       near_taken None e at_time =
@@ -418,8 +421,10 @@ module _ (path content : Bytes) (acl : List Acl) (flags : ℤ) (formed : form_re
       below_promised = (
         by_form (req.Create path content acl flags) (Create path content acl flags) who v keys decided now create_part chosen time real create_formed d is.6,
         by_sound (req.Create path content acl flags) (Create path content acl flags) who v keys decided now create_part chosen time real create_formed d is.6,
-        planned (req.Create path content acl flags) (Create path content acl flags) who v keys decided now create_part chosen time real create_formed d is.6 near (plan_keys who v q is.1 up is.4)
-            (create-made node q (valid_path (creates_in is.1)) (made_below q up (creates_in is.1)) v content short now (is_ephemeral flags) who.session is.0 is.1 (has_found (sees v (DataKey node))) is.2 listed),
+        planned (req.Create path content acl flags) (Create path content acl flags) who v keys decided now create_part chosen time real create_formed d is.6 near (plan_keys who v q is.1 up is.4) whole
+            (create-made node q (valid_path (creates_in is.1)) (made_below q up (creates_in is.1)) v content short now (is_ephemeral flags) who.session is.0 is.1 (has_found (sees v (DataKey node))) is.2 listed)
+            (create-new v node q content now (is_ephemeral flags) who.session keys (inr (inr (inr (inl refl)))) (own-in (is_sequential flags) (is_ephemeral flags) path q who.session (creates_seen is.1)) is.0 is.1 (has_found (sees v (DataKey node))) is.2
+            (λ w e. (node_in w e, path_seen w e)) refl),
       )
 
     root_promised : parent (named flags path) ≡ None → d ≡ decision_of v (Refuse node_exists) → IsToldByForm (req.Create path content acl flags) d × IsBySound (req.Create path content acl flags) who v d × IfPlanned (IsGuarded (req.Create path content acl flags) who now v) d
@@ -431,10 +436,10 @@ module _ (path content : Bytes) (acl : List Acl) (flags : ℤ) (formed : form_re
           refused_plans (req.Create path content acl flags) who v v now node_exists d is,
         )
 
-    pub all_promised : (q : Option Bytes) → parent (named flags path) ≡ q → ((w : SeenCounts) (r : Bytes) → q ≡ Some r → IsCountsSeen (sees v (CountsKey r)) (Some w) → HasSeen v (DataKey (path_for (is_sequential flags) path (Some w)))) → IsCreate v path content now (is_sequential flags) (is_ephemeral flags) who.session q d
+    pub all_promised : (q : Option Bytes) → parent (named flags path) ≡ q → IsCreate v path content now (is_sequential flags) (is_ephemeral flags) who.session q d
         → IsToldByForm (req.Create path content acl flags) d × IsBySound (req.Create path content acl flags) who v d × IfPlanned (IsGuarded (req.Create path content acl flags) who now v) d
-    all_promised None none looked_up is = root_promised none is
-    all_promised (Some q) up looked_up is = below_promised q up (λ w h. looked_up w q refl h) is
+    all_promised None none is = root_promised none is
+    all_promised (Some q) up is = below_promised q up is
 
 pub create-by_tree : (v : View) (path content : Bytes) (now : ℕ) (sequential ephemeral : Bool) (session : ℤ) (q : Option Bytes) (d : Decision) → IsCreate v path content now sequential ephemeral session q d → is_by_tree d ≡ true
 create-by_tree v path content now sequential ephemeral session None d is = choice-by_tree v (Refuse node_exists) d is

@@ -56,6 +56,7 @@ use Rattle.zn_updates.specs.Layers.{IsChosen, Shows}
 use Rattle.zn_updates.proofs.Deciding.{IsPart}
 use Rattle.zn_updates.proofs.DeleteRight.{delete_right}
 use Rattle.zn_updates.proofs.Forms.{delete_refusal}
+use Rattle.zn_updates.proofs.NewKeys.{delete-new}
 use Rattle.zn_updates.proofs.WellMade.{delete-made, paths-listed, two_triggers}
 use Rattle.zn_updates.proofs.Meanings.{int_eq-apart, of_abs}
 use Rattle.zn_updates.proofs.Showing.{data-shown, counts-shown, paths-shown}
@@ -278,7 +279,7 @@ module _ (p : Bytes) (version : ℤ) where
   not_owned : (owner : ℤ) → int_eq owner (pos 0) ≡ false → owner ≡ pos 0 → ⊥
   not_owned owner e is = true≢false (sym ((Decides-int_eq owner (pos 0)).1 is) ∙ e)
 
-  module _ (who : Who) (v : View) (now : ℕ) (valid : (is_path p && not (same p root)) ≡ true) (time : now < 2 ^ 62) (real : pos 1 ≤ℤ who.session) (d : Decision) where
+  module _ (who : Who) (v : View) (now : ℕ) (valid : (is_path p && not (same p root)) ≡ true) (time : now < 2 ^ 62) (real : pos 1 ≤ℤ who.session) (whole : IsWhole (req.Delete p version) who v) (d : Decision) where
     module _ (q : Bytes) (below : parent p ≡ Some q) (is : IsDelete v p version who.session (Some q) d) where
       path : is_path p ≡ true
       path = (both _ _ valid).0
@@ -321,7 +322,8 @@ module _ (p : Bytes) (version : ℤ) where
       below_promised = (
         by_form (req.Delete p version) (Delete p version) who v keys choice now delete_part chosen time real (delete_valid valid) d is.8,
         by_sound (req.Delete p version) (Delete p version) who v keys choice now delete_part chosen time real (delete_valid valid) d is.8,
-        planned (req.Delete p version) (Delete p version) who v keys choice now delete_part chosen time real (delete_valid valid) d is.8 near (plan_keys who v q is.0 path below is.4) (delete-made p q path below v version is.0 is.1 is.2 is.3 few_paths),
+        planned (req.Delete p version) (Delete p version) who v keys choice now delete_part chosen time real (delete_valid valid) d is.8 near (plan_keys who v q is.0 path below is.4) whole
+            (delete-made p q path below v version is.0 is.1 is.2 is.3 few_paths) (delete-new v p q who.session version is.0 is.1 is.2 is.3),
       )
 
     orphan_promised : parent p ≡ None → d ≡ decision_of v (Refuse no_node) → IsToldByForm (req.Delete p version) d × IsBySound (req.Delete p version) who v d × IfPlanned (IsGuarded (req.Delete p version) who now v) d

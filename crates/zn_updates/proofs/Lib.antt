@@ -19,6 +19,7 @@ pub mod PartWrites
 pub mod PartChoices
 pub mod Showing
 pub mod WellMade
+pub mod NewKeys
 pub mod Clauses
 pub mod SetDataClauses
 pub mod Plans

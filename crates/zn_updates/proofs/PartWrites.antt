@@ -1,7 +1,6 @@
 -- Which keys the choice of a part writes, and how many bytes.
-use Rattle.std.proofs.Common.{◌≡◌, ℕ, ◌+◌, ◌<◌, ◌≤◌, ℤ, pos, true, false, Bool, length, List, [], ◌∷◌, ◌++◌, Option, Some, None, refl, sym, ◌∙◌, subst, inl, inr, arith}
-use Rattle.std.specs.Prelude.{All, Contains, IsTrue, nat_abs, nat_le, not}
-use Rattle.std.specs.List.{sum_by}
+use Rattle.std.proofs.Common.{◌≡◌, ℕ, ◌≤◌, ℤ, pos, true, false, Bool, length, List, [], ◌∷◌, ◌++◌, Option, Some, None, refl, sym, ◌∙◌, subst, inl, inr, arith}
+use Rattle.std.specs.Prelude.{All, IsTrue, nat_abs, nat_le, not}
 use Rattle.std.specs.Ordering.{int_eq}
 use Rattle.std.proofs.lemmas.Bool.Decides.{Decides-int_eq}
 use Rattle.std.proofs.lemmas.List.Elements.{All-nil, All-cons}
@@ -26,7 +25,7 @@ use Rattle.zn_updates.specs.declared.seen.SeenData.{SeenData}
 use Rattle.zn_updates.specs.declared.seen.SeenCounts.{SeenCounts}
 use Rattle.zn_updates.specs.Choices.{create_changes, create_choice, create_owned, delete_changes, delete_choice, delete_here, delete_owned, one_less, one_more, put_owned, set_data_choice, set_record}
 use Rattle.zn_updates.specs.OwnedLists.{placed, without}
-use Rattle.zn_updates.specs.Parts.{check_choice, part_content, plain_size, AreOwn, IfData, IfOwn, IsOwnChange, IsTouching}
+use Rattle.zn_updates.specs.Parts.{check_choice, part_content, AreOwn, IfData, IfOwn, IsOwnChange, IsTouching}
 use Rattle.zn_updates.proofs.WellMade.{changes_cond}
 
 number_is : (m n : ℕ) → SessionKey m ≡ SessionKey n → n ≡ m

@@ -43,6 +43,7 @@ use Rattle.zn_updates.proofs.Clauses.{AreKeys, IsShortKey, by_form, by_sound, ma
 use Rattle.zn_updates.specs.Layers.{code_of, IsChosen}
 use Rattle.zn_updates.proofs.Deciding.{IsPart}
 use Rattle.zn_updates.proofs.Forms.{set_refusal}
+use Rattle.zn_updates.proofs.NewKeys.{set_data-new}
 use Rattle.zn_updates.proofs.SetDataRight.{set_data_right}
 use Rattle.zn_updates.proofs.Showing.{data-shown, counts-shown}
 use Rattle.zn_updates.proofs.WellMade.{one_trigger, set_data-made}
@@ -146,9 +147,9 @@ module _ (p content : Bytes) (version : ℤ) where
     pub set_by_sound : IsBySound (req.SetData p content version) who v d
     set_by_sound = by_sound (req.SetData p content version) (SetData p content version) who v keys choice now set_part (set_chosen who v is.0 is.1 valid short is.2 is.3) time real (set_valid valid) d is.4
 
-    pub set_planned : IfPlanned (IsGuarded (req.SetData p content version) who now v) d
-    set_planned = planned (req.SetData p content version) (SetData p content version) who v keys choice now set_part (set_chosen who v is.0 is.1 valid short is.2 is.3) time real (set_valid valid) d is.4
-        near (set_keys who v valid) (set_data-made v p content version is.0 is.1 now valid short)
+    pub set_planned : IsWhole (req.SetData p content version) who v → IfPlanned (IsGuarded (req.SetData p content version) who now v) d
+    set_planned whole = planned (req.SetData p content version) (SetData p content version) who v keys choice now set_part (set_chosen who v is.0 is.1 valid short is.2 is.3) time real (set_valid valid) d is.4
+        near (set_keys who v valid) whole (set_data-made v p content version is.0 is.1 now valid short) (set_data-new v p content version now who.session is.0 is.1)
 
 pub set_data-by_tree : (v : View) (p content : Bytes) (version : ℤ) (now : ℕ) (session : ℤ) (d : Decision) → IsSetData v p content version now session d → is_by_tree d ≡ true
 set_data-by_tree v p content version now session d is = choice-by_tree (on_keys v (set_data_keys p session)) (set_data_choice p content version now is.0 is.1) d is.4

@@ -18,6 +18,7 @@ use Rattle.zn_view.specs.declared.plan.Plan.{Plan}
 use Rattle.zn_view.specs.declared.plan.Who.{Who}
 use Rattle.zn_view.specs.Asks.{again_of, guards_of, narrowed, IsAskedPlan, WritesOnce}
 use Rattle.zn_view.specs.Deciding.{IsTaken}
+use Rattle.zn_view.specs.Keeping.{IsKeepable}
 use Rattle.zn_view.specs.Needs.{GuardsReads, finished}
 use Rattle.zn_view.specs.Seen.{View, seen}
 use Rattle.zn_view.specs.Views.{IsByTree, IsOf, IsPlan}
@@ -73,12 +74,14 @@ IsBySound r who v d = plain_request no_watches r ≡ None → (s : State) → Is
     → IsByTree r d (tree_reply s.tree (limit_of x) who.session no_watches r)
 
 -- Where the connection is attached, the plan carries the update out and may be asked. Attached or not, it guards what the request
--- reads and writes each key once; and on a view of a sound state an etcd takes it.
+-- reads and writes each key once; on a view of a sound state an etcd takes it; and what it leaves of the view may be kept for the
+-- next request of its path.
 pub record IsGuarded (r : Request) (who : Who) (now : ℕ) (v : View) (p : Plan) : Type 0 where
   pub commits : IsAttached who v → IsPlan r who now v p (λ z. finished z p.draft) × IsAskedPlan who v p
   pub reads : GuardsReads r who v p
   pub writes : WritesOnce p
   pub taken : (s : State) → IsSound s → IsOf v s → IsTaken p
+  pub keepable : IsKeepable r v p
 
 -- ---- what the code chose on
 

@@ -22,3 +22,8 @@ pub mod TakenPlans
 pub mod NumberTests
 pub mod Unknown
 pub mod Indexing
+pub mod Placed
+pub mod After
+pub mod Guarded
+pub mod NewKeys
+pub mod KeptActs

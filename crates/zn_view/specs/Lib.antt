@@ -9,3 +9,4 @@ pub mod Indexing
 pub mod Laying
 pub mod Deciding
 pub mod Laws
+pub mod Keeping

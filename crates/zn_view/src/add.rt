@@ -8,7 +8,7 @@ ghost use Rattle.zn_view.specs.Seen.{IsCount, IsRecord, AreCounts};
 use crate::children::paths_among;
 use crate::fault::ViewFault;
 use crate::kind::is_record;
-use crate::snapshot::{SeenChildren, SeenKey};
+use crate::snapshot::{SeenChildren, SeenKey, copy};
 use crate::view::View;
 use crate::want::Want;
 use ev_types::{ActAns, Kv};
@@ -35,19 +35,6 @@ fn kept_under<'a>(kvs: &'a [Kv], key: &[u8]) -> Option<&'a Kv>
         }
     }
     None
-}
-
-fn copy(alloc: Global, kv: &Kv) -> Result<Kv, Memory>
-    ensures { IfOk result (λ k. k ≡ kv.now) }
-{
-    Ok(Kv {
-        key: Bytes::copy_of(alloc, kv.key.as_slice())?,
-        value: Bytes::copy_of(alloc, kv.value.as_slice())?,
-        create_revision: kv.create_revision,
-        mod_revision: kv.mod_revision,
-        version: kv.version,
-        lease: kv.lease,
-    })
 }
 
 /// The fault of a value that is no record, with copies of the key and the value.

@@ -14,8 +14,9 @@ use std::alloc::Global;
 use zn_layout::head_key;
 use zx_base::{Bytes, Memory, Seq};
 
+/// Whether this is the head's key.
 #[tactic(auto, unfolding(zn_layout::specs::Keys::key_bytes))]
-fn is_head(key: &Bytes) -> bool
+pub fn is_head(key: &Bytes) -> bool
     ensures { result ≡ same key.now (key_bytes HeadKey) }
 {
     key.is(b"zk/head")

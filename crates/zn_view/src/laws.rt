@@ -8,8 +8,10 @@ ghost use Rattle.ev_types.specs.declared.answer.ActAns.{ActAns};
 ghost use Rattle.ev_types.specs.declared.answer.Answer.TheVariants as answer;
 ghost use Rattle.ev_types.specs.declared.answer.Kv.{Kv as KeyValue};
 ghost use Rattle.ev_types.specs.Denials.{carry};
+ghost use Rattle.ev_types.specs.declared.ask.Act.{Act as AnyAct};
+ghost use Rattle.ev_types.specs.declared.ask.Guard.{Guard as AnyGuard};
 ghost use Rattle.ev_types.specs.Ranges.{Keys};
-ghost use Rattle.ev_types.specs.Store.{Store, holds, last_revision, present, revision, store_at};
+ghost use Rattle.ev_types.specs.Store.{Store, acts_applied, holds, last_revision, present, revision, store_at};
 ghost use Rattle.zk_model.specs.declared.node.Trigger.{Trigger as AnyTrigger};
 ghost use Rattle.zk_model.specs.declared.reply.Reply.{Reply as AnyReply};
 ghost use Rattle.zk_model.specs.declared.request.Request.{Request};
@@ -31,6 +33,7 @@ ghost use Rattle.zn_view.specs.declared.plan.Who.{Who as AnyWho};
 ghost use Rattle.zn_view.specs.declared.snapshot.SeenKey.{SeenKey as AnySeen};
 ghost use Rattle.zn_view.specs.declared.want.Want.{Want as AnyWant};
 ghost use Rattle.zn_view.specs.Asks.{again_of, guards_of, narrowed, picked, reading, transaction, with_parts, IsAskedPlan, ShowsHead};
+ghost use Rattle.zn_view.specs.Keeping.{AreGuardedAsSeen, IsAfter, IsNew, PutsNewKeys, after_view, guarded_seen};
 ghost use Rattle.zn_view.specs.Laws.{IsShown, IsCarriedOut, life_seen};
 ghost use Rattle.zn_view.specs.Needs.{IsLacking};
 ghost use Rattle.zn_view.specs.Seen.{View, empty_view, head_number, head_of, head_zxid, seen, listed};
@@ -106,4 +109,13 @@ pub fn a_session_is_tested()
     ensures expired { (r : Request) (who : AnyWho) (v : View) → pos 1 ≤ℤ who.session → plain_request no_watches r ≡ None → life_seen v who ≡ Some None → IsDecision r who v Expired }
     ensures moved { (r : Request) (who : AnyWho) (v : View) (kv : KeyValue) → pos 1 ≤ℤ who.session → plain_request no_watches r ≡ None → life_seen v who ≡ Some (Some kv) → int_eq kv.mod_revision who.mine ≡ false → IsDecision r who v (Moved kv.mod_revision) }
     ensures tree { (r : Request) (who : AnyWho) (v : View) (d : AnyDecision) (kv : KeyValue) → pos 1 ≤ℤ who.session → plain_request no_watches r ≡ None → life_seen v who ≡ Some (Some kv) → int_eq kv.mod_revision who.mine ≡ true → ((m : Keys) (s : State) (x : Session) → IsSound s → HasValidPaths s.tree → StandsFor m s → Agrees v m → live (session_at who.session s) ≡ Some x → IsByTree r d (tree_reply s.tree (limit_of x) who.session no_watches r)) → IsDecision r who v d }
+{}
+
+/// What the operations of an update leave of a view ([`View::after`](crate::View::after)) agrees with the keys that they leave,
+/// where the guarded keys had what the view saw and each key that is put and not guarded was absent, but for the head. So does what
+/// a plan leaves of its view, carried out where it may commit.
+pub fn what_an_update_leaves()
+    ensures left { (v : View) (guards : List AnyGuard) (acts : List AnyAct) (z : ℤ) (head : KeyValue) (x : View) → IsAfter v guards acts z head (Some x) → x ≡ after_view v guards acts z head }
+    ensures keys { (v : View) (guards : List AnyGuard) (acts : List AnyAct) (z : ℤ) (head : KeyValue) (m : Keys) → AreGuardedAsSeen v guards m → All (IsNew (guarded_seen v guards) m) acts → get (acts_applied z m acts) (key_bytes HeadKey) ≡ Some head → Agrees (after_view v guards acts z head) (acts_applied z m acts) }
+    ensures plan { (v : View) (p : AnyPlan) (ks : List ByteList) (m : Keys) (s : State) (z : ℤ) (head : KeyValue) → p.guards ≡ guards_of (picked v ks) → PutsNewKeys v p → IsSound s → StandsFor m s → MayCommit p v m → get (acts_applied z m p.success) (key_bytes HeadKey) ≡ Some head → Agrees (after_view v p.guards p.success z head) (acts_applied z m p.success) }
 {}

@@ -20,7 +20,7 @@ use zn_layout::{
 use zx_base::{Bytes, Memory};
 
 /// What was found under a key: `None` where it was not looked up, `Some(None)` where it was absent.
-fn found_among<'a>(keys: &'a [SeenKey], key: &[u8]) -> Option<Option<&'a Kv>>
+pub(crate) fn found_among<'a>(keys: &'a [SeenKey], key: &[u8]) -> Option<Option<&'a Kv>>
     ensures { option_map option_copied result ≡ seen_in key.now keys.now }
 {
     for seen in keys {

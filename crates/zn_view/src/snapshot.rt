@@ -1,8 +1,11 @@
 //! What was found under some keys.
 
+ghost use Rattle.std.specs.Prelude.{◌≡◌, IfOk};
+
 use ev_types::Kv;
+use std::alloc::Global;
 use zk_model::Path;
-use zx_base::{Bytes, Seq};
+use zx_base::{Bytes, Memory, Seq};
 
 /// A key that was looked up, and what it had.
 #[derive(Drop)]
@@ -27,4 +30,18 @@ pub struct Snapshot {
     /// In the order in which they were added.
     pub keys: Seq<SeenKey>,
     pub lists: Seq<SeenChildren>,
+}
+
+/// A copy of a key with its value and numbers.
+pub(crate) fn copy(alloc: Global, kv: &Kv) -> Result<Kv, Memory>
+    ensures { IfOk result (λ k. k ≡ kv.now) }
+{
+    Ok(Kv {
+        key: Bytes::copy_of(alloc, kv.key.as_slice())?,
+        value: Bytes::copy_of(alloc, kv.value.as_slice())?,
+        create_revision: kv.create_revision,
+        mod_revision: kv.mod_revision,
+        version: kv.version,
+        lease: kv.lease,
+    })
 }

@@ -1,6 +1,6 @@
 //! Views: what some keys had at one revision of an etcd.
 
-ghost use Rattle.std.specs.Prelude.{◌≡◌, ◌≤◌, ◌+◌, ◌∷◌, ◌++◌, length, take, drop, All, OnOk, OnErr};
+ghost use Rattle.std.specs.Prelude.{◌≡◌, [], ◌≤◌, ◌+◌, ◌∷◌, ◌++◌, length, take, drop, All, OnOk, OnErr};
 ghost use Rattle.zn_view.specs.declared.snapshot.SeenKey.{SeenKey as AnySeen};
 ghost use Rattle.zn_view.specs.Adding.{at_revision, with_key, with_list, first_of};
 ghost use Rattle.zn_view.specs.Laying.{placed, with_laid};
@@ -50,7 +50,7 @@ fn place_of(keys: &[SeenKey], key: &[u8]) -> usize
 }
 
 /// Puts a key in the place where it stands, or after the others. Without memory the keys are as they were.
-fn lay_in(keys: &mut Vec<SeenKey>, seen: SeenKey) -> Result<(), Memory>
+pub(crate) fn lay_in(keys: &mut Vec<SeenKey>, seen: SeenKey) -> Result<(), Memory>
     ensures ok { OnOk result (keys.new.items ≡ placed seen keys.old.items) }
     ensures err { OnErr result (keys.new.items ≡ keys.old.items) }
     ensures kept { IsSeen seen → All IsSeen keys.old.items → All IsSeen keys.new.items }
@@ -62,6 +62,20 @@ fn lay_in(keys: &mut Vec<SeenKey>, seen: SeenKey) -> Result<(), Memory>
     }
     keys.push(seen)?;
     Ok(())
+}
+
+/// A view of these keys, without lists of children.
+pub(crate) fn viewed_at(alloc: Global, revision: i64, keys: Vec<SeenKey>) -> View
+    requires revision { IsCount revision }
+    requires kept { All IsSeen keys.items }
+    ensures { result ≡ record { revision = revision; keys = keys.items; lists = [] } }
+{
+    View {
+        revision,
+        keys,
+        lists: Vec::new(alloc),
+        alloc,
+    }
 }
 
 impl View {
@@ -80,6 +94,13 @@ impl View {
     /// The revision that the view is of, 0 where nothing was looked up yet.
     pub fn revision(&self) -> i64
         ensures { result ≡ self.now.revision }
+    {
+        self.revision
+    }
+
+    pub(crate) fn counted_revision(&self) -> i64
+        ensures is { result ≡ self.now.revision }
+        ensures count { IsCount result }
     {
         self.revision
     }

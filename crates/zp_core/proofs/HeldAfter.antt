@@ -1,6 +1,6 @@
 -- What a core keeps: a step leads from a core that keeps it to one that does.
 use Rattle.std.proofs.Common.{◌≡◌, ℕ, ◌+◌, ℤ, pos, ◌≤◌, Bool, true, false, List, [], ◌∷◌, take, length, refl, sym, ap, ◌∙◌, subst, inl, inr, rules, arith}
-use Rattle.std.specs.Prelude.{Option, Some, None, All, MatchBool, if◌then◌else◌}
+use Rattle.std.specs.Prelude.{Option, Some, None, ◌⊎◌, All, MatchBool, if◌then◌else◌}
 use Rattle.std.specs.Ordering.{int_eq}
 use Rattle.std.specs.Arc.{arc_value}
 use Rattle.std.proofs.lemmas.List.Elements.{All-push, All-weaker}
@@ -44,6 +44,9 @@ use Rattle.zp_step.specs.declared.input.Input.{Input}
 use Rattle.zp_step.specs.declared.input.Input.TheVariants as input
 use Rattle.zp_step.specs.Connects.{Connects, Opens, begun, connected}
 use Rattle.zp_step.specs.Entries.{entered, then_reply, told_entry}
+use Rattle.zn_view.specs.Keeping.{update_path}
+use Rattle.zp_step.specs.Kept.{keeps}
+use Rattle.zp_core.proofs.Beside.{PlansBeside, first-or-anew, leaves-beside}
 use Rattle.zp_step.specs.Keepalives.{Checked, KeptAlive, Looked, StillMine, TakesUp, checks, keeps_alive}
 use Rattle.zp_step.specs.Looking.{IfRecords, Looks, asks_for, change_by, decided, expired, max_ranges, moved, pending}
 use Rattle.zp_step.specs.Plans.{CommitAnswered, ReadOn, finishes}
@@ -105,15 +108,20 @@ module _ (c : Core) (real : IsReal c.who.session) (frames : All IsFrame c.waitin
   decided-held xid r v now Expired q = waits-held (expired v xid)
   decided-held xid r v now (Moved found) q = waits-held (moved c.who v found xid)
 
+module _ (c : Core) (real : IsReal c.who.session) (frames : All IsFrame c.waiting) where
   module _ (now : ℕ) (c' : Core) (out : List Action) where
     pub looks-held : (xid : ℤ) (r : Request) (v : View) → IsRequest r → IsCount v.revision → Looks c xid r v now c' out → IsHeld c'
     looks-held xid r v q count (inl a) = is-held (asks_for c xid r v (take max_ranges a.lacking)) c' out a.is (record { frames = frames; stage = (real, q, count) })
-    looks-held xid r v q count (inr d) = is-held (decided c xid r v now d.decision) c' out d.is (decided-held xid r v now d.decision q)
+    looks-held xid r v q count (inr d) = is-held (decided (keeps c r v) xid r v now d.decision) c' out d.is (decided-held (keeps c r v) real frames xid r v now d.decision q)
 
     readable-held : (x : Frame) (o : Option Told) → ((xid : ℤ) (r : Request) → x ≡ Asks xid r → IsRequest r) → TakesReadable c now c' out x o → IsHeld c'
     readable-held x (Some t) known h =
-        is-held (plainly c (xid_of x) t.reply) c' out h (behind-held (end_of_plain (is_auth_refusal t.reply)) c.zxid c.cursor c.watches (counted_up (c.next + 1)))
-    readable-held (Asks xid r) None known h = looks-held xid r empty_view (known xid r refl) none-yet h
+        is-held (plainly c (xid_of x) t.reply) c' out h (behind-held c real frames (end_of_plain (is_auth_refusal t.reply)) c.zxid c.cursor c.watches (counted_up (c.next + 1)))
+    readable-held (Asks xid r) None known h = go (first-or-anew c c' xid r now out (update_path r) h)
+      where
+        go : PlansBeside c xid r now c' out ⊎ Looks c xid r empty_view now c' out → IsHeld c'
+        go (inl y) = let d = record c { views = y.views } in is-held (decided d xid r y.view now (Planned y.plan)) c' out y.is (decided-held d real frames xid r y.view now (Planned y.plan) (known xid r refl))
+        go (inr y) = looks-held xid r empty_view (known xid r refl) none-yet y
     readable-held NoHeader None known h = absurd h
     readable-held (Unreadable xid place) None known h = absurd h
     readable-held (Unknown xid kind) None known h = absurd h
@@ -143,12 +151,12 @@ module _ (c : Core) (real : IsReal c.who.session) (frames : All IsFrame c.waitin
     kept_alive-held bytes f (answer.Granted z id ttl) h = absurd h
 
     still_mine-held : (bytes : List ℕ) → IsFrame bytes → (v : View) (found : Option Kv) → StillMine c bytes v now c' out found → IsHeld c'
-    still_mine-held bytes f v None h = is-held (waits c (expired v (xid_of (read_request bytes)))) c' out h (waits-held (expired v (xid_of (read_request bytes))))
+    still_mine-held bytes f v None h = is-held (waits c (expired v (xid_of (read_request bytes)))) c' out h (waits-held c real frames (expired v (xid_of (read_request bytes))))
     still_mine-held bytes f v (Some kv) h =
         let p = moved c.who v kv.mod_revision (xid_of (read_request bytes)) in
         either (int_eq kv.mod_revision c.who.mine) (Takes c bytes now c' out) (Is (waits c p) c' out) (IsHeld c') h
         (takes-held bytes f)
-        (λ i. is-held (waits c p) c' out i (waits-held p))
+        (λ i. is-held (waits c p) c' out i (waits-held c real frames p))
 
     checked-held : (bytes : List ℕ) → IsFrame bytes → (a : Answer) → Checked c bytes now c' out a → IsHeld c'
     checked-held bytes f (answer.Txn z b parts) h =
@@ -164,10 +172,14 @@ module _ (c : Core) (real : IsReal c.who.session) (frames : All IsFrame c.waitin
         let w = with_parts (at_revision v z) ws parts in
         if_records-held ws parts (Looks c xid r w now c' out) (looks-held xid r w q (subst IsCount (sym (revision-parts (at_revision v z) ws parts)) (count-at v z first count))) h
 
-    commit-held : (xid : ℤ) (r : Request) (p : Plan) (z : ℤ) (b : Bool) (parts : List ActAns) → IsRequest r → IsCount z
-        → CommitAnswered c xid r p now c' out (answer.Txn z b parts) → IsHeld c'
-    commit-held xid r p z true parts q count h = is-held (waits c (finishes xid r p z parts)) c' out h (waits-held (finishes xid r p z parts))
-    commit-held xid r p z false parts q count h =
+    commit-held : (xid : ℤ) (r : Request) (u : View) (p : Plan) (z : ℤ) (b : Bool) (parts : List ActAns) → IsRequest r → IsCount z
+        → CommitAnswered c xid r u p now c' out (answer.Txn z b parts) → IsHeld c'
+    commit-held xid r u p z true parts q count h =
+        let e = leaves-beside c h.kept (update_path r) u p z parts h.leaves in
+        let d = record c { views = e.0 } in
+        let fin = finishes xid r p z parts in
+        is-held (waits d fin) c' out (subst (λ (x : Core). Is (waits x fin) c' out) e.1 h.is) (waits-held d real frames fin)
+    commit-held xid r u p z false parts q count h =
         let w = viewed z p.again parts in
         if_records-held p.again parts (Looks c xid r w now c' out) (looks-held xid r w q (subst IsCount (sym (revision-parts (at_revision empty_view z) p.again parts)) count)) h
 
@@ -209,7 +221,7 @@ module _ (c : Core) (frames : All IsFrame c.waiting) (now : ℕ) (c' : Core) (ou
   answers-held (Reading xid r v ws) k (answer.Range z found) fit h = absurd fit
   answers-held (Reading xid r v ws) k (answer.Granted z id ttl) fit h = absurd fit
   answers-held (Reading xid r v ws) k (answer.Alive z id ttl) fit h = absurd fit
-  answers-held (Committing xid r v p time) k (answer.Txn z b parts) fit h = commit-held c k.0 frames now c' out xid r p z b parts k.1 fit.revision_is h
+  answers-held (Committing xid r v p time) k (answer.Txn z b parts) fit h = commit-held c k.0 frames now c' out xid r v p z b parts k.1 fit.revision_is h
   answers-held (Committing xid r v p time) k (answer.Range z found) fit h = absurd fit
   answers-held (Committing xid r v p time) k (answer.Granted z id ttl) fit h = absurd fit
   answers-held (Committing xid r v p time) k (answer.Alive z id ttl) fit h = absurd fit

@@ -3,7 +3,6 @@ pub mod Restaged
 pub mod HeldAfter
 pub mod GoingOn
 pub mod Firing
-pub mod Waiting
 pub mod Outcomes
 pub mod Replying
 pub mod Nothing
@@ -12,3 +11,6 @@ pub mod Closing
 pub mod Coming
 pub mod Answered
 pub mod Lives
+pub mod Beside
+pub mod Passing
+pub mod Tasks

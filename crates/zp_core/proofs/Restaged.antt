@@ -1,7 +1,8 @@
 -- What is done with a frame, at a look and at an answer reads all of a core but its stage: it is the same where the core has
 -- another stage.
-use Rattle.std.proofs.Common.{ℕ, ℤ, pos, Bool, true, false, List, inl, inr}
+use Rattle.std.proofs.Common.{◌≡◌, ap, ℕ, ℤ, pos, Bool, true, false, List, inl, inr}
 use Rattle.std.specs.Prelude.{Option, Some, None, MatchBool}
+use Rattle.std.specs.Map.{lookup}
 use Rattle.std.specs.Ordering.{int_eq}
 use Rattle.ev_types.specs.declared.answer.ActAns.{ActAns}
 use Rattle.ev_types.specs.declared.answer.Answer.{Answer}
@@ -31,7 +32,10 @@ use Rattle.zp_step.specs.Looking.{EndsDamaged, IfRecords, Looks, moved}
 use Rattle.zp_step.specs.Plans.{CommitAnswered, ReadOn}
 use Rattle.zp_step.specs.Replies.{Is, waits}
 use Rattle.zp_step.specs.Stages.{Core, Stage}
-use Rattle.zp_step.specs.Taking.{Takes, TakesReadable}
+use Rattle.zn_view.specs.Keeping.{update_path}
+use Rattle.zp_step.specs.Kept.{LeavesAt, LeavesBy, head_shown, left_core}
+use Rattle.zx_base.specs.Maps.{Bytes, same}
+use Rattle.zp_step.specs.Taking.{LooksFirst, LooksOn, Takes, TakesReadable}
 
 module _ (c : Core) (s : Stage) (c' : Core) (out : List Action) where
   pub damaged-at : (ws : List Want) (parts : List ActAns) → EndsDamaged (record c { stage = s }) ws parts c' out → EndsDamaged c ws parts c' out
@@ -41,9 +45,31 @@ module _ (c : Core) (s : Stage) (c' : Core) (out : List Action) where
   looks-at xid r v now (inl a) = inl (record { lacking = a.lacking; needs = a.needs; some = a.some; is = a.is })
   looks-at xid r v now (inr d) = inr (record { decision = d.decision; whole = d.whole; tested = d.tested; right = d.right; backed = d.backed; is = d.is })
 
+  first-at : (xid : ℤ) (r : Request) (now : ℕ) (o : Option Bytes) → LooksFirst (record c { stage = s }) xid r now c' out o → LooksFirst c xid r now c' out o
+  first-at xid r now None h = looks-at xid r empty_view now h
+  first-at xid r now (Some q) h = go (lookup (same q) c.views) h
+    where
+      go : (o : Option View) → LooksOn (record c { stage = s }) xid r now c' out q o → LooksOn c xid r now c' out q o
+      go None f = looks-at xid r empty_view now f
+      go (Some v) (inl f) = inl (record { plan = f.plan; whole = f.whole; tested = f.tested; right = f.right; backed = f.backed; is = f.is })
+      go (Some v) (inr f) = inr (f.0, looks-at xid r empty_view now f.1)
+
+  -- what is kept after an update
+  leaves-at : (o : Option Bytes) (v : View) (p : Plan) (z : ℤ) (parts : List ActAns) (d : Core) → LeavesAt (record c { stage = s }) o v p z parts d → LeavesAt c o v p z parts (record d { stage = c.stage })
+  leaves-at None v p z parts d h = ap (λ (x : Core). record x { stage = c.stage }) h
+  leaves-at (Some q) v p z parts d h = go (head_shown parts) h
+    where
+      left : (x : Option View) → d ≡ left_core (record c { stage = s }) q x → record d { stage = c.stage } ≡ left_core c q x
+      left None e = ap (λ (y : Core). record y { stage = c.stage }) e
+      left (Some x) e = ap (λ (y : Core). record y { stage = c.stage }) e
+
+      go : (o : Option Kv) → LeavesBy (record c { stage = s }) q v p z o d → LeavesBy c q v p z o (record d { stage = c.stage })
+      go None e = ap (λ (x : Core). record x { stage = c.stage }) e
+      go (Some head) e = (e.0, e.1, left e.0 e.2)
+
   readable-at : (now : ℕ) (x : Frame) (o : Option Told) → TakesReadable (record c { stage = s }) now c' out x o → TakesReadable c now c' out x o
   readable-at now x (Some t) h = h
-  readable-at now (Asks xid r) None h = looks-at xid r empty_view now h
+  readable-at now (Asks xid r) None h = first-at xid r now (update_path r) h
   readable-at now NoHeader None h = h
   readable-at now (Unreadable xid place) None h = h
   readable-at now (Unknown xid kind) None h = h
@@ -95,14 +121,14 @@ module _ (c : Core) (s : Stage) (c' : Core) (out : List Action) where
   read_on-at xid r v ws now (answer.Granted z id ttl) h = h
   read_on-at xid r v ws now (answer.Alive z id ttl) h = h
 
-  pub commit-at : (xid : ℤ) (r : Request) (p : Plan) (now : ℕ) (a : Answer) → CommitAnswered (record c { stage = s }) xid r p now c' out a → CommitAnswered c xid r p now c' out a
-  commit-at xid r p now (answer.Txn z true parts) h = h
-  commit-at xid r p now (answer.Txn z false parts) h =
+  pub commit-at : (xid : ℤ) (r : Request) (v : View) (p : Plan) (now : ℕ) (a : Answer) → CommitAnswered (record c { stage = s }) xid r v p now c' out a → CommitAnswered c xid r v p now c' out a
+  commit-at xid r v p now (answer.Txn z true parts) h = record { kept = record h.kept { stage = c.stage }; leaves = leaves-at (update_path r) v p z parts h.kept h.leaves; is = h.is }
+  commit-at xid r v p now (answer.Txn z false parts) h =
       let w = viewed z p.again parts in
       if_records-at p.again parts (Looks (record c { stage = s }) xid r w now c' out) (Looks c xid r w now c' out) (looks-at xid r w now) h
-  commit-at xid r p now (answer.Range z found) h = h
-  commit-at xid r p now (answer.Granted z id ttl) h = h
-  commit-at xid r p now (answer.Alive z id ttl) h = h
+  commit-at xid r v p now (answer.Range z found) h = h
+  commit-at xid r v p now (answer.Granted z id ttl) h = h
+  commit-at xid r v p now (answer.Alive z id ttl) h = h
 
   connected-at : (now : ℕ) (new : Connect) (step : ConnectStep) → Is (connected (record c { stage = s }) now new step) c' out → Is (connected c now new step) c' out
   connected-at now new (steps.Ask q) h = h

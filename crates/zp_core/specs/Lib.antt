@@ -1,3 +1,4 @@
 pub mod Meanings
 pub mod Held
 pub mod Going
+pub mod OnKept

@@ -1,7 +1,8 @@
 //! What a request still has to look up, and the asks of a look and of a plan.
 
 ghost use Rattle.std.specs.Prelude.{◌≡◌, ◌≤ℤ◌, ◌∷◌, [], pos, IfOk, take};
-ghost use Rattle.zn_view.specs.Asks.{reading as reading_of, transaction as transaction_of};
+ghost use Rattle.ev_types.specs.declared.ask.Ask.TheVariants as asks;
+ghost use Rattle.zn_view.specs.Asks.{transaction as transaction_of};
 ghost use Rattle.zn_view.specs.Needs.{AreNeeds};
 ghost use Rattle.zp_step.specs.Looking.{asks_for, decided, max_ranges};
 ghost use Rattle.zp_step.specs.Replies.{Is};
@@ -10,8 +11,9 @@ ghost use Rattle.zp_core.specs.Meanings.{Leads, ready};
 ghost use Rattle.zn_view.specs.declared.plan.Decision.TheVariants as decision;
 
 use crate::client::Client;
+use crate::copies::{copy_acts, copy_guards};
 use crate::moves::{Move, only};
-use crate::stage::{Commit, Stage};
+use crate::stage::{Commit, Stage, Task};
 use ev_types::{Ask, TxnReq};
 use std::alloc::Global;
 use zk_model::Request;
@@ -21,7 +23,6 @@ use zn_view::{Plan, View, Want, Who, ranges, reading};
 use zp_step::Action;
 use zs_close::needs_close;
 use zx_base::{Memory, Seq};
-use zx_history::GhostHistory;
 
 /// The most ranges in one ask that reads. etcd takes 128 operations in a transaction by default (`--max-txn-ops`).
 const MAX_RANGES: usize = 100;
@@ -55,23 +56,28 @@ fn front(wants: Seq<Want>) -> Seq<Want>
 pub(crate) fn ask_for(
     alloc: Global,
     client: &Client,
-    xid: i32,
-    request: Request,
-    view: View,
+    mut task: Box<Task>,
     lacking: Seq<Want>,
 ) -> Result<Move, Memory>
-    ensures { IfOk result (Leads (Is (asks_for (ready client.now) xid request view (take max_ranges lacking))) client.now) }
+    ensures { IfOk result (Leads (Is (asks_for (ready client.now) task.value.xid task.value.request task.value.view (take max_ranges lacking))) client.now) }
 {
-    let asked = front(lacking);
-    let ask = reading(alloc, view.revision(), asked.as_slice())?;
+    task.asked = front(lacking);
+    let ask = reading(alloc, task.view.revision(), task.asked.as_slice())?;
+    let actions = only(alloc, Action::Ask(ask))?;
     Ok(Move {
-        stage: Stage::Reading {
-            xid,
-            request,
-            view,
-            asked,
-        },
-        actions: only(alloc, Action::Ask(ask))?,
+        stage: Stage::Reading(task),
+        actions,
+    })
+}
+
+/// The transaction of a plan.
+fn transaction(alloc: Global, plan: &Plan) -> Result<TxnReq, Memory>
+    ensures { IfOk result (λ txn. asks.Txn txn ≡ transaction_of plan.now) }
+{
+    Ok(TxnReq {
+        guards: copy_guards(alloc, plan.guards.as_slice())?,
+        success: copy_acts(alloc, plan.success.as_slice())?,
+        failure: ranges(alloc, 0, plan.again.as_slice())?,
     })
 }
 
@@ -79,41 +85,21 @@ pub(crate) fn ask_for(
 pub(crate) fn ask_plan(
     alloc: Global,
     client: &Client,
-    xid: i32,
-    request: Request,
-    view: View,
+    task: Box<Task>,
     now: u64,
     plan: Plan,
 ) -> Result<Move, Memory>
-    ensures { IfOk result (Leads (Is (decided (ready client.now) xid request view now (decision.Planned plan))) client.now) }
+    ensures { IfOk result (Leads (Is (decided (ready client.now) task.value.xid task.value.request task.value.view now (decision.Planned plan))) client.now) }
 {
-    let Plan {
-        guards,
-        success,
-        again,
-        draft,
-        triggers,
-    } = plan;
-    let failure = ranges(alloc, 0, again.as_slice())?;
-    let txn = TxnReq {
-        guards,
-        success,
-        failure,
-    };
+    let txn = transaction(alloc, &plan)?;
+    let actions = only(alloc, Action::Ask(Ask::Txn(txn)))?;
     let commit = Commit {
-        asked: GhostHistory::new().and(&txn),
-        again,
-        draft,
-        triggers,
-        view: GhostHistory::new().and(&view),
+        task,
+        plan,
         time: now,
     };
     Ok(Move {
-        stage: Stage::Committing {
-            xid,
-            request,
-            commit,
-        },
-        actions: only(alloc, Action::Ask(Ask::Txn(txn)))?,
+        stage: Stage::Committing(Box::new(alloc, commit)?),
+        actions,
     })
 }

@@ -2,6 +2,7 @@
 
 use std::collections::VecDeque;
 use zn_view::Who;
+use zp_kept::KeptViews;
 use zw_watch::Armed;
 use zx_base::Bytes;
 
@@ -25,4 +26,6 @@ pub struct Client {
     pub kept: u64,
     /// The index of the next frame to answer; the connect is frame 0.
     pub next: u64,
+    /// Views of paths that were used, on which updates may be planned.
+    pub views: KeptViews,
 }

@@ -5,24 +5,24 @@ ghost use Rattle.zn_view.specs.Adding.{AreNumbers};
 ghost use Rattle.zn_view.specs.Seen.{IsCount};
 ghost use Rattle.zn_view.specs.Asks.{transaction};
 ghost use Rattle.zs_session.specs.Answering.{IsAnswerTo};
-ghost use Rattle.zp_step.specs.Plans.{CommitAnswered, Committed, end_behind as end_of, finishes};
-ghost use Rattle.zp_step.specs.Replies.{Is, waits};
+ghost use Rattle.zp_step.specs.Plans.{CommitAnswered, Committed, WasMade, end_behind as end_of, finishes};
 ghost use Rattle.zp_core.specs.Held.{IsRequest};
-ghost use Rattle.zp_core.specs.Meanings.{Leads, plan_of, ready};
+ghost use Rattle.zp_core.specs.Meanings.{Leads, pending_of, ready};
 
 use crate::client::Client;
+use crate::keeping::leave;
 use crate::looks::look;
 use crate::moves::{Move, close};
 use crate::replies::reply_in_turn;
-use crate::stage::{Commit, Pending, WatchChange};
+use crate::stage::{Commit, Pending, Task, WatchChange};
 use ev_types::{ActAns, Answer};
 use std::alloc::Global;
-use zk_model::{Reply, Request};
+use zk_model::Request;
 use zk_transcript::Cause;
 use zn_ops::finish;
-use zn_view::Plan;
+use zn_view::View;
 use zs_session::{StepFault, look as look_at, number_in};
-use zx_base::{Memory, Seq};
+use zx_base::Memory;
 
 /// After a closeSession the connection is closed.
 fn end_behind(request: &Request) -> Option<Cause>
@@ -34,58 +34,72 @@ fn end_behind(request: &Request) -> Option<Cause>
     }
 }
 
-/// The update was made at this revision, which is its zxid: its reply is sent, or waits.
-fn done(
+/// The reply to an update that was made at this revision, which is its zxid.
+fn finished(
     alloc: Global,
-    client: &mut Client,
-    xid: i32,
-    request: &Request,
-    commit: Commit,
+    commit: Box<Commit>,
     revision: i64,
     parts: &[ActAns],
-) -> Result<Move, Memory>
-    ensures { IfOk result (Leads (Is (waits (ready client.old) (finishes xid request.now (plan_of commit) revision parts.now))) client.new) }
+) -> Result<Pending, Memory>
+    ensures { IfOk result (λ p. pending_of p ≡ finishes commit.value.task.value.xid commit.value.task.value.request commit.value.plan revision parts.now) }
 {
     let number = number_in(parts);
-    let plan = Plan {
-        guards: Seq::new(alloc),
-        success: Seq::new(alloc),
-        again: commit.again,
-        draft: commit.draft,
-        triggers: commit.triggers,
-    };
-    let answer = finish(alloc, plan, revision)?;
-    let pending = Pending {
+    let xid = commit.task.xid;
+    let ends = end_behind(&commit.task.request);
+    let answer = finish(alloc, Box::into_inner(commit).plan, revision)?;
+    Ok(Pending {
         number,
         zxid: revision,
         xid,
         answer,
         change: WatchChange::Adds(None),
-        ends: end_behind(request),
-    };
+        ends,
+    })
+}
+
+/// The update was made at this revision, which is its zxid: what it leaves of the view is kept, and its reply is sent, or waits.
+fn done(
+    alloc: Global,
+    client: &mut Client,
+    commit: Box<Commit>,
+    revision: i64,
+    parts: &[ActAns],
+) -> Result<Move, Memory>
+    requires { IsCount revision }
+    ensures { IfOk result (Leads (λ c out. WasMade (ready client.old) commit.value.task.value.xid commit.value.task.value.request commit.value.task.value.view commit.value.plan c out revision parts.now) client.new) }
+{
+    leave(alloc, client, &commit, revision, parts)?;
+    let pending = finished(alloc, commit, revision, parts)?;
     reply_in_turn(alloc, client, pending)
+}
+
+/// The request of a plan, with another view.
+fn viewed_anew(commit: Box<Commit>, view: View) -> Box<Task>
+    ensures { result.value ≡ record commit.value.task.value { view = view } }
+{
+    let mut task = Box::into_inner(commit).task;
+    task.view = view;
+    task
 }
 
 /// A guard failed: what was read again is a new view, on which the request goes on.
 fn look_again(
     alloc: Global,
     client: &mut Client,
-    xid: i32,
-    request: Request,
-    commit: Commit,
+    commit: Box<Commit>,
     now: u64,
     revision: i64,
     parts: &[ActAns],
 ) -> Result<Move, Memory>
-    requires request { IsRequest request }
+    requires request { IsRequest commit.value.task.value.request }
     requires real { pos 1 ≤ℤ client.old.who.session }
     requires time { now < 2 ^ 62 }
     requires revision { IsCount revision }
     requires numbers { AreNumbers parts.now }
-    ensures { IfOk result (Leads (λ c out. Committed (ready client.old) xid request (plan_of commit) now c out revision false parts.now) client.new) }
+    ensures { IfOk result (Leads (λ c out. Committed (ready client.old) commit.value.task.value.xid commit.value.task.value.request commit.value.task.value.view commit.value.plan now c out revision false parts.now) client.new) }
 {
-    match look_at(alloc, commit.again.as_slice(), revision, parts) {
-        Ok(view) => look(alloc, client, xid, request, view, now),
+    match look_at(alloc, commit.plan.again.as_slice(), revision, parts) {
+        Ok(view) => look(alloc, client, viewed_anew(commit, view), now),
         Err(StepFault::Damaged { key, value }) => close(alloc, Cause::Damaged { key, value }),
         Err(StepFault::Memory) => Err(Memory),
     }
@@ -94,42 +108,38 @@ fn look_again(
 fn commit_at(
     alloc: Global,
     client: &mut Client,
-    xid: i32,
-    request: Request,
-    commit: Commit,
+    commit: Box<Commit>,
     now: u64,
     revision: i64,
     succeeded: bool,
     parts: &[ActAns],
 ) -> Result<Move, Memory>
-    requires request { IsRequest request }
+    requires request { IsRequest commit.value.task.value.request }
     requires real { pos 1 ≤ℤ client.old.who.session }
     requires time { now < 2 ^ 62 }
     requires revision { IsCount revision }
     requires numbers { AreNumbers parts.now }
-    ensures { IfOk result (Leads (λ c out. Committed (ready client.old) xid request (plan_of commit) now c out revision succeeded parts.now) client.new) }
+    ensures { IfOk result (Leads (λ c out. Committed (ready client.old) commit.value.task.value.xid commit.value.task.value.request commit.value.task.value.view commit.value.plan now c out revision succeeded parts.now) client.new) }
 {
     if succeeded {
-        return done(alloc, client, xid, &request, commit, revision, parts);
+        return done(alloc, client, commit, revision, parts);
     }
-    look_again(alloc, client, xid, request, commit, now, revision, parts)
+    look_again(alloc, client, commit, now, revision, parts)
 }
 
 /// At the answer to the transaction of a plan.
 pub(crate) fn committed(
     alloc: Global,
     client: &mut Client,
-    xid: i32,
-    request: Request,
-    commit: Commit,
+    commit: Box<Commit>,
     now: u64,
     answer: &Answer,
 ) -> Result<Move, Memory>
-    requires awaited { IsAnswerTo (transaction (plan_of commit)) answer.now }
-    requires request { IsRequest request }
+    requires awaited { IsAnswerTo (transaction commit.value.plan) answer.now }
+    requires request { IsRequest commit.value.task.value.request }
     requires real { pos 1 ≤ℤ client.old.who.session }
     requires time { now < 2 ^ 62 }
-    ensures { IfOk result (Leads (λ c out. CommitAnswered (ready client.old) xid request (plan_of commit) now c out answer.now) client.new) }
+    ensures { IfOk result (Leads (λ c out. CommitAnswered (ready client.old) commit.value.task.value.xid commit.value.task.value.request commit.value.task.value.view commit.value.plan now c out answer.now) client.new) }
 {
     match answer {
         Answer::Txn {
@@ -139,8 +149,6 @@ pub(crate) fn committed(
         } => commit_at(
             alloc,
             client,
-            xid,
-            request,
             commit,
             now,
             *revision,

@@ -23,6 +23,7 @@ use zk_model::{ConnectRequest, ConnectResponse};
 use zk_transcript::Cause;
 use zk_wire::{WireFault, read_connect};
 use zn_view::Who;
+use zp_kept::KeptViews;
 use zp_step::{Action, Fresh};
 use zs_session::{ConnectStep, Connecting, StepFault};
 use zw_watch::Armed;
@@ -41,20 +42,20 @@ fn kept_by(now: u64, kept: u64, ask: &Ask) -> u64
 fn ask(
     alloc: Global,
     client: &mut Client,
-    connecting: Connecting,
+    connecting: Box<Connecting>,
     ask: Ask,
     now: u64,
 ) -> Result<Move, Memory>
-    ensures { IfOk result (Leads (Is (connected (ready client.old) now connecting (steps.Ask ask))) client.new) }
+    ensures { IfOk result (Leads (Is (connected (ready client.old) now connecting.value (steps.Ask ask))) client.new) }
 {
     client.kept = kept_by(now, client.kept, &ask);
     Ok(Move {
-        stage: Stage::Connecting { connecting },
+        stage: Stage::Connecting(connecting),
         actions: only(alloc, Action::Ask(ask))?,
     })
 }
 
-/// The session is attached, by the update of this number and zxid, and the client is welcomed.
+/// The session is attached, by the update of this number and zxid, and the client is welcomed. No view is kept yet.
 fn attach(
     alloc: Global,
     client: &mut Client,
@@ -72,6 +73,7 @@ fn attach(
     client.watches = Armed::new(alloc);
     client.who = who;
     client.timeout = timeout;
+    client.views = KeptViews::new(alloc);
     Ok(Move {
         stage: Stage::Ready,
         actions,
@@ -109,11 +111,11 @@ fn refuse(alloc: Global, request: &ConnectRequest) -> Result<Move, Memory>
 fn connected(
     alloc: Global,
     client: &mut Client,
-    connecting: Connecting,
+    connecting: Box<Connecting>,
     step: ConnectStep,
     now: u64,
 ) -> Result<Move, Memory>
-    ensures { IfOk result (Leads (Is (connected (ready client.old) now connecting step)) client.new) }
+    ensures { IfOk result (Leads (Is (connected (ready client.old) now connecting.value step)) client.new) }
 {
     match step {
         ConnectStep::Ask(next) => ask(alloc, client, connecting, next, now),
@@ -134,12 +136,12 @@ fn connected(
 pub(crate) fn connect(
     alloc: Global,
     client: &mut Client,
-    mut connecting: Connecting,
+    mut connecting: Box<Connecting>,
     answer: Option<&Answer>,
     now: u64,
 ) -> Result<Move, Memory>
-    requires { MayStep connecting (option_copied answer) }
-    ensures { IfOk result (Leads (Connects (ready client.old) connecting (option_copied answer.entry) now) client.new) }
+    requires { MayStep connecting.value (option_copied answer) }
+    ensures { IfOk result (Leads (Connects (ready client.old) connecting.value (option_copied answer.entry) now) client.new) }
 {
     match connecting.step(answer) {
         Ok(step) => connected(alloc, client, connecting, step, now),
@@ -162,7 +164,7 @@ pub(crate) fn open(
 {
     match read_connect(alloc, frame) {
         Ok(request) => {
-            let connecting = Connecting::new(alloc, request, fresh);
+            let connecting = Box::new(alloc, Connecting::new(alloc, request, fresh))?;
             connect(alloc, client, connecting, None, now)
         }
         Err(WireFault::NoHeader) => close(alloc, Cause::NoHeader { place }),

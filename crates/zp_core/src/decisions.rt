@@ -13,7 +13,7 @@ use crate::asks::ask_plan;
 use crate::client::Client;
 use crate::moves::Move;
 use crate::replies::reply_in_turn;
-use crate::stage::{Pending, WatchChange};
+use crate::stage::{Pending, Task, WatchChange};
 use std::alloc::Global;
 use zk_model::code::{SESSION_EXPIRED, SESSION_MOVED};
 use zk_model::{Reply, Request};
@@ -135,24 +135,22 @@ pub(crate) fn moved(who: Who, view: &View, found: i64, xid: i32) -> Pending
 pub(crate) fn carry(
     alloc: Global,
     client: &mut Client,
-    xid: i32,
-    request: Request,
-    view: View,
+    task: Box<Task>,
     now: u64,
     decision: Decision,
 ) -> Result<Move, Memory>
-    ensures { IfOk result (Leads (Is (decided (ready client.old) xid request view now decision)) client.new) }
+    ensures { IfOk result (Leads (Is (decided (ready client.old) task.value.xid task.value.request task.value.view now decision)) client.new) }
 {
     match decision {
         Decision::Answered { reply, arm } => {
-            let change = change(alloc, &request, &view, arm)?;
-            let pending = pending(&view, xid, reply, change, None);
+            let change = change(alloc, &task.request, &task.view, arm)?;
+            let pending = pending(&task.view, task.xid, reply, change, None);
             reply_in_turn(alloc, client, pending)
         }
-        Decision::Planned(plan) => ask_plan(alloc, client, xid, request, view, now, plan),
-        Decision::Expired => reply_in_turn(alloc, client, expired(&view, xid)),
+        Decision::Planned(plan) => ask_plan(alloc, client, task, now, plan),
+        Decision::Expired => reply_in_turn(alloc, client, expired(&task.view, task.xid)),
         Decision::Moved { found } => {
-            let pending = moved(client.who, &view, found, xid);
+            let pending = moved(client.who, &task.view, found, task.xid);
             reply_in_turn(alloc, client, pending)
         }
     }

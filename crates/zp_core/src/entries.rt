@@ -60,7 +60,10 @@ pub(crate) fn tell(
 {
     let actions = enter(alloc, client, entry)?;
     match stage {
-        Stage::Waiting { pending } => behind(actions, reply_in_turn(alloc, client, pending)?),
+        Stage::Waiting(pending) => {
+            let then = reply_in_turn(alloc, client, Box::into_inner(pending))?;
+            behind(actions, then)
+        }
         stage => Ok(Move { stage, actions }),
     }
 }

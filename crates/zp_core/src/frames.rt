@@ -10,8 +10,8 @@ ghost use Rattle.zp_step.specs.Taking.{Takes, TakesReadable, plainly, end_of_pla
 ghost use Rattle.zp_core.specs.Held.{IsFrame, IsRequest};
 ghost use Rattle.zp_core.specs.Meanings.{Leads, ready};
 
+use crate::at_once::{begun, look_first};
 use crate::client::Client;
-use crate::looks::look;
 use crate::moves::{Move, end_behind, only};
 use crate::packets::send_reply;
 use std::alloc::Global;
@@ -20,7 +20,6 @@ use zk_model::{Reply, Request};
 use zk_transcript::Cause;
 use zk_wire::{WireFault, read_request};
 use zn_ops::plain_reply;
-use zn_view::View;
 use zx_base::Memory;
 
 /// The connection is closed after it has refused an `auth`.
@@ -61,7 +60,7 @@ fn take_request(
 {
     match plain_reply(alloc, &request)? {
         Some(reply) => answer_plainly(alloc, client, xid, &reply),
-        None => look(alloc, client, xid, request, View::empty(alloc), now),
+        None => look_first(alloc, client, begun(alloc, xid, request)?, now),
     }
 }
 

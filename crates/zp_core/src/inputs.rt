@@ -48,21 +48,12 @@ fn answered(
     ensures { IfOk result (Leads (λ c out. Answers (core_of client.old (stage_of stage)) answer.now now c out (stage_of stage)) client.new) }
 {
     match stage {
-        Stage::Connecting { connecting } => connect(alloc, client, connecting, Some(answer), now),
+        Stage::Connecting(connecting) => connect(alloc, client, connecting, Some(answer), now),
         Stage::KeepingAlive { frame } => kept_alive(alloc, client, frame, now, answer),
         Stage::Checking { frame } => checked(alloc, client, &frame, now, answer),
-        Stage::Reading {
-            xid,
-            request,
-            view,
-            asked,
-        } => read_on(alloc, client, xid, request, view, &asked, now, answer),
-        Stage::Committing {
-            xid,
-            request,
-            commit,
-        } => committed(alloc, client, xid, request, commit, now, answer),
-        Stage::Unconnected { .. } | Stage::Ready | Stage::Waiting { .. } | Stage::Shut => {
+        Stage::Reading(task) => read_on(alloc, client, task, now, answer),
+        Stage::Committing(commit) => committed(alloc, client, commit, now, answer),
+        Stage::Unconnected { .. } | Stage::Ready | Stage::Waiting(_) | Stage::Shut => {
             unreachable!()
         }
     }

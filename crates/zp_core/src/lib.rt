@@ -8,21 +8,29 @@
 //! an int counts as want of memory, since no client has memory for it.
 //!
 //! In `specs/`, in reading order: `Meanings` (what the code keeps, as the definition's data), `Held` (what is true of every
-//! core), `Going` (how a step goes on with the frames that wait). In `proofs/`, `HeldAfter` shows that a step leaves `Held` true,
-//! and `Restaged` that most of a step does not look at the stage.
+//! core), `Going` (how a step goes on with the frames that wait), `OnKept` (a plan on a kept view). In `proofs/`, `HeldAfter` shows
+//! that a step leaves `Held` true, and `Restaged` that most of a step does not look at the stage.
 //!
-//! A frame is copied once, where it is handed in. The transaction of a plan is asked as it was planned, and not copied.
+//! Views of up to 16 paths that were used are kept (`zp_kept`). An update on such a path is planned on the kept view at once, and
+//! takes one ask where that view is current; where it is not, a guard of the transaction fails and shows what is. Each answer and
+//! each refusal is by a view that was read after its frame was taken up.
+//!
+//! A frame is copied once, where it is handed in, and the transaction of a plan once, where it is asked: what the update leaves of
+//! its view is worked out from the plan. What a stage holds is boxed, so that a stage is short to move and to drop.
 #![tactic(auto)]
 
 mod asks;
+mod at_once;
 mod client;
 mod commits;
 mod connects;
+mod copies;
 mod decisions;
 mod entries;
 mod frames;
 mod inputs;
 mod keepalives;
+mod keeping;
 mod looks;
 mod moves;
 mod packets;

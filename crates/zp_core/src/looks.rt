@@ -8,30 +8,30 @@ ghost use Rattle.zp_core.specs.Meanings.{Leads, ready};
 use crate::asks::{ask_for, needs};
 use crate::client::Client;
 use crate::decisions::{carry, decide};
+use crate::keeping::keep_view;
 use crate::moves::Move;
+use crate::stage::Task;
 use std::alloc::Global;
-use zk_model::Request;
-use zn_view::View;
 use zx_base::Memory;
 
 /// Asks for what is still lacking, or decides.
 pub(crate) fn look(
     alloc: Global,
     client: &mut Client,
-    xid: i32,
-    request: Request,
-    view: View,
+    task: Box<Task>,
     now: u64,
 ) -> Result<Move, Memory>
-    requires request { IsRequest request }
+    requires request { IsRequest task.value.request }
     requires real { pos 1 ≤ℤ client.old.who.session }
     requires time { now < 2 ^ 62 }
-    ensures { IfOk result (Leads (Looks (ready client.old) xid request view now) client.new) }
+    ensures { IfOk result (Leads (Looks (ready client.old) task.value.xid task.value.request task.value.view now) client.new) }
 {
-    let lacking = needs(alloc, &request, client.who, &view)?;
+    let who = client.who;
+    let lacking = needs(alloc, &task.request, who, &task.view)?;
     if lacking.len() > 0 {
-        return ask_for(alloc, client, xid, request, view, lacking);
+        return ask_for(alloc, client, task, lacking);
     }
-    let decision = decide(alloc, &request, client.who, now, &view)?;
-    carry(alloc, client, xid, request, view, now, decision)
+    keep_view(alloc, client, &task.request, &task.view)?;
+    let decision = decide(alloc, &task.request, who, now, &task.view)?;
+    carry(alloc, client, task, now, decision)
 }

@@ -68,5 +68,6 @@ pub(crate) fn reply_in_turn(
     if is_due(client, &pending) {
         return reply(alloc, client, pending);
     }
-    Ok(rest(alloc, Stage::Waiting { pending }))
+    let waiting = Stage::Waiting(Box::new(alloc, pending)?);
+    Ok(rest(alloc, waiting))
 }

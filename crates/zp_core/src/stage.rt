@@ -1,14 +1,12 @@
 //! How far a connection has come.
 
-use ev_types::TxnReq;
-use zk_model::{Reply, Request, Trigger};
+use zk_model::{Reply, Request};
 use zk_transcript::Cause;
-use zn_view::{Arm, View, Want};
+use zn_view::{Arm, Plan, View, Want};
 use zp_step::Fresh;
 use zs_session::Connecting;
 use zw_watch::SeenPath;
 use zx_base::{Bytes, Seq};
-use zx_history::GhostHistory;
 
 /// What a reply does to the watches.
 #[derive(Drop)]
@@ -34,19 +32,22 @@ pub struct Pending {
     pub ends: Option<Cause>,
 }
 
-/// What is left of a plan whose transaction is out.
+/// A request that was taken up, and what was looked up for it.
+#[derive(Drop)]
+pub struct Task {
+    pub xid: i32,
+    pub request: Request,
+    pub view: View,
+    /// What is out, to be added to the view; nothing where no round is.
+    pub asked: Seq<Want>,
+}
+
+/// A plan whose transaction is out.
 #[derive(Drop)]
 pub struct Commit {
-    /// The transaction that was asked, for proofs alone.
-    pub asked: GhostHistory<TxnReq>,
-    /// What is read where a guard does not hold.
-    pub again: Seq<Want>,
-    /// The reply, with 0 in place of the zxid that the update gets.
-    pub draft: Reply,
-    /// What watches see of the update.
-    pub triggers: Seq<Trigger>,
-    /// The view that the plan was made on, for proofs alone.
-    pub view: GhostHistory<View>,
+    /// The request, with the view that the plan was made on.
+    pub task: Box<Task>,
+    pub plan: Plan,
     /// When the plan was made, in milliseconds.
     pub time: u64,
 }
@@ -55,40 +56,21 @@ pub struct Commit {
 #[derive(Drop)]
 pub enum Stage {
     /// No frame has come yet.
-    Unconnected {
-        fresh: Fresh,
-    },
+    Unconnected { fresh: Fresh },
     /// An ask of the connect is out.
-    Connecting {
-        connecting: Connecting,
-    },
+    Connecting(Box<Connecting>),
     /// No ask is out and no reply waits.
     Ready,
     /// A keepalive is out, before this frame is answered.
-    KeepingAlive {
-        frame: Bytes,
-    },
+    KeepingAlive { frame: Bytes },
     /// The keepalive found no seconds left: a look at the session is out.
-    Checking {
-        frame: Bytes,
-    },
+    Checking { frame: Bytes },
     /// A round of this request is out.
-    Reading {
-        xid: i32,
-        request: Request,
-        view: View,
-        asked: Seq<Want>,
-    },
+    Reading(Box<Task>),
     /// The transaction of this request's plan is out.
-    Committing {
-        xid: i32,
-        request: Request,
-        commit: Commit,
-    },
+    Committing(Box<Commit>),
     /// A reply waits for its entries.
-    Waiting {
-        pending: Pending,
-    },
+    Waiting(Box<Pending>),
     /// The connection is closed.
     Shut,
 }

@@ -17,6 +17,7 @@ use std::collections::VecDeque;
 use std::marker::Model;
 use zk_transcript::UpdateKind;
 use zn_view::Who;
+use zp_kept::KeptViews;
 use zp_step::{Action, Fresh, Input, Wants};
 use zw_watch::Armed;
 use zx_base::{Memory, Seq};
@@ -92,6 +93,7 @@ impl Core {
                 timeout: 0,
                 kept: 0,
                 next: 1,
+                views: KeptViews::new(alloc),
             },
             alloc,
         }
@@ -107,13 +109,13 @@ impl Core {
             Stage::Unconnected { .. } => Wants::Frame,
             Stage::Ready if self.client.watches.is_empty() => Wants::Frame,
             Stage::Ready => Wants::FrameOrEntry { cursor },
-            Stage::Waiting { .. } => Wants::Entry { cursor },
+            Stage::Waiting(_) => Wants::Entry { cursor },
             Stage::Shut => Wants::Nothing,
-            Stage::Connecting { .. }
+            Stage::Connecting(_)
             | Stage::KeepingAlive { .. }
             | Stage::Checking { .. }
-            | Stage::Reading { .. }
-            | Stage::Committing { .. } => Wants::Answer,
+            | Stage::Reading(_)
+            | Stage::Committing(_) => Wants::Answer,
         }
     }
 
@@ -133,6 +135,7 @@ impl Core {
         requires time { now < 2 ^ 62 }
         ensures ok { IfOk result (λ out. Steps self.old input.now now self.new out.items) }
         ensures shut { OnErr result (is_shut self.new.stage ≡ true) }
+        ensures held { IsHeld self.new }
     {
         match std::mem::replace(&mut self.stage, Stage::Shut) {
             Stage::Shut => Ok(Vec::new(self.alloc)),

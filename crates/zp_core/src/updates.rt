@@ -54,24 +54,20 @@ pub(crate) fn asked_in(connection: u32, client: &Client, stage: &Stage) -> Optio
     ensures { result ≡ kind_in_stage connection (core_of client.now (stage_of stage.now)) (stage_of stage.now) }
 {
     match stage {
-        Stage::Connecting { connecting } => of_connect(connection, connecting.connect()),
-        Stage::Committing {
-            request,
-            commit,
-            ..
-        } => Some(of_request(
+        Stage::Connecting(connecting) => of_connect(connection, connecting.connect()),
+        Stage::Committing(commit) => Some(of_request(
             connection,
             client.next,
             client.who.session,
             commit.time,
-            request,
+            &commit.task.request,
         )),
         Stage::Unconnected { .. }
         | Stage::Ready
         | Stage::KeepingAlive { .. }
         | Stage::Checking { .. }
-        | Stage::Reading { .. }
-        | Stage::Waiting { .. }
+        | Stage::Reading(_)
+        | Stage::Waiting(_)
         | Stage::Shut => None,
     }
 }

@@ -33,6 +33,9 @@ use Rattle.zs_session.specs.declared.connect.Connect.{Connect}
 use Rattle.zs_session.specs.declared.connect.ConnectStep.{ConnectStep}
 use Rattle.zs_session.specs.declared.connect.ConnectStep.TheVariants as steps
 use Rattle.zp_laws.proofs.Cases.{either, of_alive, of_txn}
+use Rattle.zp_step.specs.Kept.{keeps}
+use Rattle.zn_view.specs.Keeping.{update_path}
+use Rattle.zp_laws.proofs.Keeping.{PlansBeside, first-or-anew, leaves-beside}
 use Rattle.zp_step.specs.Connects.{Connects, connected}
 use Rattle.zp_step.specs.Entries.{entered, then_reply, told_entry}
 use Rattle.zp_step.specs.Keepalives.{Checked, KeptAlive, Looked, StillMine, TakesUp, checks, keeps_alive}
@@ -99,7 +102,8 @@ module _ (s : Store) (n : ℕ) where
   module _ (c' : Core) (out : List Action) where
     looks-then : (c : Core) (xid : ℤ) (r : Request) (v : View) (now k : ℕ) → LooksOn s c.who r v k → k + asks_of_all c.waiting ≤ n → IsTruthful s c' → Looks c xid r v now c' out → Then s n c'
     looks-then c xid r v now k l w t (inr y) =
-        is-then (decided c xid r v now y.decision) c' out (decided-then c xid r v now y.decision k (omega (arith, l.most)) w (is-true (decided c xid r v now y.decision) c' out t y.is)) y.is
+        let d = keeps c r v in
+        is-then (decided d xid r v now y.decision) c' out (decided-then d xid r v now y.decision k (omega (arith, l.most)) w (is-true (decided d xid r v now y.decision) c' out t y.is)) y.is
     looks-then c xid r v now k l w t (inl y) =
         is-then (asks_for c xid r v (take max_ranges y.lacking)) c' out (go l.rounds l.ends l.most (is-true (asks_for c xid r v (take max_ranges y.lacking)) c' out t y.is)) y.is
       where
@@ -122,13 +126,20 @@ module _ (s : Store) (n : ℕ) where
     readable-then c now k NoHeader None p m w h = absurd h
     readable-then c now k (Unreadable xid place) None p m w h = absurd h
     readable-then c now k (Unknown xid kind) None p m w h = absurd h
-    readable-then c now k (Asks xid r) None p m w (inr y) = absurd (y.whole.enough refl p head_want (inl refl) refl)
-    readable-then c now k (Asks xid r) None p m w (inl y) =
-        is-then (asks_for c xid r empty_view (take max_ranges y.lacking)) c' out (inr (record {
-          asks = k;
-          out = record { rounds = looks r; ends = λ z parts len few. request-ends r c.who (view_on empty_view z (take max_ranges y.lacking) parts) few; most = omega (arith, m) };
-          most = w;
-        })) y.is
+    -- a plan on a kept view may fail: then the request is looked up anew, and planned again
+    readable-then c now k (Asks xid r) None p m w h = go (first-or-anew c c' xid r now out (update_path r) h)
+      where
+        go : PlansBeside c xid r now c' out ⊎ Looks c xid r empty_view now c' out → Then s n c'
+        go (inl y) =
+            is-then (decided (record c { views = y.views }) xid r y.view now (Planned y.plan)) c' out
+            (inr (record { asks = k; out = (let again = again-most (succeeds s (plan_txn y.plan)) r in omega (arith, m, again)); most = w })) y.is
+        go (inr (inr y)) = absurd (y.whole.enough refl p head_want (inl refl) refl)
+        go (inr (inl y)) =
+            is-then (asks_for c xid r empty_view (take max_ranges y.lacking)) c' out (inr (record {
+              asks = k;
+              out = record { rounds = looks r; ends = λ z parts len few. request-ends r c.who (view_on empty_view z (take max_ranges y.lacking) parts) few; most = omega (arith, m) };
+              most = w;
+            })) y.is
 
     takes-then : (c : Core) (bytes : List ℕ) (now k : ℕ) → asks_of bytes ≤ k + 2 → k + asks_of_all c.waiting ≤ n → Takes c bytes now c' out → Then s n c'
     takes-then c bytes now k m w h = readable-then c now k (read_request bytes) (plain_reply no_watches (read_request bytes)) refl (omega (arith, m)) w h
@@ -166,14 +177,16 @@ module _ (s : Store) (n : ℕ) where
     read-then c xid r v ws now k (answer.Granted z id ttl) l w t h = absurd h
     read-then c xid r v ws now k (answer.Alive z id ttl) l w t h = absurd h
 
-    committed-then : (c : Core) (xid : ℤ) (r : Request) (p : Plan) (now k : ℕ) (z : ℤ) (b : Bool) (parts : List ActAns) → CommitBehind s c.who r (viewed z p.again parts) b k → k + asks_of_all c.waiting ≤ n → IsTruthful s c' → Committed c xid r p now c' out z b parts → Then s n c'
-    committed-then c xid r p now k z true parts l w t h = is-then (waits c (finishes xid r p z parts)) c' out (waits-then c (finishes xid r p z parts) (omega (arith, w))) h
-    committed-then c xid r p now k z false parts l w t h =
+    committed-then : (c : Core) (xid : ℤ) (r : Request) (u : View) (p : Plan) (now k : ℕ) (z : ℤ) (b : Bool) (parts : List ActAns) → CommitBehind s c.who r (viewed z p.again parts) b k → k + asks_of_all c.waiting ≤ n → IsTruthful s c' → Committed c xid r u p now c' out z b parts → Then s n c'
+    committed-then c xid r u p now k z true parts l w t h =
+        let e = leaves-beside c h.kept (update_path r) u p z parts h.leaves in
+        is-then (waits h.kept (finishes xid r p z parts)) c' out (waits-then h.kept (finishes xid r p z parts) (omega (arith, w, ap (λ (d : Core). asks_of_all d.waiting) e.1))) h.is
+    committed-then c xid r u p now k z false parts l w t h =
         let y = viewed z p.again parts in
         records-then c p.again parts (Looks c xid r y now c' out) (looks-then c xid r y now k l w t) h
 
-    commit-then : (c : Core) (xid : ℤ) (r : Request) (v : View) (p : Plan) (m now k : ℕ) (a : Answer) → AsksBehind s c.who (Committing xid r v p m) a k → k + asks_of_all c.waiting ≤ n → IsTruthful s c' → CommitAnswered c xid r p now c' out a → Then s n c'
-    commit-then c xid r v p m now k (answer.Txn z b parts) l w t h = committed-then c xid r p now k z b parts l w t h
+    commit-then : (c : Core) (xid : ℤ) (r : Request) (v : View) (p : Plan) (m now k : ℕ) (a : Answer) → AsksBehind s c.who (Committing xid r v p m) a k → k + asks_of_all c.waiting ≤ n → IsTruthful s c' → CommitAnswered c xid r v p now c' out a → Then s n c'
+    commit-then c xid r v p m now k (answer.Txn z b parts) l w t h = committed-then c xid r v p now k z b parts l w t h
     commit-then c xid r v p m now k (answer.Range z found) l w t h = absurd h
     commit-then c xid r v p m now k (answer.Granted z id ttl) l w t h = absurd h
     commit-then c xid r v p m now k (answer.Alive z id ttl) l w t h = absurd h

@@ -1,6 +1,6 @@
 -- Frames that come leave an attached connection open, where none of them asks for its end.
 use Rattle.std.proofs.Common.{◌≡◌, ℕ, ◌+◌, List, [], ◌∷◌, ◌++◌, append-nil, append_assoc, refl, sym, ap, ◌∙◌, subst, Bool, true, false, ℤ, inl, inr}
-use Rattle.std.specs.Prelude.{Option, Some, None, MatchBool, fold, if◌then◌else◌, not, take}
+use Rattle.std.specs.Prelude.{Option, Some, None, ◌⊎◌, MatchBool, fold, if◌then◌else◌, not, take}
 use Rattle.zk_jute.specs.Requests.{Frame, NoHeader, Unreadable, Unknown, Asks, read_request}
 use Rattle.zk_model.specs.Watches.{no_watches}
 use Rattle.zk_transcript.proofs.Appending.{after-push}
@@ -17,9 +17,12 @@ use Rattle.zn_view.specs.Seen.{empty_view}
 use Rattle.zs_session.specs.Alive.{is_alive_due}
 use Rattle.zx_base.proofs.Options.{some_is}
 use Rattle.zp_laws.proofs.Cases.{either}
+use Rattle.zn_view.specs.Keeping.{update_path}
+use Rattle.zp_step.specs.Looking.{Looks, asks_for, decided, max_ranges}
+use Rattle.zp_laws.proofs.Keeping.{PlansBeside, first-or-anew}
+use Rattle.zn_view.specs.declared.plan.Decision.TheVariants.{Planned}
 use Rattle.zp_step.proofs.Shutting.{steps-open}
 use Rattle.zp_step.specs.Keepalives.{TakesUp, keeps_alive}
-use Rattle.zp_step.specs.Looking.{asks_for, max_ranges}
 use Rattle.zp_step.specs.Replies.{Is, closed_by}
 use Rattle.zp_step.specs.Stages.{Core, Stage, Unconnected, Connecting, Ready, KeepingAlive, Checking, Reading, Committing, Waiting, Shut, counted_up}
 use Rattle.zp_step.specs.Steps.{Comes, Goes, Steps as CoreSteps, queued, rests, takes}
@@ -49,8 +52,12 @@ readable-who c c' now out x (Some t) p h = is-who (plainly c (xid_of x) t.reply)
 readable-who c c' now out NoHeader None p h = absurd h
 readable-who c c' now out (Unreadable xid place) None p h = absurd h
 readable-who c c' now out (Unknown xid kind) None p h = absurd h
-readable-who c c' now out (Asks xid r) None p (inl y) = is-who (asks_for c xid r empty_view (take max_ranges y.lacking)) c c' out refl y.is
-readable-who c c' now out (Asks xid r) None p (inr y) = absurd (y.whole.enough refl p head_want (inl refl) refl)
+readable-who c c' now out (Asks xid r) None p h = go (first-or-anew c c' xid r now out (update_path r) h)
+  where
+    go : PlansBeside c xid r now c' out ⊎ Looks c xid r empty_view now c' out → c'.who ≡ c.who
+    go (inl y) = is-who (decided (record c { views = y.views }) xid r y.view now (Planned y.plan)) c c' out refl y.is
+    go (inr (inl y)) = is-who (asks_for c xid r empty_view (take max_ranges y.lacking)) c c' out refl y.is
+    go (inr (inr y)) = absurd (y.whole.enough refl p head_want (inl refl) refl)
 
 takes_up-who : (c c' : Core) (bytes : List ℕ) (now : ℕ) (out : List Action) → TakesUp c bytes now c' out → c'.who ≡ c.who
 takes_up-who c c' bytes now out h =

@@ -21,10 +21,13 @@ use Rattle.zp_laws.proofs.Strides.{placed}
 use Rattle.zp_laws.specs.Frames.{is_served}
 use Rattle.zp_laws.specs.Inputs.{IsTrueEntry}
 use Rattle.zp_laws.specs.Standing.{Knows}
+use Rattle.zn_view.specs.Keeping.{update_path}
+use Rattle.zp_step.specs.Looking.{Looks, asks_for, decided, max_ranges}
+use Rattle.zp_laws.proofs.Keeping.{PlansBeside, first-or-anew}
+use Rattle.zn_view.specs.declared.plan.Decision.TheVariants.{Planned}
 use Rattle.zp_step.proofs.Shutting.{steps-open}
 use Rattle.zp_step.specs.Entries.{entered, then_reply, told_entry}
 use Rattle.zp_step.specs.Keepalives.{TakesUp, keeps_alive}
-use Rattle.zp_step.specs.Looking.{asks_for, max_ranges}
 use Rattle.zp_step.specs.Replies.{Is, is_due, replied}
 use Rattle.zp_step.specs.Stages.{Core, Pending, Stage, Unconnected, Connecting, Ready, KeepingAlive, Checking, Reading, Committing, Waiting, Shut, wanted_in, wants_of}
 use Rattle.zp_step.specs.Steps.{Goes, StepsOpen, rests, takes}
@@ -55,8 +58,12 @@ readable-cursor c c' now out x (Some t) p h = is-cursor (plainly c (xid_of x) t.
 readable-cursor c c' now out NoHeader None p h = absurd h
 readable-cursor c c' now out (Unreadable xid place) None p h = absurd h
 readable-cursor c c' now out (Unknown xid kind) None p h = absurd h
-readable-cursor c c' now out (Asks xid r) None p (inl y) = is-cursor (asks_for c xid r empty_view (take max_ranges y.lacking)) c c' out refl y.is
-readable-cursor c c' now out (Asks xid r) None p (inr y) = absurd (y.whole.enough refl p head_want (inl refl) refl)
+readable-cursor c c' now out (Asks xid r) None p h = go (first-or-anew c c' xid r now out (update_path r) h)
+  where
+    go : PlansBeside c xid r now c' out ⊎ Looks c xid r empty_view now c' out → c'.cursor ≡ c.cursor
+    go (inl y) = is-cursor (decided (record c { views = y.views }) xid r y.view now (Planned y.plan)) c c' out refl y.is
+    go (inr (inl y)) = is-cursor (asks_for c xid r empty_view (take max_ranges y.lacking)) c c' out refl y.is
+    go (inr (inr y)) = absurd (y.whole.enough refl p head_want (inl refl) refl)
 
 takes-cursor : (c c' : Core) (bytes : List ℕ) (now : ℕ) (out : List Action) → Takes c bytes now c' out → c'.cursor ≡ c.cursor
 takes-cursor c c' bytes now out h = readable-cursor c c' now out (read_request bytes) (plain_reply no_watches (read_request bytes)) refl h

@@ -1,6 +1,6 @@
 -- A round looks up few things at once: after each step, where it did so before.
 use Rattle.std.proofs.Common.{◌≡◌, ℕ, ◌≤◌, List, [], length, take, min, refl, sym, subst, arith, Bool, true, false, ℤ, pos, inl, inr}
-use Rattle.std.specs.Prelude.{Option, Some, None, if◌then◌else◌, MatchBool}
+use Rattle.std.specs.Prelude.{Option, Some, None, ◌⊎◌, if◌then◌else◌, MatchBool}
 use Rattle.std.specs.Arc.{arc_value}
 use Rattle.std.specs.Ordering.{int_eq}
 use Rattle.std.proofs.lemmas.Bool.Decides.{nat_tests}
@@ -33,6 +33,9 @@ use Rattle.zs_session.specs.declared.connect.Connect.{Connect}
 use Rattle.zs_session.specs.declared.connect.ConnectStep.{ConnectStep}
 use Rattle.zs_session.specs.declared.connect.ConnectStep.TheVariants as steps
 use Rattle.zp_laws.proofs.Cases.{either, of_alive, of_txn}
+use Rattle.zp_step.specs.Kept.{keeps}
+use Rattle.zn_view.specs.Keeping.{update_path}
+use Rattle.zp_laws.proofs.Keeping.{PlansBeside, first-or-anew}
 use Rattle.zp_step.proofs.Shutting.{shut-for-good, steps-open}
 use Rattle.zp_step.specs.Connects.{Connects, Opens, begun, connected}
 use Rattle.zp_step.specs.Entries.{entered, then_reply}
@@ -86,7 +89,7 @@ module _ (now : ℕ) (c' : Core) (out : List Action) where
 
   few-looks : (c : Core) (xid : ℤ) (r : Request) (v : View) → Looks c xid r v now c' out → AsksFew c'.stage
   few-looks c xid r v (inl y) = few-is (asks_for c xid r v (take max_ranges y.lacking)) (at-most y.lacking) y.is
-  few-looks c xid r v (inr y) = few-is (decided c xid r v now y.decision) (few-decided c xid r v now y.decision) y.is
+  few-looks c xid r v (inr y) = few-is (decided (keeps c r v) xid r v now y.decision) (few-decided (keeps c r v) xid r v now y.decision) y.is
 
   few-records : (c : Core) (ws : List Want) (parts : List ActAns) (Next : Type 0) → (Next → AsksFew c'.stage) → IfRecords c ws parts c' out Next → AsksFew c'.stage
   few-records c ws parts Next f (inl e) = few-closed c (cause.Damaged e.key e.value) e.is
@@ -99,7 +102,11 @@ module _ (now : ℕ) (c' : Core) (out : List Action) where
   few-readable c NoHeader None h = absurd h
   few-readable c (Unreadable xid place) None h = absurd h
   few-readable c (Unknown xid kind) None h = absurd h
-  few-readable c (Asks xid r) None h = few-looks c xid r empty_view h
+  few-readable c (Asks xid r) None h = go (first-or-anew c c' xid r now out (update_path r) h)
+    where
+      go : PlansBeside c xid r now c' out ⊎ Looks c xid r empty_view now c' out → AsksFew c'.stage
+      go (inl y) = few-is (decided (record c { views = y.views }) xid r y.view now (Planned y.plan)) tt y.is
+      go (inr y) = few-looks c xid r empty_view y
 
   few-takes : (c : Core) (bytes : List ℕ) → Takes c bytes now c' out → AsksFew c'.stage
   few-takes c bytes h = few-readable c (read_request bytes) (plain_reply no_watches (read_request bytes)) h
@@ -118,9 +125,9 @@ module _ (now : ℕ) (c' : Core) (out : List Action) where
       let p = moved c.who v kv.mod_revision (xid_of (read_request bytes)) in
       either (int_eq kv.mod_revision c.who.mine) (Takes c bytes now c' out) (Is (waits c p) c' out) (AsksFew c'.stage) h (few-takes c bytes) (few-is (waits c p) (few-waits c p))
 
-  few-committed : (c : Core) (xid : ℤ) (r : Request) (p : Plan) (z : ℤ) (b : Bool) (parts : List ActAns) → Committed c xid r p now c' out z b parts → AsksFew c'.stage
-  few-committed c xid r p z true parts h = few-is (waits c (finishes xid r p z parts)) (few-waits c (finishes xid r p z parts)) h
-  few-committed c xid r p z false parts h = let y = viewed z p.again parts in few-records c p.again parts (Looks c xid r y now c' out) (few-looks c xid r y) h
+  few-committed : (c : Core) (xid : ℤ) (r : Request) (u : View) (p : Plan) (z : ℤ) (b : Bool) (parts : List ActAns) → Committed c xid r u p now c' out z b parts → AsksFew c'.stage
+  few-committed c xid r u p z true parts h = few-is (waits h.kept (finishes xid r p z parts)) (few-waits h.kept (finishes xid r p z parts)) h.is
+  few-committed c xid r u p z false parts h = let y = viewed z p.again parts in few-records c p.again parts (Looks c xid r y now c' out) (few-looks c xid r y) h
 
   few-connects : (c : Core) (x : Connect) (a : Option Answer) → Connects c x a now c' out → AsksFew c'.stage
   few-connects c x a (inl e) = few-closed c (cause.Damaged e.key e.value) e.is
@@ -133,7 +140,7 @@ module _ (now : ℕ) (c' : Core) (out : List Action) where
       let v = viewed z (attach_wants c.who.session) parts in
       few-records c (attach_wants c.who.session) parts (Looked c f now c' out v) (few-still c f v (found_at v (life_key c.who.session))) g)
   few-answers c a (Reading xid r v ws) h = of_txn a _ (AsksFew c'.stage) h (λ z b parts g. let y = with_parts (at_revision v z) ws parts in few-records c ws parts (Looks c xid r y now c' out) (few-looks c xid r y) g)
-  few-answers c a (Committing xid r v p m) h = of_txn a _ (AsksFew c'.stage) h (λ z b parts g. few-committed c xid r p z b parts g)
+  few-answers c a (Committing xid r v p m) h = of_txn a _ (AsksFew c'.stage) h (λ z b parts g. few-committed c xid r v p z b parts g)
   few-answers c a (Unconnected fresh) h = absurd h
   few-answers c a Ready h = absurd h
   few-answers c a (Waiting p) h = absurd h

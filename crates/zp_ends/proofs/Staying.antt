@@ -1,6 +1,6 @@
 -- An attached connection whose session lives takes an answer or an entry, and stays open.
 use Rattle.std.proofs.Common.{◌≡◌, ℕ, List, [], ◌∷◌, take, refl, sym, ap, ◌∙◌, subst, arith, Bool, true, false, ℤ, pos, inl, inr}
-use Rattle.std.specs.Prelude.{Option, Some, None, ◌||◌, MatchBool, if◌then◌else◌, ◌≤ℤ◌}
+use Rattle.std.specs.Prelude.{Option, Some, None, ◌⊎◌, ◌||◌, MatchBool, if◌then◌else◌, ◌≤ℤ◌}
 use Rattle.std.specs.Arc.{arc_value}
 use Rattle.std.specs.Ordering.{int_eq}
 use Rattle.std.proofs.lemmas.Bool.Decides.{Decides-int_eq}
@@ -41,6 +41,9 @@ use Rattle.zx_base.proofs.Options.{none_some, some_is}
 use Rattle.zp_laws.proofs.Cases.{either, of_alive}
 use Rattle.zp_laws.proofs.Honest.{records-sound}
 use Rattle.zp_laws.specs.Standing.{IsForTree}
+use Rattle.zp_step.specs.Kept.{keeps}
+use Rattle.zn_view.specs.Keeping.{update_path}
+use Rattle.zp_laws.proofs.Keeping.{PlansBeside, first-or-anew, leaves-beside}
 use Rattle.zp_step.specs.Entries.{entered, then_reply, told_entry}
 use Rattle.zp_step.specs.Keepalives.{Checked, KeptAlive, Looked, StillMine, TakesUp, checks, keeps_alive}
 use Rattle.zp_step.specs.Looking.{IfRecords, Looks, asks_for, change_by, decided, max_ranges, moved, pending}
@@ -121,7 +124,7 @@ module _ (c' : Core) (out : List Action) where
   looks-lasting c xid r v now rises tree s k w (inl y) = is-lasting (asks_for c xid r v (take max_ranges y.lacking)) c' out (record { work = k; waiting = w }) y.is
   looks-lasting c xid r v now rises tree s k w (inr y) =
       let by_tree = tested-tree c.who v y.decision (sees v (life_key c.who.session)) refl (y.whole.enough refl tree (life_want c.who.session) (inr (inl refl))) rises s (y.tested tree) in
-      is-lasting (decided c xid r v now y.decision) c' out (decided-lasting c xid r v now y.decision by_tree k w) y.is
+      is-lasting (decided (keeps c r v) xid r v now y.decision) c' out (decided-lasting (keeps c r v) xid r v now y.decision by_tree k w) y.is
 
   records-lasting : (c : Core) (ws : List Want) (parts : List ActAns) (Next : Type 0) → AreRecords ws parts → (Next → IsLasting c') → IfRecords c ws parts c' out Next → IsLasting c'
   records-lasting c ws parts Next all f (inl e) = absurd (records-sound ws parts e.key e.value all e.found)
@@ -136,9 +139,15 @@ module _ (c' : Core) (out : List Action) where
   readable-lasting c now NoHeader None p k w h = absurd h
   readable-lasting c now (Unreadable xid place) None p k w h = absurd h
   readable-lasting c now (Unknown xid kind) None p k w h = absurd h
-  readable-lasting c now (Asks xid r) None p k w (inr y) = absurd (y.whole.enough refl p head_want (inl refl) refl)
-  readable-lasting c now (Asks xid r) None p k w (inl y) =
-      is-lasting (asks_for c xid r empty_view (take max_ranges y.lacking)) c' out (record { work = (or-both (is_close r) (refuses (plain_reply no_watches (Asks xid r))) k).0; waiting = w }) y.is
+  readable-lasting c now (Asks xid r) None p k w h = go (first-or-anew c c' xid r now out (update_path r) h)
+    where
+      stays : is_close r ≡ false
+      stays = (or-both (is_close r) (refuses (plain_reply no_watches (Asks xid r))) k).0
+
+      go : PlansBeside c xid r now c' out ⊎ Looks c xid r empty_view now c' out → IsLasting c'
+      go (inl y) = is-lasting (decided (record c { views = y.views }) xid r y.view now (Planned y.plan)) c' out (record { work = stays; waiting = w }) y.is
+      go (inr (inl y)) = is-lasting (asks_for c xid r empty_view (take max_ranges y.lacking)) c' out (record { work = stays; waiting = w }) y.is
+      go (inr (inr y)) = absurd (y.whole.enough refl p head_want (inl refl) refl)
 
   takes-lasting : (c : Core) (bytes : List ℕ) (now : ℕ) → closes_behind (read_request bytes) ≡ false → AreLasting c.waiting → Takes c bytes now c' out → IsLasting c'
   takes-lasting c bytes now k w h = readable-lasting c now (read_request bytes) (plain_reply no_watches (read_request bytes)) refl k w h
@@ -185,14 +194,16 @@ module _ (c' : Core) (out : List Action) where
   ends-none req.Close k = absurd (true-false k)
   ends-none _ k = refl
 
-  committed-lasting : (c : Core) (xid : ℤ) (r : Request) (p : Plan) (now : ℕ) (z : ℤ) (b : Bool) (parts : List ActAns) → pos 1 ≤ℤ c.who.mine → IsForTree r → CommitShows c.who p z parts b → is_close r ≡ false → AreLasting c.waiting → Committed c xid r p now c' out z b parts → IsLasting c'
-  committed-lasting c xid r p now z true parts rises tree s k w h = is-lasting (waits c (finishes xid r p z parts)) c' out (waits-lasting c (finishes xid r p z parts) (ends-none r k) w) h
-  committed-lasting c xid r p now z false parts rises tree s k w h =
+  committed-lasting : (c : Core) (xid : ℤ) (r : Request) (u : View) (p : Plan) (now : ℕ) (z : ℤ) (b : Bool) (parts : List ActAns) → pos 1 ≤ℤ c.who.mine → IsForTree r → CommitShows c.who p z parts b → is_close r ≡ false → AreLasting c.waiting → Committed c xid r u p now c' out z b parts → IsLasting c'
+  committed-lasting c xid r u p now z true parts rises tree s k w h =
+      let e = leaves-beside c h.kept (update_path r) u p z parts h.leaves in
+      is-lasting (waits h.kept (finishes xid r p z parts)) c' out (waits-lasting h.kept (finishes xid r p z parts) (ends-none r k) (subst (λ (d : Core). AreLasting d.waiting) (sym e.1) w)) h.is
+  committed-lasting c xid r u p now z false parts rises tree s k w h =
       let y = viewed z p.again parts in
       records-lasting c p.again parts (Looks c xid r y now c' out) s.0 (looks-lasting c xid r y now rises tree s.1 k w) h
 
-  commit-lasting : (c : Core) (xid : ℤ) (r : Request) (v : View) (p : Plan) (m now : ℕ) (a : Answer) → pos 1 ≤ℤ c.who.mine → Shows c.who (Committing xid r v p m) a → is_close r ≡ false → AreLasting c.waiting → CommitAnswered c xid r p now c' out a → IsLasting c'
-  commit-lasting c xid r v p m now (answer.Txn z b parts) rises s k w h = committed-lasting c xid r p now z b parts rises s.0 s.1 k w h
+  commit-lasting : (c : Core) (xid : ℤ) (r : Request) (v : View) (p : Plan) (m now : ℕ) (a : Answer) → pos 1 ≤ℤ c.who.mine → Shows c.who (Committing xid r v p m) a → is_close r ≡ false → AreLasting c.waiting → CommitAnswered c xid r v p now c' out a → IsLasting c'
+  commit-lasting c xid r v p m now (answer.Txn z b parts) rises s k w h = committed-lasting c xid r v p now z b parts rises s.0 s.1 k w h
   commit-lasting c xid r v p m now (answer.Range z found) rises s k w h = absurd h
   commit-lasting c xid r v p m now (answer.Granted z id ttl) rises s k w h = absurd h
   commit-lasting c xid r v p m now (answer.Alive z id ttl) rises s k w h = absurd h

@@ -18,7 +18,8 @@ use Rattle.zn_view.specs.declared.plan.Plan.{Plan}
 use Rattle.zn_view.specs.declared.plan.Who.{Who}
 use Rattle.zp_step.specs.Plans.{finishes}
 use Rattle.zp_step.specs.Replies.{Is, closed_by, is_due, replied}
-use Rattle.zp_step.specs.Stages.{Core, Pending, Stage, Unconnected, Connecting, Ready, KeepingAlive, Checking, Reading, Committing, Waiting, Shut, asked_of, is_shut}
+use Rattle.zp_step.specs.Replies.{waits}
+use Rattle.zp_step.specs.Stages.{Core, KeptViews, Pending, Stage, Unconnected, Connecting, Ready, KeepingAlive, Checking, Reading, Committing, Waiting, Shut, asked_of, is_shut}
 use Rattle.zp_step.specs.Steps.{Answers, Comes, Goes, Steps, StepsOpen, queued, rests, takes}
 use Rattle.zp_step.specs.Plans.{CommitAnswered}
 use Rattle.zp_step.specs.declared.action.Action.{Action}
@@ -29,12 +30,12 @@ use Rattle.zp_step.proofs.Shutting.{steps-open}
 use Rattle.zp_laws.specs.Ending.{StaysOut, asked_by, closes, ends_well, is_end}
 use Rattle.zp_laws.specs.Frames.{is_open, is_served}
 use Rattle.zp_laws.specs.Inputs.{IsReady, takes_entries}
-use Rattle.zp_laws.specs.Standing.{IsReply, Stands, StandsOpen, is_ahead}
+use Rattle.zp_laws.specs.Standing.{AreViewsOf, IsReply, Stands, StandsOpen, is_ahead}
 use Rattle.zp_laws.specs.Walking.{IsAheadIn, IsAskedFor, IsStill}
 use Rattle.zp_laws.proofs.Ending.{goes-ends, steps_end_well}
 use Rattle.zp_laws.proofs.Going.{goes-walks}
 use Rattle.zp_laws.proofs.Replying.{Busy, replied-next, replied-walks}
-use Rattle.zp_laws.proofs.Steps.{AtStage, at-stage, busy-at, sends_are_walks, served-open, was-done}
+use Rattle.zp_laws.proofs.Steps.{was-left, AtStage, at-stage, busy-at, sends_are_walks, served-open, was-done}
 use Rattle.zp_laws.proofs.Strides.{ahead-now}
 use Rattle.zp_laws.proofs.WalkMoves.{walk-next}
 
@@ -69,31 +70,37 @@ open-is Shut h = absurd (cc)
 
 -- after a plan that succeeded the stage is another one, or the request has been answered
 done-moves : (store : Store) (lines : List TranscriptLine) (conn : ℕ) (c mid c' : Core) (w : Walker) (looked now : ℕ) (r : ℤ) (parts : List ActAns) (xid : ℤ) (q : Request) (v : View) (p : Plan) (m : ℕ) (first later : List Action)
-    → AtStage store lines conn c w looked (answer.Txn r true parts) (Committing xid q v p m) → CommitAnswered c xid q p now mid first (answer.Txn r true parts) → Goes now mid c' later
+    → AtStage store lines conn c w looked (answer.Txn r true parts) (Committing xid q v p m) → CommitAnswered c xid q v p now mid first (answer.Txn r true parts) → Goes now mid c' later
     → c'.stage ≡ Committing xid q v p m → c'.next ≡ c.next → ⊥
-done-moves store lines conn c mid c' w looked now r parts xid q v p m first later k h g st same = go (is_due c fin) refl h
+done-moves store lines conn c mid c' w looked now r parts xid q v p m first later k h g st same = go (is_due d fin) refl (subst (λ (x : Core). Is (waits x fin) mid first) left.1 h.is)
   where
     fin : Pending
     fin = finishes xid q p r parts
 
-    reply : IsReply lines conn c.who w fin looked
+    left : (xs : KeptViews) × (h.kept ≡ record c { views = xs }) × AreViewsOf store xs
+    left = was-left store lines conn c c w looked now [] r parts xid q v p m k h.kept h.leaves
+
+    d : Core
+    d = record c { views = left.0 }
+
+    reply : IsReply lines conn d.who w fin looked
     reply = was-done store lines conn c c w looked now [] r parts xid q v p m k
 
-    b : Busy lines conn c w
-    b = busy-at store lines conn c c w looked now [] (answer.Txn r true parts) xid q v p m k
+    b : Busy store lines conn d w
+    b = busy-at store lines conn c c w looked now [] (answer.Txn r true parts) xid q v p m k left.0 left.2
 
     waiting-rests : (d : Core) → d.stage ≡ Waiting fin → Goes now d c' later → ⊥
     waiting-rests d e (rests why s none) = let f : Committing xid q v p m ≡ Waiting fin = sym st ∙ ap (λ (x : Core). x.stage) s ∙ e in cc
     waiting-rests d e (takes n f more x y ready w2 t g2 o) = let f2 : Ready ≡ Waiting fin = sym ready ∙ e in cc
 
-    go : (t : Bool) → is_due c fin ≡ t → Is (if t then replied c fin else (record c { stage = Waiting fin }, [])) mid first → ⊥
+    go : (t : Bool) → is_due d fin ≡ t → Is (if t then replied d fin else (record d { stage = Waiting fin }, [])) mid first → ⊥
     go false e i = waiting-rests mid (ap (λ (x : Core). x.stage) i.0) g
     go true e i =
-        let one = replied-walks lines conn c w fin looked b reply store e in
-        let two = goes-walks store lines conn looked now (replied c fin).0 c' one.walker later k.legal one.stands (subst (λ d. Goes now d c' later) i.0 g) in
+        let one = replied-walks store lines conn d w fin looked b reply e in
+        let two = goes-walks store lines conn looked now (replied d fin).0 c' one.walker later k.legal one.stands (subst (λ x. Goes now x c' later) i.0 g) in
         let s : Stands store lines conn c' two.walker looked = subst (λ t. StandsOpen t store lines conn c' two.walker looked) (ap is_open st) two.stands in
         let up = walk-next lines conn c.who.session one.walker (two.strides).choices (two.walker, (two.strides).due) (two.strides).walked in
-        omega (arith, up, (s.matches).next, same, (k.matches).next, replied-next lines conn c w fin looked b reply store e)
+        omega (arith, up, (s.matches).next, same, (k.matches).next, replied-next store lines conn d w fin looked b reply e)
 
 module _ (store : Store) (lines : List TranscriptLine) (conn : ℕ) (c mid n : Core) (w : Walker) (looked now : ℕ) (first later : List Action) (g : Goes now mid n later) (s : IsStill c n) where
   still-ahead : (a : Answer) (st : Stage) → c.stage ≡ st → AtStage store lines conn c w looked a st → Answers c a now mid first st → is_ahead lines conn c.next ≡ true

@@ -14,7 +14,8 @@ use Rattle.ev_types.specs.declared.answer.Kv.{Kv}
 use Rattle.ev_types.specs.declared.ask.Guard.{Guard}
 use Rattle.ev_types.specs.Denials.{carry}
 use Rattle.ev_types.specs.Ranges.{Keys}
-use Rattle.ev_types.specs.Store.{Store, holds, last_revision, mod_of, present, store_at}
+use Rattle.ev_types.specs.Store.{Store, acts_applied, holds, last_revision, mod_of, present, store_at}
+use Rattle.ev_types.specs.declared.ask.Ask.TheVariants as ask
 use Rattle.zk_jute.specs.Requests.{Asks, Frame, read_request}
 use Rattle.zk_model.specs.Watches.{Watches}
 use Rattle.zk_model.specs.declared.reply.Body.{Body}
@@ -35,7 +36,12 @@ use Rattle.zk_transcript.proofs.Lookups.{first_shown-place}
 use Rattle.zk_least.proofs.Rising.{Rises, at-line, rising}
 use Rattle.zn_layout.specs.Keys.{HeadKey, LeaseKey, key_bytes}
 use Rattle.zn_layout.specs.StandsFor.{HeadMeans, StandsFor, at}
-use Rattle.zn_view.specs.Asks.{lease_guard, transaction}
+use Rattle.zn_view.specs.Keeping.{PutsNewKeys, after_view}
+use Rattle.zn_view.proofs.Guarded.{plan-leaves}
+use Rattle.zn_layout.specs.Updates.{update_txn}
+use Rattle.zn_layout.proofs.Commits.{committed}
+use Rattle.zn_view.specs.Asks.{lease_guard, plan_txn, ranges_of, transaction}
+use Rattle.zn_view.proofs.Asked.{stands-put}
 use Rattle.zn_view.specs.Laws.{LivesAs}
 use Rattle.zn_view.specs.Needs.{finished}
 use Rattle.zn_view.specs.Seen.{View, head_number}
@@ -43,11 +49,12 @@ use Rattle.zn_view.specs.Views.{Agrees, done_by, limit_at, live}
 use Rattle.zn_view.specs.declared.plan.Plan.{Plan}
 use Rattle.zn_view.proofs.Showing.{carried-out}
 use Rattle.zn_view.proofs.Tested.{session-lives}
+use Rattle.zp_step.specs.Kept.{head_shown}
 use Rattle.zp_step.specs.Plans.{end_behind, finishes}
 use Rattle.zp_step.specs.Stages.{Core}
 use Rattle.zp_laws.specs.Frames.{IsFrameAt}
 use Rattle.zp_laws.specs.Inputs.{IsOfEarlier, IsOwnLine, Precedes, StoodAt, kind_for}
-use Rattle.zp_laws.specs.Standing.{IsBoundPlan, IsReply, Matches}
+use Rattle.zp_laws.specs.Standing.{IsBoundPlan, IsReply, IsViewOf, Matches}
 use Rattle.zp_laws.proofs.Attached.{acts-here, first_place-take, live-is, moored}
 use Rattle.zp_laws.proofs.Deciding.{attached-then, walker-frame}
 use Rattle.zp_laws.proofs.Replying.{past-told}
@@ -168,6 +175,7 @@ pub record WasDone (store : Store) (lines : List TranscriptLine) (conn : ℕ) (c
   pub bound : IsBoundPlan store c.who q v p m
   pub carried_out : carry before (transaction p) ≡ Some (then_store, answer.Txn r true parts)
   pub was : Precedes before store
+  pub is : Precedes then_store store
   pub earlier : IsOfEarlier v before
   pub shown : StoodAt then_store lines conn c.who w looked
   pub own : IsOwnLine lines conn c w before q m r looked
@@ -199,6 +207,35 @@ module _ (store : Store) (lines : List TranscriptLine) (conn : ℕ) (c : Core) (
       let mine : placed_frame conn w.next lines ≡ Some (f.place, bytes) = ap (λ n. placed_frame conn n lines) (k.matches).next ∙ f.framed in
       let asked = request-before lines conn c.next o.place f.place bytes xid q (first_place-take (frame_shown conn c.next) 0 o.place lines f.place bytes f.framed (let lt = (o.planned).asked f.place bytes mine in omega (arith, lt))) k.reads in
       responds lines o.place conn c.next m r c.who.session q x.session y.made (finished r p.draft) x.there acts asked y.commits y.answers
+
+  -- what the update leaves of its view is of the store, as the update left it
+  pub done-view : (head : Kv) → PutsNewKeys v p → head_shown parts ≡ Some head → IsViewOf store (after_view v p.guards p.success r head)
+  done-view head new shows =
+      let o = k.own in
+      let good = (k.bound).good in
+      let s = state_at lines o.place in
+      let there = attached-then lines conn c w o.place k.legal k.least k.matches o.planned in
+      let fine = moored lines conn c.who o.place there in
+      let d = carried-out before then_store p r parts (good.asked).shows k.carried_out in
+      let le = k.earlier (k.bound).number (k.bound).revision in
+      let agrees : Agrees v (store_at before (k.bound).number) = subst (Agrees v) ((k.was).same (k.bound).number le) (k.bound).agrees in
+      let may = may-commit before v p (k.bound).number (length before.revisions) (good.asked).keys le agrees (k.bound).put (good.asked).among (good.asked).guards d.holds in
+      let writes = good.writes in
+      let again = ranges_of (pos 0) p.again in
+      let txn : plan_txn p ≡ update_txn p.guards writes.changes p.triggers again = λ i. record { guards = p.guards; success = writes.acts i; failure = again } in
+      let z = (committed before then_store p.guards writes.changes p.triggers again r parts (subst (λ t. carry before (ask.Txn t) ≡ Some (then_store, answer.Txn r true parts)) txn k.carried_out)).zxid_is in
+      let keys : present then_store ≡ acts_applied r (present before) p.success = d.keys ∙ ap (λ (y : ℤ). acts_applied y (present before) p.success) (sym z) in
+      let head_there = ap (λ (m : Keys). get m (key_bytes HeadKey)) (sym keys) ∙ sym d.head ∙ shows in
+      let x = after_view v p.guards p.success r head in
+      let now : Agrees x (present then_store) = subst (Agrees x) (sym keys) (plan-leaves v p (good.reads).keys (present before) s r head (good.reads).guards new fine.sound o.stood may head_there) in
+      let same : store_at store (length then_store.revisions) ≡ present then_store = (k.is).same (length then_store.revisions) (omega arith) in
+      record {
+        number = length then_store.revisions;
+        revision = d.revision_is;
+        known = (k.is).longer;
+        agrees = subst (Agrees x) (sym same) now;
+        put = stands-put x (present then_store) (state_at lines looked) (k.shown).stands now;
+      }
 
   pub done-reply : IsReply lines conn c.who w (finishes xid q p r parts) looked
   done-reply =

@@ -35,6 +35,8 @@ use Rattle.zs_session.specs.declared.connect.Fresh.{Fresh}
 use Rattle.zp_step.specs.Connects.{Connects, Opens, begun, connected}
 use Rattle.zp_step.specs.Entries.{entered, then_reply}
 use Rattle.zp_step.specs.Keepalives.{Checked, KeptAlive, Looked, StillMine, TakesUp, checks, keeps_alive}
+use Rattle.zp_step.specs.Kept.{keeps}
+use Rattle.zn_view.specs.Keeping.{update_path}
 use Rattle.zp_step.specs.Looking.{IfRecords, Looks, asks_for, change_by, decided, expired, max_ranges, moved, pending}
 use Rattle.zp_step.specs.Plans.{Committed, ReadOn, finishes}
 use Rattle.zp_step.specs.Replies.{Is, closed_by, is_due, replied, stage_behind, waits}
@@ -45,6 +47,7 @@ use Rattle.zp_step.specs.declared.action.Action.{Action}
 use Rattle.zp_step.specs.declared.input.Input.{Input}
 use Rattle.zp_step.specs.declared.input.Input.TheVariants as input
 use Rattle.zp_step.proofs.Shutting.{steps-open}
+use Rattle.zp_laws.proofs.Keeping.{PlansBeside, first-or-anew, leaves-beside}
 use Rattle.zp_laws.specs.Ending.{CountsOn, IsNumbered, comes_in}
 use Rattle.zp_laws.specs.Frames.{is_served, next_frame, waits_from}
 use Rattle.zp_laws.proofs.Cases.{either, of_alive, of_txn}
@@ -98,7 +101,7 @@ module _ (n : ℕ) (small : n ≤ max_count) where
   module _ (c' : Core) (out : List Action) where
     looks-keeps : (c : Core) (xid : ℤ) (r : Request) (v : View) (now : ℕ) → work c ≡ n → Looks c xid r v now c' out → Keeps true n c'
     looks-keeps c xid r v now w (inl y) = is-keeps true n (asks_for c xid r v (take max_ranges y.lacking)) c' out (inr (w, ((λ h. refl), tt))) y.is
-    looks-keeps c xid r v now w (inr y) = is-keeps true n (decided c xid r v now y.decision) c' out (decided-keeps c xid r v now y.decision w) y.is
+    looks-keeps c xid r v now w (inr y) = is-keeps true n (decided (keeps c r v) xid r v now y.decision) c' out (decided-keeps (keeps c r v) xid r v now y.decision w) y.is
 
     records-keeps : (c : Core) (ws : List Want) (parts : List ActAns) (Next : Type 0) → (Next → Keeps true n c') → IfRecords c ws parts c' out Next → Keeps true n c'
     records-keeps c ws parts Next f (inl e) = is-keeps true n (closed_by c (cause.Damaged e.key e.value)) c' out (inl refl) e.is
@@ -109,7 +112,11 @@ module _ (n : ℕ) (small : n ≤ max_count) where
     readable-keeps c now NoHeader None w h = absurd h
     readable-keeps c now (Unreadable xid place) None w h = absurd h
     readable-keeps c now (Unknown xid kind) None w h = absurd h
-    readable-keeps c now (Asks xid r) None w h = looks-keeps c xid r empty_view now w h
+    readable-keeps c now (Asks xid r) None w h = go (first-or-anew c c' xid r now out (update_path r) h)
+      where
+        go : PlansBeside c xid r now c' out ⊎ Looks c xid r empty_view now c' out → Keeps true n c'
+        go (inl y) = let d = record c { views = y.views } in is-keeps true n (decided d xid r y.view now (Planned y.plan)) c' out (decided-keeps d xid r y.view now (Planned y.plan) w) y.is
+        go (inr y) = looks-keeps c xid r empty_view now w y
 
     takes-keeps : (c : Core) (bytes : List ℕ) (now : ℕ) → work c ≡ n → Takes c bytes now c' out → Keeps true n c'
     takes-keeps c bytes now w h = readable-keeps c now (read_request bytes) (plain_reply no_watches (read_request bytes)) w h
@@ -144,9 +151,11 @@ module _ (n : ℕ) (small : n ≤ max_count) where
         let y = with_parts (at_revision v z) ws parts in
         records-keeps c ws parts (Looks c xid r y now c' out) (looks-keeps c xid r y now w) f)
 
-    committed-keeps : (c : Core) (xid : ℤ) (r : Request) (p : Plan) (now : ℕ) (z : ℤ) (b : Bool) (parts : List ActAns) → work c ≡ n → Committed c xid r p now c' out z b parts → Keeps true n c'
-    committed-keeps c xid r p now z true parts w h = is-keeps true n (waits c (finishes xid r p z parts)) c' out (waits-keeps c (finishes xid r p z parts) w) h
-    committed-keeps c xid r p now z false parts w h =
+    committed-keeps : (c : Core) (xid : ℤ) (r : Request) (u : View) (p : Plan) (now : ℕ) (z : ℤ) (b : Bool) (parts : List ActAns) → work c ≡ n → Committed c xid r u p now c' out z b parts → Keeps true n c'
+    committed-keeps c xid r u p now z true parts w h =
+        let e = leaves-beside c h.kept (update_path r) u p z parts h.leaves in
+        is-keeps true n (waits h.kept (finishes xid r p z parts)) c' out (waits-keeps h.kept (finishes xid r p z parts) (ap work e.1 ∙ w)) h.is
+    committed-keeps c xid r u p now z false parts w h =
         let y = viewed z p.again parts in
         records-keeps c p.again parts (Looks c xid r y now c' out) (looks-keeps c xid r y now w) h
 
@@ -175,7 +184,7 @@ module _ (n : ℕ) (small : n ≤ max_count) where
     answers-keeps c a now (KeepingAlive bytes) w h = alive-keeps c bytes now a w h
     answers-keeps c a now (Checking bytes) w h = checked-keeps c bytes now a w h
     answers-keeps c a now (Reading xid r v ws) w h = read-keeps c xid r v ws now a w h
-    answers-keeps c a now (Committing xid r v p time) w h = of_txn a _ (Keeps true n c') h (λ z b parts f. committed-keeps c xid r p now z b parts w f)
+    answers-keeps c a now (Committing xid r v p time) w h = of_txn a _ (Keeps true n c') h (λ z b parts f. committed-keeps c xid r v p now z b parts w f)
     answers-keeps c a now Ready w h = absurd h
     answers-keeps c a now (Waiting p) w h = absurd h
     answers-keeps c a now Shut w h = absurd h

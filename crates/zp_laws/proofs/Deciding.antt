@@ -24,16 +24,18 @@ use Rattle.zn_view.specs.declared.plan.Decision.{Decision}
 use Rattle.zn_view.specs.declared.plan.Decision.TheVariants.{Answered, Planned, Expired, Moved}
 use Rattle.zn_view.proofs.Asked.{stands-put}
 use Rattle.zn_view.proofs.LastUpdate.{last_update-told}
+use Rattle.zp_step.specs.Kept.{keeps, view_path}
 use Rattle.zp_step.specs.Looking.{IsBacked, Looks, asks_for, change_by, decided, expired, max_ranges, moved, pending}
 use Rattle.zp_step.specs.Replies.{Is, waits}
 use Rattle.zp_step.specs.Stages.{AddsWatch, Committing, Core, WatchChange}
 use Rattle.zp_step.specs.declared.action.Action.{Action}
 use Rattle.zp_step.specs.declared.action.Action.TheVariants as action
 use Rattle.zp_laws.specs.Frames.{IsFrameAt}
-use Rattle.zp_laws.specs.Standing.{IsForTree, IsMoment, IsReply, IsViewAt, Matches}
+use Rattle.zp_laws.specs.Standing.{IsForTree, IsMoment, IsReply, IsViewAt, IsViewOf, Matches}
 use Rattle.zp_laws.specs.Walking.{Walks}
 use Rattle.zp_laws.proofs.Attached.{IsAttached, away-refused, first_place-take, gone-refused, here-served, live-is, moored}
-use Rattle.zp_laws.proofs.Going.{Works, asking-walks, reads-walks, still-matches}
+use Rattle.zp_laws.proofs.Going.{Works, beside-walks, beside-works, plans-walks, reads-walks}
+use Rattle.zp_laws.proofs.Keeping.{views-with}
 use Rattle.zp_laws.proofs.Replying.{Busy, past-told, waits-walks}
 use Rattle.zp_laws.proofs.Strides.{walks-is}
 use Rattle.zp_laws.proofs.Telling.{answered-by, by-form, expired-by, moved-by, refused-told, told-by, tree-told, told_by}
@@ -51,14 +53,14 @@ attached-then lines conn c w looked h least m t = record {
 
 -- what every decision on a view knows
 pub record Sees (store : Store) (lines : List TranscriptLine) (conn : ℕ) (c : Core) (w : Walker) (bytes : List ℕ) (v : View) (looked : ℕ) : Type 0 where
-  pub works : Works lines conn c w bytes
+  pub works : Works store lines conn c w bytes
   pub least : pos 1 ≤ℤ c.who.session
   pub view : IsViewAt store lines conn c.who w v looked
   pub head : seen v (key_bytes HeadKey) ≡ None → ⊥
   pub own : own_update conn c.next lines ≡ None
 
-pub busy : (lines : List TranscriptLine) (conn : ℕ) (c : Core) (w : Walker) (bytes : List ℕ) → Works lines conn c w bytes → Busy lines conn c w
-busy lines conn c w bytes k = record { legal = k.legal; matches = k.matches; waiting = k.waiting; turn = k.turn }
+pub busy : (store : Store) (lines : List TranscriptLine) (conn : ℕ) (c : Core) (w : Walker) (bytes : List ℕ) → Works store lines conn c w bytes → Busy store lines conn c w
+busy store lines conn c w bytes k = record { legal = k.legal; matches = k.matches; waiting = k.waiting; turn = k.turn; views = k.views }
 
 -- the frame at work is the walker's next one
 pub walker-frame : (lines : List TranscriptLine) (conn : ℕ) (c : Core) (w : Walker) (bytes : List ℕ) → Matches lines c w → IsFrameAt lines conn c.next bytes → IsFrameAt lines conn w.next bytes
@@ -92,7 +94,7 @@ module _ (store : Store) (lines : List TranscriptLine) (conn : ℕ) (c : Core) (
         → ((ws : Watches) → told_as_of (take looked lines) conn c.who.session (read_request bytes) ws None ≡ Some (is_some ends, told_by change r ws))
         → Is (waits c (pending v xid r change ends)) c' out → Walks store lines conn c c' w looked out
     reply-walks xid r change ends e told i =
-        waits-walks lines conn c w (pending v xid r change ends) looked (busy lines conn c w bytes k.works) (view-reply xid r change ends e told) store c' out i
+        waits-walks store lines conn c w (pending v xid r change ends) looked (busy store lines conn c w bytes k.works) (view-reply xid r change ends e told) c' out i
 
     -- the session has expired or moved
     pub expired-walks : (xid : ℤ) → xid_of (read_request bytes) ≡ xid → live (session_at c.who.session (state_at lines looked)) ≡ None → Is (waits c (expired v xid)) c' out → Walks store lines conn c c' w looked out
@@ -123,25 +125,16 @@ module _ (store : Store) (lines : List TranscriptLine) (conn : ℕ) (c : Core) (
           ∙ tree-told lines conn looked c.who.session xid q (told_by (change_by q v arm) r ws) ws (limit_of b.session) (limit-is b.session b.lives) (here-served lines conn c.who looked a b.session b.lives b.mine) tree
           (told-by s c.who v r arm ws (store_at store (k.view).number, (k.view).stands, (k.view).agrees) q b (whole.enough refl tree))) i
       decided-walks now (Planned p) whole by back i =
-          let d = record c { stage = Committing xid q v p now } in
           walks-is store lines conn c c' (decided c xid q v now (Planned p)) w looked out i
-          (asking-walks store lines conn c d w bytes looked (action.Ask (transaction p) ∷ []) k.works refl refl refl refl refl refl (record {
-            matches = still-matches lines c d w m refl refl refl refl;
-            work = record { bytes = bytes; frame = (k.works).frame; reads = e };
-            waiting = (k.works).waiting;
-            turn = (k.works).turn;
-            knows = (
-              tree,
-              record {
-                number = (k.view).number;
-                revision = (k.view).revision;
-                known = (k.view).known;
-                agrees = (k.view).agrees;
-                put = stands-put v (store_at store (k.view).number) (state_at lines looked) (k.view).stands (k.view).agrees;
-                good = back;
-              },
-            );
-          }) refl (k.works).ahead)
+          (plans-walks store lines conn c w bytes looked now xid q v p k.works e tree (record {
+            number = (k.view).number;
+            revision = (k.view).revision;
+            known = (k.view).known;
+            agrees = (k.view).agrees;
+            put = stands-put v (store_at store (k.view).number) (state_at lines looked) (k.view).stands (k.view).agrees;
+            good = back.0;
+            keepable = back.1;
+          }))
       decided-walks now Expired whole by back i = expired-walks xid xid-is (expired-by (state_at lines looked) c.who q (live (session_at c.who.session (state_at lines looked))) by) i
       decided-walks now (Moved found) whole by back i =
           let t = moved-by (state_at lines looked) c.who q found (live (session_at c.who.session (state_at lines looked))) by in
@@ -149,15 +142,19 @@ module _ (store : Store) (lines : List TranscriptLine) (conn : ℕ) (c : Core) (
 
 -- more is asked for the view, or the request is decided on it
 pub view-walks : (store : Store) (lines : List TranscriptLine) (conn : ℕ) (c c' : Core) (w : Walker) (bytes : List ℕ) (v : View) (looked now : ℕ) (xid : ℤ) (q : Request) (out : List Action)
-    → Works lines conn c w bytes → pos 1 ≤ℤ c.who.session → IsViewAt store lines conn c.who w v looked → own_update conn c.next lines ≡ None → read_request bytes ≡ Asks xid q → IsForTree q
+    → Works store lines conn c w bytes → pos 1 ≤ℤ c.who.session → IsViewAt store lines conn c.who w v looked → own_update conn c.next lines ≡ None → read_request bytes ≡ Asks xid q → IsForTree q
     → Looks c xid q v now c' out → Walks store lines conn c c' w looked out
 view-walks store lines conn c c' w bytes v looked now xid q out k least view own e h (inl x) =
     walks-is store lines conn c c' (asks_for c xid q v (take max_ranges x.lacking)) w looked out x.is
     (reads-walks store lines conn c w bytes looked xid q v (take max_ranges x.lacking) k e
     (h, inr (record { number = view.number; revision = view.revision; begun = view.begun; known = view.known; agrees = view.agrees; stands = view.stands; moment = view.moment })))
 view-walks store lines conn c c' w bytes v looked now xid q out k least view own e h (inr x) =
-    let sees : Sees store lines conn c w bytes v looked = record { works = k; least = least; view = view; head = λ none. x.whole.enough refl h head_want (inl refl) none; own = own } in
+    let d = keeps c q v in
+    let of : IsViewOf store v = record { number = view.number; revision = view.revision; known = view.known; agrees = view.agrees; put = stands-put v (store_at store view.number) (state_at lines looked) view.stands view.agrees } in
+    let works = beside-works store lines conn c d.views w bytes (views-with store (view_path q) v c.views of k.views) k in
+    let sees : Sees store lines conn d w bytes v looked = record { works = works; least = least; view = view; head = λ none. x.whole.enough refl h head_want (inl refl) none; own = own } in
     let s = state_at lines looked in
     let fine = moored lines conn c.who looked (attached-then lines conn c w looked k.legal least k.matches view.moment) in
-    decided-walks store lines conn c w bytes v looked sees c' out xid q e h now x.decision x.whole
-    (by-form s c.who q x.decision h (x.right s fine.sound fine.valid (store_at store view.number, view.stands, view.agrees))) x.backed x.is
+    beside-walks store lines conn c c' d.views w looked out
+    (decided-walks store lines conn d w bytes v looked sees c' out xid q e h now x.decision x.whole
+    (by-form s c.who q x.decision h (x.right s fine.sound fine.valid (store_at store view.number, view.stands, view.agrees))) x.backed x.is)

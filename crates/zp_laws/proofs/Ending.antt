@@ -38,6 +38,8 @@ use Rattle.zs_session.specs.declared.connect.Fresh.{Fresh}
 use Rattle.zp_step.specs.Connects.{Connects, Opens, begun, connected}
 use Rattle.zp_step.specs.Entries.{entered, then_reply}
 use Rattle.zp_step.specs.Keepalives.{Checked, KeptAlive, Looked, StillMine, TakesUp, checks, keeps_alive}
+use Rattle.zp_step.specs.Kept.{keeps}
+use Rattle.zn_view.specs.Keeping.{update_path}
 use Rattle.zp_step.specs.Looking.{IfRecords, Looks, change_by, decided, expired, max_ranges, moved, pending}
 use Rattle.zp_step.specs.Plans.{Committed, ReadOn, finishes}
 use Rattle.zp_step.specs.Replies.{Is, close_behind, closed_by, is_due, replied, send_notices, stage_behind, waits}
@@ -49,6 +51,7 @@ use Rattle.zp_step.specs.declared.action.Action.TheVariants as action
 use Rattle.zp_step.specs.declared.input.Input.{Input}
 use Rattle.zp_step.specs.declared.input.Input.TheVariants as input
 use Rattle.zp_step.proofs.Shutting.{steps-open}
+use Rattle.zp_laws.proofs.Keeping.{PlansBeside, first-or-anew}
 use Rattle.zp_laws.specs.Ending.{EndsWell, StaysOut, asked_by, closes, ends_well, takes_out}
 use Rattle.zp_laws.proofs.Cases.{either, of_alive, of_txn}
 use Rattle.zp_laws.proofs.ConnectAsks.{connect-asks}
@@ -135,7 +138,7 @@ decided-ends c c' xid r v now out (Moved found) i = waits-ends c c' (moved c.who
 
 looks-ends : (c c' : Core) (xid : ℤ) (r : Request) (v : View) (now : ℕ) (out : List Action) → Looks c xid r v now c' out → Ends c' out
 looks-ends c c' xid r v now out (inl y) = asks-ends (record c { stage = Reading xid r v (take max_ranges y.lacking) }) c' _ out refl refl y.is
-looks-ends c c' xid r v now out (inr y) = decided-ends c c' xid r v now out y.decision y.is
+looks-ends c c' xid r v now out (inr y) = decided-ends (keeps c r v) c' xid r v now out y.decision y.is
 
 records-ends : (c c' : Core) (ws : List Want) (parts : List ActAns) (out : List Action) (Next : Type 0) → (Next → Ends c' out) → IfRecords c ws parts c' out Next → Ends c' out
 records-ends c c' ws parts out Next f (inl e) = closed-ends c c' (cause.Damaged e.key e.value) out e.is
@@ -151,7 +154,11 @@ readable-ends c c' now out x (Some t) h = plain-ends c c' (xid_of x) t out h
 readable-ends c c' now out NoHeader None h = absurd h
 readable-ends c c' now out (Unreadable xid place) None h = absurd h
 readable-ends c c' now out (Unknown xid kind) None h = absurd h
-readable-ends c c' now out (Asks xid r) None h = looks-ends c c' xid r empty_view now out h
+readable-ends c c' now out (Asks xid r) None h = go (first-or-anew c c' xid r now out (update_path r) h)
+  where
+    go : PlansBeside c xid r now c' out ⊎ Looks c xid r empty_view now c' out → Ends c' out
+    go (inl y) = decided-ends (record c { views = y.views }) c' xid r y.view now out (Planned y.plan) y.is
+    go (inr y) = looks-ends c c' xid r empty_view now out y
 
 takes-ends : (c c' : Core) (bytes : List ℕ) (now : ℕ) (out : List Action) → Takes c bytes now c' out → Ends c' out
 takes-ends c c' bytes now out h = readable-ends c c' now out (read_request bytes) (plain_reply no_watches (read_request bytes)) h
@@ -206,9 +213,9 @@ read-ends c c' xid r v ws now out a h = of_txn a _ (Ends c' out) h (λ z b parts
     let y = with_parts (at_revision v z) ws parts in
     records-ends c c' ws parts out (Looks c xid r y now c' out) (looks-ends c c' xid r y now out) f)
 
-committed-ends : (c c' : Core) (xid : ℤ) (r : Request) (p : Plan) (now : ℕ) (out : List Action) (z : ℤ) (b : Bool) (parts : List ActAns) → Committed c xid r p now c' out z b parts → Ends c' out
-committed-ends c c' xid r p now out z true parts h = waits-ends c c' (finishes xid r p z parts) out h
-committed-ends c c' xid r p now out z false parts h =
+committed-ends : (c c' : Core) (xid : ℤ) (r : Request) (u : View) (p : Plan) (now : ℕ) (out : List Action) (z : ℤ) (b : Bool) (parts : List ActAns) → Committed c xid r u p now c' out z b parts → Ends c' out
+committed-ends c c' xid r u p now out z true parts h = waits-ends h.kept c' (finishes xid r p z parts) out h.is
+committed-ends c c' xid r u p now out z false parts h =
     let y = viewed z p.again parts in
     records-ends c c' p.again parts out (Looks c xid r y now c' out) (looks-ends c c' xid r y now out) h
 
@@ -236,7 +243,7 @@ answers-ends c c' a now out (Connecting connect) h = connects-ends c c' connect 
 answers-ends c c' a now out (KeepingAlive bytes) h = alive-ends c c' bytes now out a h
 answers-ends c c' a now out (Checking bytes) h = checked-ends c c' bytes now out a h
 answers-ends c c' a now out (Reading xid r v ws) h = read-ends c c' xid r v ws now out a h
-answers-ends c c' a now out (Committing xid r v p time) h = of_txn a _ (Ends c' out) h (λ z b parts f. committed-ends c c' xid r p now out z b parts f)
+answers-ends c c' a now out (Committing xid r v p time) h = of_txn a _ (Ends c' out) h (λ z b parts f. committed-ends c c' xid r v p now out z b parts f)
 answers-ends c c' a now out Ready h = absurd h
 answers-ends c c' a now out (Waiting p) h = absurd h
 answers-ends c c' a now out Shut h = absurd h

@@ -139,7 +139,7 @@ module _ (store : Store) (lines : List TranscriptLine) (conn : ℕ) (c c' : Core
       d = (entered c e).0
 
       ready : Stands store lines conn (record d { stage = Ready }) (told_first lines w (n.place) (n.update).zxid) looked
-      ready = record { matches = still-matches lines d (record d { stage = Ready }) (told_first lines w (n.place) (n.update).zxid) (n.matches) refl refl refl refl; work = tt; waiting = f; turn = s.turn; knows = k }
+      ready = record { matches = still-matches lines d (record d { stage = Ready }) (told_first lines w (n.place) (n.update).zxid) (n.matches) refl refl refl refl; work = tt; waiting = f; turn = s.turn; views = s.views; knows = k }
 
       stands-ready : (st : Stage) → st ≡ Ready → StandsOpen (is_open st) store lines conn (record d { stage = st }) (told_first lines w (n.place) (n.update).zxid) looked
       stands-ready st q = subst (λ g. StandsOpen (is_open g) store lines conn (record d { stage = g }) (told_first lines w (n.place) (n.update).zxid) looked) (sym q) ready
@@ -148,7 +148,7 @@ module _ (store : Store) (lines : List TranscriptLine) (conn : ℕ) (c c' : Core
       let v = told_first lines w (n.place) (n.update).zxid in
       walks-is store lines conn c c' (then_reply (entered c e) (Waiting p)) w looked out x
       (walks-after store lines conn c d (waits d p).0 w v looked (entered c e).1 (waits d p).1 (n.strides) refl (refl, refl) (n.rises) (n.counts)
-      (waits-walks lines conn d v p looked (record { legal = h; matches = n.matches; waiting = f; turn = s.turn }) (reply-later lines conn c w e p looked h s.matches t.armed k.1 k.0 n) store (waits d p).0 (waits d p).1 (refl, refl)))
+      (waits-walks store lines conn d v p looked (record { legal = h; matches = n.matches; waiting = f; turn = s.turn; views = s.views }) (reply-later lines conn c w e p looked h s.matches t.armed k.1 k.0 n) (waits d p).0 (waits d p).1 (refl, refl)))
   at-stage (Unconnected fresh) r a f k x = absurd (cc)
   at-stage (Connecting connect) r a f k x = absurd (cc)
   at-stage (KeepingAlive g) r a f k x = absurd (cc)

@@ -1,6 +1,7 @@
 -- Frames are taken up: some are answered without the tree, and the first other one leads to an ask.
 use Rattle.std.proofs.Common.{◌≡◌, ℕ, ◌+◌, ◌≤◌, List, [], ◌∷◌, length, take, refl, sym, ap, ◌∙◌, subst, arith, Bool, true, false, ℤ, inl, inr}
 use Rattle.std.specs.Prelude.{Option, Some, None, nat_le, if◌then◌else◌}
+use Rattle.std.specs.Map.{lookup}
 use Rattle.std.proofs.lemmas.Int.{ints}
 use Rattle.std.proofs.lemmas.List.Elements.{All-nil, All-cons}
 use Rattle.ev_types.specs.Store.{Store}
@@ -15,33 +16,40 @@ use Rattle.zk_transcript.specs.Walks.{Plain, Walker, is_auth_refusal, is_not_ove
 use Rattle.zk_transcript.specs.declared.transcript.Cause.{Cause}
 use Rattle.zk_transcript.specs.declared.transcript.TranscriptLine.{TranscriptLine}
 use Rattle.zk_transcript.proofs.Walks.{first_place-bound}
-use Rattle.zn_view.specs.Asks.{head_want}
+use Rattle.zx_base.specs.Maps.{Bytes, same}
+use Rattle.zn_view.specs.Asks.{head_want, transaction}
+use Rattle.zn_view.specs.declared.plan.Decision.TheVariants.{Planned}
+use Rattle.zn_view.specs.declared.plan.Plan.{Plan}
+use Rattle.zp_step.specs.Kept.{used_first}
+use Rattle.zn_view.specs.Keeping.{update_path}
 use Rattle.zn_view.specs.Seen.{View, empty_view}
 use Rattle.zn_view.specs.declared.want.Want.{Want}
 use Rattle.zs_session.specs.Alive.{is_alive_due}
 use Rattle.zp_step.specs.Keepalives.{TakesUp, keeps_alive}
-use Rattle.zp_step.specs.Looking.{Looks, asks_for, max_ranges}
+use Rattle.zp_step.specs.Looking.{Looks, asks_for, decided, max_ranges}
 use Rattle.zp_step.specs.Replies.{Is, close_behind, stage_behind}
-use Rattle.zp_step.specs.Stages.{Core, Ready, Reading, counted_up}
+use Rattle.zp_step.specs.Stages.{Committing, Core, KeptViews, Ready, Reading, counted_up}
 use Rattle.zp_step.specs.Steps.{Goes, rests, takes}
-use Rattle.zp_step.specs.Taking.{Takes, TakesReadable, end_of_plain, plainly}
+use Rattle.zp_step.specs.Taking.{LooksFirst, LooksOn, PlansAtOnce, Takes, TakesReadable, end_of_plain, plainly}
 use Rattle.zp_step.specs.declared.action.Action.{Action}
 use Rattle.zp_step.specs.declared.action.Action.TheVariants as action
 use Rattle.zp_laws.specs.Frames.{AreFrames, IsFrameAt, is_open, waits_from}
-use Rattle.zp_laws.specs.Standing.{IsForTree, Knows, Matches, Stands, StandsOpen, is_ahead}
+use Rattle.zp_laws.specs.Standing.{AreViewsOf, IsBoundPlan, IsForTree, IsViewOf, Knows, Matches, Stands, StandsOpen, is_ahead}
 use Rattle.zp_laws.specs.Walking.{IsAheadIn, Walks, sends}
 use Rattle.zp_laws.proofs.Cases.{either}
 use Rattle.zp_laws.proofs.Counting.{counted-small}
+use Rattle.zp_laws.proofs.Keeping.{views-of, views-used}
 use Rattle.zp_laws.proofs.Strides.{UpTo, placed, strides-none, strides-one, turn-next, walks-append, walks-is}
 use Rattle.zp_laws.proofs.WalkMoves.{plain-move}
 
 -- the next frame is at work, and those that wait come after it
-pub record Works (lines : List TranscriptLine) (conn : ℕ) (c : Core) (w : Walker) (bytes : List ℕ) : Type 0 where
+pub record Works (store : Store) (lines : List TranscriptLine) (conn : ℕ) (c : Core) (w : Walker) (bytes : List ℕ) : Type 0 where
   pub legal : is_legal lines ≡ true
   pub matches : Matches lines c w
   pub frame : IsFrameAt lines conn c.next bytes
   pub waiting : AreFrames lines conn (c.next + 1) c.waiting
   pub turn : is_not_overtaken lines conn c.next ≡ true
+  pub views : AreViewsOf store c.views
   pub ahead : is_ahead lines conn c.next ≡ true
 
 -- the index after that of a frame
@@ -80,7 +88,7 @@ module _ (store : Store) (lines : List TranscriptLine) (conn : ℕ) where
   abbrev plain_core : Core → Bool → Core
   plain_core c b = record c { stage = stage_behind (end_of_plain b); next = counted_up (c.next + 1) }
 
-  plain-stands : (c : Core) (w : Walker) (bytes : List ℕ) (looked : ℕ) (b : Bool) → Works lines conn c w bytes
+  plain-stands : (c : Core) (w : Walker) (bytes : List ℕ) (looked : ℕ) (b : Bool) → Works store lines conn c w bytes
       → StandsOpen (is_open (stage_behind (end_of_plain b))) store lines conn (plain_core c b) (record w { next = w.next + 1; over = b }) looked
   plain-stands c w bytes looked true k = tt
   plain-stands c w bytes looked false k =
@@ -90,14 +98,15 @@ module _ (store : Store) (lines : List TranscriptLine) (conn : ℕ) where
         work = tt;
         waiting = subst (λ n. AreFrames lines conn n c.waiting) (sym up) k.waiting;
         turn = ap (is_not_overtaken lines conn) up ∙ turn-next lines conn c.next k.turn;
+        views = k.views;
         knows = ap (is_ahead lines conn) up ∙ k.turn;
       }
 
-  plain-ahead : (c : Core) (w : Walker) (bytes : List ℕ) (b : Bool) → Works lines conn c w bytes → IsAheadIn lines conn (plain_core c b) (stage_behind (end_of_plain b))
+  plain-ahead : (c : Core) (w : Walker) (bytes : List ℕ) (b : Bool) → Works store lines conn c w bytes → IsAheadIn lines conn (plain_core c b) (stage_behind (end_of_plain b))
   plain-ahead c w bytes true k = tt
   plain-ahead c w bytes false k = ap (is_ahead lines conn) (index-behind lines conn c.next bytes k.frame) ∙ k.turn
 
-  pub plain-walks : (c : Core) (w : Walker) (bytes : List ℕ) (looked : ℕ) (t : Told) → Works lines conn c w bytes → plain_reply no_watches (read_request bytes) ≡ Some t
+  pub plain-walks : (c : Core) (w : Walker) (bytes : List ℕ) (looked : ℕ) (t : Told) → Works store lines conn c w bytes → plain_reply no_watches (read_request bytes) ≡ Some t
       → Walks store lines conn c (plainly c (xid_of (read_request bytes)) t.reply).0 w looked (plainly c (xid_of (read_request bytes)) t.reply).1
   plain-walks c w bytes looked t k h =
       let f = k.frame in
@@ -124,7 +133,7 @@ module _ (store : Store) (lines : List TranscriptLine) (conn : ℕ) where
   -- ---- a frame that only the tree answers
 
   -- a core that asks while its frame is at work
-  pub asking-walks : (c d : Core) (w : Walker) (bytes : List ℕ) (looked : ℕ) (out : List Action) → Works lines conn c w bytes → sends out ≡ []
+  pub asking-walks : (c d : Core) (w : Walker) (bytes : List ℕ) (looked : ℕ) (out : List Action) → Works store lines conn c w bytes → sends out ≡ []
       → d.zxid ≡ c.zxid → d.cursor ≡ c.cursor → d.watches ≡ c.watches → d.next ≡ c.next → d.who ≡ c.who → Stands store lines conn d w looked → is_open d.stage ≡ true → IsAheadIn lines conn d d.stage
       → Walks store lines conn c d w looked out
   asking-walks c d w bytes looked out k quiet z n ws i who s op a = record {
@@ -138,7 +147,7 @@ module _ (store : Store) (lines : List TranscriptLine) (conn : ℕ) where
   }
 
   pub reads-walks : (c : Core) (w : Walker) (bytes : List ℕ) (looked : ℕ) (xid : ℤ) (r : Request) (v : View) (ws : List Want)
-      → Works lines conn c w bytes → read_request bytes ≡ Asks xid r → Knows store lines conn (asks_for c xid r v ws).0 w looked (Reading xid r v ws)
+      → Works store lines conn c w bytes → read_request bytes ≡ Asks xid r → Knows store lines conn (asks_for c xid r v ws).0 w looked (Reading xid r v ws)
       → Walks store lines conn c (asks_for c xid r v ws).0 w looked (asks_for c xid r v ws).1
   reads-walks c w bytes looked xid r v ws k e knows =
       asking-walks c (asks_for c xid r v ws).0 w bytes looked (asks_for c xid r v ws).1 k refl refl refl refl refl refl (record {
@@ -146,30 +155,72 @@ module _ (store : Store) (lines : List TranscriptLine) (conn : ℕ) where
         work = record { bytes = bytes; frame = k.frame; reads = e };
         waiting = k.waiting;
         turn = k.turn;
+        views = k.views;
         knows = knows;
       }) refl k.ahead
 
-  looks-walks : (c c' : Core) (w : Walker) (bytes : List ℕ) (looked now : ℕ) (xid : ℤ) (r : Request) (out : List Action)
-      → Works lines conn c w bytes → read_request bytes ≡ Asks xid r → IsForTree r → Looks c xid r empty_view now c' out → Walks store lines conn c c' w looked out
-  looks-walks c c' w bytes looked now xid r out k e h (inl x) =
-      walks-is store lines conn c c' (asks_for c xid r empty_view (take max_ranges x.lacking)) w looked out x.is (reads-walks c w bytes looked xid r empty_view (take max_ranges x.lacking) k e (h, inl (refl, refl, refl)))
-  looks-walks c c' w bytes looked now xid r out k e h (inr x) = absurd (x.whole.enough refl h head_want (inl refl) refl)
+  -- a core whose kept views alone are others
+  pub beside-walks : (c d : Core) (xs : KeptViews) (w : Walker) (looked : ℕ) (out : List Action) → Walks store lines conn (record c { views = xs }) d w looked out → Walks store lines conn c d w looked out
+  beside-walks c d xs w looked out h = record { walker = h.walker; strides = h.strides; stands = h.stands; who = h.who; ahead = h.ahead; zxid = h.zxid; cursor = h.cursor }
 
-  readable-walks : (c c' : Core) (w : Walker) (bytes : List ℕ) (looked now : ℕ) (out : List Action) (x : Frame) (o : Option Told) → Works lines conn c w bytes → read_request bytes ≡ x → plain_reply no_watches x ≡ o → TakesReadable c now c' out x o → Walks store lines conn c c' w looked out
+  pub beside-works : (c : Core) (xs : KeptViews) (w : Walker) (bytes : List ℕ) → AreViewsOf store xs → Works store lines conn c w bytes → Works store lines conn (record c { views = xs }) w bytes
+  beside-works c xs w bytes h k = record { legal = k.legal; matches = still-matches lines c (record c { views = xs }) w k.matches refl refl refl refl; frame = k.frame; waiting = k.waiting; turn = k.turn; views = h; ahead = k.ahead }
+
+  -- a plan is asked
+  pub plans-walks : (c : Core) (w : Walker) (bytes : List ℕ) (looked now : ℕ) (xid : ℤ) (r : Request) (v : View) (p : Plan) → Works store lines conn c w bytes → read_request bytes ≡ Asks xid r → IsForTree r → IsBoundPlan store c.who r v p now
+      → Walks store lines conn c (decided c xid r v now (Planned p)).0 w looked (decided c xid r v now (Planned p)).1
+  plans-walks c w bytes looked now xid r v p k e h bound =
+      let d = record c { stage = Committing xid r v p now } in
+      asking-walks c d w bytes looked (action.Ask (transaction p) ∷ []) k refl refl refl refl refl refl (record {
+        matches = still-matches lines c d w k.matches refl refl refl refl;
+        work = record { bytes = bytes; frame = k.frame; reads = e };
+        waiting = k.waiting;
+        turn = k.turn;
+        views = k.views;
+        knows = (h, bound);
+      }) refl k.ahead
+
+  anew-walks : (c c' : Core) (w : Walker) (bytes : List ℕ) (looked now : ℕ) (xid : ℤ) (r : Request) (out : List Action)
+      → Works store lines conn c w bytes → read_request bytes ≡ Asks xid r → IsForTree r → Looks c xid r empty_view now c' out → Walks store lines conn c c' w looked out
+  anew-walks c c' w bytes looked now xid r out k e h (inl x) =
+      walks-is store lines conn c c' (asks_for c xid r empty_view (take max_ranges x.lacking)) w looked out x.is (reads-walks c w bytes looked xid r empty_view (take max_ranges x.lacking) k e (h, inl (refl, refl, refl)))
+  anew-walks c c' w bytes looked now xid r out k e h (inr x) = absurd (x.whole.enough refl h head_want (inl refl) refl)
+
+  -- a plan that is made on a kept view
+  at_once-walks : (c c' : Core) (w : Walker) (bytes : List ℕ) (looked now : ℕ) (xid : ℤ) (r : Request) (out : List Action) (q : Bytes) (v : View) → Works store lines conn c w bytes → read_request bytes ≡ Asks xid r → IsForTree r → IsViewOf store v
+      → PlansAtOnce c xid r now c' out q v → Walks store lines conn c c' w looked out
+  at_once-walks c c' w bytes looked now xid r out q v k e h of x =
+      let d = record c { views = used_first q v c.views } in
+      beside-walks c c' (used_first q v c.views) w looked out
+      (walks-is store lines conn d c' (decided d xid r v now (Planned x.plan)) w looked out x.is
+      (plans-walks d w bytes looked now xid r v x.plan (beside-works c (used_first q v c.views) w bytes (views-used store q v c.views of k.views) k) e h
+      (record { number = of.number; revision = of.revision; known = of.known; agrees = of.agrees; put = of.put; good = x.backed.0; keepable = x.backed.1 })))
+
+  looks-walks : (c c' : Core) (w : Walker) (bytes : List ℕ) (looked now : ℕ) (xid : ℤ) (r : Request) (out : List Action) (o : Option Bytes)
+      → Works store lines conn c w bytes → read_request bytes ≡ Asks xid r → IsForTree r → LooksFirst c xid r now c' out o → Walks store lines conn c c' w looked out
+  looks-walks c c' w bytes looked now xid r out None k e h x = anew-walks c c' w bytes looked now xid r out k e h x
+  looks-walks c c' w bytes looked now xid r out (Some q) k e h x = go (lookup (same q) c.views) refl x
+    where
+      go : (o : Option View) → lookup (same q) c.views ≡ o → LooksOn c xid r now c' out q o → Walks store lines conn c c' w looked out
+      go None there y = anew-walks c c' w bytes looked now xid r out k e h y
+      go (Some v) there (inl y) = at_once-walks c c' w bytes looked now xid r out q v k e h (views-of store (same q) c.views v k.views there) y
+      go (Some v) there (inr y) = anew-walks c c' w bytes looked now xid r out k e h y.1
+
+  readable-walks : (c c' : Core) (w : Walker) (bytes : List ℕ) (looked now : ℕ) (out : List Action) (x : Frame) (o : Option Told) → Works store lines conn c w bytes → read_request bytes ≡ x → plain_reply no_watches x ≡ o → TakesReadable c now c' out x o → Walks store lines conn c c' w looked out
   readable-walks c c' w bytes looked now out x (Some t) k e p h =
       subst (λ y. Is (plainly c (xid_of y) t.reply) c' out → Walks store lines conn c c' w looked out) e
       (λ i. walks-is store lines conn c c' (plainly c (xid_of (read_request bytes)) t.reply) w looked out i (plain-walks c w bytes looked t k (ap (plain_reply no_watches) e ∙ p))) h
   readable-walks c c' w bytes looked now out NoHeader None k e p h = absurd h
   readable-walks c c' w bytes looked now out (Unreadable xid place) None k e p h = absurd h
   readable-walks c c' w bytes looked now out (Unknown xid kind) None k e p h = absurd h
-  readable-walks c c' w bytes looked now out (Asks xid r) None k e p h = looks-walks c c' w bytes looked now xid r out k e p h
+  readable-walks c c' w bytes looked now out (Asks xid r) None k e p h = looks-walks c c' w bytes looked now xid r out (update_path r) k e p h
 
-  pub takes-walks : (c c' : Core) (w : Walker) (bytes : List ℕ) (looked now : ℕ) (out : List Action) → Works lines conn c w bytes → Takes c bytes now c' out → Walks store lines conn c c' w looked out
+  pub takes-walks : (c c' : Core) (w : Walker) (bytes : List ℕ) (looked now : ℕ) (out : List Action) → Works store lines conn c w bytes → Takes c bytes now c' out → Walks store lines conn c c' w looked out
   takes-walks c c' w bytes looked now out k t = readable-walks c c' w bytes looked now out (read_request bytes) (plain_reply no_watches (read_request bytes)) k refl refl t
 
   -- ---- frames are taken up
 
-  takes_up-walks : (c c' : Core) (w : Walker) (bytes : List ℕ) (looked now : ℕ) (out : List Action) → Works lines conn c w bytes → TakesUp c bytes now c' out → Walks store lines conn c c' w looked out
+  takes_up-walks : (c c' : Core) (w : Walker) (bytes : List ℕ) (looked now : ℕ) (out : List Action) → Works store lines conn c w bytes → TakesUp c bytes now c' out → Walks store lines conn c c' w looked out
   takes_up-walks c c' w bytes looked now out k t =
       let d = (keeps_alive c bytes now).0 in
       either (is_alive_due c.kept now c.timeout) (Is (keeps_alive c bytes now) c' out) (Takes c bytes now c' out) (Walks store lines conn c c' w looked out) t
@@ -178,12 +229,13 @@ module _ (store : Store) (lines : List TranscriptLine) (conn : ℕ) where
         work = k.frame;
         waiting = k.waiting;
         turn = k.turn;
+        views = k.views;
         knows = tt;
       }) refl k.ahead))
       (takes-walks c c' w bytes looked now out k)
 
   -- one that is ready takes its first frame
-  readied : (c : Core) (w : Walker) (looked : ℕ) (bytes : List ℕ) (more : List (List ℕ)) → is_legal lines ≡ true → c.stage ≡ Ready → c.waiting ≡ bytes ∷ more → Stands store lines conn c w looked → Works lines conn (record c { waiting = more }) w bytes
+  readied : (c : Core) (w : Walker) (looked : ℕ) (bytes : List ℕ) (more : List (List ℕ)) → is_legal lines ≡ true → c.stage ≡ Ready → c.waiting ≡ bytes ∷ more → Stands store lines conn c w looked → Works store lines conn (record c { waiting = more }) w bytes
   readied c w looked bytes more h r e s =
       let fs : AreFrames lines conn c.next (bytes ∷ more) = subst (λ l. AreFrames lines conn c.next l) e (subst (λ g. AreFrames lines conn (waits_from g c.next) c.waiting) r s.waiting) in
       let k : Knows store lines conn c w looked Ready = subst (Knows store lines conn c w looked) r s.knows in
@@ -193,6 +245,7 @@ module _ (store : Store) (lines : List TranscriptLine) (conn : ℕ) where
         frame = fs.0;
         waiting = fs.1;
         turn = s.turn;
+        views = s.views;
         ahead = k;
       }
 

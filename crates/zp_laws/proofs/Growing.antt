@@ -22,6 +22,7 @@ use Rattle.zp_laws.specs.Frames.{AreFrames, IsAtWork, IsFrameAt, IsRequestAt, wa
 use Rattle.zp_laws.specs.Growing.{Grows}
 use Rattle.zp_laws.specs.Inputs.{Precedes}
 use Rattle.zp_laws.specs.Standing.{IsMoment, IsReply, IsViewAt, Knows, Matches, Stands}
+use Rattle.zp_laws.proofs.Keeping.{views-kept}
 use Rattle.zp_laws.proofs.Strides.{placed}
 
 module _ (lines more : List TranscriptLine) (conn : ℕ) where
@@ -108,7 +109,7 @@ module _ (store store' : Store) (lines more : List TranscriptLine) (conn : ℕ) 
   knows-push (Reading xid r v ws) e m k (tree, inr view) =
       (tree, inr (view-push lines more conn c.who w looked (k.frame).place k.bytes (ap (λ n. placed_frame conn n lines) m.next ∙ (k.frame).framed) store store' v g.before view))
   knows-push (Committing xid r v p n) e m k (tree, b) =
-      (tree, record { number = b.number; revision = b.revision; known = omega (arith, b.known, (g.before).longer); agrees = subst (Agrees v) (sym ((g.before).same b.number b.known)) b.agrees; put = b.put; good = b.good })
+      (tree, record { number = b.number; revision = b.revision; known = omega (arith, b.known, (g.before).longer); agrees = subst (Agrees v) (sym ((g.before).same b.number b.known)) b.agrees; put = b.put; good = b.good; keepable = b.keepable })
   knows-push (Waiting p) e m k h =
       (reply-push lines more conn c.who w p looked (ap (λ n. own_update conn n (lines ++ more)) m.next ∙ g.own p e ∙ sym (ap (λ n. own_update conn n lines) m.next)) h.0, h.1)
 
@@ -118,5 +119,6 @@ module _ (store store' : Store) (lines more : List TranscriptLine) (conn : ℕ) 
     work = work-push lines more conn c.next c.stage s.work;
     waiting = frames-push lines more conn (waits_from c.stage c.next) c.waiting s.waiting;
     turn = g.turn;
+    views = views-kept store store' c.views g.before s.views;
     knows = knows-push c.stage refl s.matches s.work s.knows;
   }

@@ -1,4 +1,5 @@
 pub mod Cases
+pub mod Keeping
 pub mod ConnectAsks
 pub mod Ending
 pub mod Planning

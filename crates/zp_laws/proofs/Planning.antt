@@ -34,6 +34,8 @@ use Rattle.zs_session.specs.declared.connect.ConnectStep.TheVariants as steps
 use Rattle.zp_step.specs.Connects.{Connects, Opens, begun, connected}
 use Rattle.zp_step.specs.Entries.{entered, then_reply}
 use Rattle.zp_step.specs.Keepalives.{Looked, StillMine, TakesUp, checks, keeps_alive}
+use Rattle.zp_step.specs.Kept.{keeps}
+use Rattle.zn_view.specs.Keeping.{update_path}
 use Rattle.zp_step.specs.Looking.{IfRecords, Looks, change_by, decided, expired, max_ranges, moved, pending}
 use Rattle.zp_step.specs.Plans.{Committed, finishes}
 use Rattle.zp_step.specs.Replies.{Is, closed_by, is_due, replied, stage_behind, waits}
@@ -48,6 +50,7 @@ use Rattle.zp_laws.specs.Ending.{asked_by}
 use Rattle.zp_laws.proofs.Cases.{either, of_alive, of_txn}
 use Rattle.zp_laws.proofs.Ending.{asks-nothing, notices-only}
 use Rattle.zp_laws.specs.Planning.{IsPlannedAt}
+use Rattle.zp_laws.proofs.Keeping.{PlansBeside, first-or-anew}
 
 planned-is : (now : ℕ) (x : Core × List Action) (c' : Core) (out : List Action) → Is x c' out → IsPlannedAt now x.0.stage → IsPlannedAt now c'.stage
 planned-is now x c' out i h = subst (λ (d : Core). IsPlannedAt now d.stage) (sym i.0) h
@@ -76,7 +79,7 @@ decided-plans c c' xid r v now out (Moved found) i = waits-plans c c' (moved c.w
 
 looks-plans : (c c' : Core) (xid : ℤ) (r : Request) (v : View) (now : ℕ) (out : List Action) → Looks c xid r v now c' out → IsPlannedAt now c'.stage
 looks-plans c c' xid r v now out (inl y) = planned-is now (asks_for c xid r v (take max_ranges y.lacking)) c' out y.is tt
-looks-plans c c' xid r v now out (inr y) = decided-plans c c' xid r v now out y.decision y.is
+looks-plans c c' xid r v now out (inr y) = decided-plans (keeps c r v) c' xid r v now out y.decision y.is
 
 records-plan : (c c' : Core) (ws : List Want) (parts : List ActAns) (now : ℕ) (out : List Action) (Next : Type 0) → (Next → IsPlannedAt now c'.stage) → IfRecords c ws parts c' out Next → IsPlannedAt now c'.stage
 records-plan c c' ws parts now out Next f (inl e) = closed-plans c c' (cause.Damaged e.key e.value) now out e.is
@@ -89,7 +92,11 @@ readable-plans c c' now out x (Some t) h = planned-is now (plainly c (xid_of x) 
 readable-plans c c' now out NoHeader None h = absurd h
 readable-plans c c' now out (Unreadable xid place) None h = absurd h
 readable-plans c c' now out (Unknown xid kind) None h = absurd h
-readable-plans c c' now out (Asks xid r) None h = looks-plans c c' xid r empty_view now out h
+readable-plans c c' now out (Asks xid r) None h = go (first-or-anew c c' xid r now out (update_path r) h)
+  where
+    go : PlansBeside c xid r now c' out ⊎ Looks c xid r empty_view now c' out → IsPlannedAt now c'.stage
+    go (inl y) = decided-plans (record c { views = y.views }) c' xid r y.view now out (Planned y.plan) y.is
+    go (inr y) = looks-plans c c' xid r empty_view now out y
 
 takes-plans : (c c' : Core) (bytes : List ℕ) (now : ℕ) (out : List Action) → Takes c bytes now c' out → IsPlannedAt now c'.stage
 takes-plans c c' bytes now out h = readable-plans c c' now out (read_request bytes) (plain_reply no_watches (read_request bytes)) h
@@ -117,9 +124,9 @@ still-plans c c' bytes v now out (Some kv) h =
     (takes-plans c c' bytes now out)
     (waits-plans c c' (moved c.who v kv.mod_revision (xid_of (read_request bytes))) now out)
 
-committed-plans : (c c' : Core) (xid : ℤ) (r : Request) (p : Plan) (now : ℕ) (out : List Action) (z : ℤ) (b : Bool) (parts : List ActAns) → Committed c xid r p now c' out z b parts → IsPlannedAt now c'.stage
-committed-plans c c' xid r p now out z true parts h = waits-plans c c' (finishes xid r p z parts) now out h
-committed-plans c c' xid r p now out z false parts h =
+committed-plans : (c c' : Core) (xid : ℤ) (r : Request) (u : View) (p : Plan) (now : ℕ) (out : List Action) (z : ℤ) (b : Bool) (parts : List ActAns) → Committed c xid r u p now c' out z b parts → IsPlannedAt now c'.stage
+committed-plans c c' xid r u p now out z true parts h = waits-plans h.kept c' (finishes xid r p z parts) now out h.is
+committed-plans c c' xid r u p now out z false parts h =
     let y = viewed z p.again parts in
     records-plan c c' p.again parts now out (Looks c xid r y now c' out) (looks-plans c c' xid r y now out) h
 
@@ -147,7 +154,7 @@ answers-plan c c' a now out (Checking bytes) h = of_txn a _ (IsPlannedAt now c'.
 answers-plan c c' a now out (Reading xid r v ws) h = of_txn a _ (IsPlannedAt now c'.stage) h (λ z b parts f.
     let y = with_parts (at_revision v z) ws parts in
     records-plan c c' ws parts now out (Looks c xid r y now c' out) (looks-plans c c' xid r y now out) f)
-answers-plan c c' a now out (Committing xid r v p time) h = of_txn a _ (IsPlannedAt now c'.stage) h (λ z b parts f. committed-plans c c' xid r p now out z b parts f)
+answers-plan c c' a now out (Committing xid r v p time) h = of_txn a _ (IsPlannedAt now c'.stage) h (λ z b parts f. committed-plans c c' xid r v p now out z b parts f)
 answers-plan c c' a now out Ready h = absurd h
 answers-plan c c' a now out (Waiting p) h = absurd h
 answers-plan c c' a now out Shut h = absurd h

@@ -29,18 +29,19 @@ use Rattle.zp_step.specs.Stages.{Core, Pending, Waiting, counted_up, seen_by}
 use Rattle.zp_step.specs.declared.action.Action.{Action}
 use Rattle.zp_step.specs.declared.action.Action.TheVariants as action
 use Rattle.zp_laws.specs.Frames.{AreFrames, is_open}
-use Rattle.zp_laws.specs.Standing.{IsReply, Matches, StandsOpen, is_ahead}
+use Rattle.zp_laws.specs.Standing.{AreViewsOf, IsReply, Matches, StandsOpen, is_ahead}
 use Rattle.zp_laws.specs.Walking.{IsAheadIn, Walks, sends}
 use Rattle.zp_laws.proofs.Going.{close-sends, index-behind, later-bound, still-matches}
 use Rattle.zp_laws.proofs.Strides.{UpTo, placed, sends-append, strides-none, strides-one, turn-next, walks-is}
 use Rattle.zp_laws.proofs.Updates.{last-update, legal-before, none-above, same-count}
 
 -- a core at work on its next request
-pub record Busy (lines : List TranscriptLine) (conn : ℕ) (c : Core) (w : Walker) : Type 0 where
+pub record Busy (store : Store) (lines : List TranscriptLine) (conn : ℕ) (c : Core) (w : Walker) : Type 0 where
   pub legal : is_legal lines ≡ true
   pub matches : Matches lines c w
   pub waiting : AreFrames lines conn (c.next + 1) c.waiting
   pub turn : is_not_overtaken lines conn c.next ≡ true
+  pub views : AreViewsOf store c.views
 
 -- ---- the zxid and the moment
 
@@ -110,7 +111,7 @@ reply_due lines w p looked k =
 abbrev replied_core : Core → Pending → Option Cause → Core
 replied_core c p o = record c { stage = stage_behind o; zxid = p.zxid; cursor = p.number; watches = (seen_by p.change c.watches).watches; next = counted_up (c.next + 1) }
 
-module _ (lines : List TranscriptLine) (conn : ℕ) (c : Core) (w : Walker) (p : Pending) (looked : ℕ) (b : Busy lines conn c w) (r : IsReply lines conn c.who w p looked) where
+module _ (store : Store) (lines : List TranscriptLine) (conn : ℕ) (c : Core) (w : Walker) (p : Pending) (looked : ℕ) (b : Busy store lines conn c w) (r : IsReply lines conn c.who w p looked) where
   m : Matches lines c w
   m = b.matches
 
@@ -149,9 +150,9 @@ module _ (lines : List TranscriptLine) (conn : ℕ) (c : Core) (w : Walker) (p :
       (m.over) (r.moment).past (r.frame).framed may-answer (r.frame).header (rw f (r.told w.watches))
       ∙ rw (f, r.xid) refl
 
-  stands-behind : (store : Store) (o : Option Cause) → p.ends ≡ o → StandsOpen (is_open (stage_behind o)) store lines conn (replied_core c p o) (after_reply lines w p looked) looked
-  stands-behind store (Some why) e = tt
-  stands-behind store None e =
+  stands-behind : (o : Option Cause) → p.ends ≡ o → StandsOpen (is_open (stage_behind o)) store lines conn (replied_core c p o) (after_reply lines w p looked) looked
+  stands-behind (Some why) e = tt
+  stands-behind None e =
       let l = last-update lines looked b.legal (t.some) in
       let here : after_update l.update.zxid lines ≡ l.place + 1 = after-line lines l.place l.update b.legal l.shown in
       let there : after_update l.update.zxid (take looked lines) ≡ l.place + 1 = after-line (take looked lines) l.place l.update (t.legal) (slice_get-take lines looked l.place l.before ∙ l.shown) in
@@ -167,6 +168,7 @@ module _ (lines : List TranscriptLine) (conn : ℕ) (c : Core) (w : Walker) (p :
         work = tt;
         waiting = subst (λ n. AreFrames lines conn n c.waiting) (sym up) b.waiting;
         turn = ap (is_not_overtaken lines conn) up ∙ turn-next lines conn c.next b.turn;
+        views = b.views;
         knows = ap (is_ahead lines conn) up ∙ b.turn;
       }
 
@@ -174,8 +176,8 @@ module _ (lines : List TranscriptLine) (conn : ℕ) (c : Core) (w : Walker) (p :
   reply-ahead None = ap (is_ahead lines conn) up ∙ b.turn
   reply-ahead (Some why) = tt
 
-  pub replied-walks : (store : Store) → is_due c p ≡ true → Walks store lines conn c (replied c p).0 w looked (replied c p).1
-  replied-walks store d =
+  pub replied-walks : is_due c p ≡ true → Walks store lines conn c (replied c p).0 w looked (replied c p).1
+  replied-walks d =
       let bound = first_place-bound (frame_shown conn w.next) 0 lines ((r.frame).place, r.bytes) (r.frame).framed in
       let z = (state_at lines looked).zxid in
       let n = after_update z (take looked lines) in
@@ -198,32 +200,32 @@ module _ (lines : List TranscriptLine) (conn : ℕ) (c : Core) (w : Walker) (p :
             (All-cons (UpTo (length lines)) packet [] (later-bound (length (take looked lines)) ((r.frame).place + 1) (length lines) (omega (arith, len, (r.moment).past)) (omega (arith, bound))) (All-nil (UpTo (length lines)))))
             (let lt : nat_lt (r.frame).place looked ≡ true = grind (arith, nat_tests) in ap (is_past looked) (r.frame).framed ∙ lt)
             (all-take (λ l. is_below (w.next + 1) (index_shown conn l)) looked lines (ap (is_not_overtaken lines conn) (m.next) ∙ b.turn));
-        stands = stands-behind store p.ends refl;
+        stands = stands-behind p.ends refl;
         who = refl;
         ahead = inr (reply-ahead p.ends);
         zxid = omega (arith, ints, t.zxid, r.zxid);
         cursor = omega (arith, ints, t.cursor, r.number);
       }
 
-  pub waits-walks : (store : Store) (c' : Core) (out : List Action) → Is (waits c p) c' out → Walks store lines conn c c' w looked out
-  waits-walks store c' out e = go (is_due c p) refl e
+  pub waits-walks : (c' : Core) (out : List Action) → Is (waits c p) c' out → Walks store lines conn c c' w looked out
+  waits-walks c' out e = go (is_due c p) refl e
     where
       d : Core
       d = record c { stage = Waiting p }
 
       go : (q : Bool) → is_due c p ≡ q → Is (if q then replied c p else (d, [])) c' out → Walks store lines conn c c' w looked out
-      go true q f = walks-is store lines conn c c' (replied c p) w looked out f (replied-walks store q)
+      go true q f = walks-is store lines conn c c' (replied c p) w looked out f (replied-walks q)
       go false q f = walks-is store lines conn c c' (d, []) w looked out f (record {
         walker = w;
         strides = strides-none lines conn c.who.session w [] refl;
-        stands = record { matches = still-matches lines c d w m refl refl refl refl; work = tt; waiting = b.waiting; turn = b.turn; knows = (r, q) };
+        stands = record { matches = still-matches lines c d w m refl refl refl refl; work = tt; waiting = b.waiting; turn = b.turn; views = b.views; knows = (r, q) };
         who = refl;
         ahead = inr tt;
         zxid = omega (arith, ints);
         cursor = omega (arith, ints);
       })
 
-pub replied-next : (lines : List TranscriptLine) (conn : ℕ) (c : Core) (w : Walker) (p : Pending) (looked : ℕ) (b : Busy lines conn c w) (r : IsReply lines conn c.who w p looked) (store : Store) (d : is_due c p ≡ true)
-    → (replied-walks lines conn c w p looked b r store d).walker.next ≡ w.next + 1
+pub replied-next : (store : Store) (lines : List TranscriptLine) (conn : ℕ) (c : Core) (w : Walker) (p : Pending) (looked : ℕ) (b : Busy store lines conn c w) (r : IsReply lines conn c.who w p looked) (d : is_due c p ≡ true)
+    → (replied-walks store lines conn c w p looked b r d).walker.next ≡ w.next + 1
 unfolding replied-walks
-replied-next lines conn c w p looked b r store d = refl
+replied-next store lines conn c w p looked b r d = refl

@@ -1,6 +1,6 @@
 -- What one step of an attached connection sends is some choices' packets, and an open core stands where they lead.
 use Rattle.std.proofs.Common.{◌≡◌, ℕ, ◌+◌, ◌≤◌, List, [], ◌∷◌, ◌++◌, length, refl, sym, ap, ◌∙◌, subst, arith, Bool, true, false, ℤ, pos, inl, inr}
-use Rattle.std.specs.Prelude.{Option, Some, None, ◌⊎◌, ◌≤ℤ◌, MatchBool, Contains, if◌then◌else◌}
+use Rattle.std.specs.Prelude.{Option, Some, None, IfSome, ◌⊎◌, ◌≤ℤ◌, MatchBool, Contains, if◌then◌else◌}
 use Rattle.std.specs.Arc.{arc_value}
 use Rattle.std.specs.Ordering.{int_eq}
 use Rattle.std.proofs.lemmas.Bool.Decides.{nat_tests, Decides-int_eq}
@@ -39,11 +39,15 @@ use Rattle.zn_view.proofs.Showing.{again-shown, first-shown, later-shown}
 use Rattle.zn_view.proofs.Tested.{session-lives}
 use Rattle.zs_session.specs.Answering.{viewed}
 use Rattle.zs_session.specs.Sessions.{attach_wants, life_key}
+use Rattle.zn_view.specs.Keeping.{IsAfter, PutsNewKeys, trimmed, update_path}
+use Rattle.zn_view.proofs.After.{after-is}
+use Rattle.zx_base.specs.Maps.{Bytes}
+use Rattle.zp_step.specs.Kept.{Leaves, LeavesAt, LeavesBy, head_shown, left_core, put_first}
 use Rattle.zp_step.specs.Keepalives.{Checked, KeptAlive, Looked, StillMine, checks}
 use Rattle.zp_step.specs.Looking.{IfRecords, Looks, moved}
 use Rattle.zp_step.specs.Plans.{CommitAnswered, ReadOn, finishes}
 use Rattle.zp_step.specs.Replies.{Is, closed_by, waits}
-use Rattle.zp_step.specs.Stages.{Core, Stage, Unconnected, Connecting, Ready, KeepingAlive, Checking, Reading, Committing, Waiting, Shut, asked_of, is_shut}
+use Rattle.zp_step.specs.Stages.{Core, KeptViews, Stage, Unconnected, Connecting, Ready, KeepingAlive, Checking, Reading, Committing, Waiting, Shut, asked_of, is_shut}
 use Rattle.zp_step.specs.Steps.{Answers, Comes, Handles, Steps, queued}
 use Rattle.zp_step.specs.Taking.{Takes}
 use Rattle.zp_step.specs.declared.action.Action.{Action}
@@ -53,13 +57,14 @@ use Rattle.zp_step.specs.declared.input.Input.TheVariants as input
 use Rattle.zp_step.proofs.Shutting.{steps-open}
 use Rattle.zp_laws.specs.Frames.{AreFrames, IsAtWork, IsFrameAt, is_open, is_served, waits_from}
 use Rattle.zp_laws.specs.Inputs.{IsNextFrame, IsOfEarlierIn, IsOwn, IsReady, Precedes, StoodAt, is_first}
-use Rattle.zp_laws.specs.Standing.{IsNoView, IsReply, IsViewAt, Knows, Matches, Stands, StandsOpen}
+use Rattle.zp_laws.specs.Standing.{AreViewsOf, IsViewOf, IsNoView, IsReply, IsViewAt, Knows, Matches, Stands, StandsOpen}
 use Rattle.zp_laws.specs.Walking.{Walks}
 use Rattle.zp_laws.proofs.Cases.{either, of_alive, open-unless}
-use Rattle.zp_laws.proofs.Carried.{done-reply}
+use Rattle.zp_laws.proofs.Carried.{WasDone, done-reply, done-view}
 use Rattle.zp_laws.proofs.Deciding.{Sees, expired-walks, moved-walks, view-walks}
 use Rattle.zp_laws.proofs.Entering.{entry-walks}
-use Rattle.zp_laws.proofs.Going.{Works, asking-walks, goes-walks, still-matches, takes-walks}
+use Rattle.zp_laws.proofs.Keeping.{views-put}
+use Rattle.zp_laws.proofs.Going.{Works, asking-walks, beside-walks, goes-walks, still-matches, takes-walks}
 use Rattle.zp_laws.proofs.Parts.{found-there, revision-kept, wanted-seen}
 use Rattle.zp_laws.proofs.Replying.{Busy, waits-walks}
 use Rattle.zp_laws.proofs.Strides.{ahead-now, strides-none, walks-append, walks-is}
@@ -116,6 +121,7 @@ module _ (store : Store) (lines : List TranscriptLine) (conn : ℕ) (c c' : Core
           work = s.work;
           waiting = frames-push lines conn (waits_from c.stage c.next) c.waiting bytes s.waiting (record { place = t.place; framed = t.framed; header = e; small = t.small });
           turn = s.turn;
+          views = s.views;
           knows = knows-still c.stage s.knows;
         });
         who = refl;
@@ -147,6 +153,7 @@ pub record AtStage (store : Store) (lines : List TranscriptLine) (conn : ℕ) (c
   pub work : IsAtWork lines conn c.next st
   pub waiting : AreFrames lines conn (waits_from st c.next) c.waiting
   pub turn : is_not_overtaken lines conn c.next ≡ true
+  pub views : AreViewsOf store c.views
   pub knows : Knows store lines conn c w looked st
   pub asked : Ask
   pub out : asked_of c.who st ≡ Some asked
@@ -196,8 +203,8 @@ wants-head : (id : ℤ) → Contains (attach_wants id) (key_want HeadKey)
 wants-head id = (1, omega arith, refl)
 
 module _ (store : Store) (lines : List TranscriptLine) (conn : ℕ) (c c' : Core) (w : Walker) (looked now : ℕ) (out : List Action) where
-  works-at : (a : Answer) (st : Stage) (bytes : List ℕ) → AtStage store lines conn c w looked a st → IsFrameAt lines conn c.next bytes → AreFrames lines conn (c.next + 1) c.waiting → own_update conn c.next lines ≡ None → Works lines conn c w bytes
-  works-at a st bytes k f g own = record { legal = k.legal; matches = k.matches; frame = f; waiting = g; turn = k.turn; ahead = ahead-now lines 0 conn c.next k.turn own }
+  works-at : (a : Answer) (st : Stage) (bytes : List ℕ) → AtStage store lines conn c w looked a st → IsFrameAt lines conn c.next bytes → AreFrames lines conn (c.next + 1) c.waiting → own_update conn c.next lines ≡ None → Works store lines conn c w bytes
+  works-at a st bytes k f g own = record { legal = k.legal; matches = k.matches; frame = f; waiting = g; turn = k.turn; views = k.views; ahead = ahead-now lines 0 conn c.next k.turn own }
 
   -- ---- the keepalive that was due
 
@@ -207,7 +214,7 @@ module _ (store : Store) (lines : List TranscriptLine) (conn : ℕ) (c c' : Core
       let d = (checks c bytes).0 in
       either (int_eq ttl (pos 0)) (Is (checks c bytes) c' out) (Takes c bytes now c' out) (Walks store lines conn c c' w looked out) f
       (λ i. walks-is store lines conn c c' (checks c bytes) w looked out i (asking-walks store lines conn c d w bytes looked (checks c bytes).1 wk refl refl refl refl refl refl
-      (record { matches = still-matches lines c d w k.matches refl refl refl refl; work = k.work; waiting = k.waiting; turn = k.turn; knows = tt }) refl wk.ahead))
+      (record { matches = still-matches lines c d w k.matches refl refl refl refl; work = k.work; waiting = k.waiting; turn = k.turn; views = k.views; knows = tt }) refl wk.ahead))
       (takes-walks store lines conn c c' w bytes looked now out wk))
 
   -- ---- the look at the session
@@ -284,11 +291,11 @@ module _ (store : Store) (lines : List TranscriptLine) (conn : ℕ) (c c' : Core
 
   -- ---- a plan was carried out, or a guard failed
 
-  pub was-done : (r : ℤ) (parts : List ActAns) (xid : ℤ) (q : Request) (v : View) (p : Plan) (m : ℕ) → (k : AtStage store lines conn c w looked (answer.Txn r true parts) (Committing xid q v p m)) → IsReply lines conn c.who w (finishes xid q p r parts) looked
-  was-done r parts xid q v p m k =
+  made-as : (r : ℤ) (parts : List ActAns) (xid : ℤ) (q : Request) (v : View) (p : Plan) (m : ℕ) → (k : AtStage store lines conn c w looked (answer.Txn r true parts) (Committing xid q v p m)) → WasDone store lines conn c w (k.work).bytes v p m xid q k.before k.then_store r parts looked
+  made-as r parts xid q v p m k =
       let f = k.work in
       let asks : transaction p ≡ k.asked = some_is k.out in
-      done-reply store lines conn c w f.bytes v p m xid q k.before k.then_store r parts looked (record {
+      record {
         least = k.least;
         rises = k.rises;
         legal = k.legal;
@@ -298,17 +305,44 @@ module _ (store : Store) (lines : List TranscriptLine) (conn : ℕ) (c c' : Core
         bound = (k.knows).1;
         carried_out = ap (carry k.before) asks ∙ k.carried_out;
         was = k.was;
+        is = k.is;
         earlier = k.earlier;
         shown = k.shown refl;
         own = k.own;
-      })
+      }
 
-  pub busy-at : (a : Answer) (xid : ℤ) (q : Request) (v : View) (p : Plan) (m : ℕ) → AtStage store lines conn c w looked a (Committing xid q v p m) → Busy lines conn c w
-  busy-at a xid q v p m k = record { legal = k.legal; matches = k.matches; waiting = k.waiting; turn = k.turn }
+  -- what is kept after an update is of the store
+  pub was-left : (r : ℤ) (parts : List ActAns) (xid : ℤ) (q : Request) (v : View) (p : Plan) (m : ℕ) → (k : AtStage store lines conn c w looked (answer.Txn r true parts) (Committing xid q v p m)) → (d : Core) → Leaves c q v p r parts d
+      → (xs : KeptViews) × (d ≡ record c { views = xs }) × AreViewsOf store xs
+  was-left r parts xid q v p m k d h = at_path (update_path q) ((k.knows).1).keepable h
+    where
+      left : (j : Bytes) (head : Kv) (o : Option View) → PutsNewKeys v p → head_shown parts ≡ Some head → IsAfter v p.guards p.success r head o → d ≡ left_core c j o → (xs : KeptViews) × (d ≡ record c { views = xs }) × AreViewsOf store xs
+      left j head None new e is y = (c.views, y, k.views)
+      left j head (Some x) new e is y =
+          let of = done-view store lines conn c w (k.work).bytes v p m xid q k.before k.then_store r parts looked (made-as r parts xid q v p m k) head new e in
+          (put_first j (trimmed x) c.views, y, views-put store j x c.views (subst (IsViewOf store) (sym (after-is v x p.guards p.success r head (Some x) refl is)) of) k.views)
 
-  committed-walks : (a : Answer) (xid : ℤ) (q : Request) (v : View) (p : Plan) (m : ℕ) → AtStage store lines conn c w looked a (Committing xid q v p m) → CommitAnswered c xid q p now c' out a → Walks store lines conn c c' w looked out
+      by_head : (j : Bytes) (o : Option Kv) → head_shown parts ≡ o → PutsNewKeys v p → LeavesBy c j v p r o d → (xs : KeptViews) × (d ≡ record c { views = xs }) × AreViewsOf store xs
+      by_head j None e new y = (c.views, y, k.views)
+      by_head j (Some head) e new y = left j head y.0 new e y.1 y.2
+
+      at_path : (o : Option Bytes) → IfSome o (λ j. PutsNewKeys v p) → LeavesAt c o v p r parts d → (xs : KeptViews) × (d ≡ record c { views = xs }) × AreViewsOf store xs
+      at_path None new y = (c.views, y, k.views)
+      at_path (Some j) new y = by_head j (head_shown parts) refl new y
+
+  pub was-done : (r : ℤ) (parts : List ActAns) (xid : ℤ) (q : Request) (v : View) (p : Plan) (m : ℕ) → (k : AtStage store lines conn c w looked (answer.Txn r true parts) (Committing xid q v p m)) → IsReply lines conn c.who w (finishes xid q p r parts) looked
+  was-done r parts xid q v p m k = done-reply store lines conn c w (k.work).bytes v p m xid q k.before k.then_store r parts looked (made-as r parts xid q v p m k)
+
+  pub busy-at : (a : Answer) (xid : ℤ) (q : Request) (v : View) (p : Plan) (m : ℕ) → AtStage store lines conn c w looked a (Committing xid q v p m) → (xs : KeptViews) → AreViewsOf store xs → Busy store lines conn (record c { views = xs }) w
+  busy-at a xid q v p m k xs h = record { legal = k.legal; matches = still-matches lines c (record c { views = xs }) w k.matches refl refl refl refl; waiting = k.waiting; turn = k.turn; views = h }
+
+  committed-walks : (a : Answer) (xid : ℤ) (q : Request) (v : View) (p : Plan) (m : ℕ) → AtStage store lines conn c w looked a (Committing xid q v p m) → CommitAnswered c xid q v p now c' out a → Walks store lines conn c c' w looked out
   committed-walks (answer.Txn r true parts) xid q v p m k h =
-      waits-walks lines conn c w (finishes xid q p r parts) looked (busy-at (answer.Txn r true parts) xid q v p m k) (was-done r parts xid q v p m k) store c' out h
+      let y = was-left r parts xid q v p m k h.kept h.leaves in
+      let d = record c { views = y.0 } in
+      let fin = finishes xid q p r parts in
+      beside-walks store lines conn c c' y.0 w looked out
+      (waits-walks store lines conn d w fin looked (busy-at (answer.Txn r true parts) xid q v p m k y.0 y.2) (was-done r parts xid q v p m k) c' out (subst (λ (x : Core). Is (waits x fin) c' out) y.1 h.is))
   committed-walks (answer.Txn r false parts) xid q v p m k h =
       let f = k.work in
       let wk = works-at (answer.Txn r false parts) (Committing xid q v p m) f.bytes k f.frame k.waiting k.own in
@@ -349,6 +383,7 @@ at-stage store lines conn c w looked a k =
       work = s.work;
       waiting = s.waiting;
       turn = s.turn;
+      views = s.views;
       knows = s.knows;
       asked = t.asked;
       out = t.out;

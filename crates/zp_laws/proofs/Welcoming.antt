@@ -16,6 +16,9 @@ use Rattle.zk_transcript.specs.declared.transcript.Cause.TheVariants as cause
 use Rattle.zk_transcript.specs.declared.transcript.TranscriptLine.{TranscriptLine}
 use Rattle.zk_least.proofs.Firing.{after-line}
 use Rattle.zx_base.proofs.Options.{none_some}
+use Rattle.zx_base.specs.Maps.{Bytes}
+use Rattle.std.proofs.lemmas.List.Elements.{All-nil}
+use Rattle.zn_view.specs.Seen.{View}
 use Rattle.zn_view.specs.Asks.{reading}
 use Rattle.zn_view.specs.declared.plan.Who.{Who}
 use Rattle.zs_session.specs.Connecting.{Steps as ConnectSteps, asked_by}
@@ -34,7 +37,7 @@ use Rattle.zp_step.specs.declared.input.Input.{Input}
 use Rattle.zp_step.specs.declared.input.Input.TheVariants as input
 use Rattle.zp_step.proofs.Shutting.{goes-still, steps-open}
 use Rattle.zp_laws.specs.Frames.{AreFrames}
-use Rattle.zp_laws.specs.Standing.{Stands, is_ahead}
+use Rattle.zp_laws.specs.Standing.{IsViewOf, Stands, is_ahead}
 use Rattle.zp_laws.specs.Walking.{sends}
 use Rattle.zp_laws.specs.Welcomes.{IsAttachment, IsRefusal, IsSilent, IsWelcome, is_connecting, is_entry}
 use Rattle.zp_laws.proofs.Cases.{either, open-unless}
@@ -57,6 +60,7 @@ welcomed-stands store lines conn c who timeout number zxid place looked k = reco
   work = tt;
   waiting = subst (λ n. AreFrames lines conn n c.waiting) (sym k.next) k.waiting;
   turn = ap (is_not_overtaken lines conn) k.next ∙ turn-next lines conn 0 k.turn;
+  views = All-nil (λ (x : Bytes × View). IsViewOf store x.1);
   knows = ap (is_ahead lines conn) k.next ∙ k.turn;
 }
 

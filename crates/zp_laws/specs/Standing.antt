@@ -13,6 +13,7 @@ use Rattle.zk_transcript.specs.Walks.{Walker, after_update, is_not_overtaken, ow
 use Rattle.zk_transcript.specs.declared.transcript.TranscriptLine.{TranscriptLine}
 use Rattle.zk_transcript.specs.declared.transcript.TranscriptLine.TheVariants.{Update}
 use Rattle.zk_transcript.specs.declared.transcript.UpdateRec.{UpdateRec}
+use Rattle.zx_base.specs.Maps.{Bytes}
 use Rattle.zn_layout.specs.StandsFor.{StandsFor}
 use Rattle.zn_view.specs.Deciding.{IsGood}
 use Rattle.zn_view.specs.Seen.{View}
@@ -20,7 +21,8 @@ use Rattle.zn_view.specs.Views.{Agrees, WasPut}
 use Rattle.zn_view.specs.declared.plan.Plan.{Plan}
 use Rattle.zn_view.specs.declared.plan.Who.{Who}
 use Rattle.zp_step.specs.Replies.{is_due}
-use Rattle.zp_step.specs.Stages.{Core, Pending, Stage, Unconnected, Connecting, Ready, Reading, Committing, Waiting, seen_by}
+use Rattle.zn_view.specs.Keeping.{IsKeepable}
+use Rattle.zp_step.specs.Stages.{Core, KeptViews, Pending, Stage, Unconnected, Connecting, Ready, Reading, Committing, Waiting, seen_by}
 use Rattle.zp_laws.specs.Frames.{AreFrames, IsAtWork, IsFrameAt, waits_from}
 
 -- ---- a moment as of which the next request of a walk may be answered
@@ -56,6 +58,18 @@ pub record IsViewAt (store : Store) (lines : List TranscriptLine) (conn : ℕ) (
 abbrev pub IsForTree : Request → Type 0
 IsForTree r = plain_request no_watches r ≡ None
 
+-- the view is of a revision of the store, whenever it was read
+pub record IsViewOf (store : Store) (v : View) : Type 0 where
+  pub number : ℕ
+  pub revision : v.revision ≡ pos number
+  pub known : number ≤ length store.revisions
+  pub agrees : Agrees v (store_at store number)
+  pub put : All WasPut v.keys
+
+-- each view that is kept is of a revision of the store
+abbrev pub AreViewsOf : Store → KeptViews → Type 0
+AreViewsOf store xs = All (λ (x : Bytes × View). IsViewOf store x.1) xs
+
 -- the plan is a good one, made on a view of a revision of the store
 pub record IsBoundPlan (store : Store) (who : Who) (request : Request) (v : View) (p : Plan) (time : ℕ) : Type 0 where
   pub number : ℕ
@@ -64,6 +78,7 @@ pub record IsBoundPlan (store : Store) (who : Who) (request : Request) (v : View
   pub agrees : Agrees v (store_at store number)
   pub put : All WasPut v.keys
   pub good : IsGood request who time v p
+  pub keepable : IsKeepable request v p
 
 -- a reply that waits is the service's as of the moment, whatever is armed
 pub record IsReply (lines : List TranscriptLine) (conn : ℕ) (who : Who) (w : Walker) (p : Pending) (looked : ℕ) : Type 0 where
@@ -115,6 +130,7 @@ pub record Stands (store : Store) (lines : List TranscriptLine) (conn : ℕ) (c 
   pub waiting : AreFrames lines conn (waits_from c.stage c.next) c.waiting
   -- no request after the next one was carried out
   pub turn : is_not_overtaken lines conn c.next ≡ true
+  pub views : AreViewsOf store c.views
   pub knows : Knows store lines conn c w looked c.stage
 
 -- of a closed core nothing is said

@@ -31,7 +31,7 @@ kept_by now kept _ = kept
 
 -- the session is attached to the connection by the update of this number and zxid
 abbrev pub attached_core : Core → Who → ℤ → ℤ → ℤ → Core
-attached_core c who timeout number zxid = record c { stage = Ready; zxid = zxid; cursor = number; watches = no_watches; who = who; timeout = timeout }
+attached_core c who timeout number zxid = record c { stage = Ready; zxid = zxid; cursor = number; watches = no_watches; who = who; timeout = timeout; views = [] }
 
 -- what comes of a step of the connect: its next ask, the welcome, or the end. The client is told of an end only where its resume
 -- is refused

@@ -25,6 +25,8 @@ use Rattle.zn_view.specs.declared.want.Want.{Want}
 use Rattle.zp_step.specs.declared.action.Action.{Action}
 use Rattle.zp_step.specs.declared.action.Action.TheVariants as action
 use Rattle.zp_step.specs.Stages.{Core, Pending, Reading, Committing, WatchChange, AddsWatch, SetsWatches}
+use Rattle.zp_step.specs.Kept.{keeps}
+use Rattle.zn_view.specs.Keeping.{IsKeepable}
 use Rattle.zp_step.specs.Replies.{Is, closed_by, waits}
 
 -- ---- what an answer shows
@@ -74,9 +76,9 @@ decided c xid r v now (Planned p) = (record c { stage = Committing xid r v p now
 decided c xid r v now Expired = waits c (expired v xid)
 decided c xid r v now (Moved found) = waits c (moved c.who v found xid)
 
--- a plan is a good one; of any other decision nothing is required
+-- a plan is a good one, and what it leaves of the view may be kept; of any other decision nothing is required
 abbrev pub IsBacked : Request → Who → ℕ → View → Decision → Type 0
-IsBacked r who now v d = IfPlanned (IsGood r who now v) d
+IsBacked r who now v d = IfPlanned (λ p. IsGood r who now v p × IsKeepable r v p) d
 
 -- something is still lacking, and is asked for, at most `max_ranges` of it at once
 pub record AsksOn (c : Core) (xid : ℤ) (r : Request) (v : View) (c' : Core) (out : List Action) : Type 0 where
@@ -85,14 +87,14 @@ pub record AsksOn (c : Core) (xid : ℤ) (r : Request) (v : View) (c' : Core) (o
   pub some : lacking ≢ []
   pub is : Is (asks_for c xid r v (take max_ranges lacking)) c' out
 
--- nothing is lacking: the decision is the service's in each sound state that the view is of
+-- nothing is lacking: the view is kept, and the decision is the service's in each sound state that the view is of
 pub record Decides (c : Core) (xid : ℤ) (r : Request) (v : View) (now : ℕ) (c' : Core) (out : List Action) : Type 0 where
   pub decision : Decision
   pub whole : AreNeeds r c.who v []
   pub tested : IsTested r c.who v decision
   pub right : IsDecision r c.who v decision
   pub backed : IsBacked r c.who now v decision
-  pub is : Is (decided c xid r v now decision) c' out
+  pub is : Is (decided (keeps c r v) xid r v now decision) c' out
 
 abbrev pub Looks : Core → ℤ → Request → View → ℕ → Core → List Action → Type 0
 Looks c xid r v now c' out = AsksOn c xid r v c' out ⊎ Decides c xid r v now c' out

@@ -15,6 +15,7 @@ use Rattle.zn_view.specs.declared.want.Want.{Want}
 use Rattle.zs_session.specs.Answering.{OfTxn, viewed}
 use Rattle.zs_session.specs.Connecting.{number_shown}
 use Rattle.zp_step.specs.declared.action.Action.{Action}
+use Rattle.zp_step.specs.Kept.{Leaves}
 use Rattle.zp_step.specs.Looking.{IfRecords, Looks}
 use Rattle.zp_step.specs.Replies.{Is, waits}
 use Rattle.zp_step.specs.Stages.{Core, Pending, AddsWatch}
@@ -43,12 +44,18 @@ finishes xid r p revision parts = record {
   ends = end_behind r;
 }
 
--- The guards held, and the reply is sent or waits. Or one failed: what was read again is a new view, on which the request is
--- looked up or decided anew.
-abbrev pub Committed : Core → ℤ → Request → Plan → ℕ → Core → List Action → ℤ → Bool → List ActAns → Type 0
-Committed c xid r p now c' out revision true parts = Is (waits c (finishes xid r p revision parts)) c' out
-Committed c xid r p now c' out revision false parts =
+-- the update was made: what it leaves of the view is kept, and the reply is sent or waits
+pub record WasMade (c : Core) (xid : ℤ) (r : Request) (v : View) (p : Plan) (c' : Core) (out : List Action) (revision : ℤ) (parts : List ActAns) : Type 0 where
+  pub kept : Core
+  pub leaves : Leaves c r v p revision parts kept
+  pub is : Is (waits kept (finishes xid r p revision parts)) c' out
+
+-- The guards held, and the update was made. Or one failed: what was read again is a new view, on which the request is looked up or
+-- decided anew.
+abbrev pub Committed : Core → ℤ → Request → View → Plan → ℕ → Core → List Action → ℤ → Bool → List ActAns → Type 0
+Committed c xid r v p now c' out revision true parts = WasMade c xid r v p c' out revision parts
+Committed c xid r v p now c' out revision false parts =
     IfRecords c p.again parts c' out (Looks c xid r (viewed revision p.again parts) now c' out)
 
-abbrev pub CommitAnswered : Core → ℤ → Request → Plan → ℕ → Core → List Action → Answer → Type 0
-CommitAnswered c xid r p now c' out a = OfTxn a (λ revision succeeded parts. Committed c xid r p now c' out revision succeeded parts)
+abbrev pub CommitAnswered : Core → ℤ → Request → View → Plan → ℕ → Core → List Action → Answer → Type 0
+CommitAnswered c xid r v p now c' out a = OfTxn a (λ revision succeeded parts. Committed c xid r v p now c' out revision succeeded parts)

@@ -6,6 +6,7 @@ use Rattle.zk_model.specs.Watches.{Watches, Seen, no_watches, is_unarmed}
 use Rattle.zk_model.specs.declared.reply.Reply.{Reply}
 use Rattle.zk_model.specs.declared.request.Request.{Request}
 use Rattle.zk_transcript.specs.declared.transcript.Cause.{Cause}
+use Rattle.zx_base.specs.Maps.{Bytes}
 use Rattle.zn_view.specs.Asks.{reading, transaction}
 use Rattle.zn_view.specs.Seen.{View}
 use Rattle.zn_view.specs.Views.{armed_by}
@@ -70,6 +71,10 @@ pub data Stage : Type 0 where
   -- the connection is closed
   Shut : Stage
 
+-- views of paths that were used, the most recently used first
+abbrev pub KeptViews : Type 0
+KeptViews = List (Bytes × View)
+
 pub record Core : Type 0 where
   pub stage : Stage
   -- the frames that were not taken up yet, the oldest first
@@ -86,6 +91,8 @@ pub record Core : Type 0 where
   pub kept : ℕ
   -- the index of the next frame to answer; the connect is frame 0
   pub next : ℕ
+  -- on which updates may be planned: at most 16, each path once
+  pub views : KeptViews
 
 -- before the first frame; there is no session yet
 abbrev pub new_core : Fresh → Core
@@ -100,6 +107,7 @@ new_core fresh = record {
   timeout = pos 0;
   kept = 0;
   next = 1;
+  views = [];
 }
 
 abbrev pub is_shut : Stage → Bool

@@ -63,7 +63,7 @@ Answers c a now c' out (Connecting connect) = Connects c connect (Some a) now c'
 Answers c a now c' out (KeepingAlive frame) = KeptAlive c frame now c' out a
 Answers c a now c' out (Checking frame) = Checked c frame now c' out a
 Answers c a now c' out (Reading xid r v ws) = ReadOn c xid r v ws now c' out a
-Answers c a now c' out (Committing xid r v p time) = CommitAnswered c xid r p now c' out a
+Answers c a now c' out (Committing xid r v p time) = CommitAnswered c xid r v p now c' out a
 Answers c a now c' out _ = ⊥
 
 -- the frame's bytes are counted, and the four of the length before it

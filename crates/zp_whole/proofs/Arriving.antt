@@ -232,6 +232,7 @@ module _ (s : Store) (lines : List TranscriptLine) (c : ℕ) (core : Core) (byte
       work = (k.stands).work;
       waiting = frames-push lines c (waits_from core.stage core.next) core.waiting bytes (k.stands).waiting came;
       turn = (k.stands).turn;
+      views = (k.stands).views;
       knows = knows-still s lines c core core k.walker k.looked bytes [] k.stands (record { place = came.place; framed = came.framed; small = came.small }) core.stage (k.stands).knows;
     };
     flies = flies-queued k.walker k.looked f k.flies;

@@ -76,7 +76,7 @@ relooked s lines c core w m n (Waiting p) h k = absurd (cc)
 relooked s lines c core w m n Shut h k = absurd (cc)
 
 relook : (s : Store) (lines : List TranscriptLine) (c : ℕ) (core : Core) (w : Walker) (m n : ℕ) → is_first core.stage ≡ true → Stands s lines c core w m → Stands s lines c core w n
-relook s lines c core w m n h k = record { matches = k.matches; work = k.work; waiting = k.waiting; turn = k.turn; knows = relooked s lines c core w m n core.stage h k.knows }
+relook s lines c core w m n h k = record { matches = k.matches; work = k.work; waiting = k.waiting; turn = k.turn; views = k.views; knows = relooked s lines c core w m n core.stage h k.knows }
 
 -- the view that is held is of a revision that the store has
 earlier : (s : Store) (lines : List TranscriptLine) (c : ℕ) (core : Core) (w : Walker) (m : ℕ) (st : Stage) → Knows s lines c core w m st → IsOfEarlierIn st s

@@ -94,6 +94,7 @@ request-kept s u lines more c i kind t x b =
         agrees = subst (Agrees b.view) (sym (x.same p.number p.known)) p.agrees;
         put = p.put;
         good = p.good;
+        keepable = p.keepable;
       };
       txn = b.txn;
     }

@@ -19,7 +19,7 @@ use Rattle.zx_base.specs.Maps.{Bytes}
 use Rattle.zn_updates.specs.Deciding.{IsCreate, IsUpLookedUp}
 use Rattle.zn_updates.proofs.Forms.{create_path_valid}
 use Rattle.zn_updates.proofs.Plans.{refused_form, refused_sound}
-use Rattle.zn_updates.proofs.CreateClauses.{form_at, create_refused, all_promised, own_looked_up, path_looked_up, up_looked_up, create-by_tree}
+use Rattle.zn_updates.proofs.CreateClauses.{form_at, create_refused, all_promised, own_looked_up, up_looked_up, create-by_tree}
 use Rattle.zn_updates.proofs.create.decide_create.Goals as goal
 
 pub create_named-requires-clause-prefix : goal.create_named-requires-clause-prefix
@@ -84,8 +84,7 @@ returns-in-Valid-clause-form c =
     let session = to_z-of_z w64 _ session_fits in
     let long : IsLongCount c.args.who.session = first_of (search rules, grind (arith, common_steps)) in
     IfOk-weaker c.create_named.result _ _ (λ d is.
-    (all_promised c.args.path.now c.args.content.now c.args.acl.now c.args.flags form.1 valid c.args.who c.args.view.now c.args.now c.requires.time c.requires.short c.requires.real long d _ refl
-    (λ w r e seen. path_looked_up c.args.path.now c.args.content.now c.args.acl.now c.args.flags form.1 valid c.args.who c.args.view.now c.requires.whole w r e seen)
+    (all_promised c.args.path.now c.args.content.now c.args.acl.now c.args.flags form.1 valid c.args.who c.args.view.now c.args.now c.requires.time c.requires.short c.requires.real long c.requires.whole d _ refl
     (subst (λ (t : Bool × Bool × ℤ × Bytes). IsCreate c.args.view.now c.args.path.now c.args.content.now c.args.now t.0 t.1 t.2 (parent t.3) d) (λ i. (sequential i, ephemeral i, session i, form.0 i)) is)).0) c.create_named.ensures
 
 pub returns-in-Valid-clause-sound : goal.returns-in-Valid-clause-sound
@@ -100,8 +99,7 @@ returns-in-Valid-clause-sound c =
     let session = to_z-of_z w64 _ session_fits in
     let long : IsLongCount c.args.who.session = first_of (search rules, grind (arith, common_steps)) in
     IfOk-weaker c.create_named.result _ _ (λ d is.
-    (all_promised c.args.path.now c.args.content.now c.args.acl.now c.args.flags form.1 valid c.args.who c.args.view.now c.args.now c.requires.time c.requires.short c.requires.real long d _ refl
-    (λ w r e seen. path_looked_up c.args.path.now c.args.content.now c.args.acl.now c.args.flags form.1 valid c.args.who c.args.view.now c.requires.whole w r e seen)
+    (all_promised c.args.path.now c.args.content.now c.args.acl.now c.args.flags form.1 valid c.args.who c.args.view.now c.args.now c.requires.time c.requires.short c.requires.real long c.requires.whole d _ refl
     (subst (λ (t : Bool × Bool × ℤ × Bytes). IsCreate c.args.view.now c.args.path.now c.args.content.now c.args.now t.0 t.1 t.2 (parent t.3) d) (λ i. (sequential i, ephemeral i, session i, form.0 i)) is)).1) c.create_named.ensures
 
 pub returns-in-Valid-clause-plan : goal.returns-in-Valid-clause-plan
@@ -116,8 +114,7 @@ returns-in-Valid-clause-plan c =
     let session = to_z-of_z w64 _ session_fits in
     let long : IsLongCount c.args.who.session = first_of (search rules, grind (arith, common_steps)) in
     IfOk-weaker c.create_named.result _ _ (λ d is.
-    (all_promised c.args.path.now c.args.content.now c.args.acl.now c.args.flags form.1 valid c.args.who c.args.view.now c.args.now c.requires.time c.requires.short c.requires.real long d _ refl
-    (λ w r e seen. path_looked_up c.args.path.now c.args.content.now c.args.acl.now c.args.flags form.1 valid c.args.who c.args.view.now c.requires.whole w r e seen)
+    (all_promised c.args.path.now c.args.content.now c.args.acl.now c.args.flags form.1 valid c.args.who c.args.view.now c.args.now c.requires.time c.requires.short c.requires.real long c.requires.whole d _ refl
     (subst (λ (t : Bool × Bool × ℤ × Bytes). IsCreate c.args.view.now c.args.path.now c.args.content.now c.args.now t.0 t.1 t.2 (parent t.3) d) (λ i. (sequential i, ephemeral i, session i, form.0 i)) is)).2) c.create_named.ensures
 
 pub returns-in-Refused-clause-form : goal.returns-in-Refused-clause-form

@@ -50,7 +50,7 @@ returns-in-Some-clause-form c =
     let fits : SFits w32 c.args.version = search rules in
     let session : SFits w64 c.args.who.session = search rules in
     IfOk-weaker c.delete_below.result _ _ (λ d is.
-    (all_promised c.args.path.now c.args.version c.args.who c.args.view.now c.args.now path.1 c.requires.time c.requires.real d (parent c.args.path.now) refl
+    (all_promised c.args.path.now c.args.version c.args.who c.args.view.now c.args.now path.1 c.requires.time c.requires.real c.requires.whole d (parent c.args.path.now) refl
     (subst (λ (t : Bytes × ℤ × ℤ). IsDelete c.args.view.now t.0 t.1 t.2 (parent t.0) d) (λ i. (path.0 i, to_z-of_z w32 _ fits i, to_z-of_z w64 _ session i)) is)).0) c.delete_below.ensures
 
 pub returns-in-Some-clause-sound : goal.returns-in-Some-clause-sound
@@ -59,7 +59,7 @@ returns-in-Some-clause-sound c =
     let fits : SFits w32 c.args.version = search rules in
     let session : SFits w64 c.args.who.session = search rules in
     IfOk-weaker c.delete_below.result _ _ (λ d is.
-    (all_promised c.args.path.now c.args.version c.args.who c.args.view.now c.args.now path.1 c.requires.time c.requires.real d (parent c.args.path.now) refl
+    (all_promised c.args.path.now c.args.version c.args.who c.args.view.now c.args.now path.1 c.requires.time c.requires.real c.requires.whole d (parent c.args.path.now) refl
     (subst (λ (t : Bytes × ℤ × ℤ). IsDelete c.args.view.now t.0 t.1 t.2 (parent t.0) d) (λ i. (path.0 i, to_z-of_z w32 _ fits i, to_z-of_z w64 _ session i)) is)).1) c.delete_below.ensures
 
 pub returns-in-Some-clause-plan : goal.returns-in-Some-clause-plan
@@ -68,7 +68,7 @@ returns-in-Some-clause-plan c =
     let fits : SFits w32 c.args.version = search rules in
     let session : SFits w64 c.args.who.session = search rules in
     IfOk-weaker c.delete_below.result _ _ (λ d is.
-    (all_promised c.args.path.now c.args.version c.args.who c.args.view.now c.args.now path.1 c.requires.time c.requires.real d (parent c.args.path.now) refl
+    (all_promised c.args.path.now c.args.version c.args.who c.args.view.now c.args.now path.1 c.requires.time c.requires.real c.requires.whole d (parent c.args.path.now) refl
     (subst (λ (t : Bytes × ℤ × ℤ). IsDelete c.args.view.now t.0 t.1 t.2 (parent t.0) d) (λ i. (path.0 i, to_z-of_z w32 _ fits i, to_z-of_z w64 _ session i)) is)).2) c.delete_below.ensures
 
 pub returns-in-None-clause-form : goal.returns-in-None-clause-form

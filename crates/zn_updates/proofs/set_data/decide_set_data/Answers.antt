@@ -50,7 +50,7 @@ returns-in-Some-clause-plan c =
     let session : SFits w64 c.args.who.session = search rules in
     IfOk-weaker c.set_data_at.result _ _ (λ d is.
     set_planned c.args.path.now c.args.content.now c.args.version c.args.who c.args.view.now c.args.now path.1 c.requires.time c.requires.short c.requires.real d
-    (subst (λ (t : Bytes × ℤ × ℤ). IsSetData c.args.view.now t.0 c.args.content.now t.1 c.args.now t.2 d) (λ i. (path.0 i, to_z-of_z w32 _ fits i, to_z-of_z w64 _ session i)) is)) c.set_data_at.ensures
+    (subst (λ (t : Bytes × ℤ × ℤ). IsSetData c.args.view.now t.0 c.args.content.now t.1 c.args.now t.2 d) (λ i. (path.0 i, to_z-of_z w32 _ fits i, to_z-of_z w64 _ session i)) is) c.requires.whole) c.set_data_at.ensures
 
 pub returns-in-None-clause-form : goal.returns-in-None-clause-form
 returns-in-None-clause-form c =

@@ -1,0 +1,106 @@
+-- Views that are kept: they stay true of the store, and what keeps them changes nothing else of a core.
+use Rattle.std.proofs.Common.{◌≡◌, ℕ, zero, suc, ◌+◌, ◌≤◌, ℤ, pos, Bool, true, false, cond, List, [], ◌∷◌, length, take, refl, sym, ap, ◌∙◌, subst, arith, inl, inr}
+use Rattle.std.specs.Prelude.{Option, Some, None, All, ◌⊎◌, if◌then◌else◌, nat_le}
+use Rattle.std.specs.Map.{lookup, remove_entry}
+use Rattle.std.proofs.lemmas.List.Elements.{All-nil, All-cons, All-head, All-tail, All-weaker}
+use Rattle.ev_types.specs.declared.answer.ActAns.{ActAns}
+use Rattle.ev_types.specs.declared.answer.Kv.{Kv}
+use Rattle.ev_types.specs.Store.{Store, store_at}
+use Rattle.zk_model.specs.declared.request.Request.{Request}
+use Rattle.zx_base.specs.Maps.{Bytes, same}
+use Rattle.zx_base.proofs.Options.{none_some, some_is}
+use Rattle.zn_view.specs.Keeping.{max_kept, trimmed, update_path, view_size}
+use Rattle.zn_view.specs.Seen.{View, empty_view}
+use Rattle.zn_view.specs.Views.{Agrees, children_kept}
+use Rattle.zn_view.specs.declared.plan.Decision.TheVariants.{Planned}
+use Rattle.zn_view.specs.declared.plan.Plan.{Plan}
+use Rattle.zn_view.specs.declared.snapshot.SeenChildren.{SeenChildren}
+use Rattle.zp_step.specs.Kept.{Leaves, LeavesAt, LeavesBy, head_shown, left_core, kept_with, others_kept, put_first, used_first}
+use Rattle.zp_step.specs.Looking.{Looks, decided}
+use Rattle.zp_step.specs.Replies.{Is}
+use Rattle.zp_step.specs.Stages.{Core, KeptViews}
+use Rattle.zp_step.specs.Taking.{LooksFirst, LooksOn}
+use Rattle.zp_step.specs.declared.action.Action.{Action}
+use Rattle.zp_laws.specs.Inputs.{Precedes}
+use Rattle.zp_laws.specs.Standing.{AreViewsOf, IsViewOf}
+
+-- ---- the views stay true
+
+abbrev IsKeptOf : Store → Bytes × View → Type 0
+IsKeptOf store x = IsViewOf store x.1
+
+pub view_of-kept : (s u : Store) (v : View) → Precedes s u → IsViewOf s v → IsViewOf u v
+view_of-kept s u v x k = record { number = k.number; revision = k.revision; known = omega (arith, k.known, x.longer); agrees = subst (Agrees v) (sym (x.same k.number k.known)) k.agrees; put = k.put }
+
+pub views-kept : (s u : Store) (xs : KeptViews) → Precedes s u → AreViewsOf s xs → AreViewsOf u xs
+views-kept s u xs x k = All-weaker (IsKeptOf s) (IsKeptOf u) (λ y h. view_of-kept s u y.1 x h) xs k
+
+module _ {X : Type 0} (P : X → Type 0) where
+  all-take : (n : ℕ) (xs : List X) → All P xs → All P (take n xs)
+  all-take zero xs h = All-nil P
+  all-take (suc n) [] h = All-nil P
+  all-take (suc n) (x ∷ xs) h = All-cons P x (take n xs) (All-head P x xs h) (all-take n xs (All-tail P x xs h))
+
+all-without : (P : Bytes × View → Type 0) (test : Bytes → Bool) (xs : KeptViews) → All P xs → All P (remove_entry test xs)
+all-without P test [] h = h
+all-without P test (x ∷ xs) h = elim (test x.0) as (λ b. All P (cond b xs (x ∷ remove_entry test xs))) [
+  | true ↦ All-tail P x xs h
+  | false ↦ All-cons P x (remove_entry test xs) (All-head P x xs h) (all-without P test xs (All-tail P x xs h))
+]
+
+pub views-of : (s : Store) (test : Bytes → Bool) (xs : KeptViews) (v : View) → AreViewsOf s xs → lookup test xs ≡ Some v → IsViewOf s v
+views-of s test [] v h e = absurd (none_some e)
+views-of s test (x ∷ xs) v h e = (elim (test x.0) as (λ b. cond b (Some x.1) (lookup test xs) ≡ Some v → IsViewOf s v) [
+  | true ↦ λ f. subst (IsViewOf s) (some_is f) (All-head (IsKeptOf s) x xs h)
+  | false ↦ λ f. views-of s test xs v (All-tail (IsKeptOf s) x xs h) f
+]) e
+
+pub views-used : (s : Store) (q : Bytes) (v : View) (xs : KeptViews) → IsViewOf s v → AreViewsOf s xs → AreViewsOf s (used_first q v xs)
+views-used s q v xs k h = All-cons (IsKeptOf s) (q, v) (remove_entry (same q) xs) k (all-without (IsKeptOf s) (same q) xs h)
+
+pub views-put : (s : Store) (q : Bytes) (v : View) (xs : KeptViews) → IsViewOf s v → AreViewsOf s xs → AreViewsOf s (put_first q (trimmed v) xs)
+views-put s q v xs k h = go (nat_le (view_size v) max_kept)
+  where
+    go : (b : Bool) → AreViewsOf s (put_first q (if b then Some (record v { lists = [] }) else None) xs)
+    go true = All-cons (IsKeptOf s) (q, record v { lists = [] }) (others_kept q xs)
+        (record { number = k.number; revision = k.revision; known = k.known; agrees = record { keys = (k.agrees).keys; lists = All-nil (λ (x : SeenChildren). x.paths ≡ children_kept (store_at s k.number) x.path) }; put = k.put })
+        (all-take (IsKeptOf s) 15 (remove_entry (same q) xs) (all-without (IsKeptOf s) (same q) xs h))
+    go false = all-without (IsKeptOf s) (same q) xs h
+
+pub views-with : (s : Store) (o : Option Bytes) (v : View) (xs : KeptViews) → IsViewOf s v → AreViewsOf s xs → AreViewsOf s (kept_with o v xs)
+views-with s None v xs k h = h
+views-with s (Some q) v xs k h = views-put s q v xs k h
+
+-- ---- nothing else changes
+
+-- the core is what it was but for its kept views
+abbrev pub IsBeside : Core → Core → Type 0
+IsBeside c d = (xs : KeptViews) × (d ≡ record c { views = xs })
+
+left-beside : (c d : Core) (q : Bytes) (x : Option View) → d ≡ left_core c q x → IsBeside c d
+left-beside c d q None h = (c.views, h)
+left-beside c d q (Some x) h = (put_first q (trimmed x) c.views, h)
+
+by-beside : (c d : Core) (q : Bytes) (v : View) (p : Plan) (z : ℤ) (o : Option Kv) → LeavesBy c q v p z o d → IsBeside c d
+by-beside c d q v p z None h = (c.views, h)
+by-beside c d q v p z (Some head) h = left-beside c d q h.0 h.2
+
+pub leaves-beside : (c d : Core) (o : Option Bytes) (v : View) (p : Plan) (z : ℤ) (parts : List ActAns) → LeavesAt c o v p z parts d → IsBeside c d
+leaves-beside c d None v p z parts h = (c.views, h)
+leaves-beside c d (Some q) v p z parts h = by-beside c d q v p z (head_shown parts) h
+
+-- a plan is asked that was made on a kept view
+pub record PlansBeside (c : Core) (xid : ℤ) (r : Request) (now : ℕ) (c' : Core) (out : List Action) : Type 0 where
+  pub views : KeptViews
+  pub view : View
+  pub plan : Plan
+  pub is : Is (decided (record c { views = views }) xid r view now (Planned plan)) c' out
+
+pub first-or-anew : (c c' : Core) (xid : ℤ) (r : Request) (now : ℕ) (out : List Action) (o : Option Bytes) → LooksFirst c xid r now c' out o → PlansBeside c xid r now c' out ⊎ Looks c xid r empty_view now c' out
+first-or-anew c c' xid r now out None h = inr h
+first-or-anew c c' xid r now out (Some q) h = go (lookup (same q) c.views) h
+  where
+    go : (o : Option View) → LooksOn c xid r now c' out q o → PlansBeside c xid r now c' out ⊎ Looks c xid r empty_view now c' out
+    go None f = inr f
+    go (Some v) (inl f) = inl (record { views = used_first q v c.views; view = v; plan = f.plan; is = f.is })
+    go (Some v) (inr f) = inr f.1
