@@ -30,7 +30,7 @@ use Rattle.zp_step.proofs.Shutting.{steps-open}
 use Rattle.zp_laws.specs.Ending.{StaysOut, asked_by, closes, ends_well, is_end}
 use Rattle.zp_laws.specs.Frames.{is_open, is_served}
 use Rattle.zp_laws.specs.Inputs.{IsReady, takes_entries}
-use Rattle.zp_laws.specs.Standing.{AreViewsOf, IsReply, Stands, StandsOpen, is_ahead}
+use Rattle.zp_laws.specs.Standing.{AreViewsOf, IsPastFrame, IsReply, Stands, StandsOpen, is_ahead}
 use Rattle.zp_laws.specs.Walking.{IsAheadIn, IsAskedFor, IsStill}
 use Rattle.zp_laws.proofs.Ending.{goes-ends, steps_end_well}
 use Rattle.zp_laws.proofs.Going.{goes-walks}
@@ -96,11 +96,11 @@ done-moves store lines conn c mid c' w looked now r parts xid q v p m first late
     go : (t : Bool) → is_due d fin ≡ t → Is (if t then replied d fin else (record d { stage = Waiting fin }, [])) mid first → ⊥
     go false e i = waiting-rests mid (ap (λ (x : Core). x.stage) i.0) g
     go true e i =
-        let one = replied-walks store lines conn d w fin looked b reply e in
+        let one = replied-walks store lines conn d w fin looked b reply (IsPastFrame lines conn d.next looked) (λ q. q) e in
         let two = goes-walks store lines conn looked now (replied d fin).0 c' one.walker later k.legal one.stands (subst (λ x. Goes now x c' later) i.0 g) in
         let s : Stands store lines conn c' two.walker looked = subst (λ t. StandsOpen t store lines conn c' two.walker looked) (ap is_open st) two.stands in
         let up = walk-next lines conn c.who.session one.walker (two.strides).choices (two.walker, (two.strides).due) (two.strides).walked in
-        omega (arith, up, (s.matches).next, same, (k.matches).next, replied-next store lines conn d w fin looked b reply e)
+        omega (arith, up, (s.matches).next, same, (k.matches).next, replied-next store lines conn d w fin looked b reply (IsPastFrame lines conn d.next looked) (λ q. q) e)
 
 module _ (store : Store) (lines : List TranscriptLine) (conn : ℕ) (c mid n : Core) (w : Walker) (looked now : ℕ) (first later : List Action) (g : Goes now mid n later) (s : IsStill c n) where
   still-ahead : (a : Answer) (st : Stage) → c.stage ≡ st → AtStage store lines conn c w looked a st → Answers c a now mid first st → is_ahead lines conn c.next ≡ true

@@ -204,8 +204,7 @@ module _ (store : Store) (lines : List TranscriptLine) (conn : ℕ) (c : Core) (
       let x = held (present before) s c.who.session c.who.mine o.stood k.least k.rises guard in
       let acts = acts-here lines conn c.who o.place there x.session x.there x.attached in
       let f = k.frame in
-      let mine : placed_frame conn w.next lines ≡ Some (f.place, bytes) = ap (λ n. placed_frame conn n lines) (k.matches).next ∙ f.framed in
-      let asked = request-before lines conn c.next o.place f.place bytes xid q (first_place-take (frame_shown conn c.next) 0 o.place lines f.place bytes f.framed (let lt = (o.planned).asked f.place bytes mine in omega (arith, lt))) k.reads in
+      let asked = request-before lines conn c.next o.place f.place bytes xid q (first_place-take (frame_shown conn c.next) 0 o.place lines f.place bytes f.framed (let lt = o.asked f.place bytes f.framed in omega (arith, lt))) k.reads in
       responds lines o.place conn c.next m r c.who.session q x.session y.made (finished r p.draft) x.there acts asked y.commits y.answers
 
   -- what the update leaves of its view is of the store, as the update left it

@@ -1,5 +1,5 @@
 -- A view that is whole: it is decided, and a reply waits or a plan is asked.
-use Rattle.std.proofs.Common.{◌≡◌, ℕ, List, [], ◌∷◌, take, refl, sym, ap, ◌∙◌, subst, arith, true, ℤ, pos, inl, inr}
+use Rattle.std.proofs.Common.{◌≡◌, ℕ, List, [], take, refl, sym, ap, ◌∙◌, subst, arith, true, ℤ, pos, inl, inr}
 use Rattle.std.specs.Prelude.{Option, Some, None, is_some, ◌≤ℤ◌}
 use Rattle.ev_types.specs.Store.{Store, store_at}
 use Rattle.zk_jute.specs.Requests.{Asks, read_request}
@@ -16,7 +16,7 @@ use Rattle.zk_transcript.specs.declared.transcript.Cause.{Cause}
 use Rattle.zk_transcript.specs.declared.transcript.Cause.TheVariants as cause
 use Rattle.zk_transcript.specs.declared.transcript.TranscriptLine.{TranscriptLine}
 use Rattle.zn_layout.specs.Keys.{HeadKey, key_bytes}
-use Rattle.zn_view.specs.Asks.{head_want, transaction}
+use Rattle.zn_view.specs.Asks.{head_want}
 use Rattle.zn_view.specs.Needs.{AreNeeds}
 use Rattle.zn_view.specs.Seen.{View, seen}
 use Rattle.zn_view.specs.Views.{IsBySession, live}
@@ -27,11 +27,10 @@ use Rattle.zn_view.proofs.LastUpdate.{last_update-told}
 use Rattle.zp_step.specs.Kept.{keeps, view_path}
 use Rattle.zp_step.specs.Looking.{IsBacked, Looks, asks_for, change_by, decided, expired, max_ranges, moved, pending}
 use Rattle.zp_step.specs.Replies.{Is, waits}
-use Rattle.zp_step.specs.Stages.{AddsWatch, Committing, Core, WatchChange}
+use Rattle.zp_step.specs.Stages.{AddsWatch, Core, WatchChange}
 use Rattle.zp_step.specs.declared.action.Action.{Action}
-use Rattle.zp_step.specs.declared.action.Action.TheVariants as action
 use Rattle.zp_laws.specs.Frames.{IsFrameAt}
-use Rattle.zp_laws.specs.Standing.{IsForTree, IsMoment, IsReply, IsViewAt, IsViewOf, Matches}
+use Rattle.zp_laws.specs.Standing.{IsForTree, IsMoment, IsPastFrame, IsReply, IsViewAt, IsViewOf, Matches}
 use Rattle.zp_laws.specs.Walking.{Walks}
 use Rattle.zp_laws.proofs.Attached.{IsAttached, away-refused, first_place-take, gone-refused, here-served, live-is, moored}
 use Rattle.zp_laws.proofs.Going.{Works, beside-walks, beside-works, plans-walks, reads-walks}
@@ -89,20 +88,20 @@ module _ (store : Store) (lines : List TranscriptLine) (conn : ℕ) (c : Core) (
         told = λ ws. ap (told_as_of (take looked lines) conn c.who.session (read_request bytes) ws) (ap (λ n. own_update conn n lines) m.next ∙ k.own) ∙ told ws;
       }
 
-  module _ (c' : Core) (out : List Action) where
+  module _ (Afresh : Type 0) (past : Afresh → IsPastFrame lines conn c.next looked) (c' : Core) (out : List Action) where
     reply-walks : (xid : ℤ) (r : Reply) (change : WatchChange) (ends : Option Cause) → xid_of (read_request bytes) ≡ xid
         → ((ws : Watches) → told_as_of (take looked lines) conn c.who.session (read_request bytes) ws None ≡ Some (is_some ends, told_by change r ws))
-        → Is (waits c (pending v xid r change ends)) c' out → Walks store lines conn c c' w looked out
+        → Is (waits c (pending v xid r change ends)) c' out → Walks store lines conn Afresh c c' w looked out
     reply-walks xid r change ends e told i =
-        waits-walks store lines conn c w (pending v xid r change ends) looked (busy store lines conn c w bytes k.works) (view-reply xid r change ends e told) c' out i
+        waits-walks store lines conn c w (pending v xid r change ends) looked (busy store lines conn c w bytes k.works) (view-reply xid r change ends e told) Afresh past c' out i
 
     -- the session has expired or moved
-    pub expired-walks : (xid : ℤ) → xid_of (read_request bytes) ≡ xid → live (session_at c.who.session (state_at lines looked)) ≡ None → Is (waits c (expired v xid)) c' out → Walks store lines conn c c' w looked out
+    pub expired-walks : (xid : ℤ) → xid_of (read_request bytes) ≡ xid → live (session_at c.who.session (state_at lines looked)) ≡ None → Is (waits c (expired v xid)) c' out → Walks store lines conn Afresh c c' w looked out
     expired-walks xid e h i =
         reply-walks xid (reply.Refused session_expired) (AddsWatch None) (Some (cause.Expired v.revision)) e
         (λ ws. refused-told lines conn looked c.who.session (read_request bytes) (reply.Refused session_expired) ws (gone-refused lines conn c.who looked a h)) i
 
-    pub moved-walks : (xid found : ℤ) (x : Session) → xid_of (read_request bytes) ≡ xid → live (session_at c.who.session (state_at lines looked)) ≡ Some x → (x.attached ≡ c.who.mine → ⊥) → Is (waits c (moved c.who v found xid)) c' out → Walks store lines conn c c' w looked out
+    pub moved-walks : (xid found : ℤ) (x : Session) → xid_of (read_request bytes) ≡ xid → live (session_at c.who.session (state_at lines looked)) ≡ Some x → (x.attached ≡ c.who.mine → ⊥) → Is (waits c (moved c.who v found xid)) c' out → Walks store lines conn Afresh c c' w looked out
     moved-walks xid found x e h differ i =
         reply-walks xid (reply.Refused session_moved) (AddsWatch None) (Some (cause.Moved c.who.mine found)) e
         (λ ws. refused-told lines conn looked c.who.session (read_request bytes) (reply.Refused session_moved) ws (away-refused lines conn c.who looked a x h differ)) i
@@ -116,7 +115,7 @@ module _ (store : Store) (lines : List TranscriptLine) (conn : ℕ) (c : Core) (
       limit-is x h = ap limit_in ((live-is (session_at c.who.session (state_at lines looked)) x h).there)
 
       decided-walks : (now : ℕ) (d : Decision) → AreNeeds q c.who v [] → IsBySession (state_at lines looked) c.who q d (live (session_at c.who.session (state_at lines looked))) → IsBacked q c.who now v d
-          → Is (decided c xid q v now d) c' out → Walks store lines conn c c' w looked out
+          → Is (decided c xid q v now d) c' out → Walks store lines conn Afresh c c' w looked out
       decided-walks now (Answered r arm) whole by back i =
           let s = state_at lines looked in
           let b = answered-by s c.who q r arm (live (session_at c.who.session s)) refl by in
@@ -125,8 +124,8 @@ module _ (store : Store) (lines : List TranscriptLine) (conn : ℕ) (c : Core) (
           ∙ tree-told lines conn looked c.who.session xid q (told_by (change_by q v arm) r ws) ws (limit_of b.session) (limit-is b.session b.lives) (here-served lines conn c.who looked a b.session b.lives b.mine) tree
           (told-by s c.who v r arm ws (store_at store (k.view).number, (k.view).stands, (k.view).agrees) q b (whole.enough refl tree))) i
       decided-walks now (Planned p) whole by back i =
-          walks-is store lines conn c c' (decided c xid q v now (Planned p)) w looked out i
-          (plans-walks store lines conn c w bytes looked now xid q v p k.works e tree (record {
+          walks-is store lines conn Afresh c c' (decided c xid q v now (Planned p)) w looked out i
+          (plans-walks store lines conn Afresh c w bytes looked now xid q v p k.works e tree (record {
             number = (k.view).number;
             revision = (k.view).revision;
             known = (k.view).known;
@@ -141,20 +140,20 @@ module _ (store : Store) (lines : List TranscriptLine) (conn : ℕ) (c : Core) (
           moved-walks xid found t.session xid-is t.there t.differ i
 
 -- more is asked for the view, or the request is decided on it
-pub view-walks : (store : Store) (lines : List TranscriptLine) (conn : ℕ) (c c' : Core) (w : Walker) (bytes : List ℕ) (v : View) (looked now : ℕ) (xid : ℤ) (q : Request) (out : List Action)
-    → Works store lines conn c w bytes → pos 1 ≤ℤ c.who.session → IsViewAt store lines conn c.who w v looked → own_update conn c.next lines ≡ None → read_request bytes ≡ Asks xid q → IsForTree q
-    → Looks c xid q v now c' out → Walks store lines conn c c' w looked out
-view-walks store lines conn c c' w bytes v looked now xid q out k least view own e h (inl x) =
-    walks-is store lines conn c c' (asks_for c xid q v (take max_ranges x.lacking)) w looked out x.is
-    (reads-walks store lines conn c w bytes looked xid q v (take max_ranges x.lacking) k e
-    (h, inr (record { number = view.number; revision = view.revision; begun = view.begun; known = view.known; agrees = view.agrees; stands = view.stands; moment = view.moment })))
-view-walks store lines conn c c' w bytes v looked now xid q out k least view own e h (inr x) =
+pub view-walks : (store : Store) (lines : List TranscriptLine) (conn : ℕ) (Afresh : Type 0) (c c' : Core) (w : Walker) (bytes : List ℕ) (v : View) (looked now : ℕ) (xid : ℤ) (q : Request) (out : List Action)
+    → Works store lines conn c w bytes → pos 1 ≤ℤ c.who.session → IsViewAt store lines conn c.who w v looked → own_update conn c.next lines ≡ None → read_request bytes ≡ Asks xid q → IsForTree q → (Afresh → IsPastFrame lines conn c.next looked)
+    → Looks c xid q v now c' out → Walks store lines conn Afresh c c' w looked out
+view-walks store lines conn Afresh c c' w bytes v looked now xid q out k least view own e h past (inl x) =
+    walks-is store lines conn Afresh c c' (asks_for c xid q v (take max_ranges x.lacking)) w looked out x.is
+    (reads-walks store lines conn Afresh c w bytes looked xid q v (take max_ranges x.lacking) k e
+    (h, inr (record { number = view.number; revision = view.revision; begun = view.begun; known = view.known; agrees = view.agrees; stands = view.stands; moment = view.moment })) (λ y f. past y))
+view-walks store lines conn Afresh c c' w bytes v looked now xid q out k least view own e h past (inr x) =
     let d = keeps c q v in
     let of : IsViewOf store v = record { number = view.number; revision = view.revision; known = view.known; agrees = view.agrees; put = stands-put v (store_at store view.number) (state_at lines looked) view.stands view.agrees } in
-    let works = beside-works store lines conn c d.views w bytes (views-with store (view_path q) v c.views of k.views) k in
+    let works = beside-works store lines conn Afresh c d.views w bytes (views-with store (view_path q) v c.views of k.views) k in
     let sees : Sees store lines conn d w bytes v looked = record { works = works; least = least; view = view; head = λ none. x.whole.enough refl h head_want (inl refl) none; own = own } in
     let s = state_at lines looked in
     let fine = moored lines conn c.who looked (attached-then lines conn c w looked k.legal least k.matches view.moment) in
-    beside-walks store lines conn c c' d.views w looked out
-    (decided-walks store lines conn d w bytes v looked sees c' out xid q e h now x.decision x.whole
+    beside-walks store lines conn Afresh c c' d.views w looked out
+    (decided-walks store lines conn d w bytes v looked sees Afresh past c' out xid q e h now x.decision x.whole
     (by-form s c.who q x.decision h (x.right s fine.sound fine.valid (store_at store view.number, view.stands, view.agrees))) x.backed x.is)

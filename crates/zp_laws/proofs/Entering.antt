@@ -25,7 +25,7 @@ use Rattle.zp_step.specs.Stages.{Core, Pending, Stage, Unconnected, Connecting, 
 use Rattle.zp_step.specs.declared.action.Action.{Action}
 use Rattle.zp_laws.specs.Frames.{AreFrames, is_open, waits_from}
 use Rattle.zp_laws.specs.Inputs.{IsTrueEntry, takes_entries}
-use Rattle.zp_laws.specs.Standing.{IsReply, Knows, Matches, Stands, StandsOpen}
+use Rattle.zp_laws.specs.Standing.{IsFreshLook, IsReply, Knows, Matches, Stands, StandsOpen, has_looked}
 use Rattle.zp_laws.specs.Walking.{IsStill, Strides, Walks, sends}
 use Rattle.zp_laws.proofs.Going.{still-matches}
 use Rattle.zp_laws.proofs.Replying.{notices-sent, notices-up, past-told, waits-walks}
@@ -33,12 +33,13 @@ use Rattle.zp_laws.proofs.Strides.{ahead-append, placed, strides-append, strides
 use Rattle.zp_laws.proofs.Updates.{IsNext, next-after, next-is, next-within}
 
 -- steps of the walk, and then what follows from where they lead
-pub walks-after : (store : Store) (lines : List TranscriptLine) (conn : ℕ) (c d c' : Core) (w v : Walker) (looked : ℕ) (first later : List Action)
-    → Strides lines conn c.who.session w v first → d.who ≡ c.who → IsStill c d → c.zxid ≤ℤ d.zxid → c.cursor ≤ℤ d.cursor → Walks store lines conn d c' v looked later → Walks store lines conn c c' w looked (first ++ later)
-walks-after store lines conn c d c' w v looked first later s who still zxid cursor b = record {
+pub walks-after : (store : Store) (lines : List TranscriptLine) (conn : ℕ) (Afresh : Type 0) (c d c' : Core) (w v : Walker) (looked : ℕ) (first later : List Action)
+    → Strides lines conn Afresh c.who.session w v first → d.who ≡ c.who → IsStill c d → c.zxid ≤ℤ d.zxid → c.cursor ≤ℤ d.cursor → Walks store lines conn Afresh d c' v looked later → Walks store lines conn Afresh c c' w looked (first ++ later)
+walks-after store lines conn Afresh c d c' w v looked first later s who still zxid cursor b = record {
   walker = b.walker;
-  strides = strides-append lines conn c.who.session w v b.walker first later s (subst (λ (x : Who). Strides lines conn x.session v b.walker later) who b.strides);
+  strides = strides-append lines conn Afresh c.who.session w v b.walker first later s (subst (λ (x : Who). Strides lines conn Afresh x.session v b.walker later) who b.strides);
   stands = b.stands;
+  looks = b.looks;
   who = b.who ∙ who;
   ahead = ahead-append lines conn c d c' (inl still) b.ahead;
   zxid = omega (arith, ints, zxid, b.zxid);
@@ -46,7 +47,7 @@ walks-after store lines conn c d c' w v looked first later s who still zxid curs
 }
 
 -- the entry's update is the next one
-pub record Enters (lines : List TranscriptLine) (conn : ℕ) (c : Core) (w : Walker) (e : Entry) : Type 0 where
+pub record Enters (lines : List TranscriptLine) (conn : ℕ) (Afresh : Type 0) (c : Core) (w : Walker) (e : Entry) : Type 0 where
   pub place : ℕ
   pub update : UpdateRec
   pub last : ℕ
@@ -54,13 +55,13 @@ pub record Enters (lines : List TranscriptLine) (conn : ℕ) (c : Core) (w : Wal
   pub next : IsNext lines last place last_update update
   pub since : w.since ≡ last + 1
   pub cursor : c.cursor ≡ pos (state_at lines (last + 1)).updates
-  pub strides : Strides lines conn c.who.session w (told_first lines w place update.zxid) (entered c e).1
+  pub strides : Strides lines conn Afresh c.who.session w (told_first lines w place update.zxid) (entered c e).1
   pub matches : Matches lines (entered c e).0 (told_first lines w place update.zxid)
   pub rises : c.zxid ≤ℤ e.zxid
   pub counts : c.cursor ≤ℤ e.number
 
-pub enters : (lines : List TranscriptLine) (conn : ℕ) (c : Core) (w : Walker) (e : Entry) → is_legal lines ≡ true → Matches lines c w → IsTrueEntry lines c e → Enters lines conn c w e
-enters lines conn c w e h m t =
+pub enters : (lines : List TranscriptLine) (conn : ℕ) (Afresh : Type 0) (c : Core) (w : Walker) (e : Entry) → is_legal lines ≡ true → Matches lines c w → IsTrueEntry lines c e → Enters lines conn Afresh c w e
+enters lines conn Afresh c w e h m t =
     let p = placed lines c w h m in
     let of = t.of in
     let count : (state_at lines (of.place + 1)).updates ≡ (state_at lines (p.line + 1)).updates + 1 = omega (arith, ints, of.number, t.next, p.cursor) in
@@ -78,9 +79,9 @@ enters lines conn c w e h m t =
       next = n;
       since = p.since;
       cursor = p.cursor;
-      strides = strides-one lines conn c.who.session w Tell (told_first lines w of.place of.update.zxid, (fired_at lines of.place w.watches).1) (entered c e).1 y
+      strides = strides-one lines conn Afresh c.who.session w Tell (told_first lines w of.place of.update.zxid, (fired_at lines of.place w.watches).1) (entered c e).1 y
           (notices-sent (of.place + 1) (fire_all w.watches ts).1 ∙ ap (λ (f : Watches × List Notice). sends (send_notices f.1)) same)
-          (notices-up (length lines) (of.place + 1) (fire_all w.watches ts).1 within) refl refl;
+          (notices-up (length lines) (of.place + 1) (fire_all w.watches ts).1 within) (λ q. refl) refl;
       matches = record {
         zxid = sym of.zxid;
         since = sym (ap (λ z. after_update z lines) of.zxid ∙ after-line lines of.place of.update h of.shown);
@@ -102,15 +103,15 @@ less a b i j apart ei ej le =
     apart_now : false ≡ true → ⊥
     apart_now f = cc
 
-reply-later : (lines : List TranscriptLine) (conn : ℕ) (c : Core) (w : Walker) (e : Entry) (p : Pending) (looked : ℕ) → is_legal lines ≡ true → Matches lines c w → is_unarmed c.watches ≡ false → is_due c p ≡ false
-    → IsReply lines conn c.who w p looked → (n : Enters lines conn c w e) → IsReply lines conn c.who (told_first lines w n.place (n.update).zxid) p looked
-reply-later lines conn c w e p looked h m armed undue r n =
+reply-later : (lines : List TranscriptLine) (conn : ℕ) (Afresh : Type 0) (c : Core) (w : Walker) (e : Entry) (p : Pending) (looked : ℕ) → is_legal lines ≡ true → Matches lines c w → is_unarmed c.watches ≡ false → is_due c p ≡ false
+    → IsReply lines conn c.who w p looked → (n : Enters lines conn Afresh c w e) → IsReply lines conn c.who (told_first lines w n.place (n.update).zxid) p looked
+reply-later lines conn Afresh c w e p looked h m armed undue r n =
     let t = past-told lines c w looked h m (r.moment).told in
     let apart : int_eq c.cursor p.number ≡ false = sym (ap (λ b. if b then true else int_eq c.cursor p.number) armed) ∙ undue in
     let below : (state_at lines (n.last + 1)).updates < (state_at lines looked).updates = less c.cursor p.number (state_at lines (n.last + 1)).updates (state_at lines looked).updates apart n.cursor r.number t.cursor in
     let lt = next-within lines n.last n.place looked n.last_update n.update n.next below in
     record {
-      moment = record { past = (r.moment).past; later = (r.moment).later; told = omega (arith, lt); asked = (r.moment).asked; place = (r.moment).place; attached = (r.moment).attached; since = (r.moment).since };
+      moment = record { past = (r.moment).past; later = (r.moment).later; told = omega (arith, lt); place = (r.moment).place; attached = (r.moment).attached; since = (r.moment).since };
       bytes = r.bytes;
       frame = r.frame;
       xid = r.xid;
@@ -119,16 +120,18 @@ reply-later lines conn c w e p looked h m armed undue r n =
       told = r.told;
     }
 
-module _ (store : Store) (lines : List TranscriptLine) (conn : ℕ) (c c' : Core) (w : Walker) (e : Entry) (looked : ℕ) (out : List Action) (h : is_legal lines ≡ true) (s : Stands store lines conn c w looked) (t : IsTrueEntry lines c e) where
-  n : Enters lines conn c w e
-  n = enters lines conn c w e h s.matches t
+module _ (store : Store) (lines : List TranscriptLine) (conn : ℕ) (Afresh : Type 0) (c c' : Core) (w : Walker) (e : Entry) (looked : ℕ) (out : List Action) (h : is_legal lines ≡ true) (s : Stands store lines conn c w looked) (t : IsTrueEntry lines c e)
+    (fresh : Afresh → IsFreshLook lines conn false c looked) where
+  n : Enters lines conn Afresh c w e
+  n = enters lines conn Afresh c w e h s.matches t
 
-  at-stage : (st : Stage) → c.stage ≡ st → takes_entries st ≡ true → AreFrames lines conn (waits_from st c.next) c.waiting → Knows store lines conn c w looked st → Is (then_reply (entered c e) st) c' out → Walks store lines conn c c' w looked out
+  at-stage : (st : Stage) → c.stage ≡ st → takes_entries st ≡ true → AreFrames lines conn (waits_from st c.next) c.waiting → Knows store lines conn c w looked st → Is (then_reply (entered c e) st) c' out → Walks store lines conn Afresh c c' w looked out
   at-stage Ready r a f k x =
-      walks-is store lines conn c c' (entered c e) w looked out x (record {
+      walks-is store lines conn Afresh c c' (entered c e) w looked out x (record {
         walker = told_first lines w (n.place) (n.update).zxid;
         strides = n.strides;
         stands = stands-ready c.stage r;
+        looks = fresh;
         who = refl;
         ahead = inl (refl, refl);
         zxid = n.rises;
@@ -146,9 +149,9 @@ module _ (store : Store) (lines : List TranscriptLine) (conn : ℕ) (c c' : Core
   at-stage (Waiting p) r a f k x =
       let d = (entered c e).0 in
       let v = told_first lines w (n.place) (n.update).zxid in
-      walks-is store lines conn c c' (then_reply (entered c e) (Waiting p)) w looked out x
-      (walks-after store lines conn c d (waits d p).0 w v looked (entered c e).1 (waits d p).1 (n.strides) refl (refl, refl) (n.rises) (n.counts)
-      (waits-walks store lines conn d v p looked (record { legal = h; matches = n.matches; waiting = f; turn = s.turn; views = s.views }) (reply-later lines conn c w e p looked h s.matches t.armed k.1 k.0 n) (waits d p).0 (waits d p).1 (refl, refl)))
+      walks-is store lines conn Afresh c c' (then_reply (entered c e) (Waiting p)) w looked out x
+      (walks-after store lines conn Afresh c d (waits d p).0 w v looked (entered c e).1 (waits d p).1 (n.strides) refl (refl, refl) (n.rises) (n.counts)
+      (waits-walks store lines conn d v p looked (record { legal = h; matches = n.matches; waiting = f; turn = s.turn; views = s.views }) (reply-later lines conn Afresh c w e p looked h s.matches t.armed k.1 k.0 n) Afresh (λ q. fresh q (ap (has_looked false) r)) (waits d p).0 (waits d p).1 (refl, refl)))
   at-stage (Unconnected fresh) r a f k x = absurd (cc)
   at-stage (Connecting connect) r a f k x = absurd (cc)
   at-stage (KeepingAlive g) r a f k x = absurd (cc)
@@ -157,5 +160,5 @@ module _ (store : Store) (lines : List TranscriptLine) (conn : ℕ) (c c' : Core
   at-stage (Committing xid q v p m) r a f k x = absurd (cc)
   at-stage Shut r a f k x = absurd (cc)
 
-  pub entry-walks : Is (then_reply (entered c e) c.stage) c' out → Walks store lines conn c c' w looked out
+  pub entry-walks : Is (then_reply (entered c e) c.stage) c' out → Walks store lines conn Afresh c c' w looked out
   entry-walks i = at-stage c.stage refl t.taken s.waiting s.knows i

@@ -34,12 +34,12 @@ use Rattle.zp_step.specs.Taking.{LooksFirst, LooksOn, PlansAtOnce, Takes, TakesR
 use Rattle.zp_step.specs.declared.action.Action.{Action}
 use Rattle.zp_step.specs.declared.action.Action.TheVariants as action
 use Rattle.zp_laws.specs.Frames.{AreFrames, IsFrameAt, is_open, waits_from}
-use Rattle.zp_laws.specs.Standing.{AreViewsOf, IsBoundPlan, IsForTree, IsViewOf, Knows, Matches, Stands, StandsOpen, is_ahead}
+use Rattle.zp_laws.specs.Standing.{AreViewsOf, IsBoundPlan, IsForTree, IsFreshLook, IsViewOf, Knows, Matches, Stands, StandsOpen, is_ahead}
 use Rattle.zp_laws.specs.Walking.{IsAheadIn, Walks, sends}
 use Rattle.zp_laws.proofs.Cases.{either}
 use Rattle.zp_laws.proofs.Counting.{counted-small}
 use Rattle.zp_laws.proofs.Keeping.{views-of, views-used}
-use Rattle.zp_laws.proofs.Strides.{UpTo, placed, strides-none, strides-one, turn-next, walks-append, walks-is}
+use Rattle.zp_laws.proofs.Strides.{UpTo, held-behind, placed, strides-none, strides-one, turn-next, walks-append, walks-is}
 use Rattle.zp_laws.proofs.WalkMoves.{plain-move}
 
 -- the next frame is at work, and those that wait come after it
@@ -83,7 +83,8 @@ pub close-sends : (bytes : List ℕ) (o : Option Cause) → sends (action.Send b
 close-sends bytes None = refl
 close-sends bytes (Some why) = refl
 
-module _ (store : Store) (lines : List TranscriptLine) (conn : ℕ) where
+-- none of these steps is as of a moment, so what they send is fresh under any premise
+module _ (store : Store) (lines : List TranscriptLine) (conn : ℕ) (Afresh : Type 0) where
   -- the core after a plain reply
   abbrev plain_core : Core → Bool → Core
   plain_core c b = record c { stage = stage_behind (end_of_plain b); next = counted_up (c.next + 1) }
@@ -107,7 +108,7 @@ module _ (store : Store) (lines : List TranscriptLine) (conn : ℕ) where
   plain-ahead c w bytes false k = ap (is_ahead lines conn) (index-behind lines conn c.next bytes k.frame) ∙ k.turn
 
   pub plain-walks : (c : Core) (w : Walker) (bytes : List ℕ) (looked : ℕ) (t : Told) → Works store lines conn c w bytes → plain_reply no_watches (read_request bytes) ≡ Some t
-      → Walks store lines conn c (plainly c (xid_of (read_request bytes)) t.reply).0 w looked (plainly c (xid_of (read_request bytes)) t.reply).1
+      → Walks store lines conn Afresh c (plainly c (xid_of (read_request bytes)) t.reply).0 w looked (plainly c (xid_of (read_request bytes)) t.reply).1
   plain-walks c w bytes looked t k h =
       let f = k.frame in
       let m = k.matches in
@@ -120,10 +121,11 @@ module _ (store : Store) (lines : List TranscriptLine) (conn : ℕ) where
       let b = is_auth_refusal t.reply in
       record {
         walker = record w { next = w.next + 1; over = b };
-        strides = strides-one lines conn c.who.session w Plain (record w { next = w.next + 1; over = b }, (later_of w.since (f.place + 1), packet) ∷ []) (plainly c x t.reply).1
+        strides = strides-one lines conn Afresh c.who.session w Plain (record w { next = w.next + 1; over = b }, (later_of w.since (f.place + 1), packet) ∷ []) (plainly c x t.reply).1
             y (ap (λ z. reply_packet x z t.reply ∷ []) m.zxid ∙ sym (close-sends (reply_packet x c.zxid t.reply) (end_of_plain b)))
-            (All-cons (UpTo (length lines)) (later_of w.since (f.place + 1), packet) [] (later-bound w.since (f.place + 1) (length lines) (omega (arith, p.since, p.within)) (omega (arith, bound))) (All-nil (UpTo (length lines)))) refl refl;
+            (All-cons (UpTo (length lines)) (later_of w.since (f.place + 1), packet) [] (later-bound w.since (f.place + 1) (length lines) (omega (arith, p.since, p.within)) (omega (arith, bound))) (All-nil (UpTo (length lines)))) (λ q. refl) refl;
         stands = plain-stands c w bytes looked b k;
+        looks = λ q e. absurd (held-behind (end_of_plain b) e);
         who = refl;
         ahead = inr (plain-ahead c w bytes b k);
         zxid = omega (arith, ints);
@@ -134,12 +136,13 @@ module _ (store : Store) (lines : List TranscriptLine) (conn : ℕ) where
 
   -- a core that asks while its frame is at work
   pub asking-walks : (c d : Core) (w : Walker) (bytes : List ℕ) (looked : ℕ) (out : List Action) → Works store lines conn c w bytes → sends out ≡ []
-      → d.zxid ≡ c.zxid → d.cursor ≡ c.cursor → d.watches ≡ c.watches → d.next ≡ c.next → d.who ≡ c.who → Stands store lines conn d w looked → is_open d.stage ≡ true → IsAheadIn lines conn d d.stage
-      → Walks store lines conn c d w looked out
-  asking-walks c d w bytes looked out k quiet z n ws i who s op a = record {
+      → d.zxid ≡ c.zxid → d.cursor ≡ c.cursor → d.watches ≡ c.watches → d.next ≡ c.next → d.who ≡ c.who → Stands store lines conn d w looked → is_open d.stage ≡ true → IsAheadIn lines conn d d.stage → (Afresh → IsFreshLook lines conn false d looked)
+      → Walks store lines conn Afresh c d w looked out
+  asking-walks c d w bytes looked out k quiet z n ws i who s op a fresh = record {
     walker = w;
-    strides = strides-none lines conn c.who.session w out quiet;
+    strides = strides-none lines conn Afresh c.who.session w out quiet;
     stands = subst (λ b. StandsOpen b store lines conn d w looked) (sym op) s;
+    looks = fresh;
     who = who;
     ahead = inr a;
     zxid = omega (arith, ints, z);
@@ -147,9 +150,9 @@ module _ (store : Store) (lines : List TranscriptLine) (conn : ℕ) where
   }
 
   pub reads-walks : (c : Core) (w : Walker) (bytes : List ℕ) (looked : ℕ) (xid : ℤ) (r : Request) (v : View) (ws : List Want)
-      → Works store lines conn c w bytes → read_request bytes ≡ Asks xid r → Knows store lines conn (asks_for c xid r v ws).0 w looked (Reading xid r v ws)
-      → Walks store lines conn c (asks_for c xid r v ws).0 w looked (asks_for c xid r v ws).1
-  reads-walks c w bytes looked xid r v ws k e knows =
+      → Works store lines conn c w bytes → read_request bytes ≡ Asks xid r → Knows store lines conn (asks_for c xid r v ws).0 w looked (Reading xid r v ws) → (Afresh → IsFreshLook lines conn false (asks_for c xid r v ws).0 looked)
+      → Walks store lines conn Afresh c (asks_for c xid r v ws).0 w looked (asks_for c xid r v ws).1
+  reads-walks c w bytes looked xid r v ws k e knows fresh =
       asking-walks c (asks_for c xid r v ws).0 w bytes looked (asks_for c xid r v ws).1 k refl refl refl refl refl refl (record {
         matches = still-matches lines c (asks_for c xid r v ws).0 w k.matches refl refl refl refl;
         work = record { bytes = bytes; frame = k.frame; reads = e };
@@ -157,18 +160,18 @@ module _ (store : Store) (lines : List TranscriptLine) (conn : ℕ) where
         turn = k.turn;
         views = k.views;
         knows = knows;
-      }) refl k.ahead
+      }) refl k.ahead fresh
 
   -- a core whose kept views alone are others
-  pub beside-walks : (c d : Core) (xs : KeptViews) (w : Walker) (looked : ℕ) (out : List Action) → Walks store lines conn (record c { views = xs }) d w looked out → Walks store lines conn c d w looked out
-  beside-walks c d xs w looked out h = record { walker = h.walker; strides = h.strides; stands = h.stands; who = h.who; ahead = h.ahead; zxid = h.zxid; cursor = h.cursor }
+  pub beside-walks : (c d : Core) (xs : KeptViews) (w : Walker) (looked : ℕ) (out : List Action) → Walks store lines conn Afresh (record c { views = xs }) d w looked out → Walks store lines conn Afresh c d w looked out
+  beside-walks c d xs w looked out h = record { walker = h.walker; strides = h.strides; stands = h.stands; looks = h.looks; who = h.who; ahead = h.ahead; zxid = h.zxid; cursor = h.cursor }
 
   pub beside-works : (c : Core) (xs : KeptViews) (w : Walker) (bytes : List ℕ) → AreViewsOf store xs → Works store lines conn c w bytes → Works store lines conn (record c { views = xs }) w bytes
   beside-works c xs w bytes h k = record { legal = k.legal; matches = still-matches lines c (record c { views = xs }) w k.matches refl refl refl refl; frame = k.frame; waiting = k.waiting; turn = k.turn; views = h; ahead = k.ahead }
 
   -- a plan is asked
   pub plans-walks : (c : Core) (w : Walker) (bytes : List ℕ) (looked now : ℕ) (xid : ℤ) (r : Request) (v : View) (p : Plan) → Works store lines conn c w bytes → read_request bytes ≡ Asks xid r → IsForTree r → IsBoundPlan store c.who r v p now
-      → Walks store lines conn c (decided c xid r v now (Planned p)).0 w looked (decided c xid r v now (Planned p)).1
+      → Walks store lines conn Afresh c (decided c xid r v now (Planned p)).0 w looked (decided c xid r v now (Planned p)).1
   plans-walks c w bytes looked now xid r v p k e h bound =
       let d = record c { stage = Committing xid r v p now } in
       asking-walks c d w bytes looked (action.Ask (transaction p) ∷ []) k refl refl refl refl refl refl (record {
@@ -178,62 +181,63 @@ module _ (store : Store) (lines : List TranscriptLine) (conn : ℕ) where
         turn = k.turn;
         views = k.views;
         knows = (h, bound);
-      }) refl k.ahead
+      }) refl k.ahead (λ q f. absurd (cc))
 
   anew-walks : (c c' : Core) (w : Walker) (bytes : List ℕ) (looked now : ℕ) (xid : ℤ) (r : Request) (out : List Action)
-      → Works store lines conn c w bytes → read_request bytes ≡ Asks xid r → IsForTree r → Looks c xid r empty_view now c' out → Walks store lines conn c c' w looked out
+      → Works store lines conn c w bytes → read_request bytes ≡ Asks xid r → IsForTree r → Looks c xid r empty_view now c' out → Walks store lines conn Afresh c c' w looked out
   anew-walks c c' w bytes looked now xid r out k e h (inl x) =
-      walks-is store lines conn c c' (asks_for c xid r empty_view (take max_ranges x.lacking)) w looked out x.is (reads-walks c w bytes looked xid r empty_view (take max_ranges x.lacking) k e (h, inl (refl, refl, refl)))
+      walks-is store lines conn Afresh c c' (asks_for c xid r empty_view (take max_ranges x.lacking)) w looked out x.is (reads-walks c w bytes looked xid r empty_view (take max_ranges x.lacking) k e (h, inl (refl, refl, refl)) (λ q f. absurd (cc)))
   anew-walks c c' w bytes looked now xid r out k e h (inr x) = absurd (x.whole.enough refl h head_want (inl refl) refl)
 
   -- a plan that is made on a kept view
   at_once-walks : (c c' : Core) (w : Walker) (bytes : List ℕ) (looked now : ℕ) (xid : ℤ) (r : Request) (out : List Action) (q : Bytes) (v : View) → Works store lines conn c w bytes → read_request bytes ≡ Asks xid r → IsForTree r → IsViewOf store v
-      → PlansAtOnce c xid r now c' out q v → Walks store lines conn c c' w looked out
+      → PlansAtOnce c xid r now c' out q v → Walks store lines conn Afresh c c' w looked out
   at_once-walks c c' w bytes looked now xid r out q v k e h of x =
       let d = record c { views = used_first q v c.views } in
       beside-walks c c' (used_first q v c.views) w looked out
-      (walks-is store lines conn d c' (decided d xid r v now (Planned x.plan)) w looked out x.is
+      (walks-is store lines conn Afresh d c' (decided d xid r v now (Planned x.plan)) w looked out x.is
       (plans-walks d w bytes looked now xid r v x.plan (beside-works c (used_first q v c.views) w bytes (views-used store q v c.views of k.views) k) e h
       (record { number = of.number; revision = of.revision; known = of.known; agrees = of.agrees; put = of.put; good = x.backed.0; keepable = x.backed.1 })))
 
   looks-walks : (c c' : Core) (w : Walker) (bytes : List ℕ) (looked now : ℕ) (xid : ℤ) (r : Request) (out : List Action) (o : Option Bytes)
-      → Works store lines conn c w bytes → read_request bytes ≡ Asks xid r → IsForTree r → LooksFirst c xid r now c' out o → Walks store lines conn c c' w looked out
+      → Works store lines conn c w bytes → read_request bytes ≡ Asks xid r → IsForTree r → LooksFirst c xid r now c' out o → Walks store lines conn Afresh c c' w looked out
   looks-walks c c' w bytes looked now xid r out None k e h x = anew-walks c c' w bytes looked now xid r out k e h x
   looks-walks c c' w bytes looked now xid r out (Some q) k e h x = go (lookup (same q) c.views) refl x
     where
-      go : (o : Option View) → lookup (same q) c.views ≡ o → LooksOn c xid r now c' out q o → Walks store lines conn c c' w looked out
+      go : (o : Option View) → lookup (same q) c.views ≡ o → LooksOn c xid r now c' out q o → Walks store lines conn Afresh c c' w looked out
       go None there y = anew-walks c c' w bytes looked now xid r out k e h y
       go (Some v) there (inl y) = at_once-walks c c' w bytes looked now xid r out q v k e h (views-of store (same q) c.views v k.views there) y
       go (Some v) there (inr y) = anew-walks c c' w bytes looked now xid r out k e h y.1
 
-  readable-walks : (c c' : Core) (w : Walker) (bytes : List ℕ) (looked now : ℕ) (out : List Action) (x : Frame) (o : Option Told) → Works store lines conn c w bytes → read_request bytes ≡ x → plain_reply no_watches x ≡ o → TakesReadable c now c' out x o → Walks store lines conn c c' w looked out
+  readable-walks : (c c' : Core) (w : Walker) (bytes : List ℕ) (looked now : ℕ) (out : List Action) (x : Frame) (o : Option Told) → Works store lines conn c w bytes → read_request bytes ≡ x → plain_reply no_watches x ≡ o → TakesReadable c now c' out x o → Walks store lines conn Afresh c c' w looked out
   readable-walks c c' w bytes looked now out x (Some t) k e p h =
-      subst (λ y. Is (plainly c (xid_of y) t.reply) c' out → Walks store lines conn c c' w looked out) e
-      (λ i. walks-is store lines conn c c' (plainly c (xid_of (read_request bytes)) t.reply) w looked out i (plain-walks c w bytes looked t k (ap (plain_reply no_watches) e ∙ p))) h
+      subst (λ y. Is (plainly c (xid_of y) t.reply) c' out → Walks store lines conn Afresh c c' w looked out) e
+      (λ i. walks-is store lines conn Afresh c c' (plainly c (xid_of (read_request bytes)) t.reply) w looked out i (plain-walks c w bytes looked t k (ap (plain_reply no_watches) e ∙ p))) h
   readable-walks c c' w bytes looked now out NoHeader None k e p h = absurd h
   readable-walks c c' w bytes looked now out (Unreadable xid place) None k e p h = absurd h
   readable-walks c c' w bytes looked now out (Unknown xid kind) None k e p h = absurd h
   readable-walks c c' w bytes looked now out (Asks xid r) None k e p h = looks-walks c c' w bytes looked now xid r out (update_path r) k e p h
 
-  pub takes-walks : (c c' : Core) (w : Walker) (bytes : List ℕ) (looked now : ℕ) (out : List Action) → Works store lines conn c w bytes → Takes c bytes now c' out → Walks store lines conn c c' w looked out
+  pub takes-walks : (c c' : Core) (w : Walker) (bytes : List ℕ) (looked now : ℕ) (out : List Action) → Works store lines conn c w bytes → Takes c bytes now c' out → Walks store lines conn Afresh c c' w looked out
   takes-walks c c' w bytes looked now out k t = readable-walks c c' w bytes looked now out (read_request bytes) (plain_reply no_watches (read_request bytes)) k refl refl t
 
   -- ---- frames are taken up
 
-  takes_up-walks : (c c' : Core) (w : Walker) (bytes : List ℕ) (looked now : ℕ) (out : List Action) → Works store lines conn c w bytes → TakesUp c bytes now c' out → Walks store lines conn c c' w looked out
+  takes_up-walks : (c c' : Core) (w : Walker) (bytes : List ℕ) (looked now : ℕ) (out : List Action) → Works store lines conn c w bytes → TakesUp c bytes now c' out → Walks store lines conn Afresh c c' w looked out
   takes_up-walks c c' w bytes looked now out k t =
       let d = (keeps_alive c bytes now).0 in
-      either (is_alive_due c.kept now c.timeout) (Is (keeps_alive c bytes now) c' out) (Takes c bytes now c' out) (Walks store lines conn c c' w looked out) t
-      (λ i. walks-is store lines conn c c' (keeps_alive c bytes now) w looked out i (asking-walks c d w bytes looked (keeps_alive c bytes now).1 k refl refl refl refl refl refl (record {
+      either (is_alive_due c.kept now c.timeout) (Is (keeps_alive c bytes now) c' out) (Takes c bytes now c' out) (Walks store lines conn Afresh c c' w looked out) t
+      (λ i. walks-is store lines conn Afresh c c' (keeps_alive c bytes now) w looked out i (asking-walks c d w bytes looked (keeps_alive c bytes now).1 k refl refl refl refl refl refl (record {
         matches = still-matches lines c d w k.matches refl refl refl refl;
         work = k.frame;
         waiting = k.waiting;
         turn = k.turn;
         views = k.views;
         knows = tt;
-      }) refl k.ahead))
+      }) refl k.ahead (λ q f. absurd (cc))))
       (takes-walks c c' w bytes looked now out k)
 
+module _ (store : Store) (lines : List TranscriptLine) (conn : ℕ) where
   -- one that is ready takes its first frame
   readied : (c : Core) (w : Walker) (looked : ℕ) (bytes : List ℕ) (more : List (List ℕ)) → is_legal lines ≡ true → c.stage ≡ Ready → c.waiting ≡ bytes ∷ more → Stands store lines conn c w looked → Works store lines conn (record c { waiting = more }) w bytes
   readied c w looked bytes more h r e s =
@@ -249,16 +253,17 @@ module _ (store : Store) (lines : List TranscriptLine) (conn : ℕ) where
         ahead = k;
       }
 
-  as-before : (c d : Core) (more : List (List ℕ)) (w : Walker) (looked : ℕ) (out : List Action) → Walks store lines conn (record c { waiting = more }) d w looked out → Walks store lines conn c d w looked out
-  as-before c d more w looked out h = record { walker = h.walker; strides = h.strides; stands = h.stands; who = h.who; ahead = h.ahead; zxid = h.zxid; cursor = h.cursor }
+  as-before : (Afresh : Type 0) (c d : Core) (more : List (List ℕ)) (w : Walker) (looked : ℕ) (out : List Action) → Walks store lines conn Afresh (record c { waiting = more }) d w looked out → Walks store lines conn Afresh c d w looked out
+  as-before Afresh c d more w looked out h = record { walker = h.walker; strides = h.strides; stands = h.stands; looks = h.looks; who = h.who; ahead = h.ahead; zxid = h.zxid; cursor = h.cursor }
 
-  pub rests-walks : (c : Core) (w : Walker) (looked : ℕ) → StandsOpen (is_open c.stage) store lines conn c w looked → Walks store lines conn c c w looked []
-  rests-walks c w looked s = record { walker = w; strides = strides-none lines conn c.who.session w [] refl; stands = s; who = refl; ahead = inl (refl, refl); zxid = omega (arith, ints); cursor = omega (arith, ints) }
+  pub rests-walks : (c : Core) (w : Walker) (looked : ℕ) → StandsOpen (is_open c.stage) store lines conn c w looked → Walks store lines conn (IsFreshLook lines conn false c looked) c c w looked []
+  rests-walks c w looked s = record { walker = w; strides = strides-none lines conn (IsFreshLook lines conn false c looked) c.who.session w [] refl; stands = s; looks = λ q. q; who = refl; ahead = inl (refl, refl); zxid = omega (arith, ints); cursor = omega (arith, ints) }
 
-  pub goes-walks : (looked now : ℕ) (c c' : Core) (w : Walker) (out : List Action) → is_legal lines ≡ true → StandsOpen (is_open c.stage) store lines conn c w looked → Goes now c c' out → Walks store lines conn c c' w looked out
-  goes-walks looked now c c' w out h s (rests why same none) = walks-is store lines conn c c' (c, []) w looked out (same, none) (rests-walks c w looked s)
+  pub goes-walks : (looked now : ℕ) (c c' : Core) (w : Walker) (out : List Action) → is_legal lines ≡ true → StandsOpen (is_open c.stage) store lines conn c w looked → Goes now c c' out → Walks store lines conn (IsFreshLook lines conn false c looked) c c' w looked out
+  goes-walks looked now c c' w out h s (rests why same none) = walks-is store lines conn (IsFreshLook lines conn false c looked) c c' (c, []) w looked out (same, none) (rests-walks c w looked s)
   goes-walks looked now c c' w out h s (takes d bytes more first later r e t g o) =
       let open_now : Stands store lines conn c w looked = subst (λ b. StandsOpen b store lines conn c w looked) (ap is_open r) s in
-      let one = as-before c d more w looked first (takes_up-walks (record c { waiting = more }) d w bytes looked now first (readied c w looked bytes more h r e open_now) t) in
-      subst (λ l. Walks store lines conn c c' w looked l) (sym o)
-      (walks-append store lines conn c d c' w looked first later one (goes-walks looked now d c' one.walker later h one.stands g))
+      let one = as-before (IsFreshLook lines conn false c looked) c d more w looked first
+      (takes_up-walks store lines conn (IsFreshLook lines conn false c looked) (record c { waiting = more }) d w bytes looked now first (readied c w looked bytes more h r e open_now) t) in
+      subst (λ l. Walks store lines conn (IsFreshLook lines conn false c looked) c c' w looked l) (sym o)
+      (walks-append store lines conn (IsFreshLook lines conn false c looked) c d c' w looked first later one (goes-walks looked now d c' one.walker later h one.stands g))

@@ -1,5 +1,5 @@
 -- A core that stands goes on standing while lines and revisions are added, none of them its own request's.
-use Rattle.std.proofs.Common.{◌≡◌, ℕ, ◌+◌, List, [], ◌∷◌, ◌++◌, take, refl, sym, ap, ◌∙◌, subst, arith, ℤ, pos, inl, inr}
+use Rattle.std.proofs.Common.{◌≡◌, ℕ, ◌+◌, List, [], ◌∷◌, ◌++◌, take, refl, sym, ap, ◌∙◌, subst, arith, Bool, true, ℤ, pos, inl, inr}
 use Rattle.std.specs.Prelude.{Some}
 use Rattle.std.proofs.lemmas.List.{length-append, take-append-le}
 use Rattle.ev_types.specs.Store.{Store, store_at}
@@ -21,7 +21,7 @@ use Rattle.zp_step.specs.Stages.{Core, Pending, Stage, Unconnected, Connecting, 
 use Rattle.zp_laws.specs.Frames.{AreFrames, IsAtWork, IsFrameAt, IsRequestAt, waits_from}
 use Rattle.zp_laws.specs.Growing.{Grows}
 use Rattle.zp_laws.specs.Inputs.{Precedes}
-use Rattle.zp_laws.specs.Standing.{IsMoment, IsReply, IsViewAt, Knows, Matches, Stands}
+use Rattle.zp_laws.specs.Standing.{IsFreshLook, IsMoment, IsPastFrame, IsReply, IsViewAt, Knows, Matches, Stands, has_looked}
 use Rattle.zp_laws.proofs.Keeping.{views-kept}
 use Rattle.zp_laws.proofs.Strides.{placed}
 
@@ -47,14 +47,16 @@ module _ (lines more : List TranscriptLine) (conn : ℕ) where
   work-push i (Waiting p) h = tt
   work-push i Shut h = tt
 
-  module _ (who : Who) (w : Walker) (looked k : ℕ) (f : List ℕ) (here : placed_frame conn w.next lines ≡ Some (k, f)) where
-    -- where the next request's frame has come
+  -- the place of a frame that has come stays
+  pub past-push : (i looked k : ℕ) (f : List ℕ) → placed_frame conn i lines ≡ Some (k, f) → IsPastFrame lines conn i looked → IsPastFrame (lines ++ more) conn i looked
+  past-push i looked k f here past j bytes e = past j bytes (here ∙ sym (first_place-push (frame_shown conn i) 0 lines more (k, f) here) ∙ e)
+
+  module _ (who : Who) (w : Walker) (looked : ℕ) where
     pub moment-push : IsMoment lines conn who w looked → IsMoment (lines ++ more) conn who w looked
     moment-push t = record {
       past = omega (arith, t.past, length-append lines more);
       later = t.later;
       told = t.told;
-      asked = λ j bytes e. t.asked j bytes (here ∙ sym (first_place-push (frame_shown conn w.next) 0 lines more (k, f) here) ∙ e);
       place = t.place;
       attached = attach_of-push lines more conn (t.place, record { zxid = who.mine; session = who.session }) t.attached;
       since = t.since;
@@ -73,7 +75,7 @@ module _ (lines more : List TranscriptLine) (conn : ℕ) where
 
   reply-push : (who : Who) (w : Walker) (p : Pending) (looked : ℕ) → own_update conn w.next (lines ++ more) ≡ own_update conn w.next lines → IsReply lines conn who w p looked → IsReply (lines ++ more) conn who w p looked
   reply-push who w p looked own r = record {
-    moment = moment-push who w looked (r.frame).place r.bytes (r.frame).framed r.moment;
+    moment = moment-push who w looked r.moment;
     bytes = r.bytes;
     frame = frame-push w.next r.bytes r.frame;
     xid = r.xid;
@@ -107,7 +109,7 @@ module _ (store store' : Store) (lines more : List TranscriptLine) (conn : ℕ) 
   knows-push Shut e m k h = tt
   knows-push (Reading xid r v ws) e m k (tree, inl none) = (tree, inl none)
   knows-push (Reading xid r v ws) e m k (tree, inr view) =
-      (tree, inr (view-push lines more conn c.who w looked (k.frame).place k.bytes (ap (λ n. placed_frame conn n lines) m.next ∙ (k.frame).framed) store store' v g.before view))
+      (tree, inr (view-push lines more conn c.who w looked store store' v g.before view))
   knows-push (Committing xid r v p n) e m k (tree, b) =
       (tree, record { number = b.number; revision = b.revision; known = omega (arith, b.known, (g.before).longer); agrees = subst (Agrees v) (sym ((g.before).same b.number b.known)) b.agrees; put = b.put; good = b.good; keepable = b.keepable })
   knows-push (Waiting p) e m k h =
@@ -122,3 +124,21 @@ module _ (store store' : Store) (lines more : List TranscriptLine) (conn : ℕ) 
     views = views-kept store store' c.views g.before s.views;
     knows = knows-push c.stage refl s.matches s.work s.knows;
   }
+
+-- ---- what was seen for the frame at work was seen after its line, which stays where it is
+
+module _ (store : Store) (lines more : List TranscriptLine) (conn : ℕ) (answered : Bool) (c : Core) (w : Walker) (looked : ℕ) (s : Stands store lines conn c w looked) where
+  at-work : (st : Stage) → IsAtWork lines conn c.next st → Knows store lines conn c w looked st → has_looked answered st ≡ true → IsPastFrame lines conn c.next looked → IsPastFrame (lines ++ more) conn c.next looked
+  at-work (Checking f) work k e past = past-push lines more conn c.next looked work.place f work.framed past
+  at-work (Reading xid r v ws) work k e past = past-push lines more conn c.next looked (work.frame).place work.bytes (work.frame).framed past
+  at-work (Committing xid r v p n) work k e past = past-push lines more conn c.next looked (work.frame).place work.bytes (work.frame).framed past
+  at-work (Waiting p) work (r, undue) e past =
+      past-push lines more conn c.next looked (r.frame).place r.bytes (ap (λ n. placed_frame conn n lines) (sym (s.matches).next) ∙ (r.frame).framed) past
+  at-work (Unconnected fresh) work k e past = absurd (cc)
+  at-work (Connecting connect) work k e past = absurd (cc)
+  at-work Ready work k e past = absurd (cc)
+  at-work (KeepingAlive f) work k e past = absurd (cc)
+  at-work Shut work k e past = absurd (cc)
+
+  pub look-push : IsFreshLook lines conn answered c looked → IsFreshLook (lines ++ more) conn answered c looked
+  look-push fresh e = at-work c.stage s.work s.knows e (fresh e)

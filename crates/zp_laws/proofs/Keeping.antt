@@ -1,5 +1,5 @@
 -- Views that are kept: they stay true of the store, and what keeps them changes nothing else of a core.
-use Rattle.std.proofs.Common.{◌≡◌, ℕ, zero, suc, ◌+◌, ◌≤◌, ℤ, pos, Bool, true, false, cond, List, [], ◌∷◌, length, take, refl, sym, ap, ◌∙◌, subst, arith, inl, inr}
+use Rattle.std.proofs.Common.{◌≡◌, ℕ, zero, suc, ℤ, Bool, true, false, cond, List, [], ◌∷◌, take, sym, subst, arith, inl, inr}
 use Rattle.std.specs.Prelude.{Option, Some, None, All, ◌⊎◌, if◌then◌else◌, nat_le}
 use Rattle.std.specs.Map.{lookup, remove_entry}
 use Rattle.std.proofs.lemmas.List.Elements.{All-nil, All-cons, All-head, All-tail, All-weaker}
@@ -9,13 +9,13 @@ use Rattle.ev_types.specs.Store.{Store, store_at}
 use Rattle.zk_model.specs.declared.request.Request.{Request}
 use Rattle.zx_base.specs.Maps.{Bytes, same}
 use Rattle.zx_base.proofs.Options.{none_some, some_is}
-use Rattle.zn_view.specs.Keeping.{max_kept, trimmed, update_path, view_size}
+use Rattle.zn_view.specs.Keeping.{max_kept, trimmed, view_size}
 use Rattle.zn_view.specs.Seen.{View, empty_view}
 use Rattle.zn_view.specs.Views.{Agrees, children_kept}
 use Rattle.zn_view.specs.declared.plan.Decision.TheVariants.{Planned}
 use Rattle.zn_view.specs.declared.plan.Plan.{Plan}
 use Rattle.zn_view.specs.declared.snapshot.SeenChildren.{SeenChildren}
-use Rattle.zp_step.specs.Kept.{Leaves, LeavesAt, LeavesBy, head_shown, left_core, kept_with, others_kept, put_first, used_first}
+use Rattle.zp_step.specs.Kept.{LeavesAt, LeavesBy, head_shown, left_core, kept_with, others_kept, put_first, used_first}
 use Rattle.zp_step.specs.Looking.{Looks, decided}
 use Rattle.zp_step.specs.Replies.{Is}
 use Rattle.zp_step.specs.Stages.{Core, KeptViews}

@@ -15,7 +15,7 @@ use Rattle.zk_model.specs.Watches.{is_unarmed}
 use Rattle.zk_model.specs.declared.reply.Notice.{Notice}
 use Rattle.zk_transcript.specs.History.{first_place, frame_shown, state_at}
 use Rattle.zk_transcript.specs.Legal.{index_shown, is_below, is_legal}
-use Rattle.zk_transcript.specs.Walks.{Answer, Due, Walker, after_place, after_update, due_notices, fired_above, is_not_overtaken, is_past, later_of, may_answer_at, move, update_shown}
+use Rattle.zk_transcript.specs.Walks.{Answer, Due, Walker, after_place, after_update, due_notices, fired_above, is_not_overtaken, is_past, later_of, may_answer_at, move, placed_frame, update_shown}
 use Rattle.zk_transcript.specs.declared.transcript.Cause.{Cause}
 use Rattle.zk_transcript.specs.declared.transcript.TranscriptLine.{TranscriptLine}
 use Rattle.zk_transcript.proofs.Ordered.{slice_get-take}
@@ -29,10 +29,10 @@ use Rattle.zp_step.specs.Stages.{Core, Pending, Waiting, counted_up, seen_by}
 use Rattle.zp_step.specs.declared.action.Action.{Action}
 use Rattle.zp_step.specs.declared.action.Action.TheVariants as action
 use Rattle.zp_laws.specs.Frames.{AreFrames, is_open}
-use Rattle.zp_laws.specs.Standing.{AreViewsOf, IsReply, Matches, StandsOpen, is_ahead}
+use Rattle.zp_laws.specs.Standing.{AreViewsOf, IsPastFrame, IsReply, Matches, StandsOpen, is_ahead}
 use Rattle.zp_laws.specs.Walking.{IsAheadIn, Walks, sends}
 use Rattle.zp_laws.proofs.Going.{close-sends, index-behind, later-bound, still-matches}
-use Rattle.zp_laws.proofs.Strides.{UpTo, placed, sends-append, strides-none, strides-one, turn-next, walks-is}
+use Rattle.zp_laws.proofs.Strides.{UpTo, held-behind, placed, sends-append, strides-none, strides-one, turn-next, walks-is}
 use Rattle.zp_laws.proofs.Updates.{last-update, legal-before, none-above, same-count}
 
 -- a core at work on its next request
@@ -176,19 +176,18 @@ module _ (store : Store) (lines : List TranscriptLine) (conn : ℕ) (c : Core) (
   reply-ahead None = ap (is_ahead lines conn) up ∙ b.turn
   reply-ahead (Some why) = tt
 
-  pub replied-walks : is_due c p ≡ true → Walks store lines conn c (replied c p).0 w looked (replied c p).1
-  replied-walks d =
+  pub replied-walks : (Afresh : Type 0) → (Afresh → IsPastFrame lines conn c.next looked) → is_due c p ≡ true → Walks store lines conn Afresh c (replied c p).0 w looked (replied c p).1
+  replied-walks Afresh past d =
       let bound = first_place-bound (frame_shown conn w.next) 0 lines ((r.frame).place, r.bytes) (r.frame).framed in
       let z = (state_at lines looked).zxid in
       let n = after_update z (take looked lines) in
       let within : n ≤ length lines = omega (arith, since-bound lines z looked, len, (r.moment).past) in
       let packet : Due = (later_of (length (take looked lines)) ((r.frame).place + 1), reply_packet p.xid z p.answer) in
-      let behind = (r.moment).asked (r.frame).place r.bytes (r.frame).framed in
       let notices = (seen_by p.change w.watches).notices in
       let mine = (seen_by p.change c.watches).notices in
       record {
         walker = after_reply lines w p looked;
-        strides = strides-one lines conn c.who.session w (Answer looked) (after_reply lines w p looked, reply_due lines w p looked (r.frame).place) (replied c p).1
+        strides = strides-one lines conn Afresh c.who.session w (Answer looked) (after_reply lines w p looked, reply_due lines w p looked (r.frame).place) (replied c p).1
             (reply-move d)
             (map-append (λ (x : Due). x.1) (due_notices n notices) (packet ∷ [])
             ∙ ap (λ l. l ++ reply_packet p.xid z p.answer ∷ []) (notices-sent n notices)
@@ -198,34 +197,36 @@ module _ (store : Store) (lines : List TranscriptLine) (conn : ℕ) (c : Core) (
             ∙ sym (sends-append (send_notices mine) (action.Send (reply_packet p.xid p.zxid p.answer) ∷ close_behind p.ends)))
             (All-append (UpTo (length lines)) (due_notices n notices) (packet ∷ []) (notices-up (length lines) n notices within)
             (All-cons (UpTo (length lines)) packet [] (later-bound (length (take looked lines)) ((r.frame).place + 1) (length lines) (omega (arith, len, (r.moment).past)) (omega (arith, bound))) (All-nil (UpTo (length lines)))))
-            (let lt : nat_lt (r.frame).place looked ≡ true = grind (arith, nat_tests) in ap (is_past looked) (r.frame).framed ∙ lt)
+            (λ q. (let less = past q (r.frame).place r.bytes (ap (λ i. placed_frame conn i lines) (sym m.next) ∙ (r.frame).framed) in let lt : nat_lt (r.frame).place looked ≡ true = grind (arith, nat_tests) in ap (is_past looked) (r.frame).framed ∙ lt))
             (all-take (λ l. is_below (w.next + 1) (index_shown conn l)) looked lines (ap (is_not_overtaken lines conn) (m.next) ∙ b.turn));
         stands = stands-behind p.ends refl;
+        looks = λ q e. absurd (held-behind p.ends e);
         who = refl;
         ahead = inr (reply-ahead p.ends);
         zxid = omega (arith, ints, t.zxid, r.zxid);
         cursor = omega (arith, ints, t.cursor, r.number);
       }
 
-  pub waits-walks : (c' : Core) (out : List Action) → Is (waits c p) c' out → Walks store lines conn c c' w looked out
-  waits-walks c' out e = go (is_due c p) refl e
+  pub waits-walks : (Afresh : Type 0) → (Afresh → IsPastFrame lines conn c.next looked) → (c' : Core) (out : List Action) → Is (waits c p) c' out → Walks store lines conn Afresh c c' w looked out
+  waits-walks Afresh past c' out e = go (is_due c p) refl e
     where
       d : Core
       d = record c { stage = Waiting p }
 
-      go : (q : Bool) → is_due c p ≡ q → Is (if q then replied c p else (d, [])) c' out → Walks store lines conn c c' w looked out
-      go true q f = walks-is store lines conn c c' (replied c p) w looked out f (replied-walks q)
-      go false q f = walks-is store lines conn c c' (d, []) w looked out f (record {
+      go : (q : Bool) → is_due c p ≡ q → Is (if q then replied c p else (d, [])) c' out → Walks store lines conn Afresh c c' w looked out
+      go true q f = walks-is store lines conn Afresh c c' (replied c p) w looked out f (replied-walks Afresh past q)
+      go false q f = walks-is store lines conn Afresh c c' (d, []) w looked out f (record {
         walker = w;
-        strides = strides-none lines conn c.who.session w [] refl;
+        strides = strides-none lines conn Afresh c.who.session w [] refl;
         stands = record { matches = still-matches lines c d w m refl refl refl refl; work = tt; waiting = b.waiting; turn = b.turn; views = b.views; knows = (r, q) };
+        looks = λ y e. past y;
         who = refl;
         ahead = inr tt;
         zxid = omega (arith, ints);
         cursor = omega (arith, ints);
       })
 
-pub replied-next : (store : Store) (lines : List TranscriptLine) (conn : ℕ) (c : Core) (w : Walker) (p : Pending) (looked : ℕ) (b : Busy store lines conn c w) (r : IsReply lines conn c.who w p looked) (d : is_due c p ≡ true)
-    → (replied-walks store lines conn c w p looked b r d).walker.next ≡ w.next + 1
+pub replied-next : (store : Store) (lines : List TranscriptLine) (conn : ℕ) (c : Core) (w : Walker) (p : Pending) (looked : ℕ) (b : Busy store lines conn c w) (r : IsReply lines conn c.who w p looked) (Afresh : Type 0) (past : Afresh → IsPastFrame lines conn c.next looked) (d : is_due c p ≡ true)
+    → (replied-walks store lines conn c w p looked b r Afresh past d).walker.next ≡ w.next + 1
 unfolding replied-walks
-replied-next store lines conn c w p looked b r d = refl
+replied-next store lines conn c w p looked b r Afresh past d = refl

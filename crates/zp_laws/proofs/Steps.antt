@@ -56,8 +56,8 @@ use Rattle.zp_step.specs.declared.input.Input.{Input}
 use Rattle.zp_step.specs.declared.input.Input.TheVariants as input
 use Rattle.zp_step.proofs.Shutting.{steps-open}
 use Rattle.zp_laws.specs.Frames.{AreFrames, IsAtWork, IsFrameAt, is_open, is_served, waits_from}
-use Rattle.zp_laws.specs.Inputs.{IsNextFrame, IsOfEarlierIn, IsOwn, IsReady, Precedes, StoodAt, is_first}
-use Rattle.zp_laws.specs.Standing.{AreViewsOf, IsViewOf, IsNoView, IsReply, IsViewAt, Knows, Matches, Stands, StandsOpen}
+use Rattle.zp_laws.specs.Inputs.{IsNextFrame, IsOfEarlierIn, IsOwn, IsReady, Precedes, StoodAt, is_answer, is_first}
+use Rattle.zp_laws.specs.Standing.{AreViewsOf, IsFreshLook, IsPastFrame, IsViewOf, IsNoView, IsReply, IsViewAt, Knows, Matches, Stands, StandsOpen, has_looked}
 use Rattle.zp_laws.specs.Walking.{Walks}
 use Rattle.zp_laws.proofs.Cases.{either, of_alive, open-unless}
 use Rattle.zp_laws.proofs.Carried.{WasDone, done-reply, done-view}
@@ -71,21 +71,22 @@ use Rattle.zp_laws.proofs.Strides.{ahead-now, strides-none, walks-append, walks-
 
 -- ---- closes
 
-pub closed-walks : (store : Store) (lines : List TranscriptLine) (conn : ℕ) (c c' : Core) (w : Walker) (looked : ℕ) (why : Cause) (out : List Action) → Is (closed_by c why) c' out → Walks store lines conn c c' w looked out
-closed-walks store lines conn c c' w looked why out i = walks-is store lines conn c c' (closed_by c why) w looked out i (record {
+pub closed-walks : (store : Store) (lines : List TranscriptLine) (conn : ℕ) (Afresh : Type 0) (c c' : Core) (w : Walker) (looked : ℕ) (why : Cause) (out : List Action) → Is (closed_by c why) c' out → Walks store lines conn Afresh c c' w looked out
+closed-walks store lines conn Afresh c c' w looked why out i = walks-is store lines conn Afresh c c' (closed_by c why) w looked out i (record {
   walker = w;
-  strides = strides-none lines conn c.who.session w (action.Close why ∷ []) refl;
+  strides = strides-none lines conn Afresh c.who.session w (action.Close why ∷ []) refl;
   stands = tt;
+  looks = λ q e. absurd (cc);
   who = refl;
   ahead = inr tt;
   zxid = omega (arith, ints);
   cursor = omega (arith, ints);
 })
 
-records-walks : (store : Store) (lines : List TranscriptLine) (conn : ℕ) (c c' : Core) (w : Walker) (looked : ℕ) (ws : List Want) (parts : List ActAns) (out : List Action) (Next : Type 0) → (Next → Walks store lines conn c c' w looked out)
-    → IfRecords c ws parts c' out Next → Walks store lines conn c c' w looked out
-records-walks store lines conn c c' w looked ws parts out Next f (inl e) = closed-walks store lines conn c c' w looked (cause.Damaged e.key e.value) out e.is
-records-walks store lines conn c c' w looked ws parts out Next f (inr h) = f h.1
+records-walks : (store : Store) (lines : List TranscriptLine) (conn : ℕ) (Afresh : Type 0) (c c' : Core) (w : Walker) (looked : ℕ) (ws : List Want) (parts : List ActAns) (out : List Action) (Next : Type 0) → (Next → Walks store lines conn Afresh c c' w looked out)
+    → IfRecords c ws parts c' out Next → Walks store lines conn Afresh c c' w looked out
+records-walks store lines conn Afresh c c' w looked ws parts out Next f (inl e) = closed-walks store lines conn Afresh c c' w looked (cause.Damaged e.key e.value) out e.is
+records-walks store lines conn Afresh c c' w looked ws parts out Next f (inr h) = f h.1
 
 -- ---- a frame comes
 
@@ -109,13 +110,13 @@ module _ (store : Store) (lines : List TranscriptLine) (conn : ℕ) (c c' : Core
   stands-still true x = x
   stands-still false x = tt
 
-  queued-walks : MatchBool (has_header (read_request bytes)) (Is (queued c bytes, []) c' out) (Is (closed_by c (cause.NoHeader c.taken)) c' out) → Walks store lines conn c c' w looked out
+  queued-walks : MatchBool (has_header (read_request bytes)) (Is (queued c bytes, []) c' out) (Is (closed_by c (cause.NoHeader c.taken)) c' out) → Walks store lines conn (IsFreshLook lines conn false c looked) c c' w looked out
   queued-walks h = go (has_header (read_request bytes)) refl h
     where
-      go : (b : Bool) → has_header (read_request bytes) ≡ b → MatchBool b (Is (queued c bytes, []) c' out) (Is (closed_by c (cause.NoHeader c.taken)) c' out) → Walks store lines conn c c' w looked out
-      go true e i = walks-is store lines conn c c' (queued c bytes, []) w looked out i (record {
+      go : (b : Bool) → has_header (read_request bytes) ≡ b → MatchBool b (Is (queued c bytes, []) c' out) (Is (closed_by c (cause.NoHeader c.taken)) c' out) → Walks store lines conn (IsFreshLook lines conn false c looked) c c' w looked out
+      go true e i = walks-is store lines conn (IsFreshLook lines conn false c looked) c c' (queued c bytes, []) w looked out i (record {
         walker = w;
-        strides = strides-none lines conn c.who.session w [] refl;
+        strides = strides-none lines conn (IsFreshLook lines conn false c looked) c.who.session w [] refl;
         stands = stands-still (is_open c.stage) (record {
           matches = still-matches lines c (queued c bytes) w s.matches refl refl refl refl;
           work = s.work;
@@ -124,14 +125,15 @@ module _ (store : Store) (lines : List TranscriptLine) (conn : ℕ) (c c' : Core
           views = s.views;
           knows = knows-still c.stage s.knows;
         });
+        looks = λ q. q;
         who = refl;
         ahead = inl (refl, refl);
         zxid = omega (arith, ints);
         cursor = omega (arith, ints);
       })
-      go false e i = closed-walks store lines conn c c' w looked (cause.NoHeader c.taken) out i
+      go false e i = closed-walks store lines conn (IsFreshLook lines conn false c looked) c c' w looked (cause.NoHeader c.taken) out i
 
-  comes-walks : (now : ℕ) (st : Stage) → is_served st ≡ true → Comes c bytes now c' out st → Walks store lines conn c c' w looked out
+  comes-walks : (now : ℕ) (st : Stage) → is_served st ≡ true → Comes c bytes now c' out st → Walks store lines conn (IsFreshLook lines conn false c looked) c c' w looked out
   comes-walks now (Unconnected fresh) v h = absurd (cc)
   comes-walks now (Connecting connect) v h = absurd (cc)
   comes-walks now Ready v h = queued-walks h
@@ -203,34 +205,38 @@ wants-head : (id : ℤ) → Contains (attach_wants id) (key_want HeadKey)
 wants-head id = (1, omega arith, refl)
 
 module _ (store : Store) (lines : List TranscriptLine) (conn : ℕ) (c c' : Core) (w : Walker) (looked now : ℕ) (out : List Action) where
+  -- what an answer in this stage shows, or the stage holds, was seen after the line of the frame at work
+  abbrev Afresh : Stage → Type 0
+  Afresh st = has_looked true st ≡ true → IsPastFrame lines conn c.next looked
+
   works-at : (a : Answer) (st : Stage) (bytes : List ℕ) → AtStage store lines conn c w looked a st → IsFrameAt lines conn c.next bytes → AreFrames lines conn (c.next + 1) c.waiting → own_update conn c.next lines ≡ None → Works store lines conn c w bytes
   works-at a st bytes k f g own = record { legal = k.legal; matches = k.matches; frame = f; waiting = g; turn = k.turn; views = k.views; ahead = ahead-now lines 0 conn c.next k.turn own }
 
   -- ---- the keepalive that was due
 
-  alive-walks : (a : Answer) (bytes : List ℕ) → AtStage store lines conn c w looked a (KeepingAlive bytes) → KeptAlive c bytes now c' out a → Walks store lines conn c c' w looked out
-  alive-walks a bytes k h = of_alive a _ (Walks store lines conn c c' w looked out) h (λ ttl f.
+  alive-walks : (a : Answer) (bytes : List ℕ) → AtStage store lines conn c w looked a (KeepingAlive bytes) → KeptAlive c bytes now c' out a → Walks store lines conn (Afresh (KeepingAlive bytes)) c c' w looked out
+  alive-walks a bytes k h = of_alive a _ (Walks store lines conn (Afresh (KeepingAlive bytes)) c c' w looked out) h (λ ttl f.
       let wk = works-at a (KeepingAlive bytes) bytes k k.work k.waiting k.own in
       let d = (checks c bytes).0 in
-      either (int_eq ttl (pos 0)) (Is (checks c bytes) c' out) (Takes c bytes now c' out) (Walks store lines conn c c' w looked out) f
-      (λ i. walks-is store lines conn c c' (checks c bytes) w looked out i (asking-walks store lines conn c d w bytes looked (checks c bytes).1 wk refl refl refl refl refl refl
-      (record { matches = still-matches lines c d w k.matches refl refl refl refl; work = k.work; waiting = k.waiting; turn = k.turn; views = k.views; knows = tt }) refl wk.ahead))
-      (takes-walks store lines conn c c' w bytes looked now out wk))
+      either (int_eq ttl (pos 0)) (Is (checks c bytes) c' out) (Takes c bytes now c' out) (Walks store lines conn (Afresh (KeepingAlive bytes)) c c' w looked out) f
+      (λ i. walks-is store lines conn (Afresh (KeepingAlive bytes)) c c' (checks c bytes) w looked out i (asking-walks store lines conn (Afresh (KeepingAlive bytes)) c d w bytes looked (checks c bytes).1 wk refl refl refl refl refl refl
+      (record { matches = still-matches lines c d w k.matches refl refl refl refl; work = k.work; waiting = k.waiting; turn = k.turn; views = k.views; knows = tt }) refl wk.ahead (λ q e. absurd (cc))))
+      (takes-walks store lines conn (Afresh (KeepingAlive bytes)) c c' w bytes looked now out wk))
 
   -- ---- the look at the session
 
-  still-walks : (bytes : List ℕ) (v : View) → Sees store lines conn c w bytes v looked → (o : Option Kv) → LivesAs o (live (session_at c.who.session (state_at lines looked))) → StillMine c bytes v now c' out o → Walks store lines conn c c' w looked out
-  still-walks bytes v k None l h = expired-walks store lines conn c w bytes v looked k c' out (xid_of (read_request bytes)) refl l h
+  still-walks : (bytes : List ℕ) (v : View) → Sees store lines conn c w bytes v looked → (o : Option Kv) → LivesAs o (live (session_at c.who.session (state_at lines looked))) → StillMine c bytes v now c' out o → Walks store lines conn (Afresh (Checking bytes)) c c' w looked out
+  still-walks bytes v k None l h = expired-walks store lines conn c w bytes v looked k (Afresh (Checking bytes)) (λ q. q refl) c' out (xid_of (read_request bytes)) refl l h
   still-walks bytes v k (Some kv) (x, lives, same) h = go (int_eq kv.mod_revision c.who.mine) refl h
     where
       no : int_eq kv.mod_revision c.who.mine ≡ false → x.attached ≡ c.who.mine → ⊥
       no f s = let t = (Decides-int_eq kv.mod_revision c.who.mine).1 (sym same ∙ s) in cc
 
-      go : (t : Bool) → int_eq kv.mod_revision c.who.mine ≡ t → MatchBool t (Takes c bytes now c' out) (Is (waits c (moved c.who v kv.mod_revision (xid_of (read_request bytes)))) c' out) → Walks store lines conn c c' w looked out
-      go true f i = takes-walks store lines conn c c' w bytes looked now out k.works i
-      go false f i = moved-walks store lines conn c w bytes v looked k c' out (xid_of (read_request bytes)) kv.mod_revision x refl lives (no f) i
+      go : (t : Bool) → int_eq kv.mod_revision c.who.mine ≡ t → MatchBool t (Takes c bytes now c' out) (Is (waits c (moved c.who v kv.mod_revision (xid_of (read_request bytes)))) c' out) → Walks store lines conn (Afresh (Checking bytes)) c c' w looked out
+      go true f i = takes-walks store lines conn (Afresh (Checking bytes)) c c' w bytes looked now out k.works i
+      go false f i = moved-walks store lines conn c w bytes v looked k (Afresh (Checking bytes)) (λ q. q refl) c' out (xid_of (read_request bytes)) kv.mod_revision x refl lives (no f) i
 
-  checked-walks : (a : Answer) (bytes : List ℕ) → AtStage store lines conn c w looked a (Checking bytes) → Checked c bytes now c' out a → Walks store lines conn c c' w looked out
+  checked-walks : (a : Answer) (bytes : List ℕ) → AtStage store lines conn c w looked a (Checking bytes) → Checked c bytes now c' out a → Walks store lines conn (Afresh (Checking bytes)) c c' w looked out
   checked-walks (answer.Txn r b parts) bytes k h =
       let id = c.who.session in
       let ws = attach_wants id in
@@ -245,21 +251,21 @@ module _ (store : Store) (lines : List TranscriptLine) (conn : ℕ) (c c' : Core
       let found = found-there (store_at store view.number) v (life_key id) view.agrees (wanted-seen k.before k.then_store ws r b parts (record empty_view { revision = r }) (life_key id) did (wants-life id)) in
       let lives : LivesAs (found_at v (life_key id)) (live (session_at id (state_at lines looked))) =
       subst (λ o. LivesAs o (live (session_at id (state_at lines looked)))) (sym found) (session-lives (store_at store view.number) (state_at lines looked) id k.least view.stands) in
-      records-walks store lines conn c c' w looked ws parts out (Looked c bytes now c' out v) (still-walks bytes v sees (found_at v (life_key id)) lives) h
+      records-walks store lines conn (Afresh (Checking bytes)) c c' w looked ws parts out (Looked c bytes now c' out v) (still-walks bytes v sees (found_at v (life_key id)) lives) h
   checked-walks (answer.Alive r id ttl) bytes k h = absurd h
   checked-walks (answer.Range r f) bytes k h = absurd h
   checked-walks (answer.Granted r id ttl) bytes k h = absurd h
 
   -- ---- a round
 
-  read-walks : (a : Answer) (xid : ℤ) (q : Request) (v : View) (ws : List Want) → AtStage store lines conn c w looked a (Reading xid q v ws) → ReadOn c xid q v ws now c' out a → Walks store lines conn c c' w looked out
+  read-walks : (a : Answer) (xid : ℤ) (q : Request) (v : View) (ws : List Want) → AtStage store lines conn c w looked a (Reading xid q v ws) → ReadOn c xid q v ws now c' out a → Walks store lines conn (Afresh (Reading xid q v ws)) c c' w looked out
   read-walks (answer.Txn r b parts) xid q v ws k h =
       let f = k.work in
       let wk = works-at (answer.Txn r b parts) (Reading xid q v ws) f.bytes k f.frame k.waiting k.own in
       let known = k.knows in
       let asks : reading v.revision ws ≡ k.asked = some_is k.out in
-      records-walks store lines conn c c' w looked ws parts out (Looks c xid q (with_parts (at_revision v r) ws parts) now c' out)
-      (view-walks store lines conn c c' w f.bytes (with_parts (at_revision v r) ws parts) looked now xid q out wk k.least (grown asks known.1) k.own f.reads known.0) h
+      records-walks store lines conn (Afresh (Reading xid q v ws)) c c' w looked ws parts out (Looks c xid q (with_parts (at_revision v r) ws parts) now c' out)
+      (view-walks store lines conn (Afresh (Reading xid q v ws)) c c' w f.bytes (with_parts (at_revision v r) ws parts) looked now xid q out wk k.least (grown asks known.1) k.own f.reads known.0 (λ q. q refl)) h
     where
       grown : reading v.revision ws ≡ k.asked → IsNoView v ⊎ IsViewAt store lines conn c.who w v looked → IsViewAt store lines conn c.who w (with_parts (at_revision v r) ws parts) looked
       grown asks (inl none) =
@@ -336,13 +342,13 @@ module _ (store : Store) (lines : List TranscriptLine) (conn : ℕ) (c c' : Core
   pub busy-at : (a : Answer) (xid : ℤ) (q : Request) (v : View) (p : Plan) (m : ℕ) → AtStage store lines conn c w looked a (Committing xid q v p m) → (xs : KeptViews) → AreViewsOf store xs → Busy store lines conn (record c { views = xs }) w
   busy-at a xid q v p m k xs h = record { legal = k.legal; matches = still-matches lines c (record c { views = xs }) w k.matches refl refl refl refl; waiting = k.waiting; turn = k.turn; views = h }
 
-  committed-walks : (a : Answer) (xid : ℤ) (q : Request) (v : View) (p : Plan) (m : ℕ) → AtStage store lines conn c w looked a (Committing xid q v p m) → CommitAnswered c xid q v p now c' out a → Walks store lines conn c c' w looked out
+  committed-walks : (a : Answer) (xid : ℤ) (q : Request) (v : View) (p : Plan) (m : ℕ) → AtStage store lines conn c w looked a (Committing xid q v p m) → CommitAnswered c xid q v p now c' out a → Walks store lines conn (Afresh (Committing xid q v p m)) c c' w looked out
   committed-walks (answer.Txn r true parts) xid q v p m k h =
       let y = was-left r parts xid q v p m k h.kept h.leaves in
       let d = record c { views = y.0 } in
       let fin = finishes xid q p r parts in
-      beside-walks store lines conn c c' y.0 w looked out
-      (waits-walks store lines conn d w fin looked (busy-at (answer.Txn r true parts) xid q v p m k y.0 y.2) (was-done r parts xid q v p m k) c' out (subst (λ (x : Core). Is (waits x fin) c' out) y.1 h.is))
+      beside-walks store lines conn (Afresh (Committing xid q v p m)) c c' y.0 w looked out
+      (waits-walks store lines conn d w fin looked (busy-at (answer.Txn r true parts) xid q v p m k y.0 y.2) (was-done r parts xid q v p m k) (Afresh (Committing xid q v p m)) (λ y. y refl) c' out (subst (λ (x : Core). Is (waits x fin) c' out) y.1 h.is))
   committed-walks (answer.Txn r false parts) xid q v p m k h =
       let f = k.work in
       let wk = works-at (answer.Txn r false parts) (Committing xid q v p m) f.bytes k f.frame k.waiting k.own in
@@ -350,14 +356,14 @@ module _ (store : Store) (lines : List TranscriptLine) (conn : ℕ) (c c' : Core
       let again = again-shown k.before k.then_store p r parts (ap (carry k.before) asks ∙ k.carried_out) in
       let y = viewed r p.again parts in
       let agrees : Agrees y (present k.then_store) = subst (λ (t : Store). Agrees y (present t)) (sym (again.1).same) (again.1).agrees in
-      records-walks store lines conn c c' w looked p.again parts out (Looks c xid q y now c' out)
-      (view-walks store lines conn c c' w f.bytes y looked now xid q out wk k.least
-      (first-view store k.then_store lines conn c w looked y r (revision-kept (record empty_view { revision = r }) p.again parts) again.0 k.begun k.is agrees (k.shown refl)) k.own f.reads (k.knows).0) h
+      records-walks store lines conn (Afresh (Committing xid q v p m)) c c' w looked p.again parts out (Looks c xid q y now c' out)
+      (view-walks store lines conn (Afresh (Committing xid q v p m)) c c' w f.bytes y looked now xid q out wk k.least
+      (first-view store k.then_store lines conn c w looked y r (revision-kept (record empty_view { revision = r }) p.again parts) again.0 k.begun k.is agrees (k.shown refl)) k.own f.reads (k.knows).0 (λ z. z refl)) h
   committed-walks (answer.Alive r id ttl) xid q v p m k h = absurd h
   committed-walks (answer.Range r f) xid q v p m k h = absurd h
   committed-walks (answer.Granted r id ttl) xid q v p m k h = absurd h
 
-  answers-walks : (a : Answer) (st : Stage) → AtStage store lines conn c w looked a st → Answers c a now c' out st → Walks store lines conn c c' w looked out
+  answers-walks : (a : Answer) (st : Stage) → AtStage store lines conn c w looked a st → Answers c a now c' out st → Walks store lines conn (Afresh st) c c' w looked out
   answers-walks a (Unconnected fresh) k h = absurd h
   answers-walks a (Connecting connect) k h = let s : false ≡ true = k.served in absurd (cc)
   answers-walks a Ready k h = absurd h
@@ -398,23 +404,23 @@ at-stage store lines conn c w looked a k =
       own = t.own;
     }
 
-handled-walks : (store : Store) (lines : List TranscriptLine) (conn : ℕ) (c c' : Core) (w : Walker) (looked now : ℕ) (x : Input) (out : List Action) → IsReady store lines conn c w looked x → Handles c x now c' out → Walks store lines conn c c' w looked out
+handled-walks : (store : Store) (lines : List TranscriptLine) (conn : ℕ) (c c' : Core) (w : Walker) (looked now : ℕ) (x : Input) (out : List Action) → IsReady store lines conn c w looked x → Handles c x now c' out → Walks store lines conn (IsFreshLook lines conn (is_answer x) c looked) c c' w looked out
 handled-walks store lines conn c c' w looked now (input.Frame bytes) out k h = comes-walks store lines conn c c' w looked bytes out k.stands k.true_input now c.stage k.served h
 handled-walks store lines conn c c' w looked now (input.Answer a) out k h = answers-walks store lines conn c c' w looked now out a c.stage (at-stage store lines conn c w looked a k) h
-handled-walks store lines conn c c' w looked now (input.Entry e) out k h = entry-walks store lines conn c c' w (arc_value e) looked out k.legal k.stands k.true_input h
-handled-walks store lines conn c c' w looked now input.Failed out k h = closed-walks store lines conn c c' w looked cause.LinkFault out h
-handled-walks store lines conn c c' w looked now (input.BadLength place length) out k h = closed-walks store lines conn c c' w looked (cause.BadLength place length) out h
-handled-walks store lines conn c c' w looked now (input.Lagged cursor floor) out k h = closed-walks store lines conn c c' w looked (cause.Lagged cursor floor) out h
-handled-walks store lines conn c c' w looked now input.FeedClosed out k h = closed-walks store lines conn c c' w looked cause.FeedClosed out h
-handled-walks store lines conn c c' w looked now (input.ClientEnd place) out k h = closed-walks store lines conn c c' w looked (cause.ClientEnd place) out h
+handled-walks store lines conn c c' w looked now (input.Entry e) out k h = entry-walks store lines conn (IsFreshLook lines conn false c looked) c c' w (arc_value e) looked out k.legal k.stands k.true_input (λ q. q) h
+handled-walks store lines conn c c' w looked now input.Failed out k h = closed-walks store lines conn (IsFreshLook lines conn false c looked) c c' w looked cause.LinkFault out h
+handled-walks store lines conn c c' w looked now (input.BadLength place length) out k h = closed-walks store lines conn (IsFreshLook lines conn false c looked) c c' w looked (cause.BadLength place length) out h
+handled-walks store lines conn c c' w looked now (input.Lagged cursor floor) out k h = closed-walks store lines conn (IsFreshLook lines conn false c looked) c c' w looked (cause.Lagged cursor floor) out h
+handled-walks store lines conn c c' w looked now input.FeedClosed out k h = closed-walks store lines conn (IsFreshLook lines conn false c looked) c c' w looked cause.FeedClosed out h
+handled-walks store lines conn c c' w looked now (input.ClientEnd place) out k h = closed-walks store lines conn (IsFreshLook lines conn false c looked) c c' w looked (cause.ClientEnd place) out h
 
 pub served-open : (st : Stage) → is_served st ≡ true → is_shut st ≡ false
 served-open st h = open-unless st (λ e. let f : false ≡ true = sym (ap is_served e) ∙ h in cc)
 
 pub sends_are_walks : (store : Store) (lines : List TranscriptLine) (conn : ℕ) (c c' : Core) (w : Walker) (looked now : ℕ) (x : Input) (out : List Action)
-    → IsReady store lines conn c w looked x → Steps c x now c' out → Walks store lines conn c c' w looked out
+    → IsReady store lines conn c w looked x → Steps c x now c' out → Walks store lines conn (IsFreshLook lines conn (is_answer x) c looked) c c' w looked out
 sends_are_walks store lines conn c c' w looked now x out k h =
     let s = steps-open c c' x now out (served-open c.stage k.served) h in
     let first = handled-walks store lines conn c s.mid w looked now x s.first k s.handled in
     let later = goes-walks store lines conn looked now s.mid c' first.walker s.later k.legal first.stands s.goes in
-    subst (λ l. Walks store lines conn c c' w looked l) (sym s.joined) (walks-append store lines conn c s.mid c' w looked s.first s.later first later)
+    subst (λ l. Walks store lines conn (IsFreshLook lines conn (is_answer x) c looked) c c' w looked l) (sym s.joined) (walks-append store lines conn (IsFreshLook lines conn (is_answer x) c looked) c s.mid c' w looked s.first s.later first later)

@@ -11,6 +11,7 @@ use Rattle.ev_types.specs.Store.{Store}
 use Rattle.zk_transcript.specs.History.{first_place, state_at, when}
 use Rattle.zk_transcript.specs.Legal.{index_in, index_shown, is_below, is_legal}
 use Rattle.zk_transcript.specs.Walks.{Choice, Due, Walker, after_update, all_choices, is_fresh, is_in_turn, is_not_overtaken, move, own_update_in, own_update_shown, then_due, walk}
+use Rattle.zk_transcript.specs.declared.transcript.Cause.{Cause}
 use Rattle.zk_transcript.specs.declared.transcript.TranscriptLine.{TranscriptLine}
 use Rattle.zk_transcript.specs.declared.transcript.TranscriptLine.TheVariants.{Update, Open, Frame as FrameLine, Send, Lapse, Close as CloseLine}
 use Rattle.zk_transcript.specs.declared.transcript.UpdateKind.{UpdateKind}
@@ -20,9 +21,9 @@ use Rattle.zk_transcript.proofs.Choices.{choices-append}
 use Rattle.zk_least.proofs.Firing.{after-line}
 use Rattle.zn_view.specs.declared.plan.Who.{Who}
 use Rattle.zp_step.specs.declared.action.Action.{Action}
-use Rattle.zp_step.specs.Replies.{Is}
+use Rattle.zp_step.specs.Replies.{Is, stage_behind}
 use Rattle.zp_step.specs.Stages.{Core, Stage, Unconnected, Connecting, Ready, KeepingAlive, Checking, Reading, Committing, Waiting, Shut}
-use Rattle.zp_laws.specs.Standing.{Matches, is_ahead}
+use Rattle.zp_laws.specs.Standing.{IsFreshLook, Matches, has_looked, is_ahead}
 use Rattle.zp_laws.specs.Walking.{IsAheadIn, IsStill, Strides, Walks, sends, sent_in}
 use Rattle.zp_laws.proofs.WalkMoves.{walk-append}
 
@@ -33,9 +34,9 @@ abbrev pub UpTo : ℕ → Due → Type 0
 UpTo n d = d.0 ≤ n
 
 -- nothing is sent
-pub strides-none : (lines : List TranscriptLine) (conn : ℕ) (id : ℤ) (w : Walker) (out : List Action) → sends out ≡ [] → Strides lines conn id w w out
+pub strides-none : (lines : List TranscriptLine) (conn : ℕ) (Afresh : Type 0) (id : ℤ) (w : Walker) (out : List Action) → sends out ≡ [] → Strides lines conn Afresh id w w out
 unfolding walk all_choices
-strides-none lines conn id w out h = record { choices = []; due = []; walked = refl; sent = sym h; small = All-nil (UpTo (length lines)); fresh = refl; in_turn = refl }
+strides-none lines conn Afresh id w out h = record { choices = []; due = []; walked = refl; sent = sym h; small = All-nil (UpTo (length lines)); fresh = λ q. refl; in_turn = refl }
 
 walk-one : (lines : List TranscriptLine) (conn : ℕ) (id : ℤ) (w : Walker) (x : Choice) (y : Walker × List Due) → move lines conn id w x ≡ Some y → walk lines conn id w (x ∷ []) ≡ Some y
 unfolding walk
@@ -49,30 +50,39 @@ unfolding all_choices
 one-choice test i x h = and_from (test i x) true h refl
 
 -- one choice
-pub strides-one : (lines : List TranscriptLine) (conn : ℕ) (id : ℤ) (w : Walker) (x : Choice) (y : Walker × List Due) (out : List Action)
-    → move lines conn id w x ≡ Some y → map (λ (d : Due). d.1) y.1 ≡ sends out → All (UpTo (length lines)) y.1 → is_fresh lines conn w.next x ≡ true → is_in_turn lines conn w.next x ≡ true
-    → Strides lines conn id w y.0 out
-strides-one lines conn id w x y out m sent small fresh turn = record {
+pub strides-one : (lines : List TranscriptLine) (conn : ℕ) (Afresh : Type 0) (id : ℤ) (w : Walker) (x : Choice) (y : Walker × List Due) (out : List Action)
+    → move lines conn id w x ≡ Some y → map (λ (d : Due). d.1) y.1 ≡ sends out → All (UpTo (length lines)) y.1 → (Afresh → is_fresh lines conn w.next x ≡ true) → is_in_turn lines conn w.next x ≡ true
+    → Strides lines conn Afresh id w y.0 out
+strides-one lines conn Afresh id w x y out m sent small fresh turn = record {
   choices = x ∷ [];
   due = y.1;
   walked = walk-one lines conn id w x y m;
   sent = sent;
   small = small;
-  fresh = one-choice (is_fresh lines conn) w.next x fresh;
+  fresh = λ q. one-choice (is_fresh lines conn) w.next x (fresh q);
   in_turn = one-choice (is_in_turn lines conn) w.next x turn;
 }
 
-pub strides-append : (lines : List TranscriptLine) (conn : ℕ) (id : ℤ) (w v u : Walker) (first later : List Action)
-    → Strides lines conn id w v first → Strides lines conn id v u later → Strides lines conn id w u (first ++ later)
-strides-append lines conn id w v u first later a b = record {
+pub strides-append : (lines : List TranscriptLine) (conn : ℕ) (Afresh : Type 0) (id : ℤ) (w v u : Walker) (first later : List Action)
+    → Strides lines conn Afresh id w v first → Strides lines conn Afresh id v u later → Strides lines conn Afresh id w u (first ++ later)
+strides-append lines conn Afresh id w v u first later a b = record {
   choices = a.choices ++ b.choices;
   due = a.due ++ b.due;
   walked = walk-append lines conn id w a.choices b.choices (v, a.due) (u, b.due) a.walked b.walked;
   sent = map-append (λ (d : Due). d.1) a.due b.due ∙ ap (λ l. l ++ map (λ (d : Due). d.1) b.due) a.sent ∙ ap (λ l. sends first ++ l) b.sent ∙ sym (sends-append first later);
   small = All-append (UpTo (length lines)) a.due b.due a.small b.small;
-  fresh = choices-append (is_fresh lines conn) lines conn id w a.choices b.choices (v, a.due) a.walked a.fresh b.fresh;
+  fresh = λ q. choices-append (is_fresh lines conn) lines conn id w a.choices b.choices (v, a.due) a.walked (a.fresh q) (b.fresh q);
   in_turn = choices-append (is_in_turn lines conn) lines conn id w a.choices b.choices (v, a.due) a.walked a.in_turn b.in_turn;
 }
+
+-- under a premise that gives the one that they have
+pub strides-if : (lines : List TranscriptLine) (conn : ℕ) (A B : Type 0) (id : ℤ) (w v : Walker) (out : List Action) → (A → B) → Strides lines conn B id w v out → Strides lines conn A id w v out
+strides-if lines conn A B id w v out f a = record { choices = a.choices; due = a.due; walked = a.walked; sent = a.sent; small = a.small; fresh = λ q. a.fresh (f q); in_turn = a.in_turn }
+
+-- after a reply nothing is held
+pub held-behind : (o : Option Cause) → has_looked false (stage_behind o) ≡ true → ⊥
+held-behind None h = absurd (cc)
+held-behind (Some why) h = absurd (cc)
 
 pub ahead-append : (lines : List TranscriptLine) (conn : ℕ) (c d c' : Core) → IsStill c d ⊎ IsAheadIn lines conn d d.stage → IsStill d c' ⊎ IsAheadIn lines conn c' c'.stage → IsStill c c' ⊎ IsAheadIn lines conn c' c'.stage
 ahead-append lines conn c d c' a (inr y) = inr y
@@ -90,22 +100,38 @@ ahead-append lines conn c d c' (inr x) (inl y) = inr (subst (λ st. IsAheadIn li
     moved (Reading xid r v ws) h = subst (λ n. is_ahead lines conn n ≡ true) (sym y.1) h
     moved (Committing xid r v p m) h = subst (λ n. is_ahead lines conn n ≡ true) (sym y.1) h
 
-pub walks-append : (store : Store) (lines : List TranscriptLine) (conn : ℕ) (c d c' : Core) (w : Walker) (looked : ℕ) (first later : List Action)
-    → (a : Walks store lines conn c d w looked first) → Walks store lines conn d c' a.walker looked later → Walks store lines conn c c' w looked (first ++ later)
-walks-append store lines conn c d c' w looked first later a b = record {
+-- and then frames are taken up, from what is held
+pub walks-append : (store : Store) (lines : List TranscriptLine) (conn : ℕ) (Afresh : Type 0) (c d c' : Core) (w : Walker) (looked : ℕ) (first later : List Action)
+    → (a : Walks store lines conn Afresh c d w looked first) → Walks store lines conn (IsFreshLook lines conn false d looked) d c' a.walker looked later → Walks store lines conn Afresh c c' w looked (first ++ later)
+walks-append store lines conn Afresh c d c' w looked first later a b = record {
   walker = b.walker;
-  strides = strides-append lines conn c.who.session w a.walker b.walker first later a.strides (subst (λ (who : Who). Strides lines conn who.session a.walker b.walker later) a.who b.strides);
+  strides = strides-append lines conn Afresh c.who.session w a.walker b.walker first later a.strides
+      (strides-if lines conn Afresh (IsFreshLook lines conn false d looked) c.who.session a.walker b.walker later a.looks
+      (subst (λ (who : Who). Strides lines conn (IsFreshLook lines conn false d looked) who.session a.walker b.walker later) a.who b.strides));
   stands = b.stands;
+  looks = λ q. b.looks (a.looks q);
   who = b.who ∙ a.who;
   ahead = ahead-append lines conn c d c' a.ahead b.ahead;
   zxid = omega (arith, ints, a.zxid, b.zxid);
   cursor = omega (arith, ints, a.cursor, b.cursor);
 }
 
-pub walks-is : (store : Store) (lines : List TranscriptLine) (conn : ℕ) (c c' : Core) (x : Core × List Action) (w : Walker) (looked : ℕ) (out : List Action)
-    → Is x c' out → Walks store lines conn c x.0 w looked x.1 → Walks store lines conn c c' w looked out
-walks-is store lines conn c c' x w looked out e h =
-    subst (λ d. Walks store lines conn c d w looked out) (sym e.0) (subst (λ o. Walks store lines conn c x.0 w looked o) (sym e.1) h)
+pub walks-if : (store : Store) (lines : List TranscriptLine) (conn : ℕ) (A B : Type 0) (c c' : Core) (w : Walker) (looked : ℕ) (out : List Action) → (A → B) → Walks store lines conn B c c' w looked out → Walks store lines conn A c c' w looked out
+walks-if store lines conn A B c c' w looked out f h = record {
+  walker = h.walker;
+  strides = strides-if lines conn A B c.who.session w h.walker out f h.strides;
+  stands = h.stands;
+  looks = λ q. h.looks (f q);
+  who = h.who;
+  ahead = h.ahead;
+  zxid = h.zxid;
+  cursor = h.cursor;
+}
+
+pub walks-is : (store : Store) (lines : List TranscriptLine) (conn : ℕ) (Afresh : Type 0) (c c' : Core) (x : Core × List Action) (w : Walker) (looked : ℕ) (out : List Action)
+    → Is x c' out → Walks store lines conn Afresh c x.0 w looked x.1 → Walks store lines conn Afresh c c' w looked out
+walks-is store lines conn Afresh c c' x w looked out e h =
+    subst (λ d. Walks store lines conn Afresh c d w looked out) (sym e.0) (subst (λ o. Walks store lines conn Afresh c x.0 w looked o) (sym e.1) h)
 
 -- ---- a core that stands
 

@@ -37,12 +37,12 @@ use Rattle.zp_step.specs.declared.input.Input.{Input}
 use Rattle.zp_step.specs.declared.input.Input.TheVariants as input
 use Rattle.zp_step.proofs.Shutting.{goes-still, steps-open}
 use Rattle.zp_laws.specs.Frames.{AreFrames}
-use Rattle.zp_laws.specs.Standing.{IsViewOf, Stands, is_ahead}
+use Rattle.zp_laws.specs.Standing.{IsFreshLook, IsViewOf, Stands, is_ahead}
 use Rattle.zp_laws.specs.Walking.{sends}
 use Rattle.zp_laws.specs.Welcomes.{IsAttachment, IsRefusal, IsSilent, IsWelcome, is_connecting, is_entry}
 use Rattle.zp_laws.proofs.Cases.{either, open-unless}
 use Rattle.zp_laws.proofs.Going.{goes-walks}
-use Rattle.zp_laws.proofs.Strides.{turn-next}
+use Rattle.zp_laws.proofs.Strides.{turn-next, walks-if}
 
 -- ---- from the welcome on
 
@@ -230,8 +230,9 @@ module _ (c mid c' : Core) (x : Input) (now : ℕ) (first later : List Action) (
     later = later;
     actions = ap (λ l. l ++ later) k.sent;
     walks = λ store lines conn place looked at.
-        goes-walks store lines conn looked now (attached_core c k.who k.timeout k.number k.zxid) c' (at_start k.zxid (place + 1)) later at.legal
-        (welcomed-stands store lines conn c k.who k.timeout k.number k.zxid place looked at) (subst (λ (d : Core). Goes now d c' later) k.core g);
+        walks-if store lines conn (Unit {0}) (IsFreshLook lines conn false (attached_core c k.who k.timeout k.number k.zxid) looked) (attached_core c k.who k.timeout k.number k.zxid) c' (at_start k.zxid (place + 1)) looked later (λ q e. absurd (cc))
+        (goes-walks store lines conn looked now (attached_core c k.who k.timeout k.number k.zxid) c' (at_start k.zxid (place + 1)) later at.legal
+        (welcomed-stands store lines conn c k.who k.timeout k.number k.zxid place looked at) (subst (λ (d : Core). Goes now d c' later) k.core g));
   }
 
   ends-as : ComesTo c mid x first → IsSilent c c' (first ++ later) ⊎ IsRefusal c c' x (first ++ later) ⊎ IsWelcome c c' x (first ++ later)

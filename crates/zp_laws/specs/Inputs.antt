@@ -27,7 +27,7 @@ use Rattle.zp_step.specs.Stages.{Core, Stage, Ready, Checking, Reading, Committi
 use Rattle.zp_step.specs.declared.input.Input.{Input}
 use Rattle.zp_step.specs.declared.input.Input.TheVariants as input
 use Rattle.zp_laws.specs.Frames.{is_served, next_frame}
-use Rattle.zp_laws.specs.Standing.{IsMoment, Stands}
+use Rattle.zp_laws.specs.Standing.{IsMoment, IsPastFrame, Stands}
 
 -- ---- an entry
 
@@ -87,7 +87,8 @@ abbrev pub kind_for : Request → ℤ → ℕ → ℕ → ℕ → UpdateKind
 kind_for req.Close id c i now = kinds.Closed id c i
 kind_for _ id c i now = kinds.Asked c i now
 
--- the request at work has its line, right before the moment; the store that carried it out stood for the state before that line
+-- the request at work has its line, after its frame's and right before the moment; the store that carried it out stood for the
+-- state before that line
 pub record IsOwnLine (lines : List TranscriptLine) (conn : ℕ) (c : Core) (w : Walker) (before : Store) (request : Request) (time : ℕ) (revision : ℤ) (looked : ℕ) : Type 0 where
   pub place : ℕ
   pub update : UpdateRec
@@ -98,6 +99,7 @@ pub record IsOwnLine (lines : List TranscriptLine) (conn : ℕ) (c : Core) (w : 
   pub kind : update.kind ≡ kind_for request c.who.session conn c.next time
   pub stood : StandsFor (present before) (state_at lines place)
   pub planned : IsMoment lines conn c.who w place
+  pub asked : IsPastFrame lines conn c.next place
 
 -- a plan that was carried out has its line; otherwise the request at work has none
 abbrev pub IsOwn : List TranscriptLine → ℕ → Core → Walker → Store → ℕ → Stage → Answer → Type 0
@@ -119,6 +121,10 @@ pub record IsTrueAnswer (store : Store) (lines : List TranscriptLine) (conn : �
   pub own : IsOwn lines conn c w before looked c.stage a
 
 -- ---- any input
+
+abbrev pub is_answer : Input → Bool
+is_answer (input.Answer a) = true
+is_answer _ = false
 
 -- the frame is the next one that the transcript shows
 pub record IsNextFrame (lines : List TranscriptLine) (conn : ℕ) (c : Core) (bytes : List ℕ) : Type 0 where

@@ -1,7 +1,8 @@
 -- What is true of an attached core between two steps: it stands at a walker of its connection, and what its stage holds is
 -- true of the store and of the transcript.
-use Rattle.std.specs.Prelude.{◌≡◌, ℕ, pos, ◌+◌, ◌≤◌, ◌<◌, ◌⊎◌, Bool, true, false, List, [], length, take, Some, None, is_some, All, slice_get}
+use Rattle.std.specs.Prelude.{◌≡◌, ℕ, pos, ◌+◌, ◌≤◌, ◌<◌, ◌⊎◌, Bool, true, false, not, ◌||◌, List, [], length, take, Some, None, is_some, All, slice_get}
 use Rattle.std.specs.List.{list_all}
+use Rattle.std.specs.Ordering.{int_eq}
 use Rattle.ev_types.specs.Store.{Store, store_at}
 use Rattle.zk_jute.specs.Requests.{read_request}
 use Rattle.zk_model.specs.Watches.{Watches, no_watches}
@@ -22,21 +23,39 @@ use Rattle.zn_view.specs.declared.plan.Plan.{Plan}
 use Rattle.zn_view.specs.declared.plan.Who.{Who}
 use Rattle.zp_step.specs.Replies.{is_due}
 use Rattle.zn_view.specs.Keeping.{IsKeepable}
-use Rattle.zp_step.specs.Stages.{Core, KeptViews, Pending, Stage, Unconnected, Connecting, Ready, Reading, Committing, Waiting, seen_by}
+use Rattle.zp_step.specs.Stages.{Core, KeptViews, Pending, Stage, Unconnected, Connecting, Ready, Checking, Reading, Committing, Waiting, seen_by}
 use Rattle.zp_laws.specs.Frames.{AreFrames, IsAtWork, IsFrameAt, waits_from}
 
 -- ---- a moment as of which the next request of a walk may be answered
 
--- It is within the lines, not before the moment of the last reply, and after the last update told, the line of the frame and
--- that of the attachment.
+-- It is within the lines, not before the moment of the last reply, and after the last update told and the line of the
+-- attachment. It may be before the line of the frame that is answered: such a reply is lawful, but it is not fresh.
 pub record IsMoment (lines : List TranscriptLine) (conn : ℕ) (who : Who) (w : Walker) (looked : ℕ) : Type 0 where
   pub past : looked ≤ length lines
   pub later : w.moment ≤ looked
   pub told : w.since ≤ looked
-  pub asked : (k : ℕ) (bytes : List ℕ) → placed_frame conn w.next lines ≡ Some (k, bytes) → k < looked
   pub place : ℕ
   pub attached : attach_of conn lines ≡ Some (place, record { zxid = who.mine; session = who.session })
   pub since : place < looked
+
+-- ---- fresh moments
+
+-- the moment is past the line of frame i, if that frame has come
+abbrev pub IsPastFrame : List TranscriptLine → ℕ → ℕ → ℕ → Type 0
+IsPastFrame lines conn i looked = (place : ℕ) (bytes : List ℕ) → placed_frame conn i lines ≡ Some (place, bytes) → place < looked
+
+-- Whether something was seen for the frame at work: the stage holds a view of it, or its reply, or the ask that is out in the
+-- stage shows the tree and is `answered`.
+abbrev pub has_looked : Bool → Stage → Bool
+has_looked answered (Checking bytes) = answered
+has_looked answered (Reading xid r v ws) = answered || not (int_eq v.revision (pos 0))
+has_looked answered (Committing xid r v p time) = answered
+has_looked answered (Waiting p) = true
+has_looked answered _ = false
+
+-- what was seen for the frame at work, if anything was, was seen after its line
+abbrev pub IsFreshLook : List TranscriptLine → ℕ → Bool → Core → ℕ → Type 0
+IsFreshLook lines conn answered c looked = has_looked answered c.stage ≡ true → IsPastFrame lines conn c.next looked
 
 -- ---- what a stage holds
 

@@ -1,6 +1,6 @@
 -- A step of an attached connection is a walk: what it sends is what some choices of the walk give, and an open core stands
 -- where they lead.
-use Rattle.std.specs.Prelude.{◌≡◌, ℕ, ℤ, ◌≤◌, ◌≤ℤ◌, ◌⊎◌, true, List, length, map, filter_map, Option, Some, None, All, Contains}
+use Rattle.std.specs.Prelude.{◌≡◌, ℕ, ℤ, ◌≤◌, ◌≤ℤ◌, ◌⊎◌, true, false, List, length, map, filter_map, Option, Some, None, All, Contains}
 use Rattle.ev_types.specs.Store.{Store}
 use Rattle.ev_types.specs.declared.ask.Ask.{Ask}
 use Rattle.zk_transcript.specs.Walks.{Choice, Due, Walker, are_fresh, are_in_turn, walk}
@@ -11,8 +11,8 @@ use Rattle.zp_step.specs.declared.action.Action.{Action}
 use Rattle.zp_step.specs.declared.action.Action.TheVariants as action
 use Rattle.zp_step.specs.declared.input.Input.{Input}
 use Rattle.zp_laws.specs.Frames.{is_open}
-use Rattle.zp_laws.specs.Inputs.{IsReady}
-use Rattle.zp_laws.specs.Standing.{Stands, StandsOpen, is_ahead}
+use Rattle.zp_laws.specs.Inputs.{IsReady, is_answer}
+use Rattle.zp_laws.specs.Standing.{IsFreshLook, Stands, StandsOpen, is_ahead}
 
 -- ---- what is sent
 
@@ -24,14 +24,15 @@ sent_in (action.Close why) = None
 abbrev pub sends : List Action → List (List ℕ)
 sends out = filter_map sent_in out
 
--- some choices, fresh and in turn, lead from one walker to another and give these packets, none of them due after the last line
-pub record Strides (lines : List TranscriptLine) (conn : ℕ) (id : ℤ) (w walker : Walker) (out : List Action) : Type 0 where
+-- Some choices, in turn, lead from one walker to another and give these packets, none of them due after the last line. They are
+-- fresh under the premise `Afresh`, which says when the step looked.
+pub record Strides (lines : List TranscriptLine) (conn : ℕ) (Afresh : Type 0) (id : ℤ) (w walker : Walker) (out : List Action) : Type 0 where
   pub choices : List Choice
   pub due : List Due
   pub walked : walk lines conn id w choices ≡ Some (walker, due)
   pub sent : map (λ (d : Due). d.1) due ≡ sends out
   pub small : All (λ (d : Due). d.0 ≤ length lines) due
-  pub fresh : are_fresh lines conn w.next choices ≡ true
+  pub fresh : Afresh → are_fresh lines conn w.next choices ≡ true
   pub in_turn : are_in_turn lines conn w.next choices ≡ true
 
 -- ---- the law
@@ -47,10 +48,12 @@ IsAheadIn lines conn c _ = is_ahead lines conn c.next ≡ true
 abbrev pub IsStill : Core → Core → Type 0
 IsStill c c' = (c'.stage ≡ c.stage) × (c'.next ≡ c.next)
 
-pub record Walks (store : Store) (lines : List TranscriptLine) (conn : ℕ) (c c' : Core) (w : Walker) (looked : ℕ) (out : List Action) : Type 0 where
+pub record Walks (store : Store) (lines : List TranscriptLine) (conn : ℕ) (Afresh : Type 0) (c c' : Core) (w : Walker) (looked : ℕ) (out : List Action) : Type 0 where
   pub walker : Walker
-  pub strides : Strides lines conn c.who.session w walker out
+  pub strides : Strides lines conn Afresh c.who.session w walker out
   pub stands : StandsOpen (is_open c'.stage) store lines conn c' walker looked
+  -- and what it holds then was seen after the line of the frame that is at work then
+  pub looks : Afresh → IsFreshLook lines conn false c' looked
   pub who : c'.who ≡ c.who
   -- what is asked is for a request without a line
   pub ahead : IsStill c c' ⊎ IsAheadIn lines conn c' c'.stage
@@ -58,9 +61,11 @@ pub record Walks (store : Store) (lines : List TranscriptLine) (conn : ℕ) (c c
   pub zxid : c.zxid ≤ℤ c'.zxid
   pub cursor : c.cursor ≤ℤ c'.cursor
 
+-- What is sent is fresh where what the core holds, and what an answer shows, was seen after the line of the frame at work. Where it
+-- was seen earlier, what is sent is a walk all the same.
 abbrev pub SendsAreWalks : Type 0
 SendsAreWalks = (store : Store) (lines : List TranscriptLine) (conn : ℕ) (c c' : Core) (w : Walker) (looked now : ℕ) (x : Input) (out : List Action)
-    → IsReady store lines conn c w looked x → Steps c x now c' out → Walks store lines conn c c' w looked out
+    → IsReady store lines conn c w looked x → Steps c x now c' out → Walks store lines conn (IsFreshLook lines conn (is_answer x) c looked) c c' w looked out
 
 -- ---- what is asked
 

@@ -82,7 +82,7 @@ pub record IsWelcome (c c' : Core) (x : Input) (out : List Action) : Type 0 wher
   pub later : List Action
   pub actions : out ≡ action.Send (connect_packet response) ∷ later
   pub walks : (store : Store) (lines : List TranscriptLine) (conn place looked : ℕ) → IsAttachment lines conn c number zxid place
-      → Walks store lines conn (attached_core c who timeout number zxid) c' (at_start zxid (place + 1)) looked later
+      → Walks store lines conn (Unit {0}) (attached_core c who timeout number zxid) c' (at_start zxid (place + 1)) looked later
 
 -- ---- the law
 

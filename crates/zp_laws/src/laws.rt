@@ -1,7 +1,7 @@
 //! The laws of a connection's steps. Each function does nothing, and its contract is the law.
 
 ghost use Rattle.zp_laws.specs.Ending.{StepsCount, StepsEndWell};
-ghost use Rattle.zp_laws.specs.Growing.{StandingLasts};
+ghost use Rattle.zp_laws.specs.Growing.{FreshnessLasts, StandingLasts};
 ghost use Rattle.zp_laws.specs.Honest.{PastIsRecords, PresentIsRecords, RecordsAreSound};
 ghost use Rattle.zp_laws.specs.Planning.{PlansAreMadeNow};
 ghost use Rattle.zp_laws.specs.Walking.{PlansAreBound, SendsAreWalks};
@@ -14,9 +14,9 @@ pub fn plans_are_bound()
     ensures { PlansAreBound }
 {}
 
-/// What a step of an attached connection sends is what some choices of the walk give, each reply as of a moment that is not
-/// before the line of its frame; and a connection that stays open stands where they lead. Neither its zxid nor its cursor
-/// goes back, and both are of one update.
+/// What a step of an attached connection sends is what some choices of the walk give, and a connection that stays open stands
+/// where they lead. Neither its zxid nor its cursor goes back, and both are of one update. Each reply is as of a moment after the
+/// line of its frame, if what the connection held and what the input shows was seen after that line; what it holds then was, too.
 pub fn sends_are_walks()
     ensures { SendsAreWalks }
 {}
@@ -47,9 +47,10 @@ pub fn connects_are_answered()
 {}
 
 /// An attached connection goes on standing where it does while lines are added to the transcript and revisions to the store,
-/// none of them of its own requests.
+/// none of them of its own requests; and what it saw after the line of the frame at work it saw after that line still.
 pub fn standing_lasts()
-    ensures { StandingLasts }
+    ensures standing { StandingLasts }
+    ensures fresh { FreshnessLasts }
 {}
 
 /// Where an etcd's keys stand for a state of the service, whatever transaction looks at some of them, each value that it shows

@@ -7,16 +7,20 @@
 //! bound to the store; and that it loses no frame. Their premises are that the core stands somewhere and that the input is true.
 //! None assumes anything of etcd, of histories or of plans: those are definitions and theorems of the crates below.
 //!
+//! Whether a reply is *fresh*, as of a moment after the line of its frame, is no part of where a core stands. It is a premise
+//! beside it (`IsFreshLook`): a step that looked late enough sends what is fresh, and one that looked too early sends what is a
+//! walk all the same.
+//!
 //! In `specs/`, in reading order:
 //!
 //! - `Frames`: the frames of a connection in a transcript and in a core;
-//! - `Standing`: where a core stands;
+//! - `Standing`: where a core stands, and whether it looked late enough for a fresh reply;
 //! - `Inputs`: which inputs are true of the store and of the transcript;
 //! - `Walking`: a step is a walk (`SendsAreWalks`), and what it asks is bound (`PlansAreBound`);
 //! - `Ending`: the order of its actions (`StepsEndWell`), and its frames (`StepsCount`);
 //! - `Planning`: the time of a plan (`PlansAreMadeNow`);
 //! - `Welcomes`: a step without a session (`ConnectsAre`);
-//! - `Growing`: what leaves a core where it stands (`StandingLasts`);
+//! - `Growing`: what leaves a core where it stands (`StandingLasts`), and its looks fresh (`FreshnessLasts`);
 //! - `Honest`: an etcd that keeps its guarantees shows records.
 //!
 //! In `proofs/` by topic: `Updates`, `WalkMoves`, `Strides` (the walk); `Going`, `Replying`, `Entering` (frames, replies,

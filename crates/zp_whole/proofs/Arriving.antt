@@ -174,7 +174,7 @@ module _ (c c' : Core) (bytes : List ℕ) (now : ℕ) where
 
 module _ (s : Store) (lines : List TranscriptLine) (c : ℕ) (core : Core) (bytes : List ℕ) where
   own-queued : (w : Walker) (before : Store) (looked : ℕ) (st : Stage) (a : Answer) → IsOwn lines c core w before looked st a → IsOwn lines c (queued core bytes) w before looked st a
-  own-queued w before looked (Committing xid q v p m) (answer.Txn r true parts) o = record { place = o.place; update = o.update; line = o.line; there = o.there; right = o.right; zxid = o.zxid; kind = o.kind; stood = o.stood; planned = o.planned }
+  own-queued w before looked (Committing xid q v p m) (answer.Txn r true parts) o = record { place = o.place; update = o.update; line = o.line; there = o.there; right = o.right; zxid = o.zxid; kind = o.kind; stood = o.stood; planned = o.planned; asked = o.asked }
   own-queued w before looked (Committing xid q v p m) (answer.Txn r false parts) o = o
   own-queued w before looked (Committing xid q v p m) (answer.Range r x) o = o
   own-queued w before looked (Committing xid q v p m) (answer.Granted r x y) o = o
@@ -236,6 +236,7 @@ module _ (s : Store) (lines : List TranscriptLine) (c : ℕ) (core : Core) (byte
       knows = knows-still s lines c core core k.walker k.looked bytes [] k.stands (record { place = came.place; framed = came.framed; small = came.small }) core.stage (k.stands).knows;
     };
     flies = flies-queued k.walker k.looked f k.flies;
+    fresh = k.fresh;
     first = k.first;
     packets_were = k.packets_were;
     welcomed = k.welcomed;

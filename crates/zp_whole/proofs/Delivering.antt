@@ -19,7 +19,7 @@ use Rattle.zp_whole.proofs.Closing.{but-of}
 use Rattle.zp_whole.proofs.Ends.{landed-but, landed-is, refuse-whole}
 use Rattle.zp_whole.proofs.Handing.{IsReadyFor, core-same, handed-whole}
 use Rattle.zp_whole.proofs.Numbers.{conn-here}
-use Rattle.zp_whole.specs.Connections.{IsFlying, Whole}
+use Rattle.zp_whole.specs.Connections.{IsFlying, Whole, is_carried}
 use Rattle.zx_base.proofs.Options.{some_is}
 
 -- what is known of the connection is known of the one that is handed the input
@@ -49,6 +49,7 @@ answer-at w w' c x core a there actor served flight (y, found, comes) h =
       serves = k;
       true_input = subst (IsFlying w.store w.lines c core k.walker k.looked) flight k.flies;
       idle = λ e. absurd (true-false e);
+      answers = λ e. ap is_carried flight;
     }) (subst (λ (b : Actor). AnswerComesTo c w1 y a w' b) is comes)
   where
     true-false : true ≡ false → ⊥
@@ -85,5 +86,6 @@ entry-whole w w' c x core (input.Entry e) there actor served flight t hd h =
       serves = h.serving c x core there actor served;
       true_input = t;
       idle = λ f. entry-idle core core.stage t.taken;
+      answers = λ e. absurd (cc);
     }) hd
 entry-whole w w' c x core _ there actor served flight t hd h = absurd t

@@ -1,6 +1,6 @@
 -- What a connection with a session has out is carried out: the answer is true of the store and of the transcript from then on.
 use Rattle.std.proofs.Common.{◌≡◌, ℕ, ◌+◌, ◌≤◌, List, [], ◌∷◌, ◌++◌, length, refl, sym, ap, ◌∙◌, subst, arith, Bool, true, false, ℤ, pos, inl, inr, append-nil}
-use Rattle.std.specs.Prelude.{Option, Some, None, ◌<ℤ◌, ◌&&◌, ◌==◌}
+use Rattle.std.specs.Prelude.{Option, Some, None, ◌<ℤ◌, ◌&&◌, ◌==◌, not}
 use Rattle.std.specs.Ordering.{int_eq}
 use Rattle.std.proofs.Math.Seq.{take-length}
 use Rattle.std.proofs.lemmas.Bool.Decides.{nat_tests}
@@ -22,7 +22,7 @@ use Rattle.zk_transcript.proofs.Lookups.{first_place-new}
 use Rattle.zk_transcript.proofs.Walks.{state_at-push}
 use Rattle.zk_transcript.specs.History.{after, state_at, when}
 use Rattle.zk_transcript.specs.Legal.{attach_of, index_in, is_below, is_legal}
-use Rattle.zk_transcript.specs.Walks.{Walker, is_not_overtaken, own_update, own_update_shown, packets, placed_frame}
+use Rattle.zk_transcript.specs.Walks.{Walker, is_not_overtaken, own_update, own_update_shown, packets}
 use Rattle.zk_transcript.specs.declared.transcript.TranscriptLine.{TranscriptLine}
 use Rattle.zk_transcript.specs.declared.transcript.TranscriptLine.TheVariants.{Update}
 use Rattle.zk_transcript.specs.declared.transcript.UpdateKind.{UpdateKind}
@@ -36,10 +36,10 @@ use Rattle.zn_view.specs.Deciding.{IsGood}
 use Rattle.zn_view.specs.Seen.{View}
 use Rattle.zn_view.specs.declared.plan.Plan.{Plan}
 use Rattle.zp_step.specs.Stages.{Core, Stage, Unconnected, Connecting, Ready, KeepingAlive, Checking, Reading, Committing, Waiting, Shut, asked_of}
-use Rattle.zp_laws.proofs.Growing.{moment-push, stands-push}
+use Rattle.zp_laws.proofs.Growing.{moment-push, past-push, stands-push}
 use Rattle.zp_laws.specs.Frames.{IsAtWork, is_served}
 use Rattle.zp_laws.specs.Inputs.{IsOfEarlierIn, IsOwn, IsOwnLine, IsTrueAnswer, Precedes, StoodAt, is_first, kind_for}
-use Rattle.zp_laws.specs.Standing.{IsMoment, Knows, Stands, is_ahead}
+use Rattle.zp_laws.specs.Standing.{IsMoment, IsPastFrame, Knows, Stands, has_looked, is_ahead}
 use Rattle.zp_happen.specs.Kinds.{kind_in_stage, kind_of_request}
 use Rattle.zp_happen.specs.declared.flight.Asking.{Asking}
 use Rattle.zp_happen.specs.declared.flight.Flight.{Flight}
@@ -47,7 +47,7 @@ use Rattle.zp_happen.specs.declared.flight.Flight.TheVariants.{Out, Carried}
 use Rattle.zx_base.proofs.Options.{none_some, some_is}
 use Rattle.zp_whole.proofs.Commits.{Committed, line_of, stands-now}
 use Rattle.zp_whole.proofs.Growing.{same-precedes, serves-same}
-use Rattle.zp_whole.proofs.Looking.{ahead-none, get-last, moment-now}
+use Rattle.zp_whole.proofs.Looking.{ahead-none, get-last, moment-now, past-now}
 use Rattle.zp_whole.proofs.Moments.{whole}
 use Rattle.zp_whole.proofs.Outcomes.{IsNext, Still, outcome, plan-commits, still}
 use Rattle.zp_whole.proofs.Packets.{packets-append}
@@ -77,6 +77,18 @@ relooked s lines c core w m n Shut h k = absurd (cc)
 
 relook : (s : Store) (lines : List TranscriptLine) (c : ℕ) (core : Core) (w : Walker) (m n : ℕ) → is_first core.stage ≡ true → Stands s lines c core w m → Stands s lines c core w n
 relook s lines c core w m n h k = record { matches = k.matches; work = k.work; waiting = k.waiting; turn = k.turn; views = k.views; knows = relooked s lines c core w m n core.stage h k.knows }
+
+-- and where the answer is not the first one, what was seen is held already
+looked-before : (st : Stage) → is_first st ≡ false → has_looked true st ≡ true → has_looked false st ≡ true
+looked-before (Reading xid r v ws) e f = ap not e
+looked-before (Waiting p) e f = refl
+looked-before (Checking b) e f = absurd (cc)
+looked-before (Committing xid r v p t) e f = absurd (cc)
+looked-before Ready e f = absurd (cc)
+looked-before (Unconnected x) e f = absurd (cc)
+looked-before (Connecting ph) e f = absurd (cc)
+looked-before (KeepingAlive b) e f = absurd (cc)
+looked-before Shut e f = absurd (cc)
 
 -- the view that is held is of a revision that the store has
 earlier : (s : Store) (lines : List TranscriptLine) (c : ℕ) (core : Core) (w : Walker) (m : ℕ) (st : Stage) → Knows s lines c core w m st → IsOfEarlierIn st s
@@ -152,6 +164,7 @@ still-serving s u lines c core x b w same k h own = go (is_first core.stage) ref
       looked = length lines;
       stands = stands_at (length lines) (relook s lines c core k.walker k.looked (length lines) e k.stands);
       flies = answer_at (length lines) (λ f. record { stands = subst (StandsFor (present u)) (sym at_end) (stands-now u lines serves); moment = now });
+      fresh = λ f. past-now lines c core.next;
       first = k.first;
       packets_were = k.packets_were;
       welcomed = k.welcomed;
@@ -167,6 +180,7 @@ still-serving s u lines c core x b w same k h own = go (is_first core.stage) ref
       looked = k.looked;
       stands = stands_at k.looked k.stands;
       flies = answer_at k.looked (λ f. (let n : false ≡ true = sym e ∙ f in absurd (cc)));
+      fresh = λ f. k.fresh (looked-before core.stage e f);
       first = k.first;
       packets_were = k.packets_were;
       welcomed = k.welcomed;
@@ -228,6 +242,7 @@ commit-serving s u lines c core a b xid q v p m e w k h x done parts right = rec
     shown = λ g. record { stands = subst (StandsFor (present u)) (sym (whole lines l)) (stands-now u (lines ++ l ∷ []) done.serves); moment = subst (IsMoment (lines ++ l ∷ []) c core.who k.walker) (length-append lines (l ∷ [])) later };
     own = subst (λ y. IsOwn (lines ++ l ∷ []) c core k.walker s (length lines + 1) core.stage y) (sym right) (subst (λ st. IsOwn (lines ++ l ∷ []) c core k.walker s (length lines + 1) st (answer.Txn (revision u) true parts)) (sym e) own);
   };
+  fresh = λ f. subst (IsPastFrame (lines ++ l ∷ []) c core.next) (length-append lines (l ∷ [])) (past-now (lines ++ l ∷ []) c core.next);
   first = k.first;
   packets_were = k.packets_were;
   welcomed = packets-append c lines (l ∷ []) ∙ append-nil (packets c lines) ∙ k.welcomed;
@@ -284,7 +299,8 @@ commit-serving s u lines c core a b xid q v p m e w k h x done parts right = rec
       zxid = omega (arith, ints, done.grown);
       kind = kind-same q core.who.session c core.next m;
       stood = subst (StandsFor (present s)) (sym (state_at-push lines (l ∷ []) (length lines) (omega arith) ∙ ap after (take-length lines))) (stands-now s lines w);
-      planned = moment-push lines (l ∷ []) c core.who k.walker (length lines) (work.frame).place work.bytes (ap (λ n. placed_frame c n lines) same_next ∙ (work.frame).framed) (moment-now lines c core k.walker k.place w.legal k.attached k.talks (k.stands).matches);
+      planned = moment-push lines (l ∷ []) c core.who k.walker (length lines) (moment-now lines c core k.walker k.place w.legal k.attached k.talks (k.stands).matches);
+      asked = past-push lines (l ∷ []) c core.next (length lines) (work.frame).place work.bytes (work.frame).framed (past-now lines c core.next);
     }
 
 -- ---- whatever it has out

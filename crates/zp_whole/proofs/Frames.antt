@@ -157,6 +157,7 @@ module _ (w w' : World) (c : ℕ) (behind : List TranscriptLine) (z : ℤ) (byte
         serves = h.serving c hd.conn hd.core hd.found hd.serving served;
         true_input = record { place = k.place; framed = k.framed; small = omega (arith, k.came, k.most) };
         idle = λ e. subst (IsFlying w.store w.lines c hd.core (h.serving c hd.conn hd.core hd.found hd.serving served).walker (h.serving c hd.conn hd.core hd.found hd.serving served).looked) none (h.serving c hd.conn hd.core hd.found hd.serving served).flies;
+        answers = λ e. absurd (cc);
       }
 
       end : EndsWell hd.core hd.next (input.Frame bytes) hd.out

@@ -35,7 +35,7 @@ use Rattle.zp_laws.proofs.WalkMoves.{walk-next}
 use Rattle.zp_laws.proofs.Welcoming.{welcomed-stands}
 use Rattle.zp_laws.specs.Ending.{EndsWell, StaysOut, asked_by}
 use Rattle.zp_laws.specs.Frames.{AreFrames, is_served}
-use Rattle.zp_laws.specs.Standing.{StandsOpen}
+use Rattle.zp_laws.specs.Standing.{IsFreshLook, StandsOpen}
 use Rattle.zp_laws.specs.Walking.{IsAheadIn, IsStill, Walks, sends}
 use Rattle.zp_laws.specs.Welcomes.{IsAttachment}
 use Rattle.zp_step.proofs.Shutting.{goes-still, steps-open}
@@ -244,8 +244,12 @@ module _ (w w' : World) (c : ℕ) (a : Answer) (hd : Handed c [] w (input.Answer
       at : IsAttachment w.lines c hd.core number zxid own.place
       at = record { legal = ((h.holds).serves).legal; update = own.update; shown = own.shown; same = own.same; counted = own.counted; next = k.next; waiting = k.waiting; turn = (k.untouched).turn }
 
-      walks : Walks w.store w.lines c (attached_core hd.core who timeout number zxid) hd.next (at_start zxid (own.place + 1)) 0 later
+      walks : Walks w.store w.lines c (IsFreshLook w.lines c false (attached_core hd.core who timeout number zxid) 0) (attached_core hd.core who timeout number zxid) hd.next (at_start zxid (own.place + 1)) 0 later
       walks = goes-walks w.store w.lines c 0 w.clock (attached_core hd.core who timeout number zxid) hd.next (at_start zxid (own.place + 1)) later legal (welcomed-stands w.store w.lines c hd.core who timeout number zxid own.place 0 at) goes
+
+      -- nothing was looked up before the session was there
+      fresh : IsFreshLook w.lines c false (attached_core hd.core who timeout number zxid) 0
+      fresh e = absurd (cc)
 
       spoken : parts.packets ≡ packet ∷ sends later
       spoken = sym (split-sends hd.out parts) ∙ ap sends out
@@ -289,9 +293,10 @@ module _ (w w' : World) (c : ℕ) (a : Answer) (hd : Handed c [] w (input.Answer
         since = walk-next w.lines c who.session (at_start zxid (own.place + 1)) (walks.strides).choices (walks.walker, (walks.strides).due) (walks.strides).walked;
         talks = subst (λ (y : ℤ). Talks (w.lines ++ said c parts.packets) c own.place (record { zxid = y; session = who.session }) walks.walker) (sym (ap (λ (y : Who). y.mine) who_is))
             (talks-first w.lines (said c parts.packets) c own.place (record { zxid = zxid; session = who.session }) walks.walker (length w.lines, packet) (packets_from c (length w.lines + 1) (said c (sends later))) (walks.strides).choices (walks.strides).due
-            (k.untouched).silent begins (all-quiet c (said c parts.packets) (said-speech c parts.packets)) (walks.strides).walked ((walks.strides).sent ∙ sym (said-packets c (length w.lines + 1) (sends later))) (walks.strides).small (walks.strides).fresh (walks.strides).in_turn);
+            (k.untouched).silent begins (all-quiet c (said c parts.packets) (said-speech c parts.packets)) (walks.strides).walked ((walks.strides).sent ∙ sym (said-packets c (length w.lines + 1) (sends later))) (walks.strides).small ((walks.strides).fresh fresh) (walks.strides).in_turn);
         looked = 0;
         stands = walks.stands;
+        fresh = walks.looks fresh;
         asks = λ q going asked there. (let e = asks-then going ∙ asked in (e, ahead-then q e));
         rests = λ going none. asks-then going ∙ none;
         first = (length w.lines, packet);

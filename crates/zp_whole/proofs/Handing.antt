@@ -2,10 +2,11 @@
 -- world after its step is whole.
 use Rattle.ev_types.specs.Store.{Store}
 use Rattle.ev_types.specs.declared.ask.Ask.{Ask}
-use Rattle.std.proofs.Common.{List, [], ap, append-nil, append_assoc, arith, false, inl, inr, length, pos, refl, subst, sym, true, ℕ, ℤ, ◌++◌, ◌+◌, ◌∙◌, ◌∷◌, ◌≡◌, ◌≤◌}
+use Rattle.std.proofs.Common.{Bool, List, [], ap, append-nil, append_assoc, arith, false, inl, inr, length, pos, refl, subst, sym, true, ℕ, ℤ, ◌++◌, ◌+◌, ◌∙◌, ◌∷◌, ◌≡◌, ◌≤◌}
 use Rattle.std.proofs.lemmas.List.Elements.{Contains-append_right}
 use Rattle.std.specs.List.{list_all}
-use Rattle.std.specs.Prelude.{Contains, None, Option, Some, if◌then◌else◌, map, ◌≤ℤ◌, ◌⊎◌}
+use Rattle.std.specs.Ordering.{int_eq}
+use Rattle.std.specs.Prelude.{Contains, None, Option, Some, if◌then◌else◌, map, not, ◌||◌, ◌≤ℤ◌, ◌⊎◌}
 use Rattle.zk_model.specs.Limits.{max_long}
 use Rattle.zk_transcript.specs.History.{after}
 use Rattle.zk_transcript.specs.Legal.{Attachment, attach_of, is_legal}
@@ -23,13 +24,13 @@ use Rattle.zp_happen.specs.declared.flight.Flight.TheVariants.{Out}
 use Rattle.zp_happen.specs.declared.flight.Flight.{Flight}
 use Rattle.zp_laws.proofs.Asking.{open-is, plans_are_bound}
 use Rattle.zp_laws.proofs.Ending.{steps_end_well}
-use Rattle.zp_laws.proofs.Growing.{stands-push}
+use Rattle.zp_laws.proofs.Growing.{look-push, stands-push}
 use Rattle.zp_laws.proofs.Steps.{sends_are_walks, served-open}
 use Rattle.zp_laws.proofs.WalkMoves.{walk-next}
 use Rattle.zp_laws.specs.Ending.{EndsWell, StaysOut, asked_by, closes, takes_out}
 use Rattle.zp_laws.specs.Frames.{is_open, is_served}
-use Rattle.zp_laws.specs.Inputs.{IsReady, IsTrueInput}
-use Rattle.zp_laws.specs.Standing.{Knows, Stands, StandsOpen, is_ahead}
+use Rattle.zp_laws.specs.Inputs.{IsReady, IsTrueInput, is_answer}
+use Rattle.zp_laws.specs.Standing.{IsFreshLook, Knows, Stands, StandsOpen, has_looked, is_ahead}
 use Rattle.zp_laws.specs.Walking.{IsAheadIn, Walks}
 use Rattle.zp_step.specs.Stages.{Checking, Committing, Connecting, Core, KeepingAlive, Reading, Ready, Shut, Stage, Unconnected, Waiting, asked_of, is_shut}
 use Rattle.zp_step.specs.declared.action.Action.TheVariants as action
@@ -45,7 +46,7 @@ use Rattle.zp_whole.proofs.Setting.{IsHeardAs, lone, sets-whole}
 use Rattle.zp_whole.proofs.Speaking.{HasTalked, ahead-speech, all-quiet, attach-speech, own-speech, speaks-but, speech-zxid}
 use Rattle.zp_whole.proofs.Talking.{talks-more}
 use Rattle.zp_whole.specs.Bounds.{IsBoundAsk, attachment}
-use Rattle.zp_whole.specs.Connections.{IsFlying, IsOut, IsServing, Whole}
+use Rattle.zp_whole.specs.Connections.{IsFlying, IsOut, IsServing, Whole, is_carried}
 use Rattle.zp_whole.specs.Holding.{Source, Talks, air, asker_in, out_in, out_of, request_in}
 use Rattle.zx_base.proofs.Options.{none_some, some_is}
 
@@ -85,6 +86,7 @@ pub record GoesOn (w : World) (c : ℕ) (next : Core) (out : List Action) (ls : 
   pub talks : Talks (w.lines ++ ls) c place (attachment who) walker
   pub looked : ℕ
   pub stands : StandsOpen (is_open next.stage) w.store w.lines c next walker looked
+  pub fresh : IsFreshLook w.lines c false next looked
   pub asks : (a : Ask) → is_shut next.stage ≡ false → asked_by out ≡ Some a → Contains out (action.Ask a) → (asked_of next.who next.stage ≡ Some a) × IsAheadIn w.lines c next next.stage
   pub rests : is_shut next.stage ≡ false → asked_by out ≡ None → asked_of next.who next.stage ≡ None
   pub first : Due
@@ -153,8 +155,8 @@ module _ (w w' : World) (c : ℕ) (behind : List TranscriptLine) (i : Input) (hd
       ahead = λ e. ahead-speech c c hd.next.next w.lines ls speech (ready-ahead w.store w.lines c hd.next g.walker g.looked e stands.knows);
     }) stands
 
-    serving-with : (f : Option Flight) → IsFlying w.store (w.lines ++ ls) c hd.next g.walker g.looked f → IsServing w.store (w.lines ++ ls) c hd.next f
-    serving-with f flies = record {
+    serving-with : (f : Option Flight) → is_carried f ≡ false → IsFlying w.store (w.lines ++ ls) c hd.next g.walker g.looked f → IsServing w.store (w.lines ++ ls) c hd.next f
+    serving-with f unanswered flies = record {
       place = g.place;
       attached = attach-speech c c w.lines ls speech ∙ g.attached ∙ ap (λ (q : Who). Some (g.place, attachment q)) (sym g.same_who);
       least = subst (λ (q : Who). pos 1 ≤ℤ q.session) (sym g.same_who) g.least;
@@ -165,6 +167,7 @@ module _ (w w' : World) (c : ℕ) (behind : List TranscriptLine) (i : Input) (hd
       looked = g.looked;
       stands = stands1;
       flies = flies;
+      fresh = look-push w.store w.lines ls c (is_carried f) hd.next g.walker g.looked stands (subst (λ b. IsFreshLook w.lines c b hd.next g.looked) (sym unanswered) g.fresh);
       first = g.first;
       packets_were = g.packets_were;
       welcomed = welcomed;
@@ -180,13 +183,13 @@ module _ (w w' : World) (c : ℕ) (behind : List TranscriptLine) (i : Input) (hd
       small = but1.small c;
     }
 
-    set : (f : Option Flight) → IsFlying w.store (w.lines ++ ls) c hd.next g.walker g.looked f → ((a : Asking) → f ≡ Some (Out a) → IsOut (w.lines ++ ls) c hd.next a) → Whole (with_conn (with_lines w ls) c (record (hd.conn) { actor = Connection hd.next; flight = f }))
-    set f flies out = sets-whole (with_lines w ls) c hd.conn (record (hd.conn) { actor = Connection hd.next; flight = f }) (record {
+    set : (f : Option Flight) → is_carried f ≡ false → IsFlying w.store (w.lines ++ ls) c hd.next g.walker g.looked f → ((a : Asking) → f ≡ Some (Out a) → IsOut (w.lines ++ ls) c hd.next a) → Whole (with_conn (with_lines w ls) c (record (hd.conn) { actor = Connection hd.next; flight = f }))
+    set f unanswered flies out = sets-whole (with_lines w ls) c hd.conn (record (hd.conn) { actor = Connection hd.next; flight = f }) (record {
       but = but1;
       there = hd.found;
       opens = opens;
       unshut = λ core a. ap (λ (k : Core). is_shut k.stage) (sym (core-same hd.next core a)) ∙ going;
-      serves = λ core a s. subst (λ k. IsServing w.store (w.lines ++ ls) c k f) (core-same hd.next core a) (serving-with f flies);
+      serves = λ core a s. subst (λ k. IsServing w.store (w.lines ++ ls) c k f) (core-same hd.next core a) (serving-with f unanswered flies);
       bound = λ a e. (let o = out a e in subst (λ q. IsBoundAsk w.store (w.lines ++ ls) (record { ask = a.ask; kind = q })) (sym o.kind)
           (asked-bound w.store (w.lines ++ ls) c hd.next g.walker g.looked a.ask owner least served stands1.work stands1.knows o.asked));
       own = λ a d e g. asked-own c hd.next d served (ap (λ q. asker_in (record { ask = a.ask; kind = q })) (sym (out a e).kind) ∙ g);
@@ -234,7 +237,7 @@ module _ (w w' : World) (c : ℕ) (behind : List TranscriptLine) (i : Input) (hd
           let is : w' ≡ with_conn (with_lines w ls) c (v (Connection hd.next) hd.conn.flight) =
           outcome-is ∙ ap (λ t. leaves c w hd.conn (behind_step hd.next) (tail_outcome c (kind_asked c (Connection hd.next)) behind hd.conn.flight ls t)) e
           ∙ ap (λ a. leaves c w hd.conn a (record { flight = hd.conn.flight; lines = ls; strays = [] })) (open-behind going) ∙ joined hd.conn.flight in
-          subst Whole (sym is) (set going hd.conn.flight (subst (IsFlying w.store (w.lines ++ ls) c hd.next g.walker g.looked) (sym nothing_out) (g.rests going (split-asked hd.out parts ∙ ap asked_in e)))
+          subst Whole (sym is) (set going hd.conn.flight (ap is_carried nothing_out) (subst (IsFlying w.store (w.lines ++ ls) c hd.next g.walker g.looked) (sym nothing_out) (g.rests going (split-asked hd.out parts ∙ ap asked_in e)))
           (λ a f. absurd (none_some (sym nothing_out ∙ f))))
       go (Asks a) e =
           let going : is_shut hd.next.stage ≡ false = shut-is ∙ ap is_closing e in
@@ -244,7 +247,7 @@ module _ (w w' : World) (c : ℕ) (behind : List TranscriptLine) (i : Input) (hd
           let is : w' ≡ with_conn (with_lines w ls) c (v (Connection hd.next) f) =
           outcome-is ∙ ap (λ t. leaves c w hd.conn (behind_step hd.next) (tail_outcome c (kind_asked c (Connection hd.next)) behind hd.conn.flight ls t)) e
           ∙ ap (λ b. leaves c w hd.conn b (record { flight = f; lines = ls; strays = [] })) (open-behind going) ∙ joined f in
-          subst Whole (sym is) (set going f o (λ x e. subst (IsOut (w.lines ++ ls) c hd.next) (out-same _ x e) o))
+          subst Whole (sym is) (set going f refl o (λ x e. subst (IsOut (w.lines ++ ls) c hd.next) (out-same _ x e) o))
         where
           one-there : (b : Ask) → Contains (action.Ask b ∷ []) (action.Ask b)
           one-there b = (0, omega arith, refl)
@@ -264,6 +267,23 @@ module _ (w w' : World) (c : ℕ) (behind : List TranscriptLine) (i : Input) (hd
 
 -- ---- an attached connection whose input is true
 
+-- where an answer is there nothing less was seen
+looks-more : (st : Stage) (a b : Bool) → (a ≡ true → b ≡ true) → has_looked a st ≡ true → has_looked b st ≡ true
+looks-more (Checking f) a b h e = h e
+looks-more (Committing xid r v p m) a b h e = h e
+looks-more (Reading xid r v ws) a b h e = either-more a b (not (int_eq v.revision (pos 0))) h e
+  where
+    either-more : (x y z : Bool) → (x ≡ true → y ≡ true) → (x || z) ≡ true → (y || z) ≡ true
+    either-more true y z f g = ap (λ t. t || z) (f refl)
+    either-more false true z f g = refl
+    either-more false false z f g = g
+looks-more (Waiting p) a b h e = refl
+looks-more Ready a b h e = absurd (cc)
+looks-more (Unconnected f) a b h e = absurd (cc)
+looks-more (Connecting ph) a b h e = absurd (cc)
+looks-more (KeepingAlive f) a b h e = absurd (cc)
+looks-more Shut a b h e = absurd (cc)
+
 -- what is known of it; its ask has landed
 pub record IsReadyFor (w : World) (c : ℕ) (conn : Conn) (core : Core) (i : Input) : Type 0 where
   pub but : But w c
@@ -274,6 +294,8 @@ pub record IsReadyFor (w : World) (c : ℕ) (conn : Conn) (core : Core) (i : Inp
   pub true_input : IsTrueInput w.store w.lines c core serves.walker serves.looked i
   -- an input that is no answer finds nothing out
   pub idle : takes_out i ≡ false → asked_of core.who core.stage ≡ None
+  -- an answer is the one that was carried out
+  pub answers : is_answer i ≡ true → is_carried flight ≡ true
 
 module _ (w w' : World) (c : ℕ) (behind : List TranscriptLine) (i : Input) (hd : Handed c behind w i w') (r : IsReadyFor w c hd.conn hd.core i) where
   ready : IsReady w.store w.lines c hd.core (r.serves).walker (r.serves).looked i
@@ -282,8 +304,11 @@ module _ (w w' : World) (c : ℕ) (behind : List TranscriptLine) (i : Input) (hd
   end : EndsWell hd.core hd.next i hd.out
   end = steps_end_well hd.core hd.next i w.clock hd.out (served-open hd.core.stage r.served) hd.stepped
 
-  walks : Walks w.store w.lines c hd.core hd.next (r.serves).walker (r.serves).looked hd.out
+  walks : Walks w.store w.lines c (IsFreshLook w.lines c (is_answer i) hd.core (r.serves).looked) hd.core hd.next (r.serves).walker (r.serves).looked hd.out
   walks = sends_are_walks w.store w.lines c hd.core hd.next (r.serves).walker (r.serves).looked w.clock i hd.out ready hd.stepped
+
+  fresh : IsFreshLook w.lines c (is_answer i) hd.core (r.serves).looked
+  fresh e = (r.serves).fresh (looks-more hd.core.stage (is_answer i) (is_carried r.flight) r.answers e)
 
   sends-on : Split hd.out
   sends-on = split hd.out end.well
@@ -316,9 +341,10 @@ module _ (w w' : World) (c : ℕ) (behind : List TranscriptLine) (i : Input) (hd
     walker = walks.walker;
     since = since;
     talks = talks-more w.lines (said c sends-on.packets) c (r.serves).place (attachment hd.core.who) (r.serves).walker walks.walker (r.serves).first (r.serves).packets_were (walks.strides).choices (walks.strides).due (r.serves).talks (r.serves).welcomed
-        (all-quiet c (said c sends-on.packets) (said-speech c sends-on.packets)) (walks.strides).walked ((walks.strides).sent ∙ split-sends hd.out sends-on ∙ sym (said-packets c (length w.lines) sends-on.packets)) (walks.strides).small (walks.strides).fresh (walks.strides).in_turn;
+        (all-quiet c (said c sends-on.packets) (said-speech c sends-on.packets)) (walks.strides).walked ((walks.strides).sent ∙ split-sends hd.out sends-on ∙ sym (said-packets c (length w.lines) sends-on.packets)) (walks.strides).small ((walks.strides).fresh fresh) (walks.strides).in_turn;
     looked = (r.serves).looked;
     stands = walks.stands;
+    fresh = walks.looks fresh;
     asks = λ a going asked there. (let p = plans_are_bound w.store w.lines c hd.core hd.next (r.serves).walker (r.serves).looked w.clock hd.out a i ready hd.stepped there in (p.out, p.ahead));
     rests = rests-none;
     first = (r.serves).first;

@@ -171,6 +171,7 @@ denied-serving s lines c core x k = record {
   looked = k.looked;
   stands = k.stands;
   flies = (x.ask, (k.flies).asked);
+  fresh = k.fresh;
   first = k.first;
   packets_were = k.packets_were;
   welcomed = k.welcomed;

@@ -41,7 +41,7 @@ use Rattle.zp_whole.proofs.Within.{within-close, within-more}
 use Rattle.zp_whole.specs.Accounting.{IsAccounted}
 use Rattle.zp_whole.specs.Bounds.{attachment}
 use Rattle.zp_whole.specs.Connecting.{IsConnecting, IsInStage}
-use Rattle.zp_whole.specs.Connections.{IsFlying, IsServing, Whole}
+use Rattle.zp_whole.specs.Connections.{IsFlying, IsServing, Whole, is_carried}
 use Rattle.zp_whole.specs.Counting.{HasFrames}
 use Rattle.zp_whole.specs.Knowing.{IsKnownAs, Known}
 use Rattle.zp_whole.specs.Reaping.{IsReapFlight}
@@ -158,6 +158,7 @@ module _ (w w' : World) (c : ℕ) (x : Conn) (core : Core) (a : Answer) (there :
         serves = serves;
         true_input = subst (IsFlying w.store w.lines c core serves.walker serves.looked) flight serves.flies;
         idle = λ e. absurd (true-false e);
+        answers = λ e. ap is_carried flight;
       }))) refl frames
 
   by-stage : (st : Stage) → core.stage ≡ st → IsInStage w.store w.lines c core x.flight st → Acts (with_conn w c (record x { flight = None })) w' c
@@ -264,6 +265,7 @@ entry-true w c x core e (input.Entry s) is t k none b served = record {
   serves = k;
   true_input = subst (IsTrueEntry w.lines core) (sym is) t;
   idle = λ f. entry-idle core core.stage t.taken;
+  answers = λ f. absurd (cc);
 }
 entry-true w c x core e (input.Frame b) is t k none q served = absurd is
 entry-true w c x core e (input.Answer b) is t k none q served = absurd is

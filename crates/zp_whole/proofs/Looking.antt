@@ -19,7 +19,7 @@ use Rattle.zk_model.specs.Watches.{is_unarmed}
 use Rattle.zx_base.proofs.Options.{none_some, some_is}
 use Rattle.zp_step.specs.Stages.{Core}
 use Rattle.zp_laws.proofs.Strides.{placed}
-use Rattle.zp_laws.specs.Standing.{IsMoment, Matches, is_ahead}
+use Rattle.zp_laws.specs.Standing.{IsMoment, IsPastFrame, Matches, is_ahead}
 use Rattle.zp_whole.specs.Bounds.{attachment}
 use Rattle.zp_whole.specs.Holding.{Talks}
 
@@ -84,11 +84,14 @@ moment-now lines c core w k legal attached t m =
       past = omega arith;
       later = walk-moment lines c core.who.session (at_start core.who.mine (k + 1)) t.choices (w, t.due) t.walked (omega arith);
       told = let p = placed lines core w legal m in omega (arith, p.since, p.within);
-      asked = λ j bytes e. (let b = first_place-bound (frame_shown c w.next) 0 lines (j, bytes) e in omega (arith, b));
       place = k;
       attached = attached;
       since = omega (arith, a);
     }
+
+-- each frame that has come has its line before it
+pub past-now : (lines : List TranscriptLine) (c i : ℕ) → IsPastFrame lines c i (length lines)
+past-now lines c i j bytes e = let b = first_place-bound (frame_shown c i) 0 lines (j, bytes) e in omega (arith, b)
 
 -- ---- a request without a line
 

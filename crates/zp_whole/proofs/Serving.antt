@@ -9,15 +9,15 @@ use Rattle.zk_transcript.proofs.Attachments.{attach_of-push}
 use Rattle.zk_transcript.proofs.Lookups.{first_place-skip, slice_get-front}
 use Rattle.zk_transcript.proofs.Walks.{state_at-push}
 use Rattle.zk_transcript.specs.Legal.{Attachment, is_below, is_legal}
-use Rattle.zk_transcript.specs.Walks.{Walker, own_update, own_update_shown, packets, placed_frame}
+use Rattle.zk_transcript.specs.Walks.{Walker, own_update, own_update_shown, packets}
 use Rattle.zk_transcript.specs.declared.transcript.TranscriptLine.{TranscriptLine}
 use Rattle.zk_transcript.specs.declared.transcript.TranscriptLine.TheVariants.{Update}
 use Rattle.zk_transcript.specs.declared.transcript.UpdateKind.{UpdateKind}
 use Rattle.zn_layout.specs.StandsFor.{StandsFor}
 use Rattle.zp_step.specs.Stages.{Core, Stage, Unconnected, Connecting, Ready, KeepingAlive, Checking, Reading, Committing, Waiting, Shut}
-use Rattle.zp_laws.proofs.Growing.{moment-push, stands-push}
+use Rattle.zp_laws.proofs.Growing.{look-push, moment-push, past-push, stands-push}
 use Rattle.zp_laws.specs.Frames.{IsAtWork}
-use Rattle.zp_laws.specs.Inputs.{IsOwn, IsTrueAnswer, Precedes, is_first}
+use Rattle.zp_laws.specs.Inputs.{IsOwn, IsTrueAnswer, Precedes}
 use Rattle.zp_laws.specs.Standing.{Knows, Stands, is_ahead}
 use Rattle.zp_happen.specs.declared.flight.Flight.{Flight}
 use Rattle.zp_happen.specs.declared.flight.Flight.TheVariants.{Out, Carried, Denied}
@@ -27,7 +27,7 @@ use Rattle.zp_whole.proofs.Lines.{is_plain, packets-plain, plain-index, plain-ow
 use Rattle.zp_whole.proofs.Packets.{packets-append}
 use Rattle.zp_whole.proofs.Talking.{ahead-push, own-none, talks-push}
 use Rattle.zp_whole.specs.Bounds.{attachment}
-use Rattle.zp_whole.specs.Connections.{IsFlying, IsServing}
+use Rattle.zp_whole.specs.Connections.{IsFlying, IsServing, is_carried}
 use Rattle.zp_whole.specs.Holding.{Talks, made_for}
 
 -- ---- lines more that aren't a connection's own
@@ -61,25 +61,9 @@ elsewhere-plain lines c l h = record {
 
 -- ---- an answer that waits to be delivered
 
-record HasFrame (lines : List TranscriptLine) (c i : ℕ) : Type 0 where
-  place : ℕ
-  bytes : List ℕ
-  framed : placed_frame c i lines ≡ Some (place, bytes)
-
-some-frame : (lines : List TranscriptLine) (c i : ℕ) (st : Stage) → is_first st ≡ true → IsAtWork lines c i st → HasFrame lines c i
-some-frame lines c i (Checking f) h k = record { place = k.place; bytes = f; framed = k.framed }
-some-frame lines c i (Reading xid r v ws) h k = record { place = (k.frame).place; bytes = k.bytes; framed = (k.frame).framed }
-some-frame lines c i (Committing xid r v p m) h k = record { place = (k.frame).place; bytes = k.bytes; framed = (k.frame).framed }
-some-frame lines c i Ready h k = absurd (cc)
-some-frame lines c i (Unconnected f) h k = absurd (cc)
-some-frame lines c i (Connecting ph) h k = absurd (cc)
-some-frame lines c i (KeepingAlive f) h k = absurd (cc)
-some-frame lines c i (Waiting p) h k = absurd (cc)
-some-frame lines c i Shut h k = absurd (cc)
-
-own-push : (lines more : List TranscriptLine) (c : ℕ) (core : Core) (w : Walker) (before : Store) (looked : ℕ) (st : Stage) (a : Answer) → w.next ≡ core.next → own_update c core.next (lines ++ more) ≡ own_update c core.next lines
+own-push : (lines more : List TranscriptLine) (c : ℕ) (core : Core) (w : Walker) (before : Store) (looked : ℕ) (st : Stage) (a : Answer) → own_update c core.next (lines ++ more) ≡ own_update c core.next lines
     → IsAtWork lines c core.next st → IsOwn lines c core w before looked st a → IsOwn (lines ++ more) c core w before looked st a
-own-push lines more c core w before looked (Committing xid q v p m) (answer.Txn r true parts) next same work o =
+own-push lines more c core w before looked (Committing xid q v p m) (answer.Txn r true parts) same work o =
     let within = (o.planned).past in
     record {
       place = o.place;
@@ -90,20 +74,21 @@ own-push lines more c core w before looked (Committing xid q v p m) (answer.Txn 
       zxid = o.zxid;
       kind = o.kind;
       stood = subst (StandsFor (present before)) (sym (state_at-push lines more o.place within)) o.stood;
-      planned = moment-push lines more c core.who w o.place (work.frame).place work.bytes (ap (λ n. placed_frame c n lines) next ∙ (work.frame).framed) o.planned;
+      planned = moment-push lines more c core.who w o.place o.planned;
+      asked = past-push lines more c core.next o.place (work.frame).place work.bytes (work.frame).framed o.asked;
     }
-own-push lines more c core w before looked (Committing xid q v p m) (answer.Txn r false parts) next same work o = same ∙ o
-own-push lines more c core w before looked (Committing xid q v p m) (answer.Range r x) next same work o = same ∙ o
-own-push lines more c core w before looked (Committing xid q v p m) (answer.Granted r x y) next same work o = same ∙ o
-own-push lines more c core w before looked (Committing xid q v p m) (answer.Alive r x y) next same work o = same ∙ o
-own-push lines more c core w before looked Ready a next same work o = same ∙ o
-own-push lines more c core w before looked (Unconnected f) a next same work o = same ∙ o
-own-push lines more c core w before looked (Connecting ph) a next same work o = same ∙ o
-own-push lines more c core w before looked (KeepingAlive f) a next same work o = same ∙ o
-own-push lines more c core w before looked (Checking f) a next same work o = same ∙ o
-own-push lines more c core w before looked (Reading xid q v ws) a next same work o = same ∙ o
-own-push lines more c core w before looked (Waiting p) a next same work o = same ∙ o
-own-push lines more c core w before looked Shut a next same work o = same ∙ o
+own-push lines more c core w before looked (Committing xid q v p m) (answer.Txn r false parts) same work o = same ∙ o
+own-push lines more c core w before looked (Committing xid q v p m) (answer.Range r x) same work o = same ∙ o
+own-push lines more c core w before looked (Committing xid q v p m) (answer.Granted r x y) same work o = same ∙ o
+own-push lines more c core w before looked (Committing xid q v p m) (answer.Alive r x y) same work o = same ∙ o
+own-push lines more c core w before looked Ready a same work o = same ∙ o
+own-push lines more c core w before looked (Unconnected f) a same work o = same ∙ o
+own-push lines more c core w before looked (Connecting ph) a same work o = same ∙ o
+own-push lines more c core w before looked (KeepingAlive f) a same work o = same ∙ o
+own-push lines more c core w before looked (Checking f) a same work o = same ∙ o
+own-push lines more c core w before looked (Reading xid q v ws) a same work o = same ∙ o
+own-push lines more c core w before looked (Waiting p) a same work o = same ∙ o
+own-push lines more c core w before looked Shut a same work o = same ∙ o
 
 pub answer-push : (s u : Store) (lines more : List TranscriptLine) (c : ℕ) (core : Core) (w : Walker) (looked : ℕ) (a : Answer) → Precedes s u → Elsewhere lines more c → Stands s lines c core w looked
     → IsTrueAnswer s lines c core w looked a → IsTrueAnswer u (lines ++ more) c core w looked a
@@ -119,9 +104,9 @@ answer-push s u lines more c core w looked a x e k t = record {
   earlier = t.earlier;
   shown = λ f. (let sh = t.shown f in record {
     stands = subst (StandsFor (present t.then_store)) (sym (state_at-push lines more looked (sh.moment).past)) sh.stands;
-    moment = (let some = some-frame lines c core.next core.stage f k.work in moment-push lines more c core.who w looked some.place some.bytes (ap (λ n. placed_frame c n lines) (k.matches).next ∙ some.framed) sh.moment);
+    moment = moment-push lines more c core.who w looked sh.moment;
   });
-  own = own-push lines more c core w t.before looked core.stage a ((k.matches).next) (e.same core.next) k.work t.own;
+  own = own-push lines more c core w t.before looked core.stage a (e.same core.next) k.work t.own;
 }
 
 flies-push : (s u : Store) (lines more : List TranscriptLine) (c : ℕ) (core : Core) (w : Walker) (looked : ℕ) (f : Option Flight) → Precedes s u → Elsewhere lines more c → Stands s lines c core w looked
@@ -156,6 +141,7 @@ serving-push s u lines more c core f legal still x e k = record {
     ahead = λ r. e.below core.next (ready-ahead s lines c core k.walker k.looked r (k.stands).knows);
   }) k.stands;
   flies = flies-push s u lines more c core k.walker k.looked f x e k.stands k.flies;
+  fresh = look-push s lines more c (is_carried f) core k.walker k.looked k.stands k.fresh;
   first = k.first;
   packets_were = k.packets_were;
   welcomed = e.packets ∙ k.welcomed;

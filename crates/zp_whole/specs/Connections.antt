@@ -1,5 +1,5 @@
 -- What is known of a connection to which a session is attached, and what holds of a world with all its connections.
-use Rattle.std.specs.Prelude.{◌≡◌, ℕ, pos, ◌≤◌, ◌≤ℤ◌, true, false, List, ◌∷◌, length, Option, Some, None}
+use Rattle.std.specs.Prelude.{◌≡◌, ℕ, pos, ◌≤◌, ◌≤ℤ◌, Bool, true, false, List, ◌∷◌, length, Option, Some, None}
 use Rattle.ev_types.specs.Store.{Store}
 use Rattle.ev_types.specs.declared.ask.Ask.{Ask}
 use Rattle.zk_model.specs.Limits.{max_frame, max_long}
@@ -10,7 +10,7 @@ use Rattle.zk_transcript.specs.declared.transcript.TranscriptLine.{TranscriptLin
 use Rattle.zp_step.specs.Stages.{Core, asked_of, is_shut}
 use Rattle.zp_laws.specs.Frames.{is_served}
 use Rattle.zp_laws.specs.Inputs.{IsTrueAnswer}
-use Rattle.zp_laws.specs.Standing.{Stands, is_ahead}
+use Rattle.zp_laws.specs.Standing.{IsFreshLook, Stands, is_ahead}
 use Rattle.zp_happen.specs.declared.flight.Asking.{Asking}
 use Rattle.zp_happen.specs.declared.flight.Flight.{Flight}
 use Rattle.zp_happen.specs.declared.flight.Flight.TheVariants.{Out, Carried, Denied}
@@ -33,6 +33,10 @@ IsFlying store lines c core walker looked (Some (Out x)) = IsOut lines c core x
 IsFlying store lines c core walker looked (Some (Carried a)) = IsTrueAnswer store lines c core walker looked a
 IsFlying store lines c core walker looked (Some Denied) = (a : Ask) × (asked_of core.who core.stage ≡ Some a)
 
+abbrev pub is_carried : Option Flight → Bool
+is_carried (Some (Carried a)) = true
+is_carried _ = false
+
 -- ---- an open connection with a session
 
 pub record IsServing (store : Store) (lines : List TranscriptLine) (c : ℕ) (core : Core) (flight : Option Flight) : Type 0 where
@@ -47,6 +51,8 @@ pub record IsServing (store : Store) (lines : List TranscriptLine) (c : ℕ) (co
   pub looked : ℕ
   pub stands : Stands store lines c core walker looked
   pub flies : IsFlying store lines c core walker looked flight
+  -- what was seen for the frame at work was seen after its line
+  pub fresh : IsFreshLook lines c (is_carried flight) core looked
   -- it was sent the welcome
   pub first : Due
   pub packets_were : List Due
