@@ -36,7 +36,7 @@ use Rattle.zp_whole.proofs.Entering.{entries-line, exec-entries, stray-entries}
 use Rattle.zp_whole.proofs.Executing.{precedes-self, same-nat}
 use Rattle.zp_whole.proofs.Growing.{same-precedes}
 use Rattle.zp_whole.proofs.Kept.{carry-precedes, executes-whole, stray-whole, tick-whole, true-false}
-use Rattle.zp_whole.proofs.Knowing.{ActsAlone, counted-aside, known-alone, known-none, update-aside}
+use Rattle.zp_whole.proofs.Knowing.{ActsAlone, counted-aside, known-alone, known-none, update-aside, close-left}
 use Rattle.zp_whole.proofs.Lines.{packets-plain}
 use Rattle.zp_whole.proofs.Naming.{close-none, frame-none, made-number, made-of, never-attached, never-carried, never-opened, never-sent}
 use Rattle.zp_whole.proofs.Numbers.{conn-here, conn-there, other-number, same-number}
@@ -178,12 +178,12 @@ module _ (w w' : World) (c : ℕ) (ex : Executes c w w') (k : IsAccounted w) whe
   carried-as : (u : Store) (b : Answer) (a : Actor) → carry w.store (ex.asking).ask ≡ Some (u, b) → Serves u (w.lines ++ update_lines w.store u (ex.asking).kind) → IsKnownAs w.store w.lines c ex.conn a → IsKnownAs u (w.lines ++ update_lines w.store u (ex.asking).kind) c (record (ex.conn) { flight = Some (Carried b) }) a
   carried-as u b (Connection core) h serves (n, st) = (counted-aside w.lines (update_lines w.store u (ex.asking).kind) c (ex.conn).frames core (update-aside w.store u (ex.asking).kind c) n, carried-stage u b core core.stage h st)
   carried-as u b (Reaper r) h serves n = reap-carried w.store u (w.lines ++ update_lines w.store u (ex.asking).kind) r ex.asking b serves (carry-precedes w.store u (ex.asking).ask b h) h (subst (IsReapFlight w.store r) ex.out n)
-  carried-as u b Closed h serves n = tt
+  carried-as u b Closed h serves n = close-left w.lines (update_lines w.store u (ex.asking).kind) c n
 
   denied-as : (a : Actor) → IsKnownAs w.store w.lines c ex.conn a → IsKnownAs w.store w.lines c (record (ex.conn) { flight = Some Denied }) a
   denied-as (Connection core) (n, st) = (n, denied-stage core core.stage st)
   denied-as (Reaper r) n = tt
-  denied-as Closed n = tt
+  denied-as Closed n = n
 
   alone : (more : List TranscriptLine) → ex.mid.conns ≡ w.conns → Precedes w.store w'.store → w'.lines ≡ w.lines ++ more → ((d : ℕ) → d ≢ c → is_unnamed d more ≡ true) → ActsAlone w w' c more
   alone more conns longer lines unnamed = record {

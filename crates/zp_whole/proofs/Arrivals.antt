@@ -162,7 +162,7 @@ ends-badly c w w' place (Some n) h k = go (is_open_conn (conn_at c w)) h
 alike-known : (s : Store) (lines : List TranscriptLine) (c : ℕ) (x v : Conn) (a : Actor) → v.frames ≡ x.frames → v.flight ≡ x.flight → IsKnownAs s lines c x a → IsKnownAs s lines c v a
 alike-known s lines c x v (Connection core) frames flight (n, st) = (subst (λ i. HasFrames lines c i core) (sym frames) n, subst (λ f. IsInStage s lines c core f core.stage) (sym flight) st)
 alike-known s lines c x v (Reaper r) frames flight k = subst (IsReapFlight s r) (sym flight) k
-alike-known s lines c x v Closed frames flight k = tt
+alike-known s lines c x v Closed frames flight k = k
 
 -- a connection with another stream
 pub alike-acts : (w : World) (c : ℕ) (x v : Conn) → conn_at c w ≡ Some x → v.actor ≡ x.actor → v.flight ≡ x.flight → v.frames ≡ x.frames → IsAccounted w → Acts w (with_conn w c v) c

@@ -1,4 +1,5 @@
 -- The world after the answer to a connection without a session.
+use Rattle.std.proofs.lemmas.List.Elements.{Contains-append_right}
 use Rattle.ev_types.specs.declared.answer.Answer.{Answer}
 use Rattle.ev_types.specs.declared.ask.Ask.{Ask}
 use Rattle.std.proofs.Common.{List, [], ap, append-nil, append_assoc, arith, false, inl, inr, length, pos, refl, subst, sym, true, ℕ, ℤ, ◌++◌, ◌+◌, ◌<◌, ◌∙◌, ◌∷◌, ◌≡◌, ◌≤◌}
@@ -55,7 +56,7 @@ use Rattle.zp_whole.proofs.Connecting.{IsAwaiting, connect-bound, connect-is}
 use Rattle.zp_whole.proofs.Executing.{precedes-self, same-nat}
 use Rattle.zp_whole.proofs.Handing.{GoesOn, core-same, goes-on-whole, served-at}
 use Rattle.zp_whole.proofs.Kept.{true-false}
-use Rattle.zp_whole.proofs.Knowing.{AreAside, rests-push}
+use Rattle.zp_whole.proofs.Knowing.{AreAside, rests-push, close-last}
 use Rattle.zp_whole.proofs.Packets.{both-true, packets-append}
 use Rattle.zp_whole.proofs.Setting.{lone, sets-whole}
 use Rattle.zp_whole.proofs.Speaking.{all-quiet, speaks-but}
@@ -202,7 +203,7 @@ module _ (w w' : World) (c : ℕ) (a : Answer) (hd : Handed c [] w (input.Answer
   -- ---- its resume is refused
 
   refuses : (packet : List ℕ) (why : Cause) → packet ≡ connect_packet (refusal x.request) → (m : ℕ) → k.place < m → m ≤ length w.lines → may_refuse x.request (state_at w.lines m) ≡ true → attach_of c w.lines ≡ None → hd.next.stage ≡ Shut → hd.out ≡ action.Send packet ∷ action.Close why ∷ [] → Acts w w' c
-  refuses packet why packet_is m after_it before_now may none shut out = leaves-acts w w' c hd.conn Closed (record { flight = None; lines = Send c packet ∷ Close c (ended.Cause why) ∷ []; strays = left_by hd.conn.flight }) hd.found is own whole tt within
+  refuses packet why packet_is m after_it before_now may none shut out = leaves-acts w w' c hd.conn Closed (record { flight = None; lines = Send c packet ∷ Close c (ended.Cause why) ∷ []; strays = left_by hd.conn.flight }) hd.found is own whole (ended.Cause why, Contains-append_right w.lines (Send c packet ∷ Close c (ended.Cause why) ∷ []) (Close c (ended.Cause why)) (close-last (Send c packet ∷ []) c (ended.Cause why))) within
     where
       within : IsInConnection w.lines c → IsInConnection (w.lines ++ (Send c packet ∷ Close c (ended.Cause why) ∷ [])) c
       within q = subst (λ l. IsInConnection l c) (append_assoc w.lines (Send c packet ∷ []) (Close c (ended.Cause why) ∷ [])) (within-close (w.lines ++ Send c packet ∷ []) c (ended.Cause why)

@@ -1,4 +1,7 @@
 -- What is known of a number stays known while lines that don't name it are added, and revisions.
+use Rattle.std.proofs.lemmas.List.Elements.{Contains-append_left, Contains-append_right}
+use Rattle.zp_happen.specs.StepOutcomes.{StepOutcome, ends}
+use Rattle.zk_transcript.specs.declared.transcript.Ended.{Ended}
 use Rattle.ev_types.specs.Store.{Store, present}
 use Rattle.ev_types.specs.declared.answer.Answer.TheVariants as answer
 use Rattle.ev_types.specs.declared.answer.Answer.{Answer}
@@ -10,7 +13,7 @@ use Rattle.std.proofs.lemmas.List.Folds.{list_all-append}
 use Rattle.std.proofs.lemmas.List.{length-append}
 use Rattle.std.proofs.lemmas.Option.{slice_get_within}
 use Rattle.std.specs.Ordering.{int_eq}
-use Rattle.std.specs.Prelude.{None, Option, Some, if◌then◌else◌, not, slice_get, ◌≤ℤ◌, ◌⊎◌}
+use Rattle.std.specs.Prelude.{Contains, None, Option, Some, if◌then◌else◌, not, slice_get, ◌≤ℤ◌, ◌⊎◌}
 use Rattle.zk_model.specs.declared.connect.ConnectRequest.{ConnectRequest}
 use Rattle.zk_transcript.proofs.Appending.{first_place-push}
 use Rattle.zk_transcript.proofs.Attachments.{attach_of-push, attach_of-skip}
@@ -21,7 +24,7 @@ use Rattle.zk_transcript.proofs.Zxids.{zxid-covers}
 use Rattle.zk_transcript.specs.Conversations.{close_shown}
 use Rattle.zk_transcript.specs.History.{IsSound, State, after, first_place, first_shown, frame_shown, open_shown, session_at, state_at}
 use Rattle.zk_transcript.specs.Legal.{attach_of, is_legal}
-use Rattle.zk_transcript.specs.declared.transcript.TranscriptLine.TheVariants.{Update}
+use Rattle.zk_transcript.specs.declared.transcript.TranscriptLine.TheVariants.{Update, Close}
 use Rattle.zk_transcript.specs.declared.transcript.TranscriptLine.{TranscriptLine}
 use Rattle.zk_transcript.specs.declared.transcript.UpdateKind.{UpdateKind}
 use Rattle.zn_layout.specs.StandsFor.{StandsFor}
@@ -46,7 +49,7 @@ use Rattle.zp_whole.proofs.Talking.{first_place-front}
 use Rattle.zp_whole.specs.Connecting.{HasOwnLine, IsConnectFlight, IsConnecting, IsInStage, IsOwnSession, IsSeenLife, IsUntouched, RestsOn}
 use Rattle.zp_whole.specs.Connections.{IsClosedAt}
 use Rattle.zp_whole.specs.Counting.{HasFrames, IsLined}
-use Rattle.zp_whole.specs.Knowing.{IsKnownAs, Known}
+use Rattle.zp_whole.specs.Knowing.{IsKnownAs, Known, HasClose}
 use Rattle.zp_whole.specs.Naming.{is_unnamed, names}
 use Rattle.zp_whole.specs.Reaping.{IsReapAsk, IsReapFlight, IsStanding}
 use Rattle.zp_whole.specs.Serving.{kind_lines, update_lines}
@@ -251,17 +254,29 @@ reap-flies s u r (Some (Out a)) x k = record { asked = reap-ask-push s u r.sessi
 reap-flies s u r (Some (Carried a)) x k = record { asked = k.asked; before = k.before; then_store = k.then_store; carried_out = k.carried_out; out = k.out; was = precedes-trans k.before s u k.was x; is = precedes-trans k.then_store s u k.is x; begun = k.begun; state = k.state; stands = k.stands }
 reap-flies s u r (Some Denied) x k = k
 
+-- ---- one that has ended
+
+pub close-left : (lines more : List TranscriptLine) (c : ℕ) → HasClose lines c → HasClose (lines ++ more) c
+close-left lines more c (end, there) = (end, Contains-append_left lines more (Close c end) there)
+
+pub close-last : (lines : List TranscriptLine) (c : ℕ) (end : Ended) → Contains (lines ++ Close c end ∷ []) (Close c end)
+close-last lines c end = Contains-append_right lines (Close c end ∷ []) (Close c end) (0, omega arith, refl)
+
+-- its end puts its line there, after those that are said with it
+pub close-ends : (lines : List TranscriptLine) (c : ℕ) (behind : List TranscriptLine) (end : Ended) (o : StepOutcome) → HasClose (lines ++ (ends c behind end o).lines) c
+close-ends lines c behind end o = (end, Contains-append_right lines ((o.lines ++ behind) ++ Close c end ∷ []) (Close c end) (close-last (o.lines ++ behind) c end))
+
 -- ---- any number
 
 pub known-push : (s u : Store) (lines more : List TranscriptLine) (c : ℕ) (x : Conn) (a : Actor) → GrowsBeside s u lines more c → AreAside more c → IsKnownAs s lines c x a → IsKnownAs u (lines ++ more) c x a
 known-push s u lines more c x (Connection core) g aside (n, st) = (counted-aside lines more c x.frames core aside n, stage-push s u lines more c g core x.flight core.stage st)
 known-push s u lines more c x (Reaper r) g aside k = reap-flies s u r x.flight g.longer k
-known-push s u lines more c x Closed g aside k = tt
+known-push s u lines more c x Closed g aside k = close-left lines more c k
 
-closed-known : (s : Store) (lines : List TranscriptLine) (c : ℕ) (x : Conn) (a : Actor) → is_closed a ≡ true → IsKnownAs s lines c x a
-closed-known s lines c x (Connection core) h = absurd (cc)
-closed-known s lines c x (Reaper r) h = absurd (cc)
-closed-known s lines c x Closed h = tt
+closed-push : (s u : Store) (lines more : List TranscriptLine) (c : ℕ) (x : Conn) (a : Actor) → is_closed a ≡ true → IsKnownAs s lines c x a → IsKnownAs u (lines ++ more) c x a
+closed-push s u lines more c x (Connection core) h k = absurd (cc)
+closed-push s u lines more c x (Reaper r) h k = absurd (cc)
+closed-push s u lines more c x Closed h k = close-left lines more c k
 
 unnamed-append : (c : ℕ) (lines more : List TranscriptLine) → is_unnamed c lines ≡ true → is_unnamed c more ≡ true → is_unnamed c (lines ++ more) ≡ true
 unnamed-append c lines more a b = list_all-append (λ l. not (names c l)) lines more ∙ both-true (is_unnamed c lines) (is_unnamed c more) a b
@@ -283,7 +298,7 @@ module _ (w w' : World) (c : ℕ) (more : List TranscriptLine) (h : Known w) (a 
 
   other-used : (d : ℕ) (x : Conn) → d ≢ c → conn_at d w' ≡ Some x → IsKnownAs w'.store w'.lines d x x.actor
   other-used d x apart e = elim (a.unnamed d apart) [
-    | inl t ↦ closed-known w'.store w'.lines d x x.actor (ap (λ (y : Conn). is_closed y.actor) (some_is (sym e ∙ a.others d apart ∙ t.1)) ∙ t.2)
+    | inl t ↦ subst (λ l. IsKnownAs w'.store l d x x.actor) (sym a.lines) (closed-push w.store w'.store w.lines more d x x.actor (ap (λ (y : Conn). is_closed y.actor) (some_is (sym e ∙ a.others d apart ∙ t.1)) ∙ t.2) (h.used d x (sym (a.others d apart) ∙ e)))
     | inr n ↦ subst (λ l. IsKnownAs w'.store l d x x.actor) (sym a.lines) (known-push w.store w'.store w.lines more d x x.actor (grows d n) (unnamed-aside more d n) (h.used d x (sym (a.others d apart) ∙ e)))
   ]
 

@@ -1,4 +1,5 @@
 -- What a connection or a reaper does by itself, by the lines of a script.
+use Rattle.zp_whole.proofs.Knowing.{close-ends}
 use Rattle.ev_types.specs.declared.answer.Answer.{Answer}
 use Rattle.std.proofs.Common.{Bool, List, [], ap, arith, false, inl, inr, refl, subst, sym, true, ℕ, ℤ, ◌∙◌, ◌∷◌, ◌≡◌}
 use Rattle.std.specs.FinMap.{entries, entries_sorted, find, get-entries, is_sorted}
@@ -93,7 +94,7 @@ failure-acts : (w w' : World) (c : ℕ) (x : Conn) (a : Actor) → x.actor ≡ a
 failure-acts w w' c x (Connection core) e there f h = closes-acts w w' c input.Failed cause.LinkFault refl f h
 failure-acts w w' c x (Reaper r) e there f h =
     leaves-acts w w' c x Closed (ended_by c cause.LinkFault x.flight) there f (ends-own c [] (ended.Cause cause.LinkFault) (quiet x.flight) refl refl)
-    (subst Whole (sym f) (ends-whole w c x ((after w.lines).zxid) [] (ended.Cause cause.LinkFault) there refl tt h)) tt (within-close w.lines c (ended.Cause cause.LinkFault))
+    (subst Whole (sym f) (ends-whole w c x ((after w.lines).zxid) [] (ended.Cause cause.LinkFault) there refl tt h)) (close-ends w.lines c [] (ended.Cause cause.LinkFault) (quiet x.flight)) (within-close w.lines c (ended.Cause cause.LinkFault))
 failure-acts w w' c x Closed e there f h = absurd f
 
 pub cut-acts : (w w' : World) (c : ℕ) → FailureComes c w w' → Whole w → Acts w w' c
@@ -311,7 +312,7 @@ stopped-accounted p w (e ∷ es) d g h = go (is_open_at p e.1) (λ v. stopped-ac
         let v : World = leaves e.0 w e.1 Closed (ended_by e.0 cause.Restart e.1.flight) in
         later v (gives-others w e.0 e.1 es d.0 g.1)
         (acts-accounted w v e.0 h (leaves-acts w v e.0 e.1 Closed (ended_by e.0 cause.Restart e.1.flight) g.0 refl (ends-own e.0 [] (ended.Cause cause.Restart) (quiet e.1.flight) refl refl)
-        (ends-whole w e.0 e.1 ((after w.lines).zxid) [] (ended.Cause cause.Restart) g.0 refl tt (but-of w e.0 h.whole)) tt (within-close w.lines e.0 (ended.Cause cause.Restart))))
+        (ends-whole w e.0 e.1 ((after w.lines).zxid) [] (ended.Cause cause.Restart) g.0 refl tt (but-of w e.0 h.whole)) (close-ends w.lines e.0 [] (ended.Cause cause.Restart) (quiet e.1.flight)) (within-close w.lines e.0 (ended.Cause cause.Restart))))
 
 pub restart-accounted : (w : World) (p : ℕ) → IsAccounted w → IsAccounted (restarted p w)
 restart-accounted w p h =

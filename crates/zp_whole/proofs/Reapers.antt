@@ -41,7 +41,7 @@ use Rattle.zp_whole.proofs.Carrying.{request-asker}
 use Rattle.zp_whole.proofs.Closing.{but-of, ends-whole}
 use Rattle.zp_whole.proofs.Commits.{stands-now}
 use Rattle.zp_whole.proofs.Executing.{precedes-self}
-use Rattle.zp_whole.proofs.Knowing.{standing-push}
+use Rattle.zp_whole.proofs.Knowing.{standing-push, close-ends}
 use Rattle.zp_whole.proofs.Setting.{sets-whole}
 use Rattle.zp_whole.proofs.Within.{within-close, within-same}
 use Rattle.zp_whole.specs.Bounds.{IsBoundAs, IsBoundAsk, IsBoundReap}
@@ -232,7 +232,7 @@ module _ (w w' : World) (c : ℕ) (x : Conn) (reap : Reap) (a : Answer) (there :
   ends-as next end over is =
       let e : w' ≡ leaves c w x Closed (ends c [] end (quiet x.flight)) = is ∙ ap (λ p. leaves c w x (if is_over p then Closed else Reaper next) (ends c [] end (quiet x.flight))) over in
       leaves-acts w w' c x Closed (ends c [] end (quiet x.flight)) there e (ends-own c [] end (quiet x.flight) refl refl)
-      (subst Whole (sym e) (ends-whole w c x ((after w.lines).zxid) [] end there refl tt (but-of w c h))) tt (within-close w.lines c end)
+      (subst Whole (sym e) (ends-whole w c x ((after w.lines).zxid) [] end there refl tt (but-of w c h))) (close-ends w.lines c [] end (quiet x.flight)) (within-close w.lines c end)
 
   goes-as : (next : Reap) (q : Ask) → next.session ≡ reap.session → IsReapAsk w.store reap.session next.phase q → w' ≡ leaves c w x (behind_reap next) (quiet (Some (Out (record { ask = q; kind = kind_of_reap next.session next.phase })))) → Acts w w' c
   goes-as next q same asks is =
@@ -252,5 +252,5 @@ module _ (w w' : World) (c : ℕ) (x : Conn) (reap : Reap) (a : Answer) (there :
   pub reaps-acts : Reaps c w (Some a) w' x reap → Acts w w' c
   reaps-acts (inl e) =
       leaves-acts w w' c x Closed (ended_by c (cause.Damaged e.key e.value) x.flight) there e.result (ends-own c [] (ended.Cause (cause.Damaged e.key e.value)) (quiet x.flight) refl refl)
-      (subst Whole (sym e.result) (ends-whole w c x ((after w.lines).zxid) [] (ended.Cause (cause.Damaged e.key e.value)) there refl tt (but-of w c h))) tt (within-close w.lines c (ended.Cause (cause.Damaged e.key e.value)))
+      (subst Whole (sym e.result) (ends-whole w c x ((after w.lines).zxid) [] (ended.Cause (cause.Damaged e.key e.value)) there refl tt (but-of w c h))) (close-ends w.lines c [] (ended.Cause (cause.Damaged e.key e.value)) (quiet x.flight)) (within-close w.lines c (ended.Cause (cause.Damaged e.key e.value)))
   reaps-acts (inr r) = comes-as r.next r.step (r.stepped).same (reaps-to w.store reap a k (r.next).phase r.step (r.stepped).moves) r.result

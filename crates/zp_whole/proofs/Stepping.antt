@@ -1,4 +1,5 @@
 -- A connection takes a step: what is known of it after the step, and that it acted by itself.
+use Rattle.std.proofs.lemmas.List.Elements.{Contains-append_right}
 use Rattle.std.proofs.Common.{Bool, List, [], ap, append_assoc, arith, false, inl, inr, refl, subst, sym, true, ℕ, ℤ, ◌++◌, ◌+◌, ◌∙◌, ◌∷◌, ◌≡◌, ◌≤◌}
 use Rattle.std.specs.List.{list_all}
 use Rattle.std.specs.Prelude.{Option, Some, if◌then◌else◌}
@@ -29,12 +30,12 @@ use Rattle.zp_whole.proofs.Actions.{Asks, Closes, Rests, Split, Tail, is_closing
 use Rattle.zp_whole.proofs.Closing.{AreShown, But}
 use Rattle.zp_whole.proofs.Ends.{closing-whole}
 use Rattle.zp_whole.proofs.Kept.{true-false}
-use Rattle.zp_whole.proofs.Knowing.{AreAside, lined-aside, said-aside}
+use Rattle.zp_whole.proofs.Knowing.{AreAside, lined-aside, said-aside, close-ends, close-last}
 use Rattle.zp_whole.proofs.Within.{within-end}
 use Rattle.zp_whole.specs.Connecting.{IsInStage}
 use Rattle.zp_whole.specs.Connections.{Whole}
 use Rattle.zp_whole.specs.Counting.{HasFrames, IsLined}
-use Rattle.zp_whole.specs.Knowing.{IsKnownAs}
+use Rattle.zp_whole.specs.Knowing.{IsKnownAs, HasClose}
 
 -- ---- its frames
 
@@ -56,7 +57,7 @@ closing-acts w w' c behind i why z hd shut out last shown h =
     hd.result ∙ ap (λ l. leaves c w hd.conn (behind_step hd.next) (acts_all c (kind_asked c (Connection hd.next)) behind hd.conn.flight l)) out
     ∙ ap (λ b. leaves c w hd.conn (if b then Closed else Connection hd.next) o) shut in
     leaves-acts w w' c hd.conn Closed o hd.found is (ends-own c behind (ended.Cause why) (quiet hd.conn.flight) (shown-own c z behind shown) refl)
-    (closing-whole w w' c behind i why z hd shut out last shown h) tt (within-end w.lines c z behind (ended.Cause why) shown)
+    (closing-whole w w' c behind i why z hd shut out last shown h) (close-ends w.lines c behind (ended.Cause why) (quiet hd.conn.flight)) (within-end w.lines c z behind (ended.Cause why) shown)
 
 -- an input that ends it in whatever stage
 pub closes-acts : (w w' : World) (c : ℕ) (i : Input) (why : Cause) → end_by i ≡ Some why → (hd : Handed c [] w i w') → But w c → Acts w w' c
@@ -99,8 +100,14 @@ module _ (w w' : World) (c : ℕ) (behind : List TranscriptLine) (i : Input) (z 
   in-stage (Waiting p) f ls h = tt
   in-stage Shut f ls h = absurd (true-false (sym h))
 
+  tail-closed : (t : Tail) → is_closing t ≡ true → HasClose (w.lines ++ (tail_outcome c (kind_asked c (Connection hd.next)) behind hd.conn.flight (said c parts.packets) t).lines) c
+  tail-closed Rests h = absurd (true-false (sym h))
+  tail-closed (Asks a) h = absurd (true-false (sym h))
+  tail-closed (Closes why) h = (ended.Cause why, Contains-append_right w.lines ((said c parts.packets ++ behind) ++ Close c (ended.Cause why) ∷ []) (Close c (ended.Cause why)) (close-last (said c parts.packets ++ behind) c (ended.Cause why)))
+
   known : (b : Bool) → is_shut hd.next.stage ≡ b → (f : Option Flight) → IsKnownAs w.store (w.lines ++ (acts_all c (kind_asked c (Connection hd.next)) behind hd.conn.flight hd.out).lines) c (record (hd.conn) { actor = if b then Closed else Connection hd.next; flight = f }) (if b then Closed else Connection hd.next)
-  known true e f = tt
+  known true e f = subst (λ (x : StepOutcome). HasClose (w.lines ++ x.lines) c) (sym (split-outcome c (kind_asked c (Connection hd.next)) behind hd.conn.flight hd.out parts))
+      (tail-closed parts.tail (sym (split-closes hd.out parts) ∙ end.closes ∙ e))
   known false e f = (
     subst (λ l. HasFrames (w.lines ++ l) c hd.conn.frames hd.next) (sym (lines-said e)) (frames e (said c parts.packets) (said-aside c parts.packets c)),
     in-stage hd.next.stage f (w.lines ++ (acts_all c (kind_asked c (Connection hd.next)) behind hd.conn.flight hd.out).lines) (served e),
