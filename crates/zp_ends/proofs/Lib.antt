@@ -23,3 +23,4 @@ pub mod Sessions
 pub mod Begun
 pub mod Ongoing
 pub mod Undisturbed
+pub mod Replied

@@ -4,3 +4,4 @@ pub mod Bytes
 pub mod Settling
 pub mod Staying
 pub mod Undisturbed
+pub mod Answering

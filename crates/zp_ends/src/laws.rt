@@ -1,5 +1,6 @@
 //! The laws of settles and of connections that stay open. Each function does nothing, and its contract is the law.
 
+ghost use Rattle.zp_ends.specs.Answering.{EverySettleAnswers};
 ghost use Rattle.zp_ends.specs.Staying.{FramesLeaveOpen, SettlesOpen};
 ghost use Rattle.zp_ends.specs.Settling.{EndsByItsBound, EverySettleEnds, FirstCounts, KeepsCounts, SettlesToItsEnd};
 ghost use Rattle.zp_ends.specs.Undisturbed.{UndisturbedStayOpen};
@@ -22,6 +23,13 @@ pub fn the_bytes_of_frames_are_counted()
 /// ended. The settle's bound is below 2^64 - 1.
 pub fn every_settle_ends()
     ensures { EverySettleEnds }
+{}
+
+/// In every run of a script, after a settle of a connection its `close` line stands, or each of its frames has its answer: its first
+/// packet answers the connect, and of the others one is the reply to each later frame, in their order, and the rest are notices. The
+/// settle's bound is below 2^64 - 1.
+pub fn every_settle_answers()
+    ensures { EverySettleAnswers }
 {}
 
 /// A settle leaves a connection open whose session lives and was last attached by it, if none of its frames is a closeSession or an
