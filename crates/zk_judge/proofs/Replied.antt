@@ -238,7 +238,7 @@ answer-on lines c id w ps m y run above h = by (is_allowed lines c id w ps m) h
         let since : y.0.since ≡ after_update z (take m lines) = sym (ap (λ (v : Walker). v.since) a.2) ∙ sym (ap (λ (q : Walker × List Due). q.0.since) mk.gives) in
         let some : 0 < length a.0.1 =
         subst (λ (q : Walker × List Due). 0 < length q.1) mk.gives
-        (some-more ((fired_above (take m lines) w.zxid w.watches).1 ++ due_notices (after_update z (take m lines)) mk.what.1.notices) (later_of (length (take m lines)) (mk.place + 1), reply_packet (xid_of (read_request mk.bytes)) z mk.what.1.reply)) in
+        (some-more ((fired_above (take m lines) w.zxid w.watches).1 ++ due_notices (later_of (after_update z (take m lines)) (mk.place + 1)) mk.what.1.notices) (later_of (length (take m lines)) (mk.place + 1), reply_packet (xid_of (read_request mk.bytes)) z mk.what.1.reply)) in
         record {
           above = omega (arith, ints, above, up, zxid);
           earliest = λ n less. (let few : length (take n lines) < y.0.moment = omega (arith, size, length-take-le n lines (omega (arith, less, within)), moment, less) in

@@ -115,21 +115,21 @@ pub fn answer_plainly(
     }
 }
 
-/// What is due with an answer as of a moment: what fired, the notices of the answer from place `since` on, and the reply from place
+/// What is due with an answer as of a moment: what fired, the notices of the answer from place `told` on, and the reply from place
 /// `first` on.
 fn reply_due(
     alloc: Global,
     fired: Vec<Due>,
-    since: usize,
+    told: usize,
     first: usize,
     notices: &[Notice],
     packet: Bytes,
 ) -> Result<Vec<Due>, Memory>
     requires { All NoticeCanBeSent notices.now }
-    ensures { IfOk result (λ v. v.items ≡ fired.items ++ due_notices since notices.now ++ ((first, packet) ∷ [])) }
+    ensures { IfOk result (λ v. v.items ≡ fired.items ++ due_notices told notices.now ++ ((first, packet) ∷ [])) }
 {
     let mut due = fired;
-    add_notices(alloc, &mut due, since, notices)?;
+    add_notices(alloc, &mut due, told, notices)?;
     due.push((first, packet))?;
     Ok(due)
 }
@@ -173,7 +173,8 @@ fn reply_step(
     let since = since_of(index, past, zxid);
     let first = later_of(past.len(), place + 1);
     let packet = reply_packet(alloc, xid, zxid, &answer)?;
-    let due = reply_due(alloc, fired, since, first, notices.as_slice(), packet)?;
+    let told = later_of(since, place + 1);
+    let due = reply_due(alloc, fired, told, first, notices.as_slice(), packet)?;
     Ok(Step {
         walker: Walker {
             zxid,

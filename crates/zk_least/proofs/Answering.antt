@@ -125,9 +125,9 @@ pub shown-reply : (past : List TranscriptLine) (w : Walker) (k : ℕ) (xid : ℤ
     → behind (reply_step past w k xid fired t).1 ps ≡ Some rest → next_reply ps ≡ Some (reply_packet xid (after past).zxid t.1.reply)
 shown-reply past w k xid fired t ps rest long f h =
     let z = (after past).zxid in
-    let own = due_notices (after_update z past) t.1.notices in
+    let own = due_notices (later_of (after_update z past) (k + 1)) t.1.notices in
     let d : Due = (later_of (length past) (k + 1), reply_packet xid z t.1.reply) in
-    reply-next (fired ++ own) d ps rest (both-notices fired own f (due-notices (after_update z past) t.1.notices)) (not-notice xid z t.1.reply long)
+    reply-next (fired ++ own) d ps rest (both-notices fired own f (due-notices (later_of (after_update z past) (k + 1)) t.1.notices)) (not-notice xid z t.1.reply long)
     h
 
 -- ---- an answer as of a moment, from its parts

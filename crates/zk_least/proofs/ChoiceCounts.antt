@@ -101,7 +101,7 @@ answer-sends lines c id w m y mk =
     let z = (state_at lines m).zxid in
     let q = (and_parts (nat_le w.moment (length (take m lines))) _ mk.may_answer).1 in
     let up : w.zxid ≤ℤ z = grind (arith, nat_tests, ints) in
-    subst (λ (p : Walker × List Due). (1 ≤ length p.1) × (w.zxid ≤ℤ p.0.zxid)) mk.gives (ends-with ((fired_above (take m lines) w.zxid w.watches).1 ++ due_notices (after_update z (take m lines)) mk.what.1.notices) (later_of (length (take m lines)) (mk.place + 1), reply_packet (xid_of (read_request mk.bytes)) z mk.what.1.reply), up)
+    subst (λ (p : Walker × List Due). (1 ≤ length p.1) × (w.zxid ≤ℤ p.0.zxid)) mk.gives (ends-with ((fired_above (take m lines) w.zxid w.watches).1 ++ due_notices (later_of (after_update z (take m lines)) (mk.place + 1)) mk.what.1.notices) (later_of (length (take m lines)) (mk.place + 1), reply_packet (xid_of (read_request mk.bytes)) z mk.what.1.reply), up)
 
 -- what a choice takes of the updates above the walker's zxid and of the packets
 choice-less : (lines : List TranscriptLine) (c : ℕ) (id : ℤ) (w : Walker) (x : Choice) (u : Walker × List Due) → move lines c id w x ≡ Some u → above u.0.zxid lines < above w.zxid lines + length u.1

@@ -177,7 +177,7 @@ told-then lines c id w e z m y legal some next mk =
     let told : told_as_of past c id (read_request bytes) (fired_above past w.zxid w.watches).0 (own_update c w.next lines) ≡ Some mk.what =
     ap (λ (h : Watches × List Due). told_as_of past c id (read_request bytes) h.0 (own_update c w.next lines)) all ∙ mk.told in
     let n = after_update (after past).zxid past in
-    let d : List Due = due_notices n mk.what.1.notices in
+    let d : List Due = due_notices (later_of n (mk.place + 1)) mk.what.1.notices in
     let r : List Due = (later_of (length past) (mk.place + 1), reply_packet (xid_of (read_request bytes)) (after past).zxid mk.what.1.reply) ∷ [] in
     let v : Walker = (reply_step past w mk.place (xid_of (read_request bytes)) [] mk.what).0 in
     answer-move lines c id w m mk.place bytes mk.what mk.live mk.within mk.frame (and_from (nat_le w.moment (length past)) (int_le w.zxid (after past).zxid) op.0 lower) mk.header told

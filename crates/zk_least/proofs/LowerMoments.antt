@@ -93,12 +93,12 @@ lower-moment lines c id w ps k m legal up own le after_last fresh same says h =
     let moved : move lines c id w (Answer k) ≡ Some v =
     answer-move lines c id w k mk.place bytes mk.what mk.live (omega (arith, le, mk.within)) mk.frame (and_from (nat_le w.moment (length (take k lines))) (int_le w.zxid zk) early low) mk.header told in
     let there_m : behind (reply_step (take m lines) w mk.place xid fm.1 mk.what).1 ps ≡ Some y.0.1 = ap (λ (p : Walker × List Due). behind p.1 ps) mk.gives ∙ u.3 in
-    let d = due_notices (after_update zk (take k lines)) mk.what.1.notices in
+    let d = due_notices (later_of (after_update zk (take k lines)) (mk.place + 1)) mk.what.1.notices in
     let there : behind v.1 ps ≡ Some y.0.1 =
     behind-lower (fk.1 ++ d) (later_of (length (take m lines)) (mk.place + 1)) (later_of (length (take k lines)) (mk.place + 1)) (reply_packet xid zk mk.what.1.reply) ps y.0.1
     (later-lower (length (take k lines)) (length (take m lines)) (mk.place + 1) (omega (arith, lk, length-take-le m lines mk.within, le)))
     (ap (λ z. behind (fk.1 ++ d ++ ((later_of (length (take m lines)) (mk.place + 1), reply_packet xid z mk.what.1.reply) ∷ [])) ps) (sym same)
-    ∙ ap (λ n. behind (fk.1 ++ due_notices n mk.what.1.notices ++ ((later_of (length (take m lines)) (mk.place + 1), reply_packet xid zm mk.what.1.reply) ∷ [])) ps) (sym since)
-    ∙ ap (λ (p : Watches × List Due). behind (p.1 ++ due_notices (after_update zm (take m lines)) mk.what.1.notices ++ ((later_of (length (take m lines)) (mk.place + 1), reply_packet xid zm mk.what.1.reply) ∷ [])) ps) (sym fired)
+    ∙ ap (λ n. behind (fk.1 ++ due_notices (later_of n (mk.place + 1)) mk.what.1.notices ++ ((later_of (length (take m lines)) (mk.place + 1), reply_packet xid zm mk.what.1.reply) ∷ [])) ps) (sym since)
+    ∙ ap (λ (p : Watches × List Due). behind (p.1 ++ due_notices (later_of (after_update zm (take m lines)) (mk.place + 1)) mk.what.1.notices ++ ((later_of (length (take m lines)) (mk.place + 1), reply_packet xid zm mk.what.1.reply) ∷ [])) ps) (sym fired)
     ∙ there_m) in
     and_from (is_fresh lines c w.next (Answer k)) (is_some (given ps (move lines c id w (Answer k)))) fresh (ap is_some (given-some ps (move lines c id w (Answer k)) v y.0.1 moved there))

@@ -227,12 +227,12 @@ core-same lines c id w k m place bytes u v ps q r legal least up le within op f 
         over = ap (λ (t : Bool × Told). t.0) one;
         moment = omega (arith, le, length-take-le k lines (omega (arith, le, within)), length-take-le m lines within);
       };
-      rest = behind-last (fk.1 ++ due_notices (after_update zk (take k lines)) u.1.notices) (later_of (length (take k lines)) (place + 1)) (later_of (length (take m lines)) (place + 1)) (reply_packet xid zk u.1.reply) ps q r
+      rest = behind-last (fk.1 ++ due_notices (later_of (after_update zk (take k lines)) (place + 1)) u.1.notices) (later_of (length (take k lines)) (place + 1)) (later_of (length (take m lines)) (place + 1)) (reply_packet xid zk u.1.reply) ps q r
           a
-          (ap (λ (p : Watches × List Due). behind (p.1 ++ due_notices (after_update zk (take k lines)) u.1.notices ++ ((later_of (length (take m lines)) (place + 1), reply_packet xid zk u.1.reply) ∷ [])) ps) (sym fired)
-          ∙ ap (λ n. behind (fm.1 ++ due_notices n u.1.notices ++ ((later_of (length (take m lines)) (place + 1), reply_packet xid zk u.1.reply) ∷ [])) ps) (sym since)
-          ∙ ap (λ (t : Bool × Told). behind (fm.1 ++ due_notices (after_update zm (take m lines)) t.1.notices ++ ((later_of (length (take m lines)) (place + 1), reply_packet xid zk t.1.reply) ∷ [])) ps) one
-          ∙ ap (λ z. behind (fm.1 ++ due_notices (after_update zm (take m lines)) v.1.notices ++ ((later_of (length (take m lines)) (place + 1), reply_packet xid z v.1.reply) ∷ [])) ps) (sym same)
+          (ap (λ (p : Watches × List Due). behind (p.1 ++ due_notices (later_of (after_update zk (take k lines)) (place + 1)) u.1.notices ++ ((later_of (length (take m lines)) (place + 1), reply_packet xid zk u.1.reply) ∷ [])) ps) (sym fired)
+          ∙ ap (λ n. behind (fm.1 ++ due_notices (later_of n (place + 1)) u.1.notices ++ ((later_of (length (take m lines)) (place + 1), reply_packet xid zk u.1.reply) ∷ [])) ps) (sym since)
+          ∙ ap (λ (t : Bool × Told). behind (fm.1 ++ due_notices (later_of (after_update zm (take m lines)) (place + 1)) t.1.notices ++ ((later_of (length (take m lines)) (place + 1), reply_packet xid zk t.1.reply) ∷ [])) ps) one
+          ∙ ap (λ z. behind (fm.1 ++ due_notices (later_of (after_update zm (take m lines)) (place + 1)) v.1.notices ++ ((later_of (length (take m lines)) (place + 1), reply_packet xid z v.1.reply) ∷ [])) ps) (sym same)
           ∙ b);
     }
 

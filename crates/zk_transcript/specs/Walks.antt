@@ -184,13 +184,14 @@ told_as_of past c id x w None = told_by_state (after past) c id x w
 -- ---- an answer as of a moment
 
 -- the walker and the packets, once it is known what is told. First come the notices of the updates that the client was not told
--- of, then those of the answer, and then the reply, which stands neither before its moment nor before the line of its frame, at k
+-- of. Then come those of the answer, which are due after the last update before the moment, and the reply, which is due after its
+-- moment; none of these stands before the line of its frame, at k
 abbrev pub reply_step : List TranscriptLine → Walker → ℕ → ℤ → List Due → Bool × Told → Walker × List Due
 reply_step past w k xid fired t =
     let z = (after past).zxid in
     let n = after_update z past in (
       record { zxid = z; since = n; watches = t.1.watches; next = w.next + 1; moment = length past; over = t.0 },
-      fired ++ due_notices n t.1.notices ++ ((later_of (length past) (k + 1), reply_packet xid z t.1.reply) ∷ []),
+      fired ++ due_notices (later_of n (k + 1)) t.1.notices ++ ((later_of (length past) (k + 1), reply_packet xid z t.1.reply) ∷ []),
     )
 
 abbrev pub reply_step_if : List TranscriptLine → Walker → ℕ → ℤ → List Due → Option (Bool × Told) → Option (Walker × List Due)

@@ -104,7 +104,7 @@ after_reply lines w p looked = let z = (state_at lines looked).zxid in
 
 abbrev reply_due : List TranscriptLine → Walker → Pending → ℕ → ℕ → List Due
 reply_due lines w p looked k =
-    due_notices (after_update (state_at lines looked).zxid (take looked lines)) (seen_by p.change w.watches).notices
+    due_notices (later_of (after_update (state_at lines looked).zxid (take looked lines)) (k + 1)) (seen_by p.change w.watches).notices
     ++ ((later_of (length (take looked lines)) (k + 1), reply_packet p.xid (state_at lines looked).zxid p.answer) ∷ [])
 
 -- the core after a reply
@@ -180,8 +180,9 @@ module _ (store : Store) (lines : List TranscriptLine) (conn : ℕ) (c : Core) (
   replied-walks Afresh past d =
       let bound = first_place-bound (frame_shown conn w.next) 0 lines ((r.frame).place, r.bytes) (r.frame).framed in
       let z = (state_at lines looked).zxid in
-      let n = after_update z (take looked lines) in
-      let within : n ≤ length lines = omega (arith, since-bound lines z looked, len, (r.moment).past) in
+      let n = later_of (after_update z (take looked lines)) ((r.frame).place + 1) in
+      let within : n ≤ length lines =
+      later-bound (after_update z (take looked lines)) ((r.frame).place + 1) (length lines) (omega (arith, since-bound lines z looked, len, (r.moment).past)) (omega (arith, bound)) in
       let packet : Due = (later_of (length (take looked lines)) ((r.frame).place + 1), reply_packet p.xid z p.answer) in
       let notices = (seen_by p.change w.watches).notices in
       let mine = (seen_by p.change c.watches).notices in
