@@ -1,17 +1,21 @@
 //! zetcd: ZooKeeper's protocol over etcd. The commands `replay`, `show` and `judge` are built.
 //!
-//! `main` hands the command line, standard input and standard output to [`zetcd_cmd::zetcd`], and ends the process with the
-//! status's number.
+//! `main` hands the command line, standard input and standard output to [`zetcd_cmd::zetcd`], says on standard error in words what
+//! ended a run that did not come to its end, and ends the process with the status's number.
 #![tactic(auto)]
 
-ghost use Rattle.std.specs.Prelude.{◌≡◌, [], ◌∷◌, codes, IfOk};
+ghost use Rattle.std.specs.Prelude.{◌≡◌, ◌≢◌, ◌⊎◌, [], ◌∷◌, codes, IfOk};
 ghost use Rattle.std.specs.Process.{exit_status};
 ghost use Rattle.std.specs.Vec.Iter.{into_iter_items};
 ghost use Rattle.zetcd.specs.Arguments.{arguments};
-ghost use Rattle.zetcd_cmd.specs.Outcomes.{number_of, Did, Judges, Refuses, Replays, Shows};
+ghost use Rattle.zetcd_cmd.specs.Outcomes.{number_of, Did, Failed, IsUnharmed, Judges, Refuses, Replays, Shows};
+ghost use Rattle.zx_outside.specs.Writing.{counts_after_write};
+ghost use Rattle.zx_outside.specs.declared.sink.Took.TheVariants.{Failed as TookFailed};
 
+mod meaning;
 mod words;
 
+use crate::meaning::meaning;
 use crate::words::{lent, words_of};
 use std::alloc::{AllocError, Global};
 use std::env::{self, Args};
@@ -35,6 +39,10 @@ fn main(rt: HostRuntime) -> ExitCode {
         ),
         Err(_) => Status::Memory,
     };
+    if let Some(words) = meaning(status) {
+        // Where standard error takes nothing, the exit code still tells.
+        let _told = eprintln!(rt; "zetcd: {words}");
+    }
     exit(status)
 }
 
@@ -57,6 +65,14 @@ fn with_words<I: Source, O: Sink>(
     ensures show { IfOk result (λ s. arguments (into_iter_items args) ≡ codes "show" ∷ [] → Did (Shows s (I.ended input.new) (I.left input.new)) (I.given input.old) (I.given input.new) (I.left input.old) (I.left input.new) (O.taken out.old) (O.taken out.new)) }
     ensures judge { IfOk result (λ s. arguments (into_iter_items args) ≡ codes "judge" ∷ [] → Did (Judges s (I.ended input.new) (I.left input.new)) (I.given input.old) (I.given input.new) (I.left input.old) (I.left input.new) (O.taken out.old) (O.taken out.new)) }
     ensures usage { IfOk result (λ s. ¬ (arguments (into_iter_items args) ≡ codes "replay" ∷ []) → ¬ (arguments (into_iter_items args) ≡ codes "show" ∷ []) → ¬ (arguments (into_iter_items args) ≡ codes "judge" ∷ []) → Refuses s (O.taken out.old) (O.taken out.new)) }
+    ensures unread { IfOk result (λ s. ¬ (arguments (into_iter_items args) ≡ codes "replay" ∷ []) → ¬ (arguments (into_iter_items args) ≡ codes "show" ∷ []) → ¬ (arguments (into_iter_items args) ≡ codes "judge" ∷ []) → input.new ≡ input.old) }
+    ensures read { IfOk result (λ s. s ≡ Status.ReadFault → Failed (I.counts input.old) (I.counts input.new)) }
+    ensures unless_fault { IfOk result (λ s. s ≢ Status.ReadFault → s ≢ Status.WriteFault → s ≢ Status.Memory → IsUnharmed (I.counts input.old) (I.counts input.new)) }
+    ensures show_memory { IfOk result (λ s. arguments (into_iter_items args) ≡ codes "show" ∷ [] → s ≡ Status.Memory → IsUnharmed (I.counts input.old) (I.counts input.new)) }
+    ensures judge_memory { IfOk result (λ s. arguments (into_iter_items args) ≡ codes "judge" ∷ [] → s ≡ Status.Memory → IsUnharmed (I.counts input.old) (I.counts input.new)) }
+    ensures once { IfOk result (λ s. IsUnharmed (I.counts input.old) (I.counts input.new) ⊎ Failed (I.counts input.old) (I.counts input.new)) }
+    ensures write { IfOk result (λ s. s ≡ Status.WriteFault → O.counts out.new ≡ counts_after_write TookFailed (O.counts out.old)) }
+    ensures unless_write_fault { IfOk result (λ s. s ≢ Status.WriteFault → O.counts out.new ≡ O.counts out.old) }
 {
     let words = words_of(alloc, args)?;
     let behind_name = words.len().min(1);

@@ -2,7 +2,6 @@
 use Rattle.std.proofs.Common.{◌≡◌, ℕ, ◌+◌, ◌<◌, ◌⊎◌, List, [], ◌∷◌, ◌++◌, length, take, refl, sym, ap, ◌∙◌, subst, arith, inl, inr, length-append}
 use Rattle.std.specs.Prelude.{Option, Some, None, Bool, true, false, is_some, nat_lt, if◌then◌else◌}
 use Rattle.std.proofs.lemmas.Bool.{lt-ltb}
-use Rattle.std.proofs.lemmas.List.{take-append-le}
 use Rattle.zk_transcript.specs.declared.transcript.TranscriptLine.{TranscriptLine}
 use Rattle.zk_lines.specs.Lines.{line_read}
 use Rattle.zk_lines.specs.Transcripts.{Transcript, is_last_line, lines_from, nothing_behind, then_lines, transcript}
@@ -41,14 +40,6 @@ long-unread text long =
     ∙ ap (λ (ps : List (List ℕ)). is_some (lines_from true 1 ps).1) some.2
     ∙ cut-unread 1 some.0 some.1
 
--- no later byte changes what a text that is too long says
-long-settled : (text rest : List ℕ) → max_script < length text → transcript (text ++ rest) ≡ transcript text
-unfolding transcript
-long-settled text rest long =
-    let longer : max_script < length (text ++ rest) = grind (arith, length-append, long) in
-    ap (λ (b : Bool). lines_from b 1 (pieces 10 (take max_script (text ++ rest)))) (lt-ltb max_script (length (text ++ rest)) longer ∙ sym (lt-ltb max_script (length text) long))
-    ∙ ap (λ (t : List ℕ). lines_from (nat_lt max_script (length text)) 1 (pieces 10 t)) (take-append-le max_script text rest (omega (arith, long)))
-
 read-whole : (text : List ℕ) (lines : List TranscriptLine) → max_script < length text → transcript text ≡ (lines, None) → ⊥
 read-whole text lines long read =
     let no : is_some {T = ℕ} None ≡ true = ap (λ (t : Transcript). is_some t.1) (sym read) ∙ long-unread text long in
@@ -62,7 +53,7 @@ writes status.Done ended left text output (inr long) finds = absurd (read-whole 
 writes status.Unlawful ended left text output (inl whole) finds = (whole, finds)
 writes status.Unlawful ended left text output (inr long) finds = absurd (read-whole text finds.2.lines long finds.2.read)
 writes (status.Script n) ended left text output (inl whole) finds = (inl whole, finds)
-writes (status.Script n) ended left text output (inr long) finds = (inr (λ rest. long-settled text rest long), finds)
+writes (status.Script n) ended left text output (inr long) finds = (inr long, finds)
 writes status.Usage ended left text output settled finds = absurd finds
 writes status.ReadFault ended left text output settled finds = absurd finds
 writes status.WriteFault ended left text output settled finds = absurd finds

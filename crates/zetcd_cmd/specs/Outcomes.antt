@@ -1,8 +1,8 @@
 -- What the program read and wrote, by the status that it ends with.
-use Rattle.std.specs.Prelude.{◌≡◌, ◌⊎◌, ⊤, ℕ, ◌+◌, ◌-◌, ◌^◌, ◌<◌, ◌≤◌, min, Bool, true, List, [], ◌∷◌, ◌++◌, codes, Option}
+use Rattle.std.specs.Prelude.{◌≡◌, ◌⊎◌, ⊤, ℕ, ◌+◌, ◌-◌, ◌^◌, ◌<◌, ◌≤◌, min, Bool, true, List, [], ◌∷◌, ◌++◌, length, codes, Option}
 use denote.Ref.{Bor}
 use Rattle.std.specs.Io.KnownBytes.{IsAtEnd}
-use Rattle.zk_lines.specs.Transcripts.{transcript}
+use Rattle.zt_text.specs.Scripts.{max_script}
 use Rattle.zetcd_cmd.specs.Judged.{Finds}
 use Rattle.zetcd_cmd.specs.Replayed.{IsReplayed, IsStopped, IsCutShort, IsOver}
 use Rattle.zt_show.specs.declared.ending.Ending.{Ending}
@@ -135,13 +135,13 @@ Shows _ ended left read output = ⊥
 
 -- ---- judge
 
--- What a judgement writes where the output has no fault and memory is not refused: what is found of the whole input; or of what was
--- read of it, where no later byte changes how that is read; nothing after a fault of the input.
+-- What a judgement writes where the output has no fault and memory is not refused: what is found of the whole input; of a line that
+-- can't be read, where the whole input was read, or more of it than a transcript may have; nothing after a fault of the input.
 abbrev pub JudgeWrites : Status → Bool → Option (List ℕ) → List ℕ → List ℕ → Type 0
 JudgeWrites status.Done ended left read output = IsAtItsEnd ended left × Finds status.Done read output
 JudgeWrites status.Unlawful ended left read output = IsAtItsEnd ended left × Finds status.Unlawful read output
 JudgeWrites (status.Script line) ended left read output =
-    (IsAtItsEnd ended left ⊎ ((rest : List ℕ) → transcript (read ++ rest) ≡ transcript read)) × Finds (status.Script line) read output
+    (IsAtItsEnd ended left ⊎ (max_script < length read)) × Finds (status.Script line) read output
 JudgeWrites status.ReadFault ended left read output = output ≡ []
 JudgeWrites _ ended left read output = ⊥
 

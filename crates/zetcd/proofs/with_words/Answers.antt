@@ -24,3 +24,13 @@ returns-clause-judge g c = λ h. c.zetcd.ensures.judge (is_word-texts _ _ (hande
 pub returns-clause-usage : goal.returns-clause-usage
 returns-clause-usage g c = λ h k l.
     c.zetcd.ensures.usage (λ r. h (sym (handed g c) ∙ texts-is_word _ _ r)) (λ s. k (sym (handed g c) ∙ texts-is_word _ _ s)) (λ j. l (sym (handed g c) ∙ texts-is_word _ _ j))
+
+pub returns-clause-unread : goal.returns-clause-unread
+returns-clause-unread g c = λ h k l.
+    c.zetcd.ensures.unread (λ r. h (sym (handed g c) ∙ texts-is_word _ _ r)) (λ s. k (sym (handed g c) ∙ texts-is_word _ _ s)) (λ j. l (sym (handed g c) ∙ texts-is_word _ _ j))
+
+pub returns-clause-show_memory : goal.returns-clause-show_memory
+returns-clause-show_memory g c = λ h. c.zetcd.ensures.show_memory (is_word-texts _ _ (handed g c ∙ h))
+
+pub returns-clause-judge_memory : goal.returns-clause-judge_memory
+returns-clause-judge_memory g c = λ h. c.zetcd.ensures.judge_memory (is_word-texts _ _ (handed g c ∙ h))

@@ -1,0 +1,18 @@
+//! What ended a run, in words.
+
+use zetcd_cmd::Status;
+
+/// What a person at a terminal is told of a run that stopped early. `None`: the output says all there is to say.
+pub fn meaning(status: Status) -> Option<&'static str> {
+    match status {
+        Status::Done | Status::Usage | Status::Unlawful => None,
+        Status::Script { .. } => Some(
+            "stopped: the last line of the output says where and why (a line ends in a line feed alone, and there are no comments)",
+        ),
+        Status::ReadFault => Some(
+            "standard input could not be read, or gave nothing at 1,000 reads",
+        ),
+        Status::WriteFault => Some("standard output could not be written"),
+        Status::Memory => Some("out of memory: the output is not complete"),
+    }
+}
