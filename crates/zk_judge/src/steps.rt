@@ -115,22 +115,24 @@ pub fn answer_plainly(
     }
 }
 
-/// What is due with an answer as of a moment: what fired, the notices of the answer from place `told` on, and the reply from place
-/// `first` on.
+/// What is due with an answer as of a moment to the frame at `place`: what fired, the notices of the answer, which are due from
+/// place `since` on, and the reply, due from `moment` on. The notices and the reply are due after the frame.
 fn reply_due(
     alloc: Global,
     fired: Vec<Due>,
-    told: usize,
-    first: usize,
+    since: usize,
+    moment: usize,
+    place: usize,
     notices: &[Notice],
     packet: Bytes,
 ) -> Result<Vec<Due>, Memory>
-    requires { All NoticeCanBeSent notices.now }
-    ensures { IfOk result (λ v. v.items ≡ fired.items ++ due_notices told notices.now ++ ((first, packet) ∷ [])) }
+    requires sendable { All NoticeCanBeSent notices.now }
+    requires place { place + 1 < 2 ^ 64 }
+    ensures { IfOk result (λ v. v.items ≡ fired.items ++ due_notices (later_of_of since (place + 1)) notices.now ++ ((later_of_of moment (place + 1), packet) ∷ [])) }
 {
     let mut due = fired;
-    add_notices(alloc, &mut due, told, notices)?;
-    due.push((first, packet))?;
+    add_notices(alloc, &mut due, later_of(since, place + 1), notices)?;
+    due.push((later_of(moment, place + 1), packet))?;
     Ok(due)
 }
 
@@ -171,10 +173,16 @@ fn reply_step(
         watches,
     } = told;
     let since = since_of(index, past, zxid);
-    let first = later_of(past.len(), place + 1);
     let packet = reply_packet(alloc, xid, zxid, &answer)?;
-    let told = later_of(since, place + 1);
-    let due = reply_due(alloc, fired, told, first, notices.as_slice(), packet)?;
+    let due = reply_due(
+        alloc,
+        fired,
+        since,
+        past.len(),
+        place,
+        notices.as_slice(),
+        packet,
+    )?;
     Ok(Step {
         walker: Walker {
             zxid,
