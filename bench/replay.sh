@@ -1,6 +1,6 @@
 #!/usr/bin/env bash
 # How long a replay takes, and how much memory: N settled requests (half of them creates, half of them reads) on 1 and on 16
-# connections, and scripts of tick lines, which show that reading a script is linear and keeps one line. Prints seconds and peak
+# connections, N setDatas of one path, each planned on a kept view, and scripts of tick lines, which show that reading a script is linear and keeps one line. Prints seconds and peak
 # kilobytes, and fails where a peak is above its bound or a status is another one. Of time it asserts nothing. A peak is never below
 # that of the Python that starts the program, some 14,000 kB.
 set -eu
@@ -28,6 +28,16 @@ for i in range(n):
     else:
         print("frame %d %08x00000004%s00" % (c, i + 1, p))
     print("settle %d" % c)
+P
+}
+
+sets() { # sets N: a script of a create and N setDatas of its path, each settled
+  requests 1 1
+  python3 - "$1" <<'P'
+import sys
+for i in range(int(sys.argv[1])):
+    print("frame 1 %08x00000005000000072f6e3030303030000000017%xffffffff" % (i + 2, i % 10))
+    print("settle 1")
 P
 }
 
@@ -65,6 +75,10 @@ for connections in 1 16; do
     requests "$n" "$connections" >"$work/script"
     measure "$n requests on $connections" "$work/script" 0 65536
   done
+done
+for n in 1000 2000 4000; do
+  sets "$n" >"$work/script"
+  measure "$n setDatas of one path" "$work/script" 0 65536
 done
 for n in 10000000 50000000; do
   ticks "$n" >"$work/script"
