@@ -98,7 +98,7 @@ module _ (lines : List TranscriptLine) (c : ℕ) (w : Walker) (f : ℕ × List �
   reply-gives past fired None y all h = absurd (none_some h)
   reply-gives past fired (Some t) y all h =
       let z = (after past).zxid in
-      let n = after_update z past in
+      let n = later_of (after_update z past) (f.0 + 1) in
       let packet = reply_packet (xid_of (read_request f.1)) z t.1.reply in
       let before : List Due = fired ++ due_notices n t.1.notices in
       record {
