@@ -5,7 +5,7 @@ use Rattle.std.specs.FinMap.{empty}
 use Rattle.ev_types.specs.declared.answer.Kv.{Kv}
 use Rattle.ev_types.specs.Denials.{carry}
 use Rattle.ev_types.specs.Ranges.{Keys}
-use Rattle.ev_types.specs.Store.{Store, mod_of, new_store}
+use Rattle.ev_types.specs.Store.{Store, mod_of, new_store, present}
 use Rattle.ev_types.specs.declared.answer.Answer.{Answer}
 use Rattle.zk_model.specs.declared.node.Trigger.{Trigger}
 use Rattle.zk_transcript.specs.History.{after}
@@ -29,6 +29,10 @@ use Rattle.zx_base.specs.Maps.{Bytes}
 
 begun : (b : Begins 0) (s : Store) (a : Answer) → carry new_store (begin_ask 0) ≡ Some (s, a) → b.new ≡ s
 begun b s a h = ap (λ (p : Store × Answer). p.0) (some_is (sym b.carried ∙ h))
+
+-- its keys stand for the state after the first update's line
+pub begun-stands : Begins 0 → (s : Store) → (a : Answer) × (carry new_store (begin_ask 0) ≡ Some (s, a)) → StandsFor (present s) (after (begin_lines 0))
+begun-stands b s h = subst (λ (t : Store). StandsFor (present t) (after (begin_lines 0))) (begun b s h.0 h.1) b.stands
 
 -- ---- its entry
 
