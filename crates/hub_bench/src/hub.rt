@@ -57,7 +57,7 @@ fn open<R: Wait + Drop>(
     rt: R,
     alloc: Global,
     readers: usize,
-) -> io::Result<(Publisher<R>, Vec<HubReader>)> {
+) -> io::Result<(Publisher<R>, Vec<HubReader<R>>)> {
     let Ok((hub, readers)) = hub(rt, alloc, 0, readers) else {
         return Err(out_of_memory());
     };
@@ -94,7 +94,7 @@ pub fn race<R: Threads + Wait + Clock + Send + Clone + Drop + 'static>(
     Ok(all_of(published, ended, readers.as_slice()))
 }
 
-fn take_all(mut reader: HubReader) -> Taken {
+fn take_all<R: Wait + Drop>(mut reader: HubReader<R>) -> Taken {
     let mut taken = Taken::NOTHING;
     for _ in 0..u64::MAX {
         let fed = reader.next(taken.cursor);

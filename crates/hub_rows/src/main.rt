@@ -6,7 +6,7 @@
 //! | `publish COUNT` | COUNT entries are published |
 //! | `close END` | the hub is closed: `compacted REV`, `gap EXPECTED FOUND`, `no line` or `memory` |
 //! | `next CURSOR` | the reader reads at this cursor |
-//! | `orphan` | a reader reads whose hub is gone |
+//! | `orphan` | a reader reads whose hub published two entries, was closed and is gone: at 0, at 1 and at 2 |
 //! | `race READERS COUNT` | READERS threads read what another publishes, COUNT entries, until it closes |
 //!
 //! In a race each reader takes every entry once and in order, or is told that it lagged and goes on at the floor. Where all
@@ -34,7 +34,7 @@ fn main(rt: HostRuntime) -> io::Result<()> {
         let (word, rest) = words::split(line.as_str());
         match word {
             "hub" => trial = Trial::new(&rt, alloc, number_of(rest)?)?,
-            "orphan" => print_fed(&rt, "orphan", &orphan(&rt, alloc)?)?,
+            "orphan" => print_orphan(&rt)?,
             "race" => run_race(&rt, rest)?,
             _ => run(&rt, &mut trial, word, rest)?,
         }
@@ -58,6 +58,14 @@ fn run<R: Print + Wait + Drop + AllocGlobal>(
         }
         _ => Err(io::Error::from(io::ErrorKind::InvalidInput)),
     }
+}
+
+/// What a reader is answered whose hub is gone.
+fn print_orphan<R: Print + Wait + Drop + AllocGlobal>(rt: &R) -> io::Result<()> {
+    let [first, second, end] = orphan(rt, rt.alloc())?;
+    print_fed(rt, "orphan 0", &first)?;
+    print_fed(rt, "orphan 1", &second)?;
+    print_fed(rt, "orphan 2", &end)
 }
 
 fn run_race<R: Threads + Wait + Print + AllocGlobal + Send + Clone + Drop + 'static>(

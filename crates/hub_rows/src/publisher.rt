@@ -29,7 +29,7 @@ impl<R: Wait + Drop> Publisher<R> {
         alloc: Global,
         first: i64,
         readers: usize,
-    ) -> io::Result<(Publisher<R>, Vec<HubReader>)> {
+    ) -> io::Result<(Publisher<R>, Vec<HubReader<R>>)> {
         let Ok((hub, readers)) = hub(rt, alloc, first, readers) else {
             return Err(out_of_memory());
         };

@@ -80,7 +80,7 @@ fn join_all<R: Threads>(
 }
 
 /// Reads until the hub is closed.
-fn take_all(mut reader: HubReader) -> Taken {
+fn take_all<R: Wait + Drop>(mut reader: HubReader<R>) -> Taken {
     let mut taken = Taken {
         entries: 0,
         passed_over: 0,

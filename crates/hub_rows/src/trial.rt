@@ -4,13 +4,13 @@ use crate::publisher::Publisher;
 use std::alloc::Global;
 use std::io;
 use std::sync::Wait;
-use zw_hub::{Fed, Feed, HubReader};
+use zw_hub::{Fed, Feed, FeedEnd, HubReader};
 
 /// A hub and its one reader.
 #[derive(Drop)]
 pub struct Trial<R: Wait + Drop> {
     pub publisher: Publisher<R>,
-    pub reader: HubReader,
+    pub reader: HubReader<R>,
 }
 
 impl<R: Wait + Drop> Trial<R> {
@@ -24,12 +24,15 @@ impl<R: Wait + Drop> Trial<R> {
     }
 }
 
-/// The answer to a reader whose hub is gone.
-pub fn orphan<R: Wait + Drop>(rt: R, alloc: Global) -> io::Result<Fed> {
+/// The answers to a reader whose hub is gone, which had published two entries and was closed: at both cursors below its end, and at
+/// its end.
+pub fn orphan<R: Wait + Drop>(rt: R, alloc: Global) -> io::Result<[Fed; 3]> {
     let Trial {
-        publisher,
+        mut publisher,
         mut reader,
     } = Trial::new(rt, alloc, 0)?;
+    publisher.publish_all(alloc, 2)?;
+    publisher.close(FeedEnd::NoLine)?;
     drop(publisher);
-    Ok(reader.next(0))
+    Ok([reader.next(0), reader.next(1), reader.next(2)])
 }

@@ -42,9 +42,6 @@ pub fn begin_reap(
     let Some(session) = words.long() else {
         return Ok(None);
     };
-    if session < 1 {
-        return Ok(None);
-    }
     let reaper = Reaper::new(alloc, session);
     Ok(Some(stepped(alloc, reaper, None)?))
 }

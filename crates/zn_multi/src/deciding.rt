@@ -7,7 +7,7 @@ ghost use Rattle.zn_layout.specs.Keys.{LeaseKey};
 ghost use Rattle.zn_layout.specs.Records.{IsHeadRec};
 ghost use Rattle.zk_model.specs.declared.request.Request.TheVariants as requests;
 ghost use Rattle.zn_view.specs.Asks.{WritesOnce};
-ghost use Rattle.zn_view.specs.Deciding.{IfPlanned, IsGood, IsTested};
+ghost use Rattle.zn_view.specs.Deciding.{IfPlanned, IsGood, IsTested, IsToldByForm};
 ghost use Rattle.zn_view.specs.Lookups.{HasSeen, sees};
 ghost use Rattle.zn_view.specs.Needs.{IsWhole};
 ghost use Rattle.zn_view.specs.Views.{IsDecision};
@@ -131,6 +131,7 @@ pub fn decide_multi(
     requires real { pos 1 ≤ℤ who.session }
     requires whole { IsWhole (requests.Multi parts.now) who view.now }
     ensures decision { IfOk result (IsDecision (requests.Multi parts.now) who view.now) }
+    ensures form { IfOk result (IsToldByForm (requests.Multi parts.now)) }
     ensures tested { IfOk result (IsTested (requests.Multi parts.now) who view.now) }
     ensures plan { IfOk result (IfPlanned (IsGood (requests.Multi parts.now) who now view.now)) }
     ensures once { IfOk result (IfPlanned WritesOnce) }

@@ -1,3 +1,3 @@
 mod SingleRequests
-mod SessionTests
+pub mod SessionTests
 mod Planning

@@ -4,14 +4,15 @@ use Rattle.std.specs.Prelude.{nat_abs, ◌≤ℤ◌, if◌then◌else◌, MatchB
 use Rattle.std.specs.Ordering.{int_eq}
 use Rattle.zk_model.specs.declared.request.Request.{Request}
 use Rattle.zk_model.specs.Watches.{no_watches}
-use Rattle.zk_transcript.specs.Answers.{plain_request}
+use Rattle.zk_transcript.specs.Answers.{Told, plain_request}
 use Rattle.zk_transcript.specs.History.{Session, limit_of, session_at}
+use Rattle.zx_base.proofs.Options.{none_some, some_is}
 use Rattle.zn_layout.specs.Keys.{LeaseKey}
 use Rattle.zn_ops.specs.Deciding.{IsAttachedAt}
 use Rattle.zn_reads.specs.Deciding.{IsAnswered, IsReadDecision}
 use Rattle.zn_view.specs.declared.plan.Plan.{Plan}
 use Rattle.zn_view.specs.Asks.{WritesOnce}
-use Rattle.zn_view.specs.Deciding.{IfPlanned, IsGood, IsTested, IsTestedBy, is_by_tree}
+use Rattle.zn_view.specs.Deciding.{IfPlanned, IsGood, IsTested, IsTestedBy, IsToldByForm, is_by_tree}
 use Rattle.zn_view.specs.Keeping.{IsKeepable}
 use Rattle.zn_updates.specs.Deciding.{IsAttached, IsBySound, IsGuarded}
 use Rattle.zn_updates.proofs.Meanings.{int_eq-same}
@@ -68,6 +69,16 @@ read-by_tree (Planned p) h = absurd h
 read-by_tree (Answered x arm) h = refl
 read-by_tree Expired h = absurd h
 read-by_tree (Moved found) h = absurd h
+
+-- ---- the form
+
+-- a request that its form does not decide is told nothing by it
+pub plain-told : (r : Request) (d : Decision) → plain_request no_watches r ≡ None → IsToldByForm r d
+plain-told r d plain t e = absurd (none_some (sym plain ∙ e))
+
+-- the answer that the form decides
+pub form-told : (r : Request) (d : Decision) (t : Told) → plain_request no_watches r ≡ Some t → d ≡ Answered t.reply None → IsToldByForm r d
+form-told r d t told is u e = is ∙ ap (λ (w : Told). Answered w.reply None) (some_is (sym told ∙ e))
 
 -- ---- plans
 

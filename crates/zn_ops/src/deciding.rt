@@ -8,10 +8,11 @@ ghost use Rattle.zn_ops.specs.Forms.{is_single};
 ghost use Rattle.zn_layout.specs.Keys.{LeaseKey};
 ghost use Rattle.zn_ops.specs.Deciding.{IsAttachedAt};
 ghost use Rattle.zn_view.specs.Asks.{WritesOnce};
-ghost use Rattle.zn_view.specs.Deciding.{IfPlanned, IsGood, IsTested, is_by_tree};
+ghost use Rattle.zn_view.specs.Deciding.{IfPlanned, IsGood, IsTested, IsToldByForm, is_by_tree};
 ghost use Rattle.zn_view.specs.Keeping.{IsKeepable};
 ghost use Rattle.zn_view.specs.Needs.{IsWhole};
 ghost use Rattle.zn_updates.specs.Deciding.{content_in, IsAttached};
+ghost use Rattle.zn_updates.specs.Writing.{WritesAs};
 ghost use Rattle.zn_view.specs.Lookups.{HasSeen, sees};
 ghost use Rattle.zn_view.specs.Views.{IsDecision};
 
@@ -57,6 +58,7 @@ fn decide_by_tree(
     ensures plan { IfOk result (IfPlanned (IsGood request.now who now view.now)) }
     ensures once { IfOk result (IfPlanned WritesOnce) }
     ensures keepable { IfOk result (IfPlanned (IsKeepable request.now view.now)) }
+    ensures writes { IfOk result (IfPlanned (WritesAs request.now who view.now)) }
 {
     if is_update(request) {
         return Ok(decide_update(alloc, request, who, now, view)?);
@@ -83,6 +85,7 @@ fn decide_by_session(
     ensures plan { IfOk result (IfPlanned (IsGood request.now who now view.now)) }
     ensures once { IfOk result (IfPlanned WritesOnce) }
     ensures keepable { IfOk result (IfPlanned (IsKeepable request.now view.now)) }
+    ensures writes { IfOk result (IfPlanned (WritesAs request.now who view.now)) }
 {
     let Some(found) = attached_at(view, who.session)? else {
         return Ok(Decision::Expired);
@@ -98,10 +101,11 @@ fn decide_by_session(
 /// be ([`is_short`](crate::is_short)); of a setWatches the reply alone is decided. `now` is the time in milliseconds, below
 /// 2^62; the session's number is at least 1.
 ///
-/// Where the request's form decides, the decision is that answer. Otherwise the session has expired where the record of its
-/// life is not there, and has moved where that was put at another revision than `who.mine`; and otherwise the tree decides. A
-/// plan is a good one (`IsGood` of `zn_view`), and writes no key twice. What the plan of an update leaves of the view may be kept
-/// for the next request of its path (`IsKeepable` of `zn_view`).
+/// Where the request's form decides, the decision is that answer, on every view, also on one that no state has. Otherwise the
+/// session has expired where the record of its life is not there, and has moved where that was put at another revision than
+/// `who.mine`; and otherwise the tree decides. A plan is a good one (`IsGood` of `zn_view`), and writes the keys of its update,
+/// each once, and no other. What the plan of an update leaves of the view may be kept for the next request of its path
+/// (`IsKeepable` of `zn_view`).
 pub fn decide(
     alloc: Global,
     request: &Request,
@@ -115,10 +119,12 @@ pub fn decide(
     requires short { length (content_in request.now) ≤ max_frame }
     requires whole { IsWhole request.now who view.now }
     ensures decision { IfOk result (IsDecision request.now who view.now) }
+    ensures form { IfOk result (IsToldByForm request.now) }
     ensures tested { IfOk result (IsTested request.now who view.now) }
     ensures plan { IfOk result (IfPlanned (IsGood request.now who now view.now)) }
     ensures once { IfOk result (IfPlanned WritesOnce) }
     ensures keepable { IfOk result (IfPlanned (IsKeepable request.now view.now)) }
+    ensures writes { IfOk result (IfPlanned (WritesAs request.now who view.now)) }
 {
     match plain_reply(alloc, request)? {
         Some(reply) => Ok(Decision::Answered { reply, arm: None }),

@@ -323,7 +323,7 @@ module _ (path content : Bytes) (acl : List Acl) (flags : ℤ) (formed : form_re
   own_looked_up who v whole e = fixed_seen who v whole (SessionKey (nat_abs who.session)) (in_right _ (about_parent (parent (named flags path)) ++ plain_data (is_sequential flags) path) (session_nodes (is_ephemeral flags) who.session)
       (subst (λ b. In (SessionKey (nat_abs who.session)) (session_nodes b who.session)) (sym e) (inl refl)))
 
-  path_looked_up : (who : Who) (v : View) → IsWhole (req.Create path content acl flags) who v → (w : SeenCounts) (q : Bytes) → parent (named flags path) ≡ Some q → IsCountsSeen (sees v (CountsKey q)) (Some w) → HasSeen v (DataKey (path_for (is_sequential flags) path (Some w)))
+  pub path_looked_up : (who : Who) (v : View) → IsWhole (req.Create path content acl flags) who v → (w : SeenCounts) (q : Bytes) → parent (named flags path) ≡ Some q → IsCountsSeen (sees v (CountsKey q)) (Some w) → HasSeen v (DataKey (path_for (is_sequential flags) path (Some w)))
   path_looked_up who v whole w q up counts_seen = elim (is_sequential flags) as (λ b. is_sequential flags ≡ b → HasSeen v (DataKey (path_for b path (Some w)))) [
     | false ↦ λ e. fixed_seen who v whole (DataKey path) (in_left _ _ (session_nodes (is_ephemeral flags) who.session) (in_right _ (about_parent (parent (named flags path))) (plain_data (is_sequential flags) path) (subst (λ b. In (DataKey path) (plain_data b path)) (sym e) (inl refl))))
     | true ↦ λ e none. whole create_formed (key_want (DataKey (sequence_path path (nat_abs w.counts.creates)))) (inr (inr (inr (number_follows who v q (nat_abs w.counts.creates) e up (creates_of (sees v (CountsKey q)) counts_seen))))) none

@@ -25,3 +25,4 @@ pub mod SetDataClauses
 pub mod Plans
 pub mod DeleteClauses
 pub mod CreateClauses
+pub mod Writing

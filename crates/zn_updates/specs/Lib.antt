@@ -8,3 +8,4 @@ pub mod KeysRead
 pub mod Layers
 pub mod Deciding
 pub mod Parts
+pub mod Writing

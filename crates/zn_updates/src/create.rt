@@ -17,6 +17,7 @@ ghost use Rattle.zn_layout.specs.Keys.{CountsKey, DataKey, SessionKey};
 ghost use Rattle.zn_view.specs.Lookups.{HasSeen};
 ghost use Rattle.zn_view.specs.Deciding.{IfPlanned, IsToldByForm, is_by_tree};
 ghost use Rattle.zn_updates.specs.Deciding.{IsBySound, IsCreate, IsCreateBelow, IsGuarded, IsOwnPaths, IsUpLookedUp, creates_seen, path_for};
+ghost use Rattle.zn_updates.specs.Writing.{WritesAs};
 ghost use Rattle.zk_model.specs.Paths.{parent as parent_of};
 ghost use Rattle.zk_model.specs.declared.request.Request.TheVariants as req;
 ghost use Rattle.zn_view.specs.Needs.{AreNeeds, IsWhole};
@@ -402,6 +403,7 @@ pub(crate) fn decide_create(
     ensures sound { IfOk result (IsBySound (req.Create path.now content.now acl.now flags) who view.now) }
     ensures tree { IfOk result (λ d. is_by_tree d ≡ true) }
     ensures plan { IfOk result (IfPlanned (IsGuarded (req.Create path.now content.now acl.now flags) who now view.now)) }
+    ensures writes { IfOk result (IfPlanned (WritesAs (req.Create path.now content.now acl.now flags) who view.now)) }
 {
     let sequential = is_sequential(flags);
     let ephemeral = is_ephemeral(flags);

@@ -19,6 +19,7 @@ ghost use Rattle.zn_view.specs.Deciding.{IfPlanned, IsToldByForm, is_by_tree};
 ghost use Rattle.zn_updates.specs.Deciding.{IsBySound, IsDelete, IsGuarded, IsOwnerLookedUp, IsOwnerPaths, owner_seen};
 ghost use Rattle.zn_updates.specs.Making.{IsDataSeen};
 ghost use Rattle.zn_updates.specs.declared.seen.SeenData.{SeenData as AnySeenData};
+ghost use Rattle.zn_updates.specs.Writing.{WritesAs};
 
 use crate::changes::put_owned;
 use crate::chosen::{Chosen, Update};
@@ -281,6 +282,7 @@ pub(crate) fn decide_delete(
     ensures sound { IfOk result (IsBySound (req.Delete path.now version) who view.now) }
     ensures tree { IfOk result (λ d. is_by_tree d ≡ true) }
     ensures plan { IfOk result (IfPlanned (IsGuarded (req.Delete path.now version) who now view.now)) }
+    ensures writes { IfOk result (IfPlanned (WritesAs (req.Delete path.now version) who view.now)) }
 {
     match inner_path(alloc, path)? {
         Some(path) => delete_below(alloc, &path, version, who.session, view),

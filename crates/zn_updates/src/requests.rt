@@ -5,6 +5,7 @@ ghost use Rattle.zk_model.specs.Limits.{max_frame};
 ghost use Rattle.zn_view.specs.Needs.{AreNeeds, IsWhole};
 ghost use Rattle.zn_view.specs.Deciding.{IfPlanned, IsToldByForm, is_by_tree};
 ghost use Rattle.zn_updates.specs.Deciding.{content_in, is_update, IsBySound, IsGuarded};
+ghost use Rattle.zn_updates.specs.Writing.{WritesAs};
 
 use crate::create::{create_needs, decide_create};
 use crate::delete::{decide_delete, delete_needs};
@@ -57,6 +58,7 @@ pub fn decide_update(
     ensures sound { IfOk result (IsBySound request.now who view.now) }
     ensures tree { IfOk result (λ d. is_by_tree d ≡ true) }
     ensures plan { IfOk result (IfPlanned (IsGuarded request.now who now view.now)) }
+    ensures writes { IfOk result (IfPlanned (WritesAs request.now who view.now)) }
 {
     match request {
         Request::Create {

@@ -20,6 +20,7 @@ ghost use Rattle.zn_view.specs.Lookups.{HasSeen};
 ghost use Rattle.zn_view.specs.Needs.{AreNeeds, IsWhole};
 ghost use Rattle.zn_view.specs.Deciding.{IfPlanned, IsToldByForm, is_by_tree};
 ghost use Rattle.zn_updates.specs.Deciding.{IsBySound, IsGuarded, IsSetData};
+ghost use Rattle.zn_updates.specs.Writing.{WritesAs};
 ghost use Rattle.zx_base.specs.Maps.{Bytes as ByteList};
 
 use crate::changes::put_data;
@@ -223,6 +224,7 @@ pub(crate) fn decide_set_data(
     ensures sound { IfOk result (IsBySound (req.SetData path.now content.now version) who view.now) }
     ensures tree { IfOk result (λ d. is_by_tree d ≡ true) }
     ensures plan { IfOk result (IfPlanned (IsGuarded (req.SetData path.now content.now version) who now view.now)) }
+    ensures writes { IfOk result (IfPlanned (WritesAs (req.SetData path.now content.now version) who view.now)) }
 {
     match read_path(alloc, path, false)? {
         Some(path) => set_data_at(alloc, &path, content, version, who.session, now, view),

@@ -2,14 +2,13 @@
 use Rattle.std.proofs.Common.{◌≡◌, ℕ, ◌≤◌, refl, sym, ap, ◌∙◌, subst, arith, Bool, true, false, List, [], ◌∷◌, length, drop, min, ℤ, pos, length-drop, append-nil}
 use Rattle.std.specs.Prelude.{Option, Some, None, All, IfSome, if◌then◌else◌}
 use Rattle.std.proofs.lemmas.List.Elements.{All-head, All-tail}
-use Rattle.std.specs.Ordering.{int_eq}
 use Rattle.ev_types.specs.declared.answer.ActAns.{ActAns}
 use Rattle.ev_types.specs.declared.answer.Kv.{Kv}
 use Rattle.zx_base.specs.Maps.{Bytes, same}
 use Rattle.zx_base.proofs.MapLaws.{same-true}
 use Rattle.zn_view.specs.declared.want.Want.{Want}
 use Rattle.zn_view.specs.declared.want.Want.TheVariants as want
-use Rattle.zn_view.specs.Adding.{at_revision, AreRecords, IsFirstDamaged, IsGrown}
+use Rattle.zn_view.specs.Adding.{at_revision, is_new, AreRecords, IsFirstDamaged, IsGrown}
 use Rattle.zn_view.specs.Asks.{with_part, with_parts, kept_under}
 use Rattle.zn_view.specs.Seen.{View, IsRecord, IsFound, AreCounts}
 
@@ -60,12 +59,6 @@ all-taken old ws parts v i h t =
 
 -- ---- the revision
 
-with_parts-revision : (v : View) (ws : List Want) (parts : List ActAns) → (with_parts v ws parts).revision ≡ v.revision
-with_parts-revision v [] parts = refl
-with_parts-revision v (w ∷ ws) [] = refl
-with_parts-revision v (want.Key k ∷ ws) (a ∷ more) = with_parts-revision (with_part v (want.Key k) a) ws more
-with_parts-revision v (want.Children p ∷ ws) (a ∷ more) = with_parts-revision (with_part v (want.Children p) a) ws more
-
 abbrev begun : Bool → ℤ → View → View
 begun b r v = if b then record v { revision = r } else v
 
@@ -80,6 +73,6 @@ begun-parts b r v [] parts = refl
 begun-parts b r v (w ∷ ws) [] = refl
 begun-parts b r v (w ∷ ws) (a ∷ more) = begun-parts b r (with_part v w a) ws more ∙ ap (λ (x : View). with_parts x ws more) (begun-part b r v w a)
 
-pub at_revision-parts : (v : View) (r : ℤ) (ws : List Want) (parts : List ActAns) → at_revision (with_parts v ws parts) r ≡ with_parts (at_revision v r) ws parts
-at_revision-parts v r ws parts =
-    ap (λ (n : ℤ). begun (int_eq n (pos 0)) r (with_parts v ws parts)) (with_parts-revision v ws parts) ∙ begun-parts (int_eq v.revision (pos 0)) r v ws parts
+-- a round more, at the revision of the first one
+pub begun-with : (b : Bool) (v : View) (r : ℤ) (ws : List Want) (parts : List ActAns) → is_new v ≡ b → begun b r (with_parts v ws parts) ≡ with_parts (at_revision v r) ws parts
+begun-with b v r ws parts e = begun-parts b r v ws parts ∙ ap (λ c. with_parts (begun c r v) ws parts) (sym e)

@@ -1,5 +1,5 @@
 -- What a view takes, and why it takes no more.
-use Rattle.std.specs.Prelude.{◌≡◌, ℕ, ℤ, pos, ◌⊎◌, Bool, ◌&&◌, int_le, ◌++◌, List, [], ◌∷◌, take, Option, Some, None, All, IfSome, if◌then◌else◌}
+use Rattle.std.specs.Prelude.{◌≡◌, ℕ, nat_eq, ℤ, pos, ◌⊎◌, Bool, false, ◌&&◌, int_le, ◌++◌, List, [], ◌∷◌, length, take, Option, Some, None, All, IfSome, if◌then◌else◌}
 use Rattle.std.specs.List.{list_all}
 use Rattle.std.specs.Ordering.{int_eq}
 use Rattle.ev_types.specs.declared.answer.ActAns.{ActAns}
@@ -15,13 +15,17 @@ use Rattle.zn_view.specs.declared.want.Want.TheVariants as want
 use Rattle.zn_view.specs.Asks.{found_in, kept_under}
 use Rattle.zn_view.specs.Seen.{View, IsRecord, AreCounts}
 
+-- no round was added yet. An answer of revision 0, which is not of an etcd, counts as a round by what it shows
+abbrev pub is_new : View → Bool
+is_new v = int_eq v.revision (pos 0) && (nat_eq (length v.keys) 0 && nat_eq (length v.lists) 0)
+
 -- the first round's revision is kept
 abbrev pub at_revision : View → ℤ → View
-at_revision v r = if int_eq v.revision (pos 0) then record v { revision = r } else v
+at_revision v r = if is_new v then record v { revision = r } else v
 
 -- the view has a round, at another revision
 abbrev pub IsOtherRevision : View → ℤ → Type 0
-IsOtherRevision v r = (v.revision ≡ pos 0 → ⊥) × (v.revision ≡ r → ⊥)
+IsOtherRevision v r = (is_new v ≡ false) × (v.revision ≡ r → ⊥)
 
 -- ---- numbers in an etcd's range
 

@@ -81,14 +81,17 @@ impl View {
         ensures fault { IfErr result (IsViewFault self.old wants.now revision parts.now) }
     {
         let view = self.revision();
-        if view != 0 && view != revision {
+        let new = self.is_new();
+        if !new && view != revision {
             return Err(ViewFault::OtherRevision {
                 view,
                 found: revision,
             });
         }
         self.take_or_leave(wants, parts)?;
-        self.begin_at(revision);
+        if new {
+            self.begin_at(revision);
+        }
         Ok(())
     }
 

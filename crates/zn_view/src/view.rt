@@ -2,7 +2,7 @@
 
 ghost use Rattle.std.specs.Prelude.{◌≡◌, [], ◌≤◌, ◌+◌, ◌∷◌, ◌++◌, length, take, drop, All, OnOk, OnErr};
 ghost use Rattle.zn_view.specs.declared.snapshot.SeenKey.{SeenKey as AnySeen};
-ghost use Rattle.zn_view.specs.Adding.{at_revision, with_key, with_list, first_of};
+ghost use Rattle.zn_view.specs.Adding.{is_new, with_key, with_list, first_of};
 ghost use Rattle.zn_view.specs.Laying.{placed, with_laid};
 ghost use Rattle.zn_view.specs.Seen.{empty_view, IsCount, IsSeen};
 
@@ -149,14 +149,19 @@ impl View {
         self.lists.truncate(lists);
     }
 
-    /// Sets the revision, where none is set yet.
+    /// Whether no round was added yet.
+    pub fn is_new(&self) -> bool
+        ensures { result ≡ is_new self.now }
+    {
+        self.revision == 0 && self.keys.is_empty() && self.lists.is_empty()
+    }
+
+    /// Sets the revision.
     pub(crate) fn begin_at(&mut self, revision: i64)
         requires { IsCount revision }
-        ensures { self.new ≡ at_revision self.old revision }
+        ensures { self.new ≡ record self.old { revision = revision } }
     {
-        if self.revision == 0 {
-            self.revision = revision;
-        }
+        self.revision = revision;
     }
 
     /// Puts a key in place of what was first seen of it, or after the others. Without memory the view is as it was. So a multi lays

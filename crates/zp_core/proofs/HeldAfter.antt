@@ -21,7 +21,7 @@ use Rattle.zk_transcript.specs.Walks.{has_header, is_auth_refusal}
 use Rattle.zk_transcript.specs.declared.transcript.Cause.{Cause}
 use Rattle.zk_transcript.specs.declared.transcript.Cause.TheVariants as cause
 use Rattle.zn_layout.specs.declared.entry.Entry.{Entry}
-use Rattle.zn_view.specs.Adding.{at_revision}
+use Rattle.zn_view.specs.Adding.{at_revision, is_new}
 use Rattle.zn_view.specs.Asks.{with_part, with_parts}
 use Rattle.zn_view.specs.Lookups.{found_at}
 use Rattle.zn_view.specs.Seen.{IsCount, View, empty_view}
@@ -73,7 +73,7 @@ begun-count true v z first count = count
 begun-count false v z first count = first
 
 pub count-at : (v : View) (z : ℤ) → IsCount v.revision → IsCount z → IsCount (at_revision v z).revision
-count-at v z first count = begun-count (int_eq v.revision (pos 0)) v z first count
+count-at v z first count = begun-count (is_new v) v z first count
 
 revision-parts : (v : View) (ws : List Want) (parts : List ActAns) → (with_parts v ws parts).revision ≡ v.revision
 revision-parts v [] parts = refl

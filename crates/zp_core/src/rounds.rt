@@ -28,10 +28,10 @@ fn revision_with(view: &View, revision: i64) -> i64
     ensures same { at_revision view.now result ≡ at_revision view.now revision }
     ensures fits { IsOtherRevision view.now result → ⊥ }
 {
-    match view.revision() {
-        0 => revision,
-        first => first,
+    if view.is_new() {
+        return revision;
     }
+    view.revision()
 }
 
 /// Adds what a round found to the view.

@@ -17,7 +17,7 @@ use Rattle.zk_transcript.specs.Walks.{is_auth_refusal}
 use Rattle.zk_transcript.specs.declared.transcript.Cause.{Cause}
 use Rattle.zk_transcript.specs.declared.transcript.Cause.TheVariants as cause
 use Rattle.zn_layout.specs.declared.entry.Entry.{Entry}
-use Rattle.zn_view.specs.Adding.{at_revision}
+use Rattle.zn_view.specs.Adding.{at_revision, is_new}
 use Rattle.zn_view.specs.Asks.{head_want, plan_txn, with_parts}
 use Rattle.zn_view.specs.Lookups.{found_at}
 use Rattle.zn_view.specs.Seen.{View, empty_view}
@@ -111,7 +111,7 @@ module _ (s : Store) (n : ℕ) where
         go zero ends most few = absurd (y.some (ends few y.lacking y.needs))
         go (suc m) ends most few = inr (record {
           asks = k;
-          out = record { rounds = m; ends = λ z parts len then_few. ends few y.lacking z parts y.needs y.some len then_few; most = omega (arith, most, again-less (int_eq v.revision (pos 0)) (is_present s v) r) };
+          out = record { rounds = m; ends = λ z parts len then_few. ends few y.lacking z parts y.needs y.some len then_few; most = omega (arith, most, again-less (is_new v) (is_present s v) r) };
           most = w;
         })
 

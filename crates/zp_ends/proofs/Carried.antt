@@ -22,7 +22,7 @@ use Rattle.zn_layout.specs.declared.record.LeaseRec.{LeaseRec}
 use Rattle.zn_view.proofs.AsSeen.{agrees-seen}
 use Rattle.zn_view.proofs.SeenAfter.{wanted-shown}
 use Rattle.zn_view.proofs.Showing.{again-shown, first-shown}
-use Rattle.zn_view.specs.Adding.{at_revision}
+use Rattle.zn_view.specs.Adding.{at_revision, is_new}
 use Rattle.zn_view.specs.Asks.{plan_txn, ranges_of, reading, transaction}
 use Rattle.zn_view.specs.Lookups.{found_at}
 use Rattle.zn_view.specs.Needs.{key_want}
@@ -96,12 +96,12 @@ is-again s u p a h fails =
 -- ---- a round of a request
 
 again-read : (s : Store) (r : Request) (v : View) (z : ℤ) (ws : List Want) (parts : List ActAns) → z ≡ revision s → again_for (is_present s (view_on v z ws parts)) r ≤ again_for (is_asked_now s v) r
-again-read s r v z ws parts now = go (int_eq v.revision (pos 0)) refl
+again-read s r v z ws parts now = go (is_new v) refl
   where
     kept : (view_on v z ws parts).revision ≡ (at_revision v z).revision
     kept = revision-kept (at_revision v z) ws parts
 
-    go : (b : Bool) → int_eq v.revision (pos 0) ≡ b → again_for (is_present s (view_on v z ws parts)) r ≤ again_for (b || is_present s v) r
+    go : (b : Bool) → is_new v ≡ b → again_for (is_present s (view_on v z ws parts)) r ≤ again_for (b || is_present s v) r
     go true e =
         let there : (at_revision v z).revision ≡ z = ap (λ (c : Bool). (if c then record v { revision = z } else v).revision) e in
         let is : is_present s (view_on v z ws parts) ≡ true = (Decides-int_eq (view_on v z ws parts).revision (revision s)).1 (kept ∙ there ∙ now) in

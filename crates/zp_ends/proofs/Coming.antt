@@ -1,5 +1,5 @@
 -- How many asks of a connection are still to be carried out, while nobody else acts: in each stage, and after each answer.
-use Rattle.std.proofs.Common.{◌≡◌, ℕ, ◌+◌, ◌≤◌, List, length, Bool, true, false, ℤ, pos}
+use Rattle.std.proofs.Common.{◌≡◌, ℕ, ◌+◌, ◌≤◌, List, length, Bool, true, false, ℤ}
 use Rattle.std.specs.Prelude.{◌||◌}
 use Rattle.std.specs.Ordering.{int_eq}
 use Rattle.ev_types.specs.Store.{Store, revision, succeeds}
@@ -7,6 +7,7 @@ use Rattle.ev_types.specs.declared.answer.ActAns.{ActAns}
 use Rattle.ev_types.specs.declared.answer.Answer.{Answer}
 use Rattle.ev_types.specs.declared.answer.Answer.TheVariants as answer
 use Rattle.zk_model.specs.declared.request.Request.{Request}
+use Rattle.zn_view.specs.Adding.{is_new}
 use Rattle.zn_view.specs.Asks.{plan_txn}
 use Rattle.zn_view.specs.Seen.{View}
 use Rattle.zn_view.specs.declared.plan.Who.{Who}
@@ -32,7 +33,7 @@ is_present s v = int_eq v.revision (revision s)
 
 -- the view is of the present, or it will be, since it has no round yet
 abbrev pub is_asked_now : Store → View → Bool
-is_asked_now s v = int_eq v.revision (pos 0) || is_present s v
+is_asked_now s v = is_new v || is_present s v
 
 -- a plan on the present is carried out, and one on an earlier view may fail: then the request is looked up anew, and planned again
 abbrev pub again_for : Bool → Request → ℕ

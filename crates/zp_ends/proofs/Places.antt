@@ -1,9 +1,8 @@
 -- What a request reads has so many places, of which each takes one key or one listing. A view that asks for something that is
 -- lacking fills one more of them, whatever the answers show: so a request asks only so often before nothing is lacking.
-use Rattle.std.proofs.Common.{◌≡◌, ℕ, zero, suc, ◌+◌, ◌*◌, ◌<◌, ◌≤◌, List, [], ◌∷◌, ◌++◌, length, refl, sym, ap, ◌∙◌, subst, arith, Bool, true, false, ℤ, pos, inl, inr}
+use Rattle.std.proofs.Common.{◌≡◌, ℕ, zero, suc, ◌+◌, ◌*◌, ◌<◌, ◌≤◌, List, [], ◌∷◌, ◌++◌, length, refl, sym, ap, ◌∙◌, subst, arith, Bool, true, false, ℤ, inl, inr}
 use Rattle.std.specs.Prelude.{Option, Some, None, ◌⊎◌, ◌≢◌, MatchBool, filter, if◌then◌else◌, is_some, map, nat_abs, option_map, slice_get, take}
 use Rattle.std.specs.List.{flat_map}
-use Rattle.std.specs.Ordering.{int_eq}
 use Rattle.std.proofs.lemmas.List.{length-append, length-map}
 use Rattle.ev_types.specs.declared.answer.ActAns.{ActAns}
 use Rattle.ev_types.specs.declared.answer.Kv.{Kv}
@@ -24,7 +23,7 @@ use Rattle.zn_layout.specs.declared.record.CountRec.{CountRec}
 use Rattle.zn_layout.specs.declared.record.NodeRec.{NodeRec}
 use Rattle.zn_view.proofs.Members.{In, contains_in, in_left, in_mapped, in_right}
 use Rattle.zn_view.proofs.SeenAfter.{listed-with_parts, seen-with_parts, wanted-shown}
-use Rattle.zn_view.specs.Adding.{at_revision}
+use Rattle.zn_view.specs.Adding.{at_revision, is_new}
 use Rattle.zn_view.specs.Asks.{head_want, with_parts}
 use Rattle.zn_view.specs.Needs.{AreNeeds, Follows, FollowsFrom, FollowsOwner, FollowsPart, IsCreatesSeen, IsLacking, IsNumbered, IsPathMade, IsRead, Makes, PartMakes, SawCounts, SawNode, SawNodes, SawValue, creates_after, key_want, life_want, with_made}
 use Rattle.zn_view.specs.Seen.{View, listed, seen}
@@ -54,7 +53,7 @@ abbrev pub view_on : View → ℤ → List Want → List ActAns → View
 view_on v z ws parts = with_parts (at_revision v z) ws parts
 
 revised-seen : (v : View) (z : ℤ) → Extends v (at_revision v z)
-revised-seen v z = go (int_eq v.revision (pos 0))
+revised-seen v z = go (is_new v)
   where
     go : (b : Bool) → Extends v (if b then record v { revision = z } else v)
     go true = record { keys = λ k o h. h; lists = λ p ps h. h }

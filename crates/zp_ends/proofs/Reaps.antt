@@ -1,6 +1,6 @@
 -- How many asks of a reaper are still to be carried out, while nobody else acts.
-use Rattle.std.proofs.Common.{◌≡◌, ℕ, ◌+◌, ◌≤◌, List, [], ◌∷◌, ◌++◌, length, refl, sym, ap, ◌∙◌, subst, arith, Bool, true, false, ℤ, pos, inl, inr}
-use Rattle.std.specs.Prelude.{Contains, Option, Some, None, ◌⊎◌, if◌then◌else◌, nat_abs}
+use Rattle.std.proofs.Common.{◌≡◌, ℕ, ◌+◌, ◌≤◌, List, [], ◌∷◌, ◌++◌, length, refl, sym, ap, ◌∙◌, subst, arith, Bool, true, false, cond, ℤ, pos, inl, inr}
+use Rattle.std.specs.Prelude.{Contains, MatchBool, Option, Some, None, ◌⊎◌, if◌then◌else◌, int_lt, map, nat_abs}
 use Rattle.std.specs.FinMap.{get}
 use Rattle.std.specs.List.{list_all}
 use Rattle.std.proofs.lemmas.Int.{ints}
@@ -24,7 +24,7 @@ use Rattle.zn_view.proofs.Members.{In, in_contains}
 use Rattle.zn_view.proofs.Narrowing.{narrowed-agrees}
 use Rattle.zn_view.proofs.SeenAfter.{wanted-shown}
 use Rattle.zn_view.proofs.Showing.{first-shown, later-shown, nothing-agrees}
-use Rattle.zn_view.specs.Adding.{at_revision}
+use Rattle.zn_view.specs.Adding.{AreRecords, at_revision}
 use Rattle.zn_view.specs.Asks.{found_in, head_want, kept_under, picked, plan_txn, reading, transaction, with_part, with_parts}
 use Rattle.zn_view.specs.Needs.{AreNeeds, IsLacking, IsRead, key_want, life_want}
 use Rattle.zn_view.specs.Seen.{View, empty_view, seen, seen_in}
@@ -36,7 +36,8 @@ use Rattle.zn_view.specs.declared.want.Want.TheVariants as want
 use Rattle.zs_close.specs.Reaping.{IfReaped, IsReapPlan, whose}
 use Rattle.zs_close.specs.declared.reap.Reaping.{Reaping}
 use Rattle.zs_close.specs.declared.reap.Reaping.TheVariants.{Gone, Kept, Planned, TooMany}
-use Rattle.zs_reap.specs.Steps.{Answered, Decides, Follows, IsLookedAt, LacksSome, Looked, LookedAgain, Steps as ReapSteps, first_wants}
+use Rattle.zs_close.specs.Wanting.{own_keys}
+use Rattle.zs_reap.specs.Steps.{Answered, Decides, Ends, Follows, IsCounted, IsLookedAt, IsTested, LacksSome, Looked, LookedAgain, Steps as ReapSteps, first_wants}
 use Rattle.zs_reap.specs.declared.reap.Phase.{Phase}
 use Rattle.zs_reap.specs.declared.reap.Phase.TheVariants.{Counting, Looking, Over, Removing, Unasked}
 use Rattle.zs_reap.specs.declared.reap.Reap.{Reap}
@@ -63,8 +64,9 @@ abbrev pub is_done_now : Store → Ask → Bool
 is_done_now s (ask.Txn t) = succeeds s t
 is_done_now s _ = true
 
--- these keys are all that the end of the session reads in the present
+-- these keys are all that the end of the session reads in the present; the number is one that a session may have
 pub record Covers (s : Store) (id revision_ : ℤ) (ws : List Want) : Type 0 where
+  pub real : int_lt id (pos 1) ≡ false
   pub now : revision_ ≡ revision s
   pub own : (w : Want) → Contains (first_wants id) w → Contains ws w
   pub counts : (kv : Kv) (ps : List Bytes) (p q : Bytes) → get (present s) (key_bytes (SessionKey (nat_abs id))) ≡ Some kv → IsSessionRec ps → kv.value ≡ session_value ps → Contains ps p → parent p ≡ Some q → Contains ws (key_want (CountsKey q))
@@ -84,6 +86,14 @@ ReapThen s id _ phase k = phase ≡ Over
 -- whatever the answer leads to
 abbrev pub ReapBehind : Store → Reap → Answer → ℕ → Type 0
 ReapBehind s r a k = (step : ReapStep) (next : Reap) → ReapSteps r (Some a) step next → ReapThen s r.session step next.phase k
+
+-- ---- what is looked up first
+
+first-own : (id : ℤ) → int_lt id (pos 1) ≡ false → first_wants id ≡ map key_want (own_keys id)
+first-own id real = ap (λ b. cond b (head_want ∷ []) (map key_want (own_keys id))) real
+
+in-first : (id : ℤ) (w : Want) → int_lt id (pos 1) ≡ false → Contains (map key_want (own_keys id)) w → Contains (first_wants id) w
+in-first id w real has = subst (λ ws. Contains ws w) (sym (first-own id real)) has
 
 -- ---- what was seen was wanted
 
@@ -154,10 +164,12 @@ module _ (s : Store) (r : Reap) (k : ℕ) (le : 5 ≤ k) where
   ]
 
   looked-most : (ws : List Want) (z : ℤ) (parts : List ActAns) (phase : Phase) (step : ReapStep) → Looked r.session ws z parts phase step → ReapThen s r.session step phase k
-  looked-most ws z parts phase step h = elim h.1 [
-    | inl d ↦ decides-then s r.session (viewed z ws parts) phase step k (λ p plan. omega (arith, le, look-most (succeeds s (plan_txn p)))) d
-    | inr c ↦ asks-then s r.session (viewed z ws parts) phase step k (Counting (viewed z ws parts).revision (first_wants r.session ++ c.wants)) (reading (viewed z ws parts).revision (first_wants r.session ++ c.wants)) (inr le) c.asks
-  ]
+  looked-most ws z parts phase step h = by (int_lt r.session (pos 1)) h
+    where
+      by : (below : Bool) → MatchBool below (AreRecords ws parts × Ends (reaped.Gone z) phase step) (IsTested r.session ws z parts × (Decides r.session (viewed z ws parts) phase step ⊎ IsCounted r.session (viewed z ws parts) phase step)) → ReapThen s r.session step phase k
+      by true g = subst (λ t. ReapThen s r.session t phase k) (sym g.1.1) g.1.0
+      by false (tested, inl d) = decides-then s r.session (viewed z ws parts) phase step k (λ p plan. omega (arith, le, look-most (succeeds s (plan_txn p)))) d
+      by false (tested, inr c) = asks-then s r.session (viewed z ws parts) phase step k (Counting (viewed z ws parts).revision (first_wants r.session ++ c.wants)) (reading (viewed z ws parts).revision (first_wants r.session ++ c.wants)) (inr le) c.asks
 
   answered-most : (p : Phase) (z : ℤ) (b : Bool) (parts : List ActAns) (phase : Phase) (step : ReapStep) → Answered r.session p z b parts phase step → ReapThen s r.session step phase k
   answered-most Unasked z b parts phase step h = absurd h
@@ -186,10 +198,11 @@ module _ (s u : Store) (r : Reap) (a : Answer) where
   by-steps z b parts p j is e f = λ step next t. f next.phase step (subst (λ y. Answered r.session y z b parts next.phase step) e (subst (λ y. OfTxn y (λ m c ps. Answered r.session r.phase m c ps next.phase step)) is t.moves))
 
   -- the first look: what it asks for next is all that is read
-  covered : (z : ℤ) (parts : List ActAns) (ws : List Want) → z ≡ revision s → length parts ≡ length (first_wants r.session) → Agrees (viewed z (first_wants r.session) parts) (present s) → AreNeeds req.Close (whose r.session) (viewed z (first_wants r.session) parts) ws
+  covered : (z : ℤ) (parts : List ActAns) (ws : List Want) → int_lt r.session (pos 1) ≡ false → z ≡ revision s → length parts ≡ length (first_wants r.session) → Agrees (viewed z (first_wants r.session) parts) (present s) → AreNeeds req.Close (whose r.session) (viewed z (first_wants r.session) parts) ws
       → Covers s r.session (viewed z (first_wants r.session) parts).revision (first_wants r.session ++ ws)
   unfolding plain_request
-  covered z parts ws now long agrees needs = record {
+  covered z parts ws real now long agrees needs = record {
+    real = real;
     now = revision-kept (at_revision empty_view z) (first_wants r.session) parts ∙ now;
     own = λ w has. Contains-append_left (first_wants r.session) ws w has;
     counts = λ kv ps p q there within value has e. by-seen kv ps p q there within value has e (seen v (key_bytes (CountsKey q))) refl;
@@ -202,7 +215,7 @@ module _ (s u : Store) (r : Reap) (a : Answer) where
       nodes = key_bytes (SessionKey (nat_abs r.session))
 
       looked : (o : Option (Option Kv)) → seen v nodes ≡ o → (kv : Kv) → get (present s) nodes ≡ Some kv → seen v nodes ≡ Some (Some kv)
-      looked None e kv there = absurd (wanted-shown (at_revision empty_view z) (first_wants r.session) parts (key_want (SessionKey (nat_abs r.session))) (omega (arith, long)) (2, omega arith, refl) e)
+      looked None e kv there = absurd (wanted-shown (at_revision empty_view z) (first_wants r.session) parts (key_want (SessionKey (nat_abs r.session))) (omega (arith, long)) (in-first r.session (key_want (SessionKey (nat_abs r.session))) real (2, omega arith, refl)) e)
       looked (Some f) e kv there = e ∙ ap Some (sym (agrees-seen v (present s) nodes f agrees e) ∙ there)
 
       by-seen : (kv : Kv) (ps : List Bytes) (p q : Bytes) → get (present s) nodes ≡ Some kv → IsSessionRec ps → kv.value ≡ session_value ps → Contains ps p → parent p ≡ Some q → (o : Option (Option Kv)) → seen v (key_bytes (CountsKey q)) ≡ o
@@ -230,8 +243,8 @@ module _ (s u : Store) (r : Reap) (a : Answer) where
       shown : Contains ws w → ⊥
       shown has = wanted-shown (at_revision empty_view z) ws parts w long has l.1
 
-      own : (y : Want) → w ≡ y → Contains (first_wants r.session) y → ⊥
-      own y e has = shown (subst (Contains ws) (sym e) (cover.own y has))
+      own : (y : Want) → w ≡ y → Contains (map key_want (own_keys r.session)) y → ⊥
+      own y e has = shown (subst (Contains ws) (sym e) (cover.own y (in-first r.session y cover.real has)))
 
       by-read : IsRead req.Close (whose r.session) v w → ⊥
       by-read (inl e) = own head_want e (0, omega arith, refl)
@@ -251,17 +264,32 @@ module _ (s u : Store) (r : Reap) (a : Answer) where
       omega (arith, le, ap look_again holds_now)
       )) d
 
+  -- the first look at the present
+  looked-now : (z : ℤ) (parts : List ActAns) (phase : Phase) (step : ReapStep) (j : ℕ) → 2 ≤ j → u ≡ s → z ≡ revision s → length parts ≡ length (first_wants r.session) → Agrees (viewed z (first_wants r.session) parts) (present s)
+      → Looked r.session (first_wants r.session) z parts phase step → ReapThen u r.session step phase j
+  looked-now z parts phase step j le same now long agrees h = by (int_lt r.session (pos 1)) refl h
+    where
+      v : View
+      v = viewed z (first_wants r.session) parts
+
+      all : List Want → List Want
+      all ws = first_wants r.session ++ ws
+
+      by : (below : Bool) → int_lt r.session (pos 1) ≡ below
+          → MatchBool below (AreRecords (first_wants r.session) parts × Ends (reaped.Gone z) phase step) (IsTested r.session (first_wants r.session) z parts × (Decides r.session v phase step ⊎ IsCounted r.session v phase step))
+          → ReapThen u r.session step phase j
+      by true real g = subst (λ t. ReapThen u r.session t phase j) (sym g.1.1) g.1.0
+      by false real (tested, inl d) = decides-now v phase step j (omega (arith, le)) same agrees d
+      by false real (tested, inr c) = asks-then u r.session v phase step j (Counting v.revision (all c.wants)) (reading v.revision (all c.wants))
+          (inl (subst (λ t. Covers t r.session v.revision (all c.wants)) (sym same) (covered z parts c.wants real now long agrees (c.lacking).needs), le)) c.asks
+
   looking-behind : (k : ℕ) (q : Ask) → r.phase ≡ Looking → q ≡ reading (pos 0) (first_wants r.session) → carry s q ≡ Some (u, a) → 3 ≤ k → Done k (ReapBehind u r a)
   looking-behind k q e is h n =
       let ht : carry s (reading (pos 0) (first_wants r.session)) ≡ Some (u, a) = ap (carry s) (sym is) ∙ h in
       let d = is-read s u (pos 0) (first_wants r.session) a ht in
       let v = first-shown s u (first_wants r.session) (revision u) true d.parts (ht ∙ ap (λ y. Some (u, y)) d.is) in
-      let y = viewed (revision u) (first_wants r.session) d.parts in
-      done-one k (ReapBehind u r a) (omega (arith, n)) (λ j f. by-steps (revision u) true d.parts Looking j d.is e (λ phase step h. elim (h.1) [
-        | inl t ↦ decides-now y phase step j (omega (arith, n, f)) d.same (v.1).agrees t
-        | inr c ↦ asks-then u r.session y phase step j (Counting y.revision (first_wants r.session ++ c.wants)) (reading y.revision (first_wants r.session ++ c.wants))
-            (inl (subst (λ t. Covers t r.session y.revision (first_wants r.session ++ c.wants)) (sym d.same) (covered (revision u) d.parts c.wants (ap revision d.same) d.long (v.1).agrees (c.lacking).needs), omega (arith, n, f))) c.asks
-      ]))
+      done-one k (ReapBehind u r a) (omega (arith, n)) (λ j f. by-steps (revision u) true d.parts Looking j d.is e (λ phase step h.
+      looked-now (revision u) d.parts phase step j (omega (arith, n, f)) d.same (ap revision d.same) d.long (v.1).agrees h))
 
   counting-behind : (k : ℕ) (q : Ask) (z : ℤ) (ws : List Want) → r.phase ≡ Counting z ws → IsStanding s z × (q ≡ reading z ws) → carry s q ≡ Some (u, a) → (Covers s r.session z ws × (2 ≤ k)) ⊎ (5 ≤ k) → Done k (ReapBehind u r a)
   counting-behind k q z ws e (st, is) h (inr n) =

@@ -1,6 +1,6 @@
 -- What is answered to an attached connection whose session lives shows that, however long ago it was carried out.
 use Rattle.std.proofs.Common.{◌≡◌, ℕ, ◌≤◌, List, [], length, refl, sym, ap, ◌∙◌, subst, arith, Bool, true, false, ℤ, pos, inl, inr}
-use Rattle.std.specs.Prelude.{Option, Some, None, ◌≤ℤ◌, if◌then◌else◌}
+use Rattle.std.specs.Prelude.{Option, Some, None, ◌≤ℤ◌, if◌then◌else◌, nat_eq, ◌&&◌}
 use Rattle.std.specs.Ordering.{int_eq}
 use Rattle.std.proofs.lemmas.Bool.Decides.{Decides-int_eq, nat_tests}
 use Rattle.std.proofs.lemmas.Int.{ints}
@@ -119,7 +119,7 @@ module _ (store : Store) (lines : List TranscriptLine) (c : ℕ) (core : Core) (
       let keys : store_at store view.number ≡ store_at t.before view.number = (t.was).same view.number le' in
       let txn : TxnReq = record { guards = []; success = ranges_of v.revision ws; failure = [] } in
       let shown = later-shown t.before t.then_store v view.number ws (revision t.then_store) true d.parts view.revision view.begun (subst (Agrees v) keys view.agrees) h' in
-      let still : at_revision v (revision t.then_store) ≡ v = ap (λ b. if b then record v { revision = revision t.then_store } else v) (not-first v view.number view.revision view.begun) in
+      let still : at_revision v (revision t.then_store) ≡ v = ap (λ b. if b && (nat_eq (length v.keys) 0 && nat_eq (length v.lists) 0) then record v { revision = revision t.then_store } else v) (not-first v view.number view.revision view.begun) in
       let since = moment-since store lines c core k.walker k.looked view.number serves.legal k.least (k.stands).matches view.moment view.known view.stands in (
         d.parts,
         d.is,

@@ -1,6 +1,6 @@
 -- What one step of an attached connection sends is some choices' packets, and an open core stands where they lead.
 use Rattle.std.proofs.Common.{◌≡◌, ℕ, ◌+◌, ◌≤◌, List, [], ◌∷◌, ◌++◌, length, refl, sym, ap, ◌∙◌, subst, arith, Bool, true, false, ℤ, pos, inl, inr}
-use Rattle.std.specs.Prelude.{Option, Some, None, IfSome, ◌⊎◌, ◌≤ℤ◌, MatchBool, Contains, if◌then◌else◌}
+use Rattle.std.specs.Prelude.{Option, Some, None, IfSome, ◌⊎◌, ◌≤ℤ◌, MatchBool, Contains, if◌then◌else◌, nat_eq, ◌&&◌}
 use Rattle.std.specs.Arc.{arc_value}
 use Rattle.std.specs.Ordering.{int_eq}
 use Rattle.std.proofs.lemmas.Bool.Decides.{nat_tests, Decides-int_eq}
@@ -278,7 +278,7 @@ module _ (store : Store) (lines : List TranscriptLine) (conn : ℕ) (c c' : Core
           (first-view store k.then_store lines conn c w looked y r (revision-kept (record empty_view { revision = r }) ws parts) first.0 k.begun k.is agrees (k.shown is_zero))
       grown asks (inr view) =
           let not0 : int_eq v.revision (pos 0) ≡ false = not-zero v.revision view.number view.revision view.begun in
-          let stays : at_revision v r ≡ v = ap (λ t. if t then record v { revision = r } else v) not0 in
+          let stays : at_revision v r ≡ v = ap (λ t. if t && (nat_eq (length v.keys) 0 && nat_eq (length v.lists) 0) then record v { revision = r } else v) not0 in
           let le = k.earlier view.number view.revision in
           let then_same = (k.was).same view.number le in
           let more = later-shown k.before k.then_store v view.number ws r b parts view.revision view.begun (subst (Agrees v) then_same view.agrees) (ap (carry k.before) asks ∙ k.carried_out) in

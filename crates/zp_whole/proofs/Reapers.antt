@@ -9,7 +9,7 @@ use Rattle.ev_types.specs.declared.ask.Ask.{Ask}
 use Rattle.std.proofs.Common.{Bool, List, [], ap, append-nil, arith, false, inl, inr, length, pos, refl, subst, sym, true, ℕ, ℤ, ◌++◌, ◌∙◌, ◌≡◌, ◌≤◌}
 use Rattle.std.proofs.lemmas.List.Elements.{All-nil}
 use Rattle.std.specs.FinMap.{get}
-use Rattle.std.specs.Prelude.{None, Some, if◌then◌else◌, option_and_then}
+use Rattle.std.specs.Prelude.{MatchBool, None, Some, if◌then◌else◌, int_lt, option_and_then, ◌⊎◌}
 use Rattle.zk_transcript.specs.History.{State, after}
 use Rattle.zk_transcript.specs.declared.transcript.Cause.TheVariants as cause
 use Rattle.zk_transcript.specs.declared.transcript.Ended.TheVariants as ended
@@ -19,6 +19,7 @@ use Rattle.zk_transcript.specs.declared.transcript.UpdateKind.TheVariants.{Reape
 use Rattle.zn_layout.specs.StandsFor.{StandsFor}
 use Rattle.zn_view.proofs.Asked.{stands-put}
 use Rattle.zn_view.proofs.Showing.{again-shown, first-shown, later-shown}
+use Rattle.zn_view.specs.Adding.{AreRecords}
 use Rattle.zn_view.specs.Asks.{plan_txn, reading, transaction}
 use Rattle.zn_view.specs.Seen.{View, empty_view}
 use Rattle.zn_view.specs.Views.{Agrees, children_kept}
@@ -52,7 +53,7 @@ use Rattle.zp_whole.specs.Serving.{Serves}
 use Rattle.zs_close.specs.Reaping.{IfReaped, IsReapPlan}
 use Rattle.zs_close.specs.declared.reap.Reaping.TheVariants.{Gone, Kept, Planned, TooMany}
 use Rattle.zs_close.specs.declared.reap.Reaping.{Reaping}
-use Rattle.zs_reap.specs.Steps.{Answered, Asks, Decides, Follows, IsCounted, Looked, LookedAgain, LooksFirst, Moves, first_wants}
+use Rattle.zs_reap.specs.Steps.{Answered, Asks, Decides, Ends, Follows, IsCounted, IsTested, Looked, LookedAgain, LooksFirst, Moves, first_wants}
 use Rattle.zs_reap.specs.declared.reap.Phase.TheVariants.{Counting, Looking, Over, Removing, Unasked}
 use Rattle.zs_reap.specs.declared.reap.Phase.{Phase}
 use Rattle.zs_reap.specs.declared.reap.Reap.{Reap}
@@ -123,6 +124,13 @@ module _ (store : Store) (id : ℤ) (v : View) (z : ℤ) (k : IsSeen store v z) 
   counted-to : (phase : Phase) (step : ReapStep) → IsCounted id v phase step → ComesTo store id phase step
   counted-to phase step c = comes-on store id phase (Counting v.revision (first_wants id ++ c.wants)) step (reading v.revision (first_wants id ++ c.wants)) (subst (IsStanding store) (sym k.same) k.at, refl) c.asks
 
+  -- after the first look, of a number below 1 or of another
+  looked-by : (ws : List Want) (parts : List ActAns) (r : ℤ) (phase : Phase) (step : ReapStep) (below : Bool)
+      → MatchBool below (AreRecords ws parts × Ends (steps.Gone r) phase step) (IsTested id ws r parts × (Decides id v phase step ⊎ IsCounted id v phase step)) → ComesTo store id phase step
+  looked-by ws parts r phase step true h = subst (ComesTo store id phase) (sym h.1.1) (gone h.1.0 r)
+  looked-by ws parts r phase step false (tested, inl d) = decides-to phase step d
+  looked-by ws parts r phase step false (tested, inr c) = counted-to phase step c
+
 present-seen : (store then_store : Store) (state : State) (v : View) (r : ℤ) → Precedes then_store store → 1 ≤ length then_store.revisions → StandsFor (present then_store) state → v.revision ≡ r → r ≡ revision then_store → Agrees v (present then_store) → IsSeen store v r
 present-seen store then_store state v r is begun stands e f agrees = record {
   at = record { number = length then_store.revisions; is = f; begun = begun; known = is.longer; state = state; stands = subst (λ m. StandsFor m state) (sym (is.same (length then_store.revisions) (omega arith))) stands };
@@ -136,13 +144,13 @@ empty-agrees r m = record { keys = All-nil (λ (x : SeenKey). get m x.key ≡ x.
 
 module _ (store : Store) (reap : Reap) (r : ℤ) (b : Bool) (parts : List ActAns) (k : IsReapAnswer store reap (answer.Txn r b parts)) where
   looked-to : k.asked ≡ reading (pos 0) (first_wants reap.session) → (phase : Phase) (step : ReapStep) → Looked reap.session (first_wants reap.session) r parts phase step → ComesTo store reap.session phase step
-  looked-to e phase step (tested, h) =
+  looked-to e phase step h =
       let ws = first_wants reap.session in
       let first = first-shown k.before k.then_store ws r b parts (ap (carry k.before) (sym e) ∙ k.carried_out) in
       let v = viewed r ws parts in
       let agrees : Agrees v (present k.then_store) = subst (λ (t : Store). Agrees v (present t)) (sym (first.1).same) (first.1).agrees in
       let seen = present-seen store k.then_store k.state v r k.is k.begun k.stands (revision-kept (record empty_view { revision = r }) ws parts) first.0 agrees in
-      elim h [ inl d ↦ decides-to store reap.session v r seen phase step d | inr c ↦ counted-to store reap.session v r seen phase step c ]
+      looked-by store reap.session v r seen ws parts r phase step (int_lt reap.session (pos 1)) h
 
   counting-to : (z : ℤ) (ws : List Want) → IsStanding k.before z → k.asked ≡ reading z ws → (phase : Phase) (step : ReapStep) → LookedAgain reap.session ws z parts phase step → ComesTo store reap.session phase step
   counting-to z ws st e phase step (tested, h) =

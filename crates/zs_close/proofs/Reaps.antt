@@ -1,5 +1,5 @@
 -- The decision on a reap is right, and its plan ends the session.
-use Rattle.std.proofs.Common.{◌≡◌, ℕ, zero, ℤ, pos, ◌≤◌, Bool, true, false, length, List, [], ◌∷◌, Option, Some, None, refl, sym, ap, ◌∙◌, subst, inl, inr, arith}
+use Rattle.std.proofs.Common.{◌≡◌, ℕ, zero, ℤ, pos, ◌≤◌, Bool, true, false, length, List, [], ◌∷◌, Option, Some, None, is_some, refl, sym, ap, ◌∙◌, subst, inl, inr, arith}
 use Rattle.std.specs.Prelude.{◌≤ℤ◌, nat_abs, nat_le, if◌then◌else◌, Contains, MatchBool}
 use Rattle.std.proofs.lemmas.Bool.{both_ways, le-leb}
 use Rattle.std.proofs.lemmas.Int.{ints}
@@ -17,8 +17,8 @@ use Rattle.zn_view.specs.declared.plan.Plan.{Plan}
 use Rattle.zn_view.specs.declared.snapshot.SeenKey.{SeenKey}
 use Rattle.zn_view.specs.Asks.{guards_of, picked}
 use Rattle.zn_view.specs.Deciding.{IsTaken}
-use Rattle.zn_view.specs.Lookups.{sees, IsNodesIn}
-use Rattle.zn_view.specs.Seen.{View, seen_in}
+use Rattle.zn_view.specs.Lookups.{sees, HasSeen, IsNodesIn}
+use Rattle.zn_view.specs.Seen.{View, found_of, seen_in}
 use Rattle.zn_view.specs.Views.{Agrees, IsOf}
 use Rattle.zn_view.proofs.Asked.{guard_later}
 use Rattle.zn_view.proofs.Committing.{zxid-least}
@@ -27,10 +27,10 @@ use Rattle.zn_view.proofs.Narrowing.{picked-told}
 use Rattle.zs_close.specs.declared.reap.Reaping.{Reaping}
 use Rattle.zs_close.specs.declared.reap.Reaping.TheVariants.{Planned, Kept, Gone, TooMany}
 use Rattle.zs_close.specs.Closing.{IsEndPlan}
-use Rattle.zs_close.specs.Reaping.{IfReaped, IsReap, IsReapBy, IsReapDecision, IsReapPlan, IsReapedBy, IsReapedWith, IsReapingOf, whose}
-use Rattle.zs_close.specs.Wanting.{end_keys, read_keys, IsNodesSeen}
+use Rattle.zs_close.specs.Reaping.{lives, IfReaped, IsReady, IsReap, IsReapBy, IsReapDecision, IsReapPlan, IsReapedBy, IsReapedWith, IsReapingOf, whose}
+use Rattle.zs_close.specs.Wanting.{end_keys, read_keys, AreParentsSeen, IsNodesSeen}
 use Rattle.zs_close.proofs.Taken.{end-taken}
-use Rattle.zs_close.proofs.KeysRead.{end-reads}
+use Rattle.zs_close.proofs.KeysRead.{end-reads, whole-life, whole-parents, whole-session}
 use Rattle.zs_close.proofs.EndPlans.{agrees-for, commits-for, life-not_head, nodes-few, nodes-mean, life-means, session-open, ended-carries, ended-triggers}
 
 -- ---- a key that was seen is guarded, also where it was absent
@@ -52,6 +52,18 @@ module _ (k : Bytes) (o : Option Kv) (apart : k ≡ key_bytes HeadKey → ⊥) w
   guarded : (xs : List SeenKey) → seen_in k xs ≡ Some o → Contains (guards_of xs) own
   guarded [] h = absurd (cc)
   guarded (x ∷ xs) h = guard_at_first x xs (same x.key k) refl (guarded xs) h
+
+-- ---- what decides was looked up
+
+module _ (id : ℤ) (v : View) (ready : IsReady id v) where
+  pub ready-life : HasSeen v (LeaseKey (nat_abs id))
+  ready-life none = whole-life (whose id) v (ready (ap (λ (o : Option (Option Kv)). is_some (found_of o)) none)) none
+
+  pub ready-session : lives id v ≡ false → HasSeen v (SessionKey (nat_abs id))
+  ready-session gone = whole-session (whose id) v (ready gone)
+
+  pub ready-parents : lives id v ≡ false → AreParentsSeen id v
+  ready-parents gone = whole-parents (whose id) v (ready gone)
 
 -- ---- what a session's keys say of it
 

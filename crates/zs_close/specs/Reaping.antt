@@ -1,5 +1,5 @@
 -- What the end of a session that has lapsed is decided by, and what its plan is worth.
-use Rattle.std.specs.Prelude.{◌≡◌, ℤ, pos, nat_abs, ◌≤ℤ◌, ◌<ℤ◌, true, false, List, length, nat_le, Option, Some, None, Contains, MatchBool}
+use Rattle.std.specs.Prelude.{◌≡◌, ℤ, pos, nat_abs, ◌≤ℤ◌, ◌<ℤ◌, Bool, true, false, List, length, nat_le, Option, Some, None, is_some, Contains, MatchBool}
 use Rattle.ev_types.specs.declared.answer.Kv.{Kv}
 use Rattle.ev_types.specs.Ranges.{Keys}
 use Rattle.ev_types.specs.Store.{acts_applied, last_revision}
@@ -12,8 +12,8 @@ use Rattle.zn_layout.specs.StandsFor.{StandsFor}
 use Rattle.zn_view.specs.declared.plan.Plan.{Plan}
 use Rattle.zn_view.specs.declared.plan.Who.{Who}
 use Rattle.zn_view.specs.Asks.{ShowsHead, WritesOwnKeys}
-use Rattle.zn_view.specs.Lookups.{sees, IsNodesIn}
-use Rattle.zn_view.specs.Needs.{GuardsReads}
+use Rattle.zn_view.specs.Lookups.{sees, found_at, IsNodesIn}
+use Rattle.zn_view.specs.Needs.{GuardsReads, IsWhole}
 use Rattle.zn_view.specs.Seen.{View}
 use Rattle.zn_view.specs.Views.{IsOf, MayCommit}
 use Rattle.zs_close.specs.declared.reap.Reaping.{Reaping}
@@ -23,6 +23,16 @@ use Rattle.zs_close.specs.Closing.{IsEndPlan}
 -- a session of which no attachment is known
 abbrev pub whose : ℤ → Who
 whose id = record { session = id; mine = pos 0 }
+
+-- ---- what the decision needs
+
+-- whether the view saw the record of the session's life: then the session lives, and nothing else is looked up
+abbrev pub lives : ℤ → View → Bool
+lives id v = is_some (found_at v (LeaseKey (nat_abs id)))
+
+-- the view shows what decides: the record of the session's life, or else all that the end of the session reads
+abbrev pub IsReady : ℤ → View → Type 0
+IsReady id v = lives id v ≡ false → IsWhole req.Close (whose id) v
 
 -- ---- the decision
 

@@ -1,16 +1,16 @@
 //! The end of a session that has lapsed, planned on a view.
 
-ghost use Rattle.std.specs.Prelude.{◌≡◌, ◌≤ℤ◌, ℤ, All, pos, nat_abs, IfOk};
+ghost use Rattle.std.specs.Prelude.{◌≡◌, ◌≤ℤ◌, ℤ, true, false, [], All, pos, nat_abs, IfOk};
 ghost use Rattle.zk_model.specs.declared.request.Request.TheVariants as req;
 ghost use Rattle.zk_transcript.specs.History.{State, IsSound};
 ghost use Rattle.zn_layout.specs.Keys.{CountsKey, LeaseKey, SessionKey};
 ghost use Rattle.zn_layout.specs.Records.{IsSessionRec};
 ghost use Rattle.zn_view.specs.Lookups.{sees, HasSeen};
 ghost use Rattle.zn_view.specs.Deciding.{IsTaken};
-ghost use Rattle.zn_view.specs.Needs.{AreNeeds, IsWhole};
+ghost use Rattle.zn_view.specs.Needs.{AreNeeds};
 ghost use Rattle.zn_view.specs.Views.{IsOf};
 ghost use Rattle.zs_close.specs.Ending.{parents};
-ghost use Rattle.zs_close.specs.Reaping.{IfReaped, IsReap, IsReapDecision, IsReapPlan, IsReapedBy, IsReapedWith, whose};
+ghost use Rattle.zs_close.specs.Reaping.{lives, IfReaped, IsReady, IsReap, IsReapDecision, IsReapPlan, IsReapedBy, IsReapedWith};
 ghost use Rattle.zs_close.specs.Wanting.{AreEndWants, AreParentsSeen};
 
 use crate::plan::end_plan;
@@ -18,6 +18,7 @@ use crate::wants::end_needs;
 use std::alloc::Global;
 use zk_model::Path;
 use zk_model::limit::MAX_OWNED;
+use zn_layout::lease_key;
 use zn_view::{Plan, View, Want};
 use zx_base::{Memory, Seq};
 
@@ -34,13 +35,30 @@ pub enum Reaping {
     TooMany,
 }
 
-/// What a reaper of a session still has to look up: the same keys as a close of it, see [`needs_close`](crate::needs_close). The
-/// session's number is at least 1.
+/// Whether the view saw the record of a session's life.
+fn is_alive(alloc: Global, session: i64, view: &View) -> Result<bool, Memory>
+    requires { pos 1 ≤ℤ session }
+    ensures { IfOk result (λ b. b ≡ lives session view.now) }
+{
+    let key = lease_key(alloc, session)?;
+    match view.found(key.as_slice()) {
+        Some(Some(_)) => Ok(true),
+        Some(None) | None => Ok(false),
+    }
+}
+
+/// What a reaper of a session still has to look up: nothing once the view saw the record of the session's life, since the session
+/// is kept then; otherwise the same keys as a close of it, see [`needs_close`](crate::needs_close). The session's number is at
+/// least 1.
 pub fn needs_reap(alloc: Global, session: i64, view: &View) -> Result<Seq<Want>, Memory>
     requires { pos 1 ≤ℤ session }
-    ensures needs { IfOk result (λ ws. (mine : ℤ) → AreNeeds req.Close (record { session = session; mine = mine }) view.now ws) }
-    ensures are { IfOk result (AreEndWants session view.now) }
+    ensures kept { IfOk result (λ ws. lives session view.now ≡ true → ws ≡ []) }
+    ensures needs { IfOk result (λ ws. lives session view.now ≡ false → (mine : ℤ) → AreNeeds req.Close (record { session = session; mine = mine }) view.now ws) }
+    ensures are { IfOk result (λ ws. lives session view.now ≡ false → AreEndWants session view.now ws) }
 {
+    if is_alive(alloc, session, view)? {
+        return Ok(Seq::new(alloc));
+    }
     let wants = end_needs(alloc, view, session)?;
     Ok(wants)
 }
@@ -75,8 +93,8 @@ fn reap_lapsed(alloc: Global, session: i64, view: &View) -> Result<Reaping, Memo
 fn reap(alloc: Global, session: i64, view: &View) -> Result<Reaping, Memory>
     requires real { pos 1 ≤ℤ session }
     requires life { HasSeen view.now (LeaseKey (nat_abs session)) }
-    requires seen { HasSeen view.now (SessionKey (nat_abs session)) }
-    requires parents { AreParentsSeen session view.now }
+    requires seen { lives session view.now ≡ false → HasSeen view.now (SessionKey (nat_abs session)) }
+    requires parents { lives session view.now ≡ false → AreParentsSeen session view.now }
     ensures { IfOk result (IsReap session view.now) }
 {
     if view.life_of(session)?.is_some() {
@@ -90,7 +108,7 @@ fn reap(alloc: Global, session: i64, view: &View) -> Result<Reaping, Memory>
 /// nodes has more than 40.
 pub fn plan_reap(alloc: Global, session: i64, view: &View) -> Result<Reaping, Memory>
     requires real { pos 1 ≤ℤ session }
-    requires whole { IsWhole req.Close (whose session) view.now }
+    requires ready { IsReady session view.now }
     ensures seen { IfOk result (IsReap session view.now) }
     ensures decision { IfOk result (IsReapDecision session view.now) }
     ensures plan { IfOk result (IfReaped (IsReapPlan session view.now)) }

@@ -1,6 +1,7 @@
 -- What a look leads to.
-use Rattle.std.proofs.Common.{◌≡◌, ◌≤◌, ℤ, length, List, [], ◌∷◌, Some, None, refl, sym, ap, ◌∙◌, subst, arith}
-use Rattle.std.specs.Prelude.{Result, Ok, Err, IfOk, nat_abs}
+use Rattle.std.proofs.Common.{◌≡◌, ◌≤◌, ℤ, pos, Bool, true, false, length, List, [], ◌∷◌, Some, None, refl, sym, ap, ◌∙◌, subst, arith}
+use Rattle.std.specs.Prelude.{◌≤ℤ◌, ◌⊎◌, int_lt, Result, Ok, Err, IfOk, MatchBool, nat_abs}
+use Rattle.std.proofs.lemmas.Int.{ints}
 use Rattle.ev_types.specs.declared.answer.ActAns.{ActAns}
 use Rattle.ev_types.specs.declared.answer.Kv.{Kv}
 use Rattle.zk_model.specs.declared.request.Request.TheVariants as req
@@ -17,6 +18,7 @@ use Rattle.zn_view.specs.declared.plan.Plan.{Plan}
 use Rattle.zn_view.specs.declared.plan.Who.{Who}
 use Rattle.zn_view.specs.declared.want.Want.{Want}
 use Rattle.zn_view.specs.declared.want.Want.TheVariants as want
+use Rattle.zn_view.specs.Adding.{AreRecords}
 use Rattle.zn_view.specs.Asks.{transaction, with_part, with_parts}
 use Rattle.zn_view.specs.Lookups.{sees, IsNodesIn}
 use Rattle.zn_view.specs.Needs.{AreNeeds, IsWhole}
@@ -25,13 +27,14 @@ use Rattle.zn_view.specs.Views.{IsOf}
 use Rattle.zs_close.specs.declared.reap.Reaping.{Reaping}
 use Rattle.zs_close.specs.declared.reap.Reaping.TheVariants.{Planned}
 use Rattle.zn_view.specs.Deciding.{IsTaken}
-use Rattle.zs_close.specs.Reaping.{IfReaped, IsReap, IsReapDecision, IsReapPlan, whose}
+use Rattle.zs_close.specs.Reaping.{lives, IfReaped, IsReady, IsReap, IsReapDecision, IsReapPlan, whose}
 use Rattle.zs_session.specs.Answering.{viewed}
 use Rattle.zs_reap.specs.declared.moves.Move.{Move}
 use Rattle.zs_reap.specs.declared.reap.Phase.{Phase}
 use Rattle.zs_reap.specs.declared.reap.Phase.TheVariants.{Removing}
 use Rattle.zs_reap.specs.declared.reap.ReapStep.{ReapStep}
-use Rattle.zs_reap.specs.Steps.{AreFew, Asks, Decides, Follows, IsInPhase, IsLookedAt, LooksFirst}
+use Rattle.zs_reap.specs.declared.reap.ReapStep.TheVariants as steps
+use Rattle.zs_reap.specs.Steps.{AreFew, Asks, Decides, Ends, Follows, IsCounted, IsInPhase, IsLookedAt, IsTested, LacksSome, Looked, LooksFirst}
 
 -- ---- a view of which nothing is lacking
 
@@ -48,10 +51,36 @@ nothing-whole who v ws needs none _ w reads lacks = needs.enough (no_wants ws no
 
 -- ---- a view of which something is lacking
 
+-- the view saw no record of the session's life, since something is lacking
+has_lapsed : (id : ℤ) (v : View) (ws : List Want) → (lives id v ≡ true → ws ≡ []) → (length ws ≡ 0 → ⊥) → lives id v ≡ false
+has_lapsed id v ws kept some = go (lives id v) refl
+  where
+    go : (b : Bool) → lives id v ≡ b → b ≡ false
+    go true e = absurd (some (ap (λ (l : List Want). length l) (kept e)))
+    go false e = refl
+
+pub lacks-some : (id : ℤ) (v : View) (ws : List Want) → (lives id v ≡ true → ws ≡ []) → (lives id v ≡ false → AreNeeds req.Close (whose id) v ws) → (length ws ≡ 0 → ⊥) → LacksSome id v ws
+lacks-some id v ws kept needs some =
+    let lapsed = has_lapsed id v ws kept some in
+    record { lapsed = lapsed; needs = needs lapsed; some = λ e. some (ap (λ (l : List Want). length l) e) }
+
 pub looked-at : (id r : ℤ) (ws : List Want) (parts : List ActAns) (v : View) (phase : Phase) (step : ReapStep) (lacking : List Want) → v ≡ viewed r ws parts
-    → AreNeeds req.Close (whose id) v lacking → (length lacking ≡ 0 → ⊥) → LooksFirst id phase step → IsLookedAt id (viewed r ws parts) phase step
-looked-at id r ws parts v phase step lacking is needs some asks =
-    subst (λ (w : View). IsLookedAt id w phase step) is (record { wants = lacking; lacking = record { needs = needs; some = λ e. some (ap (λ (l : List Want). length l) e) }; asks = asks })
+    → LacksSome id v lacking → LooksFirst id phase step → IsLookedAt id (viewed r ws parts) phase step
+looked-at id r ws parts v phase step lacking is lacks asks =
+    subst (λ (w : View). IsLookedAt id w phase step) is (record { wants = lacking; lacking = lacks; asks = asks })
+
+-- ---- after the first look
+
+not-below : (id : ℤ) → pos 1 ≤ℤ id → int_lt id (pos 1) ≡ false
+not-below id real = go (int_lt id (pos 1)) refl
+  where
+    go : (b : Bool) → int_lt id (pos 1) ≡ b → b ≡ false
+    go true e = absurd (grind (arith, ints, e, real))
+    go false e = refl
+
+pub looked-there : (id r : ℤ) (ws : List Want) (parts : List ActAns) (phase : Phase) (step : ReapStep) → pos 1 ≤ℤ id → IsTested id ws r parts × (Decides id (viewed r ws parts) phase step ⊎ IsCounted id (viewed r ws parts) phase step) → Looked id ws r parts phase step
+looked-there id r ws parts phase step real h =
+    subst (λ b. MatchBool b (AreRecords ws parts × Ends (steps.Gone r) phase step) (IsTested id ws r parts × (Decides id (viewed r ws parts) phase step ⊎ IsCounted id (viewed r ws parts) phase step))) (sym (not-below id real)) h
 
 -- ---- a view saw one list of nodes
 
@@ -66,11 +95,11 @@ few-seen id v kv ps saw nodes few other qs also are =
 abbrev AsksPlan : Plan → Move → Type 0
 AsksPlan p m = Asks (Removing p.again) (transaction p) m.phase m.step
 
-pub planned-decides : (id : ℤ) (v : View) (r : Reaping) (p : Plan) → r ≡ Planned p → (result : Result Move Refused) → IsWhole req.Close (whose id) v → IsReap id v r → IsReapDecision id v r → IfReaped (IsReapPlan id v) r
+pub planned-decides : (id : ℤ) (v : View) (r : Reaping) (p : Plan) → r ≡ Planned p → (result : Result Move Refused) → IsReady id v → IsReap id v r → IsReapDecision id v r → IfReaped (IsReapPlan id v) r
     → IfReaped (λ q. (s : State) → IsSound s → IsOf v s → IsTaken q) r → IfOk result (AsksPlan p) → IfOk result (λ m. Decides id v m.phase m.step)
-planned-decides id v r p is (Err e) whole seen worth plan taken asks = tt
-planned-decides id v r p is (Ok m) whole seen worth plan taken asks = record {
-  whole = whole;
+planned-decides id v r p is (Err e) ready seen worth plan taken asks = tt
+planned-decides id v r p is (Ok m) ready seen worth plan taken asks = record {
+  ready = ready;
   reaping = r;
   seen = seen;
   worth = worth;
@@ -79,9 +108,9 @@ planned-decides id v r p is (Ok m) whole seen worth plan taken asks = record {
   follows = subst (λ (x : Reaping). Follows v x m.phase m.step) (sym is) asks;
 }
 
-pub planned-held : (p : Plan) (result : Result Move Refused) → IfOk result (AsksPlan p) → IfOk result (λ m. IsInPhase m.phase)
-planned-held p (Err e) asks = tt
-planned-held p (Ok m) asks = subst IsInPhase (sym asks.0) tt
+pub planned-held : (id : ℤ) → pos 1 ≤ℤ id → (p : Plan) (result : Result Move Refused) → IfOk result (AsksPlan p) → IfOk result (λ m. IsInPhase id m.phase)
+planned-held id real p (Err e) asks = tt
+planned-held id real p (Ok m) asks = subst (IsInPhase id) (sym asks.0) real
 
 -- ---- the revision of a view
 

@@ -1,10 +1,12 @@
 -- What a reap waits for after a step.
 use Rattle.std.proofs.Common.{◌++◌, ℤ, pos, Bool, true, false, List, Option, Some, None, refl, sym, subst, inl, inr}
+use Rattle.std.specs.Prelude.{◌⊎◌, int_lt, MatchBool}
 use Rattle.ev_types.specs.declared.answer.ActAns.{ActAns}
 use Rattle.ev_types.specs.declared.answer.Answer.{Answer}
 use Rattle.ev_types.specs.declared.answer.Answer.TheVariants as answer
 use Rattle.ev_types.specs.declared.ask.Ask.{Ask}
 use Rattle.zn_view.specs.declared.want.Want.{Want}
+use Rattle.zn_view.specs.Adding.{AreRecords}
 use Rattle.zn_view.specs.Asks.{reading, transaction}
 use Rattle.zn_view.specs.Seen.{View}
 use Rattle.zs_close.specs.declared.reap.Reaping.{Reaping}
@@ -15,7 +17,7 @@ use Rattle.zs_reap.specs.declared.reap.Phase.TheVariants.{Unasked, Looking, Coun
 use Rattle.zs_reap.specs.declared.reap.Reap.{Reap}
 use Rattle.zs_reap.specs.declared.reap.ReapStep.{ReapStep}
 use Rattle.zs_reap.specs.declared.reap.ReapStep.TheVariants as steps
-use Rattle.zs_reap.specs.Steps.{Answered, Asks, Ends, Follows, IsAsked, IsTxn, IsWaiting, LookedAgain, Moves, first_wants}
+use Rattle.zs_reap.specs.Steps.{Answered, Asks, Decides, Ends, Follows, IsAsked, IsCounted, IsTested, IsTxn, IsWaiting, LookedAgain, Moves, first_wants}
 
 module _ (phase : Phase) (step : ReapStep) where
   asked : (next : Phase) (q : Ask) → IsAsked next → IsTxn q → Asks next q phase step → IsWaiting step phase
@@ -34,12 +36,18 @@ module _ (phase : Phase) (step : ReapStep) where
   looked-again id ws z parts (t, inl h) = followed (viewed z ws parts) h.reaping h.follows
   looked-again id ws z parts (t, inr h) = asked Looking (reading (pos 0) (first_wants id)) tt tt h.asks
 
-  answered : (id : ℤ) (p : Phase) (z : ℤ) (b : Bool) (parts : List ActAns) → Answered id p z b parts phase step → IsWaiting step phase
-  answered id Unasked z b parts h = absurd h
-  answered id Looking z b parts (t, inl h) = followed (viewed z (first_wants id) parts) h.reaping h.follows
-  answered id Looking z b parts (t, inr h) =
+  looked : (id : ℤ) (z : ℤ) (parts : List ActAns) (below : Bool)
+      → MatchBool below (AreRecords (first_wants id) parts × Ends (steps.Gone z) phase step) (IsTested id (first_wants id) z parts × (Decides id (viewed z (first_wants id) parts) phase step ⊎ IsCounted id (viewed z (first_wants id) parts) phase step))
+      → IsWaiting step phase
+  looked id z parts true h = ended (steps.Gone z) refl h.1
+  looked id z parts false (t, inl h) = followed (viewed z (first_wants id) parts) h.reaping h.follows
+  looked id z parts false (t, inr h) =
       let r = (viewed z (first_wants id) parts).revision in
       asked (Counting r (first_wants id ++ h.wants)) (reading r (first_wants id ++ h.wants)) tt tt h.asks
+
+  answered : (id : ℤ) (p : Phase) (z : ℤ) (b : Bool) (parts : List ActAns) → Answered id p z b parts phase step → IsWaiting step phase
+  answered id Unasked z b parts h = absurd h
+  answered id Looking z b parts h = looked id z parts (int_lt id (pos 1)) h
   answered id (Counting first ws) z b parts h = looked-again id ws first parts h
   answered id (Removing again) z true parts h = ended (steps.Reaped z) refl h
   answered id (Removing again) z false parts h = looked-again id again z parts h

@@ -1,6 +1,6 @@
 -- How a session that has lapsed is ended (Programmer's Guide, "Ephemeral Nodes": a session's nodes go when it ends): what a
 -- reaper asks in each phase, and what it does at the answer.
-use Rattle.std.specs.Prelude.{◌≡◌, ◌≤◌, ◌<◌, ◌⊎◌, ℤ, pos, nat_abs, ◌≤ℤ◌, Bool, true, false, List, [], ◌++◌, map, length, Option, Some, None}
+use Rattle.std.specs.Prelude.{◌≡◌, ◌≤◌, ◌<◌, ◌⊎◌, ℤ, pos, nat_abs, ◌≤ℤ◌, int_lt, Bool, true, false, List, [], ◌∷◌, ◌++◌, map, length, Option, Some, None, if◌then◌else◌, MatchBool}
 use Rattle.ev_types.specs.declared.answer.ActAns.{ActAns}
 use Rattle.ev_types.specs.declared.answer.Answer.{Answer}
 use Rattle.ev_types.specs.declared.answer.Answer.TheVariants as answer
@@ -14,15 +14,15 @@ use Rattle.zx_base.specs.Maps.{Bytes}
 use Rattle.zn_layout.specs.Keys.{SessionKey}
 use Rattle.zn_view.specs.declared.want.Want.{Want}
 use Rattle.zn_view.specs.Adding.{AreRecords, IsFirstDamaged}
-use Rattle.zn_view.specs.Asks.{reading, transaction}
+use Rattle.zn_view.specs.Asks.{head_want, reading, transaction}
 use Rattle.zn_view.specs.Lookups.{sees, IsNodesIn}
-use Rattle.zn_view.specs.Needs.{AreNeeds, IsWhole, key_want}
+use Rattle.zn_view.specs.Needs.{AreNeeds, key_want}
 use Rattle.zn_view.specs.Seen.{View, IsCount}
 use Rattle.zn_view.specs.Views.{IsOf}
 use Rattle.zs_close.specs.declared.reap.Reaping.{Reaping}
 use Rattle.zs_close.specs.declared.reap.Reaping.TheVariants.{Planned, Kept, Gone, TooMany}
 use Rattle.zn_view.specs.Deciding.{IsTaken}
-use Rattle.zs_close.specs.Reaping.{IfReaped, IsReap, IsReapDecision, IsReapPlan, whose}
+use Rattle.zs_close.specs.Reaping.{lives, IfReaped, IsReady, IsReap, IsReapDecision, IsReapPlan, whose}
 use Rattle.zs_close.specs.Wanting.{own_keys}
 use Rattle.zs_session.specs.declared.fault.StepFault.{StepFault}
 use Rattle.zs_session.specs.declared.fault.StepFault.TheVariants.{Damaged, Memory}
@@ -35,23 +35,23 @@ use Rattle.zs_reap.specs.declared.reap.ReapStep.TheVariants as steps
 
 -- ---- what is looked up
 
--- first the head, the record of the session's life, and the list of its nodes
+-- first the head, the record of the session's life, and the list of its nodes; a number below 1 is no session's, and the head alone
+-- is looked up
 abbrev pub first_wants : ℤ → List Want
-first_wants id = map key_want (own_keys id)
+first_wants id = if int_lt id (pos 1) then head_want ∷ [] else map key_want (own_keys id)
 
 -- ---- what a reaper knows
 
--- the revision of the first look is one that an etcd can have
-abbrev pub IsInPhase : Phase → Type 0
-IsInPhase Unasked = Unit {0}
-IsInPhase Looking = Unit {0}
-IsInPhase (Counting revision wants) = IsCount revision
-IsInPhase (Removing again) = Unit {0}
-IsInPhase Over = Unit {0}
+-- the revision of the first look is one that an etcd can have, and only a number of at least 1 comes past that look
+abbrev pub IsInPhase : ℤ → Phase → Type 0
+IsInPhase id Unasked = Unit {0}
+IsInPhase id Looking = Unit {0}
+IsInPhase id (Counting revision wants) = (pos 1 ≤ℤ id) × IsCount revision
+IsInPhase id (Removing again) = pos 1 ≤ℤ id
+IsInPhase id Over = Unit {0}
 
-pub record IsHeld (r : Reap) : Type 0 where
-  pub session : pos 1 ≤ℤ r.session
-  pub phase : IsInPhase r.phase
+abbrev pub IsHeld : Reap → Type 0
+IsHeld r = IsInPhase r.session r.phase
 
 -- ---- the answers that it takes
 
@@ -96,11 +96,11 @@ Follows v Kept phase step = Ends (steps.Kept v.revision) phase step
 Follows v Gone phase step = Ends (steps.Gone v.revision) phase step
 Follows v TooMany phase step = ⊥
 
--- The view lacks nothing and decides. The session is kept exactly where the record of its life is there, and gone exactly
--- where neither that nor the list of its nodes is (`IsReap`). A plan ends it with all its nodes, and where the view is of a sound
--- state an etcd takes it.
+-- The view decides: it saw the record of the session's life, or it lacks nothing that the end of the session reads. The session is
+-- kept exactly where that record is there, and gone exactly where neither it nor the list of the session's nodes is (`IsReap`). A
+-- plan ends it with all its nodes, and where the view is of a sound state an etcd takes it.
 pub record Decides (id : ℤ) (v : View) (phase : Phase) (step : ReapStep) : Type 0 where
-  pub whole : IsWhole req.Close (whose id) v
+  pub ready : IsReady id v
   pub reaping : Reaping
   pub seen : IsReap id v reaping
   pub worth : IsReapDecision id v reaping
@@ -108,8 +108,10 @@ pub record Decides (id : ℤ) (v : View) (phase : Phase) (step : ReapStep) : Typ
   pub taken : IfReaped (λ p. (s : State) → IsSound s → IsOf v s → IsTaken p) reaping
   pub follows : Follows v reaping phase step
 
--- these are what the view still lacks for the end of the session, and there are some
+-- the view did not see the record of the session's life, and these are what it still lacks for the end of the session: there are
+-- some
 pub record LacksSome (id : ℤ) (v : View) (ws : List Want) : Type 0 where
+  pub lapsed : lives id v ≡ false
   pub needs : AreNeeds req.Close (whose id) v ws
   pub some : ws ≡ [] → ⊥
 
@@ -132,10 +134,11 @@ pub record IsTested (id : ℤ) (ws : List Want) (revision : ℤ) (parts : List A
   pub records : AreRecords ws parts
   pub few : AreFew id (viewed revision ws parts)
 
--- after the first look: the view decides, or the counts are read
+-- after the first look: a number below 1 is gone; of another the view decides, or the counts are read
 abbrev pub Looked : ℤ → List Want → ℤ → List ActAns → Phase → ReapStep → Type 0
 Looked id ws revision parts phase step =
-    IsTested id ws revision parts × (Decides id (viewed revision ws parts) phase step ⊎ IsCounted id (viewed revision ws parts) phase step)
+    MatchBool (int_lt id (pos 1)) (AreRecords ws parts × Ends (steps.Gone revision) phase step)
+    (IsTested id ws revision parts × (Decides id (viewed revision ws parts) phase step ⊎ IsCounted id (viewed revision ws parts) phase step))
 
 -- after a later look: the view decides, or the session is looked at anew
 abbrev pub LookedAgain : ℤ → List Want → ℤ → List ActAns → Phase → ReapStep → Type 0

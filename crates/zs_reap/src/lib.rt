@@ -1,10 +1,11 @@
 //! The end of a session that has lapsed, step by step.
 //!
 //! When a session's lease expires, etcd removes the record of the session's life, and nothing else. A [`Reaper`] then ends the
-//! session, one ask a step. It reads the record of the session's life and the list of its nodes, then the counts of the nodes'
-//! parents at the same revision, and asks for a transaction by which the session and all its nodes go at one zxid, or nothing
-//! changes. If a guard of it fails, its answer shows what is there now, and the reaper goes on from that. The end is
-//! [`ReapStep::Reaped`], [`ReapStep::Kept`] if the session lives, or [`ReapStep::Gone`] if it is not open.
+//! session, one ask a step. It reads the record of the session's life and the list of its nodes. If the record is there, the
+//! session lives, and this answer decides: [`ReapStep::Kept`]. If neither is there, it is not open: [`ReapStep::Gone`]. Otherwise
+//! the reaper reads the counts of the nodes' parents at the same revision, and asks for a transaction by which the session and all
+//! its nodes go at one zxid, or nothing changes: [`ReapStep::Reaped`]. If a guard of it fails, its answer shows what is there now,
+//! and the reaper goes on from that.
 //!
 //! A step does no IO and reads no clock: the caller has the ask carried out, and makes the next step with the answer.
 //!

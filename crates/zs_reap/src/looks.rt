@@ -1,13 +1,14 @@
 //! What an answer shows, and what it leads to.
 
-ghost use Rattle.std.specs.Prelude.{◌≡◌, pos, ◌≤ℤ◌, IfOk, IfErr, OnOk};
+ghost use Rattle.std.specs.Prelude.{◌≡◌, pos, ◌≤ℤ◌, ◌<ℤ◌, IfOk, IfErr, OnOk};
 ghost use Rattle.ev_types.specs.declared.answer.Kv.{Kv as KeyValue};
 ghost use Rattle.zn_view.specs.Seen.{IsCount};
 ghost use Rattle.zn_view.specs.Adding.{AreNumbers};
 ghost use Rattle.zs_session.specs.Answering.{viewed};
 ghost use Rattle.zs_reap.specs.Steps.{AreFew, IsCrowdedFault, IsInPhase, IsReadFault, IsTested, Looked, LookedAgain, first_wants as wants_of_first};
 
-use crate::moves::{Move, count, decided, first_wants, look};
+use crate::moves::{Move, count, decided, end, first_wants, look};
+use crate::reap::ReapStep;
 use ev_types::{ActAns, Kv};
 use std::alloc::Global;
 use zk_model::limit::MAX_OWNED;
@@ -66,27 +67,67 @@ fn seen(
     Ok(view)
 }
 
-/// What follows the first look: the decision, or, where the view lacks the counts of the nodes' parents, a look at these.
-pub(crate) fn looked(
+/// What follows the first look of a number below 1, which is no session's.
+fn looked_nowhere(
     alloc: Global,
     session: i64,
+    wants: &[Want],
+    revision: i64,
+    parts: &[ActAns],
+) -> Result<Move, StepFault>
+    requires below { session <ℤ pos 1 }
+    requires revision { IsCount revision }
+    requires numbers { AreNumbers parts.now }
+    ensures ok { IfOk result (λ m. Looked session wants.now revision parts.now m.phase m.step) }
+    ensures held { IfOk result (λ m. IsInPhase session m.phase) }
+    ensures fault { IfErr result (IsReadFault session wants.now revision parts.now) }
+{
+    look_at(alloc, wants, revision, parts)?;
+    Ok(end(ReapStep::Gone { rev: revision }))
+}
+
+/// What follows the first look of another number: the decision, or, where the session has to go and the view lacks the counts of
+/// the nodes' parents, a look at these.
+fn looked_there(
+    alloc: Global,
+    session: i64,
+    wants: &[Want],
     revision: i64,
     parts: &[ActAns],
 ) -> Result<Move, StepFault>
     requires real { pos 1 ≤ℤ session }
     requires revision { IsCount revision }
     requires numbers { AreNumbers parts.now }
-    ensures ok { IfOk result (λ m. Looked session (wants_of_first session) revision parts.now m.phase m.step) }
-    ensures held { IfOk result (λ m. IsInPhase m.phase) }
-    ensures fault { IfErr result (IsReadFault session (wants_of_first session) revision parts.now) }
+    ensures ok { IfOk result (λ m. Looked session wants.now revision parts.now m.phase m.step) }
+    ensures held { IfOk result (λ m. IsInPhase session m.phase) }
+    ensures fault { IfErr result (IsReadFault session wants.now revision parts.now) }
 {
-    let wants = first_wants(alloc, session)?;
-    let view = seen(alloc, session, wants.as_slice(), revision, parts)?;
+    let view = seen(alloc, session, wants, revision, parts)?;
     let lacking = needs_reap(alloc, session, &view)?;
     if lacking.as_slice().is_empty() {
         return Ok(decided(alloc, session, &view)?);
     }
     Ok(count(alloc, session, &view, lacking)?)
+}
+
+/// What follows the first look.
+pub(crate) fn looked(
+    alloc: Global,
+    session: i64,
+    revision: i64,
+    parts: &[ActAns],
+) -> Result<Move, StepFault>
+    requires revision { IsCount revision }
+    requires numbers { AreNumbers parts.now }
+    ensures ok { IfOk result (λ m. Looked session (wants_of_first session) revision parts.now m.phase m.step) }
+    ensures held { IfOk result (λ m. IsInPhase session m.phase) }
+    ensures fault { IfErr result (IsReadFault session (wants_of_first session) revision parts.now) }
+{
+    let wants = first_wants(alloc, session)?;
+    if session < 1 {
+        return looked_nowhere(alloc, session, wants.as_slice(), revision, parts);
+    }
+    looked_there(alloc, session, wants.as_slice(), revision, parts)
 }
 
 /// What follows a later look: the decision, or, where the view lacks something since the session had other nodes by then, a look
@@ -102,7 +143,7 @@ pub(crate) fn looked_again(
     requires revision { IsCount revision }
     requires numbers { AreNumbers parts.now }
     ensures ok { IfOk result (λ m. LookedAgain session wants.now revision parts.now m.phase m.step) }
-    ensures held { IfOk result (λ m. IsInPhase m.phase) }
+    ensures held { IfOk result (λ m. IsInPhase session m.phase) }
     ensures fault { IfErr result (IsReadFault session wants.now revision parts.now) }
 {
     let view = seen(alloc, session, wants, revision, parts)?;

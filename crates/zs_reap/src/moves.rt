@@ -1,17 +1,16 @@
 //! What is asked next.
 
-ghost use Rattle.std.specs.Prelude.{◌≡◌, ◌++◌, pos, ◌≤ℤ◌, IfOk};
-ghost use Rattle.zk_model.specs.declared.request.Request.TheVariants as req;
-ghost use Rattle.zn_view.specs.Asks.{transaction};
+ghost use Rattle.std.specs.Prelude.{◌≡◌, ◌++◌, ◌∷◌, [], ℤ, pos, ◌≤ℤ◌, IfOk};
+ghost use Rattle.zn_view.specs.Asks.{head_want, transaction};
 ghost use Rattle.zn_view.specs.Seen.{IsCount};
-ghost use Rattle.zn_view.specs.Needs.{IsWhole};
-ghost use Rattle.zs_close.specs.Reaping.{whose};
+ghost use Rattle.zs_close.specs.Reaping.{IsReady};
 ghost use Rattle.zs_reap.specs.Steps.{AreFew, Asks, Ends, IsCounted, Decides, IsInPhase, LacksSome, LooksFirst, first_wants as wants_of_first};
 ghost use Rattle.zs_reap.specs.declared.reap.Phase.TheVariants as phases;
 
 use crate::reap::{Phase, ReapStep};
 use ev_types::{Ask, TxnReq};
 use std::alloc::Global;
+use zn_layout::head_key;
 use zn_view::{Plan, View, Want, ranges, reading};
 use zs_close::{Reaping, needs_reap, plan_reap};
 use zx_base::{Memory, Seq};
@@ -33,21 +32,31 @@ pub(crate) fn end(step: ReapStep) -> Move
     }
 }
 
-/// The head, the record of the session's life, and the list of its nodes.
+/// The head alone.
+fn head_wants(alloc: Global) -> Result<Seq<Want>, Memory>
+    ensures { IfOk result (λ ws. ws ≡ head_want ∷ []) }
+{
+    let mut wants = Seq::new(alloc);
+    wants.push(Want::Key(head_key(alloc)?))?;
+    Ok(wants)
+}
+
+/// The head, the record of the session's life, and the list of its nodes; of a number below 1 the head alone.
 pub(crate) fn first_wants(alloc: Global, session: i64) -> Result<Seq<Want>, Memory>
-    requires { pos 1 ≤ℤ session }
     ensures { IfOk result (λ ws. ws ≡ wants_of_first session) }
 {
+    if session < 1 {
+        return head_wants(alloc);
+    }
     let nothing = View::empty(alloc);
     let wants = needs_reap(alloc, session, &nothing)?;
     Ok(wants)
 }
 
-/// Reads the head, the record of the session's life, and the list of its nodes, as they are now.
+/// Reads the keys of the first look, as they are now.
 pub(crate) fn look(alloc: Global, session: i64) -> Result<Move, Memory>
-    requires { pos 1 ≤ℤ session }
     ensures asks { IfOk result (λ m. LooksFirst session m.phase m.step) }
-    ensures held { IfOk result (λ m. IsInPhase m.phase) }
+    ensures held { IfOk result (λ m. (id : ℤ) → IsInPhase id m.phase) }
 {
     let wants = first_wants(alloc, session)?;
     Ok(Move {
@@ -77,7 +86,7 @@ pub(crate) fn count(
     requires revision { IsCount view.now.revision }
     requires lacks { LacksSome session view.now lacking }
     ensures asks { IfOk result (λ m. IsCounted session view.now m.phase m.step) }
-    ensures held { IfOk result (λ m. IsInPhase m.phase) }
+    ensures held { IfOk result (λ m. IsInPhase session m.phase) }
 {
     let first = first_wants(alloc, session)?;
     let wants = joined(first, lacking)?;
@@ -104,13 +113,13 @@ fn remove(alloc: Global, plan: Plan) -> Result<Move, Memory>
     })
 }
 
-/// What becomes of the session, on a view that lacks nothing.
+/// What becomes of the session, on a view that saw the record of its life or lacks nothing.
 pub(crate) fn decided(alloc: Global, session: i64, view: &View) -> Result<Move, Memory>
     requires real { pos 1 ≤ℤ session }
-    requires whole { IsWhole req.Close (whose session) view.now }
+    requires ready { IsReady session view.now }
     requires few { AreFew session view.now }
     ensures asks { IfOk result (λ m. Decides session view.now m.phase m.step) }
-    ensures held { IfOk result (λ m. IsInPhase m.phase) }
+    ensures held { IfOk result (λ m. IsInPhase session m.phase) }
 {
     match plan_reap(alloc, session, view)? {
         Reaping::Planned(plan) => remove(alloc, plan),

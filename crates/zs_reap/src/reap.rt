@@ -22,7 +22,7 @@ pub enum Phase {
 /// A reap and how far it has come.
 #[derive(Drop)]
 pub struct Reap {
-    /// The session's number; at least 1.
+    /// The session's number.
     pub session: i64,
     pub phase: Phase,
 }
@@ -36,6 +36,7 @@ pub enum ReapStep {
     Reaped { zxid: i64 },
     /// The record of the session's life was there at this revision: the session lives.
     Kept { rev: i64 },
-    /// Neither the record of the session's life nor the list of its nodes was there at this revision: the session is not open.
+    /// Neither the record of the session's life nor the list of its nodes was there at this revision, or the number is below 1:
+    /// no such session is open.
     Gone { rev: i64 },
 }

@@ -1,6 +1,6 @@
 //! The steps of a reap.
 
-ghost use Rattle.std.specs.Prelude.{◌≡◌, pos, ◌≤ℤ◌, option_copied, Some, IfOk, IfErr, OnErr};
+ghost use Rattle.std.specs.Prelude.{◌≡◌, option_copied, Some, IfOk, IfErr, OnErr};
 ghost use Rattle.zs_session.specs.Answering.{IsTxnAnswer};
 ghost use Rattle.zs_reap.specs.Steps.{Answered, IsAsked, IsFaultIn, IsHeld, IsInPhase, IsOfTxn, IsReapFault, IsWaiting, MayStep, Moves, Steps};
 ghost use Rattle.zs_reap.specs.declared.reap.Phase.TheVariants as phases;
@@ -25,7 +25,7 @@ fn answered(
     requires asked { IsAsked reap.now.phase }
     requires answer { IsTxnAnswer revision parts.now }
     ensures ok { IfOk result (λ m. Answered reap.now.session reap.now.phase revision succeeded parts.now m.phase m.step) }
-    ensures held { IfOk result (λ m. IsInPhase m.phase) }
+    ensures held { IfOk result (λ m. IsInPhase reap.now.session m.phase) }
     ensures fault { IfErr result (IsFaultIn reap.now.session reap.now.phase revision succeeded parts.now) }
 {
     match &reap.phase {
@@ -46,7 +46,7 @@ fn moved(alloc: Global, reap: &Reap, answer: Option<&Answer>) -> Result<Move, St
     requires held { IsHeld reap.now }
     requires may { MayStep reap.now (option_copied answer) }
     ensures ok { IfOk result (λ m. Moves reap.now (option_copied answer.entry) m.phase m.step) }
-    ensures held { IfOk result (λ m. IsInPhase m.phase) }
+    ensures held { IfOk result (λ m. IsInPhase reap.now.session m.phase) }
     ensures fault { IfErr result (IsReapFault reap.now (option_copied answer.entry)) }
 {
     match answer {
@@ -84,9 +84,9 @@ impl Model for Reaper {
 }
 
 impl Reaper {
-    /// A reaper of the session of this number, which is at least 1. Nothing was asked yet.
+    /// A reaper of the session of this number. Nothing was asked yet. No session has a number below 1: of one, the reaper looks at
+    /// the head and says that it is gone.
     pub fn new(alloc: Global, session: i64) -> Reaper
-        requires { pos 1 ≤ℤ session }
         ensures { result ≡ record { session = session; phase = phases.Unasked } }
     {
         Reaper {

@@ -1,28 +1,36 @@
 -- The newest entries stay those of the list, whose numbers stay consecutive.
-use Rattle.std.proofs.Common.{◌≡◌, ℕ, zero, suc, ◌+◌, ◌-◌, ◌<◌, ◌≤◌, ℤ, pos, ◌+ℤ◌, true, List, [], ◌∷◌, ◌++◌, length, map, Some, slice_get, refl, sym, ◌∙◌, ap, subst, ⊎_elim, arith, length-append}
+use Rattle.std.proofs.Common.{◌≡◌, ℕ, zero, suc, ◌+◌, ◌-◌, ◌<◌, ◌≤◌, ℤ, pos, ◌+ℤ◌, ◌≤ℤ◌, true, List, [], ◌∷◌, ◌++◌, length, Some, slice_get, refl, sym, ◌∙◌, ap, subst, ⊎_elim, arith, length-append}
 use Rattle.std.proofs.lemmas.Bool.{cases_lt}
 use Rattle.std.proofs.lemmas.Int.{ints}
 use Rattle.std.proofs.lemmas.Option.{same_Some, none-some}
-use Rattle.std.specs.Arc.{arc_value}
-use Rattle.std.specs.declared.sync.Arc.{Arc}
-use Rattle.std.specs.declared.alloc.Global.{Global}
 use Rattle.circular_buffer.specs.Buffer.{Buffer, buffer, keep_last}
 use Rattle.circular_buffer.proofs.Places.{slice_get-append_left, slice_get-append_right}
 use Rattle.zn_layout.specs.declared.entry.Entry.{Entry}
 use Rattle.zx_history.specs.declared.ghost_history.GhostHistory.{GhostHistory}
+use Rattle.zw_hub.specs.declared.feed.Fed.{Fed}
+use Rattle.zw_hub.specs.declared.feed.Fed.TheVariants as fed
 use Rattle.zw_hub.specs.declared.published.Published.{Published}
 use Rattle.zw_hub.specs.declared.window.Window.TheInside.{Inside}
+use Rattle.zw_hub.specs.Feeds.{IsFed, IsFedEntry}
 use Rattle.zw_hub.specs.Lists.{max_kept, last_number, floor, IsAt, IsNumbered, is_next, with_entry}
 use Rattle.zw_hub.specs.Windows.{published, IsWindow}
 use Rattle.zw_hub.proofs.Newest.{newest-push, newest-get}
 
 -- an entry in the ring is the entry of the list that is so far above the floor
-pub kept_at : (w : Inside) → IsWindow w → (cursor : ℤ) (place : ℕ) (a : Arc Entry Global) → floor (published w) +ℤ pos place ≡ cursor → slice_get w.ring.items place ≡ Some a → IsAt (published w) (cursor +ℤ pos 1) (arc_value a)
+pub kept_at : (w : Inside) → IsWindow w → (cursor : ℤ) (place : ℕ) (a : Entry) → floor (published w) +ℤ pos place ≡ cursor → slice_get w.ring.items place ≡ Some a → IsAt (published w) (cursor +ℤ pos 1) a
 kept_at w kept cursor place a is at =
     let k = length w.all.items - max_kept + place in
-    let there : slice_get w.all.items k ≡ Some (arc_value a) = newest-get arc_value max_kept w.ring.items w.all.items place a kept.newest at in
+    let there : slice_get w.all.items k ≡ Some a = newest-get max_kept w.ring.items w.all.items place a kept.newest at in
     let number : cursor +ℤ pos 1 ≡ w.first +ℤ pos (k + 1) = omega (arith, ints) in
-    (k, there, number, kept.numbered k (arc_value a) there ∙ sym number)
+    (k, there, number, kept.numbered k a there ∙ sym number)
+
+-- a reader whose next entry is kept is answered as of the list
+pub kept_fed : (list : Published) (cursor : ℤ) (entry : Entry) (answer : Fed) → floor list ≤ℤ cursor → IsAt list (cursor +ℤ pos 1) entry → IsFedEntry entry answer → IsFed list cursor answer
+kept_fed list cursor entry (fed.Entry told) least at is = (least, subst (IsAt list (cursor +ℤ pos 1)) is at)
+kept_fed list cursor entry fed.None least at is = absurd is
+kept_fed list cursor entry (fed.Lagged was floor_) least at is = absurd is
+kept_fed list cursor entry (fed.Closed end) least at is = absurd is
+kept_fed list cursor entry fed.Memory least at is = tt
 
 only : {A : Type 0} (x y : A) (k : ℕ) → slice_get (x ∷ []) k ≡ Some y → (k ≡ 0) × (x ≡ y)
 only x y zero at = (refl, same_Some x y at)
@@ -44,19 +52,19 @@ pub next-number : (list : Published) (entry : Entry) → is_next list entry ≡ 
 next-number list entry is = grind arith
 
 -- the window with one more entry
-pub pushed : (w : Inside) → IsWindow w → (ring : Buffer (Arc Entry Global)) (number : ℤ) (all : GhostHistory Entry) (entry : Entry) (mine : Arc Entry Global)
-    → entry.number ≡ last_number (published w) +ℤ pos 1 → number ≡ entry.number → arc_value mine ≡ entry
+pub pushed : (w : Inside) → IsWindow w → (ring : Buffer Entry) (number : ℤ) (all : GhostHistory Entry) (entry mine : Entry)
+    → entry.number ≡ last_number (published w) +ℤ pos 1 → number ≡ entry.number → mine ≡ entry
     → ring ≡ buffer (keep_last w.ring.capacity (w.ring.items ++ mine ∷ [])) w.ring.capacity → all.items ≡ w.all.items ++ entry ∷ []
     → IsWindow (record { ring = ring; first = w.first; last = number; end = w.end; all = all })
 pushed w kept ring number all entry mine next number_is mine_is ring_is all_is =
     record {
       newest =
-          ap (λ (b : Buffer (Arc Entry Global)). map arc_value b.items) ring_is
-          ∙ ap (λ n. map arc_value (keep_last n (w.ring.items ++ mine ∷ []))) kept.room
-          ∙ newest-push arc_value max_kept w.ring.items w.all.items mine kept.newest
+          ap (λ (b : Buffer Entry). b.items) ring_is
+          ∙ ap (λ n. keep_last n (w.ring.items ++ mine ∷ [])) kept.room
+          ∙ newest-push max_kept w.ring.items w.all.items mine kept.newest
           ∙ ap (λ (e : Entry). keep_last max_kept (w.all.items ++ e ∷ [])) mine_is
           ∙ ap (keep_last max_kept) (sym all_is);
-      room = ap (λ (b : Buffer (Arc Entry Global)). b.capacity) ring_is ∙ kept.room;
+      room = ap (λ (b : Buffer Entry). b.capacity) ring_is ∙ kept.room;
       last = number_is ∙ next ∙ omega (arith, ints, ap length all_is, length-append w.all.items (entry ∷ []));
       numbered = subst (λ (es : List Entry). IsNumbered (record { first = w.first; entries = es; end = w.end })) (sym all_is) (numbered-next (published w) entry kept.numbered next);
     }

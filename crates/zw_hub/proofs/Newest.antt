@@ -1,7 +1,6 @@
 -- The newest items of a list that grows.
-use Rattle.std.proofs.Common.{◌≡◌, ℕ, ◌+◌, ◌-◌, List, [], ◌∷◌, ◌++◌, length, map, drop, Some, slice_get, option_map, refl, sym, ◌∙◌, ap, arith, length-append, length-drop}
-use Rattle.std.proofs.lemmas.List.{drop-append-le, drop-drop, drop-map, length-map, map-append}
-use Rattle.std.proofs.lemmas.Option.{slice_get-map}
+use Rattle.std.proofs.Common.{◌≡◌, ℕ, ◌+◌, ◌-◌, List, [], ◌∷◌, ◌++◌, length, drop, Some, slice_get, refl, sym, ◌∙◌, ap, arith, length-append, length-drop}
+use Rattle.std.proofs.lemmas.List.{drop-append-le, drop-drop}
 use Rattle.circular_buffer.specs.Buffer.{keep_last}
 use Rattle.circular_buffer.proofs.Places.{slice_get-drop}
 
@@ -17,20 +16,13 @@ keep_last-append n xs ys =
     ∙ drop-drop (l - (l - n) + length ys - n) (l - n) (xs ++ ys)
     ∙ ap (λ k. drop k (xs ++ ys)) (omega (arith, whole))
 
-pub map-keep_last : {A B : Type 0} (f : A → B) (n : ℕ) (xs : List A) → map f (keep_last n xs) ≡ keep_last n (map f xs)
-map-keep_last f n xs = sym (drop-map f (length xs - n) xs) ∙ ap (λ k. drop (k - n) (map f xs)) (sym (length-map xs f))
-
 -- the newest of all, where one was kept and one came
-pub newest-push : {A B : Type 0} (f : A → B) (n : ℕ) (xs : List A) (ys : List B) (x : A) → map f xs ≡ keep_last n ys → map f (keep_last n (xs ++ x ∷ [])) ≡ keep_last n (ys ++ f x ∷ [])
-newest-push f n xs ys x newest =
-    map-keep_last f n (xs ++ x ∷ [])
-    ∙ ap (keep_last n) (map-append f xs (x ∷ []) ∙ ap (λ zs. zs ++ f x ∷ []) newest)
-    ∙ keep_last-append n ys (f x ∷ [])
+pub newest-push : {A : Type 0} (n : ℕ) (xs ys : List A) (x : A) → xs ≡ keep_last n ys → keep_last n (xs ++ x ∷ []) ≡ keep_last n (ys ++ x ∷ [])
+newest-push n xs ys x newest = ap (λ zs. keep_last n (zs ++ x ∷ [])) newest ∙ keep_last-append n ys (x ∷ [])
 
 -- one of the newest, by its place among all
-pub newest-get : {A B : Type 0} (f : A → B) (n : ℕ) (xs : List A) (ys : List B) (i : ℕ) (x : A) → map f xs ≡ keep_last n ys → slice_get xs i ≡ Some x → slice_get ys (length ys - n + i) ≡ Some (f x)
-newest-get f n xs ys i x newest at =
+pub newest-get : {A : Type 0} (n : ℕ) (xs ys : List A) (i : ℕ) (x : A) → xs ≡ keep_last n ys → slice_get xs i ≡ Some x → slice_get ys (length ys - n + i) ≡ Some x
+newest-get n xs ys i x newest at =
     sym (slice_get-drop (length ys - n) ys i (length ys - n + i) refl)
     ∙ sym (ap (λ zs. slice_get zs i) newest)
-    ∙ slice_get-map f xs i
-    ∙ ap (option_map f) at
+    ∙ at

@@ -1,12 +1,19 @@
 -- What a read of a feed answers.
 use Rattle.std.specs.Prelude.{◌≡◌, ◌⊎◌, ℕ, ◌+◌, ℤ, pos, ◌+ℤ◌, ◌≤ℤ◌, ◌<ℤ◌, Some, None, ⊤}
 use Rattle.std.specs.Arc.{arc_value}
+use Rattle.zn_layout.specs.declared.entry.Entry.{Entry}
 use Rattle.zw_hub.specs.declared.feed.Fed.{Fed}
 use Rattle.zw_hub.specs.declared.feed.Fed.TheVariants as fed
 use Rattle.zw_hub.specs.declared.feed.FeedEnd.{FeedEnd}
 use Rattle.zw_hub.specs.declared.published.Published.{Published}
 use Rattle.zw_hub.specs.Ends.{MayBeTold}
 use Rattle.zw_hub.specs.Lists.{last_number, floor, IsAt}
+
+-- what a reader is answered whose next entry is this one; `Memory` may be the answer at any time
+abbrev pub IsFedEntry : Entry → Fed → Type 0
+IsFedEntry entry (fed.Entry told) = entry ≡ arc_value told
+IsFedEntry entry fed.Memory = ⊤
+IsFedEntry entry _ = ⊥
 
 -- what a reader that has taken every entry is answered of a list that this end closed; `Memory` may be the answer at any time
 abbrev pub IsFedEnd : FeedEnd → Fed → Type 0

@@ -1,9 +1,9 @@
 pub mod Lists
 pub mod Ends
+pub mod Kept
 pub mod Feeds
 pub mod Windows
 pub mod ListChanges
 pub mod Steps
 pub mod Readers
-pub mod ReaderViews
 pub mod Hubs

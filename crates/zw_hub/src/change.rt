@@ -1,7 +1,7 @@
 //! What the writer does to the published list.
 
-use crate::feed::{Fed, FeedEnd};
-use std::alloc::{AllocError, Global};
+use crate::feed::FeedEnd;
+use std::alloc::Global;
 use std::marker::Model;
 use std::sync::Arc;
 use zn_layout::Entry;
@@ -32,10 +32,9 @@ impl Model for Ending {
 }
 
 impl Ending {
-    ghost use Rattle.std.specs.Prelude.{◌≡◌, IfOk};
+    ghost use Rattle.std.specs.Prelude.{◌≡◌};
     ghost use Rattle.std.specs.Arc.{arc_value};
     ghost use Rattle.zw_hub.specs.Ends.{IsProper};
-    ghost use Rattle.zw_hub.specs.Feeds.{IsFedEnd};
 
     /// The ending with this end, which must be a proper one (`specs/Ends`).
     pub fn of(end: Arc<FeedEnd, Global>) -> Ending
@@ -45,25 +44,11 @@ impl Ending {
         Ending { end }
     }
 
-    /// Another owner of the same end.
-    pub fn another(&self) -> Result<Ending, AllocError>
-        ensures { IfOk result (λ e. e ≡ self.now) }
+    /// The end.
+    pub fn end(&self) -> &Arc<FeedEnd, Global>
+        ensures is { arc_value result.now ≡ self.now }
+        ensures proper { IsProper (arc_value result.now) }
     {
-        Ok(Ending {
-            end: Arc::try_clone(&self.end)?,
-        })
-    }
-
-    /// What a reader is answered that has taken every entry.
-    pub fn answer(&self) -> Fed
-        ensures { IsFedEnd self.now result }
-    {
-        if let FeedEnd::Memory = *self.end {
-            return Fed::Memory;
-        }
-        match Arc::try_clone(&self.end) {
-            Ok(end) => Fed::Closed(end),
-            Err(AllocError) => Fed::Memory,
-        }
+        &self.end
     }
 }

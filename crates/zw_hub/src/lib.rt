@@ -9,16 +9,21 @@
 //! publish costs two pushes into a ring and a look at each reader's seat, and waits for readers that are inside a read. A read
 //! costs one step into its seat and one out, and counts one more owner of the entry. Entries are shared and never copied.
 //!
-//! Contracts speak of the whole list that was ever published ([`Published`]); the rings hold its end (`specs/Windows`).
-//! `specs/Lists` says what a list is and how it grows, `specs/Feeds` what a read answers, and `specs/Steps` which steps threads
-//! take and what each step leaves known.
+//! Where the hub is dropped, its list stays as it was published last, and the readers go on reading it; it goes with the last of
+//! them. No clause says so, since none says when a read finds the list gone, and a test shows it.
+//!
+//! Contracts speak of the whole list that was ever published ([`Published`]); the rings hold its end (`specs/Windows`), each
+//! entry in its place even where the copy could not own it (`specs/Kept`). `specs/Lists` says what a list is and how it grows,
+//! `specs/Feeds` what a read answers, and `specs/Steps` which steps threads take and what each step leaves known.
 #![tactic(auto)]
 
 mod change;
 mod feed;
+mod kept;
 mod opening;
 mod published;
 mod reader;
+mod rest;
 mod rule;
 mod window;
 mod writer;

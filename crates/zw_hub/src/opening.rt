@@ -6,26 +6,26 @@ ghost use Rattle.zw_hub.specs.Hubs.{new_hub};
 ghost use Rattle.zw_hub.specs.Readers.{new_reader};
 
 use crate::reader::HubReader;
+use crate::rest::Place;
 use crate::rule::{Growing, View};
 use crate::window::Window;
 use crate::writer::Hub;
 use left_right::reader::Factory;
 use left_right::writer::Writer;
 use std::alloc::Global;
-use std::sync::Wait;
+use std::sync::{Arc, Mutex, Wait};
 use zx_base::Memory;
 
 /// The most readers: `left_right` has room for 2^32 - 1 seats, and one stays free. More are refused as want of memory.
 const MAX_READERS: usize = 4_294_967_294;
 
-/// A hub whose first entry is to have the number `first + 1`, and so many readers of it. No more can be made later. Keep the hub
-/// until the readers have ended: after it is dropped they are answered [`crate::Fed::Memory`].
+/// A hub whose first entry is to have the number `first + 1`, and so many readers of it. No more can be made later.
 pub fn hub<R: Wait + Drop>(
     rt: R,
     alloc: Global,
     first: i64,
     readers: usize,
-) -> Result<(Hub<R>, Vec<HubReader>), Memory>
+) -> Result<(Hub<R>, Vec<HubReader<R>>), Memory>
     ensures hub { IfOk result (λ made. made.0 ≡ new_hub made.0.table first) }
     ensures count { IfOk result (λ made. vec_len made.1 ≡ readers) }
     ensures readers { IfOk result (λ made. All (λ reader. reader ≡ new_reader made.0.table) made.1.items) }
@@ -34,22 +34,30 @@ pub fn hub<R: Wait + Drop>(
         return Err(Memory);
     }
     let (one, other) = (Window::new(alloc, first)?, Window::new(alloc, first)?);
-    let hub = Hub::over(Writer::new(alloc, one, other, readers + 1)?, alloc, rt);
-    let readers = readers_of(alloc, hub.factory(), readers)?;
+    let rest = Arc::new(alloc, Mutex::new(None))?;
+    let mine = Arc::try_clone(&rest)?;
+    let hub = Hub::over(
+        Writer::new(alloc, one, other, readers + 1)?,
+        alloc,
+        rt,
+        mine,
+    );
+    let readers = readers_of(alloc, hub.factory(), &rest, readers)?;
     Ok((hub, readers))
 }
 
-fn readers_of(
+fn readers_of<R: Wait + Drop>(
     alloc: Global,
     places: &Factory<Window, View, Growing>,
+    rest: &Place<R>,
     count: usize,
-) -> Result<Vec<HubReader>, Memory>
+) -> Result<Vec<HubReader<R>>, Memory>
     ensures count { IfOk result (λ readers. vec_len readers ≡ count) }
     ensures readers { IfOk result (λ readers. All (λ reader. reader ≡ new_reader (arc_value places.now.board).shared.table_id) readers.items) }
 {
     let mut readers = Vec::with_capacity(alloc, count)?;
     for _ in 0..count {
-        readers.push(HubReader::over(places.reader()?))?;
+        readers.push(HubReader::over(places.reader()?, Arc::try_clone(rest)?))?;
     }
     Ok(readers)
 }

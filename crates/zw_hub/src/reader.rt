@@ -6,35 +6,39 @@ ghost use Rattle.zw_hub.specs.Lists.{floor, Extends};
 ghost use Rattle.zw_hub.specs.Feeds.{IsFed, IsLagged, IsOneRead};
 
 use crate::feed::{Fed, Feed};
+use crate::rest::Place;
 use crate::rule::{Growing, Sees, View};
 use crate::window::Window;
 use core::mem::replace_with;
 use left_right::reader::Reader;
 use std::marker::Model;
+use std::sync::Wait;
 use zx_history::GhostHistory;
 
 /// The seat in `left_right` from which one reader reads.
 pub type ListReader = Reader<Window, View, Growing>;
 
-/// A reader of the list, for one connection at a time. A hub makes no further readers, so one that is dropped is gone.
+/// A reader of the list, for one connection at a time. A hub makes no further readers, so one that is dropped is gone. A drop of
+/// the last reader of a hub that was dropped lets the list go.
 #[derive(Drop)]
-pub struct HubReader {
+pub struct HubReader<R: Wait + Drop> {
     reader: ListReader,
+    rest: Place<R>,
     lags: GhostHistory<()>,
     closings: GhostHistory<()>,
 }
 
-impl Model for HubReader {
+impl<R: Wait + Drop> Model for HubReader<R> {
+    ghost use Rattle.std.specs.Prelude.{length};
+    ghost use Rattle.left_right.specs.Sides as sides;
     ghost use Rattle.zw_hub.specs.Readers.{ReaderState};
 
     ghost Value = { ReaderState };
 
-    ghost use Rattle.zw_hub.specs.ReaderViews.{reading};
-
-    ghost view = { reading };
+    ghost view = { λ r. record { table = r.reader.place.table_id; list = (sides.view r.reader.place).list; reads = (sides.view r.reader.place).steps; lags = length r.lags.items; closings = length r.closings.items } };
 }
 
-/// One read of the list. Where the hub was dropped there is none, and the answer is `Memory`.
+/// One read of the list. Where the list is gone there is none, and the answer is `Memory`; it stays while a reader is there.
 fn read_at(reader: ListReader, cursor: i64) -> (ListReader, Fed)
     ensures once { IsOneRead result.1
         (view reader.place).steps (view result.0.place).steps
@@ -52,26 +56,27 @@ fn read_at(reader: ListReader, cursor: i64) -> (ListReader, Fed)
     }
 }
 
-impl HubReader {
+impl<R: Wait + Drop> HubReader<R> {
     ghost use Rattle.std.specs.Prelude.{◌≡◌};
     ghost use Rattle.left_right.specs.Sides.{view};
     ghost use Rattle.zw_hub.specs.Readers.{new_reader};
     ghost use Rattle.zw_hub.specs.Steps.{nothing_seen};
 
     /// A reader at this seat, from which nothing was read yet.
-    pub(crate) fn over(reader: ListReader) -> HubReader
+    pub(crate) fn over(reader: ListReader, rest: Place<R>) -> HubReader<R>
         requires { view reader.place ≡ nothing_seen }
         ensures { result ≡ new_reader reader.place.table_id }
     {
         HubReader {
             reader,
+            rest,
             lags: GhostHistory::new(),
             closings: GhostHistory::new(),
         }
     }
 }
 
-impl Feed for HubReader {
+impl<R: Wait + Drop> Feed for HubReader<R> {
     ghost use Rattle.zw_hub.specs.Readers.{ReaderState};
 
     ghost list = { λ r. r.list };

@@ -1,10 +1,11 @@
 //! What `left_right` keeps two copies of: the newest entries, and whether more will come.
 
-ghost use Rattle.std.specs.Prelude.{◌≡◌, ◌≢◌, ◌↔◌, ◌<◌, ℕ, ◌+◌, ◌-◌, ◌+ℤ◌, ◌-ℤ◌, ◌≤ℤ◌, ◌<ℤ◌, pos, length, Some, None, IfOk, OnOk, OnErr, IsTrue, slice_get, if◌then◌else◌};
+ghost use Rattle.std.specs.Prelude.{◌≡◌, ◌≢◌, ◌↔◌, ◌<◌, ℕ, ◌+◌, ◌-◌, ◌+ℤ◌, ◌-ℤ◌, ◌≤ℤ◌, ◌<ℤ◌, pos, length, Some, None, IfOk, IsTrue, slice_get, if◌then◌else◌};
 ghost use Rattle.std.specs.Arc.{arc_value};
 
 use crate::change::{Change, Ending};
 use crate::feed::Fed;
+use crate::kept::{Kept, KeptEnd};
 use crate::published::{MAX_KEPT, Published};
 use circular_buffer::HeapCircularBuffer;
 use left_right::Absorb;
@@ -17,10 +18,10 @@ use zx_history::GhostHistory;
 /// The newest entries. Contracts see the whole list that was published.
 #[derive(Drop)]
 pub struct Window {
-    ring: HeapCircularBuffer<Arc<Entry, Global>>,
+    ring: HeapCircularBuffer<Kept>,
     first: i64,
     last: i64,
-    end: Option<Ending>,
+    end: Option<KeptEnd>,
     all: GhostHistory<Entry>,
 }
 
@@ -37,7 +38,7 @@ impl Model for Window {
 }
 
 impl Window {
-    ghost use Rattle.std.specs.Prelude.{◌≡◌, ◌≢◌, ◌↔◌, ◌<◌, ℕ, ◌+◌, ◌-◌, ◌+ℤ◌, ◌-ℤ◌, ◌≤ℤ◌, ◌<ℤ◌, ℤ, pos, length, Some, None, IfOk, OnOk, OnErr, IsTrue, slice_get};
+    ghost use Rattle.std.specs.Prelude.{◌≡◌, ◌≢◌, ◌↔◌, ◌<◌, ℕ, ◌+◌, ◌-◌, ◌+ℤ◌, ◌-ℤ◌, ◌≤ℤ◌, ◌<ℤ◌, ℤ, pos, length, Some, None, IfOk, IsTrue, slice_get};
     ghost use Rattle.std.specs.Arc.{arc_value};
     ghost use Rattle.zw_hub.specs.Lists.{empty, last_number, floor, IsAt, is_next, added, closed_by};
     ghost use Rattle.zw_hub.specs.Feeds.{IsFed, IsLagged};
@@ -91,11 +92,7 @@ impl Window {
         ensures { IsFed self.now cursor result }
     {
         let place = (cursor - self.floor()) as usize;
-        let entry = self.ring.get(place).unwrap();
-        match Arc::try_clone(entry) {
-            Ok(entry) => Fed::Entry(entry),
-            Err(AllocError) => Fed::Memory,
-        }
+        self.ring.get(place).unwrap().answer()
     }
 
     /// What a reader is answered that has taken every entry.
@@ -109,29 +106,24 @@ impl Window {
     }
 
     /// Adds an entry, if it is the next one; otherwise nothing changes.
-    fn add(&mut self, entry: &Arc<Entry, Global>) -> Result<(), AllocError>
-        ensures ok { OnOk result (self.new ≡ added self.old (arc_value entry.now)) }
-        ensures err { OnErr result (self.new ≡ self.old) }
+    fn add(&mut self, entry: &Arc<Entry, Global>)
+        ensures { self.new ≡ added self.old (arc_value entry.now) }
     {
         if !self.is_next(entry) {
-            return Ok(());
+            return;
         }
-        let mine = Arc::try_clone(entry)?;
         self.last = entry.number;
         self.all = self.all.and(&**entry);
-        drop(self.ring.push_back(mine));
-        Ok(())
+        drop(self.ring.push_back(Kept::of(entry)));
     }
 
     /// Closes the list, if it is open.
-    fn close(&mut self, end: &Ending) -> Result<(), AllocError>
-        ensures ok { OnOk result (self.new ≡ closed_by self.old end.now) }
-        ensures err { OnErr result (self.new ≡ self.old) }
+    fn close(&mut self, end: &Ending)
+        ensures { self.new ≡ closed_by self.old end.now }
     {
         if self.end.is_none() {
-            self.end = Some(end.another()?);
+            self.end = Some(KeptEnd::of(end.end()));
         }
-        Ok(())
     }
 }
 
@@ -144,10 +136,13 @@ impl Absorb<Change> for Window {
 
     ghost applied = { list_after };
 
+    ghost never_fails = { Unit {0} };
+
     fn absorb_first(&mut self, change: &Change, _other: &Window) -> Result<(), AllocError> {
         match change {
             Change::Entry(entry) => self.add(entry),
             Change::End(end) => self.close(end),
         }
+        Ok(())
     }
 }

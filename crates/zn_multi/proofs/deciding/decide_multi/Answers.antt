@@ -9,7 +9,8 @@ use Rattle.zn_view.specs.Asks.{WritesOnce}
 use Rattle.zn_view.specs.Deciding.{IsGood}
 use Rattle.zn_view.specs.Views.{IsDecision}
 use Rattle.zn_view.proofs.Tested.{form-decides}
-use Rattle.zn_multi.proofs.Needs.{many_test, whole_life}
+use Rattle.zn_ops.proofs.SessionTests.{form-told, plain-told}
+use Rattle.zn_multi.proofs.Needs.{many_test, plain_few, whole_life}
 use Rattle.zn_multi.proofs.Promised.{is_decision, is_promised, is_tested, planned-weaker, IsPromised}
 use Rattle.zn_multi.proofs.deciding.decide_multi.Goals as goal
 
@@ -22,6 +23,16 @@ pub returns-then-parts-gt-MAX_PARTS-clause-tested : goal.returns-then-parts-gt-M
 returns-then-parts-gt-MAX_PARTS-clause-tested c = λ none.
     let many : nat_lt max_parts (length c.args.parts.now) ≡ true = grind (arith, nat_tests) in
     absurd (none_some (sym none ∙ many_test c.args.parts.now many))
+
+pub returns-then-parts-gt-MAX_PARTS-clause-form : goal.returns-then-parts-gt-MAX_PARTS-clause-form
+returns-then-parts-gt-MAX_PARTS-clause-form c =
+    let many : nat_lt max_parts (length c.args.parts.now) ≡ true = grind (arith, nat_tests) in
+    form-told (req.Multi c.args.parts.now) c.refused.result _ (many_test c.args.parts.now many) c.refused.ensures
+
+pub returns-clause-form : goal.returns-clause-form
+returns-clause-form c =
+    let few : length c.args.parts.now ≤ max_parts = omega arith in
+    IfOk-weaker c.decide_by_session.result _ _ (λ d is. plain-told (req.Multi c.args.parts.now) d (plain_few c.args.parts.now few)) c.decide_by_session.ensures
 
 pub returns-clause-decision : goal.returns-clause-decision
 returns-clause-decision c =

@@ -5,6 +5,7 @@ use Rattle.zn_ops.proofs.SessionTests.{read-by_tree, read-decided, read-planned,
 use Rattle.zn_view.specs.Asks.{WritesOnce}
 use Rattle.zn_view.specs.Deciding.{IsGood}
 use Rattle.zn_view.specs.Keeping.{IsKeepable}
+use Rattle.zn_updates.specs.Writing.{WritesAs}
 use Rattle.zn_ops.proofs.deciding.decide_by_tree.Goals as goal
 
 pub returns-then-is_update-clause-decision : goal.returns-then-is_update-clause-decision
@@ -36,3 +37,6 @@ returns-clause-keepable c = read-planned (IsKeepable c.args.request.now c.args.v
 
 pub returns-clause-tree : goal.returns-clause-tree
 returns-clause-tree c = read-by_tree _ c.in_ok-decide_read.ensures.answered
+
+pub returns-clause-writes : goal.returns-clause-writes
+returns-clause-writes c = read-planned (WritesAs c.args.request.now c.args.who c.args.view.now) _ c.in_ok-decide_read.ensures.answered

@@ -19,7 +19,8 @@ use Rattle.zx_base.specs.Maps.{Bytes}
 use Rattle.zn_updates.specs.Deciding.{IsCreate, IsUpLookedUp}
 use Rattle.zn_updates.proofs.Forms.{create_path_valid}
 use Rattle.zn_updates.proofs.Plans.{refused_form, refused_sound}
-use Rattle.zn_updates.proofs.CreateClauses.{form_at, create_refused, all_promised, own_looked_up, up_looked_up, create-by_tree}
+use Rattle.zn_updates.proofs.CreateClauses.{form_at, create_refused, all_promised, own_looked_up, path_looked_up, up_looked_up, create-by_tree}
+use Rattle.zn_updates.proofs.Writing.{create-written}
 use Rattle.zn_updates.proofs.create.decide_create.Goals as goal
 
 pub create_named-requires-clause-prefix : goal.create_named-requires-clause-prefix
@@ -145,4 +146,17 @@ returns-in-Valid-clause-tree c =
     let session = to_z-of_z w64 _ session_fits in
     IfOk-weaker c.create_named.result _ _ (λ d is.
     create-by_tree c.args.view.now c.args.path.now c.args.content.now c.args.now (is_sequential c.args.flags) (is_ephemeral c.args.flags) c.args.who.session (parent (tested (is_sequential c.args.flags) c.args.path.now)) d
+    (subst (λ (t : Bool × Bool × ℤ × Bytes). IsCreate c.args.view.now c.args.path.now c.args.content.now c.args.now t.0 t.1 t.2 (parent t.3) d) (λ i. (sequential i, ephemeral i, session i, form.0 i)) is)) c.create_named.ensures
+
+pub returns-in-Valid-clause-writes : goal.returns-in-Valid-clause-writes
+returns-in-Valid-clause-writes c =
+    let fits : SFits w32 c.args.flags = search rules in
+    let flags = to_z-of_z w32 _ fits in
+    let sequential : c.is_sequential-sequential.result ≡ is_sequential c.args.flags = c.is_sequential-sequential.ensures ∙ ap is_sequential flags in
+    let ephemeral : c.is_ephemeral-ephemeral.result ≡ is_ephemeral c.args.flags = c.is_ephemeral-ephemeral.ensures ∙ ap is_ephemeral flags in
+    let form = form_at c.args.path.now c.args.acl.now c.args.flags _ _ _ flags c.in-Valid.is c.in_ok-named.ensures c.args.content.now in
+    let session_fits : SFits w64 c.args.who.session = search rules in
+    let session = to_z-of_z w64 _ session_fits in
+    IfOk-weaker c.create_named.result _ _ (λ d is.
+    create-written c.args.who c.args.view.now c.args.path.now c.args.content.now c.args.acl.now c.args.flags c.args.now d _ refl
     (subst (λ (t : Bool × Bool × ℤ × Bytes). IsCreate c.args.view.now c.args.path.now c.args.content.now c.args.now t.0 t.1 t.2 (parent t.3) d) (λ i. (sequential i, ephemeral i, session i, form.0 i)) is)) c.create_named.ensures

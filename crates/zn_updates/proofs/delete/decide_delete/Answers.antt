@@ -16,6 +16,7 @@ use Rattle.zn_updates.specs.Making.{IsDataSeen}
 use Rattle.zn_updates.specs.declared.seen.SeenData.{SeenData}
 use Rattle.zn_updates.proofs.Plans.{refused_form, refused_sound}
 use Rattle.zn_updates.proofs.DeleteClauses.{delete_seen, above_seen, owner_looked_up, all_promised, delete_invalid, delete-by_tree}
+use Rattle.zn_updates.proofs.Writing.{delete-written}
 use Rattle.zn_updates.proofs.delete.decide_delete.Goals as goal
 
 if_some : (o : Option Bytes) (P : Bytes → Type 0) → ((q : Bytes) → o ≡ Some q → P q) → IfSome o P
@@ -88,4 +89,13 @@ returns-in-Some-clause-tree c =
     let session : SFits w64 c.args.who.session = search rules in
     IfOk-weaker c.delete_below.result _ _ (λ d is.
     delete-by_tree c.args.view.now c.args.path.now c.args.version c.args.who.session (parent c.args.path.now) d
+    (subst (λ (t : Bytes × ℤ × ℤ). IsDelete c.args.view.now t.0 t.1 t.2 (parent t.0) d) (λ i. (path.0 i, to_z-of_z w32 _ fits i, to_z-of_z w64 _ session i)) is)) c.delete_below.ensures
+
+pub returns-in-Some-clause-writes : goal.returns-in-Some-clause-writes
+returns-in-Some-clause-writes c =
+    let path = subst (λ (o : Option Bytes). IsInnerPath c.args.path.now o) c.in-Some.is c.in_ok-path.ensures in
+    let fits : SFits w32 c.args.version = search rules in
+    let session : SFits w64 c.args.who.session = search rules in
+    IfOk-weaker c.delete_below.result _ _ (λ d is.
+    delete-written c.args.who c.args.view.now c.args.path.now c.args.version d (parent c.args.path.now) refl
     (subst (λ (t : Bytes × ℤ × ℤ). IsDelete c.args.view.now t.0 t.1 t.2 (parent t.0) d) (λ i. (path.0 i, to_z-of_z w32 _ fits i, to_z-of_z w64 _ session i)) is)) c.delete_below.ensures

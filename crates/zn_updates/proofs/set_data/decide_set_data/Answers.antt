@@ -13,6 +13,7 @@ use Rattle.zn_updates.specs.Deciding.{IsSetData}
 use Rattle.zn_updates.specs.Forms.{IsPathOf}
 use Rattle.zn_updates.proofs.Plans.{refused_form, refused_sound}
 use Rattle.zn_updates.proofs.SetDataClauses.{set_seen, set_by_form, set_by_sound, set_planned, set_invalid, set_data-by_tree}
+use Rattle.zn_updates.proofs.Writing.{set_data-written}
 use Rattle.zn_updates.proofs.set_data.decide_set_data.Goals as goal
 
 pub set_data_at-requires-clause-node : goal.set_data_at-requires-clause-node
@@ -69,4 +70,13 @@ returns-in-Some-clause-tree c =
     let session : SFits w64 c.args.who.session = search rules in
     IfOk-weaker c.set_data_at.result _ _ (λ d is.
     set_data-by_tree c.args.view.now c.args.path.now c.args.content.now c.args.version c.args.now c.args.who.session d
+    (subst (λ (t : Bytes × ℤ × ℤ). IsSetData c.args.view.now t.0 c.args.content.now t.1 c.args.now t.2 d) (λ i. (path.0 i, to_z-of_z w32 _ fits i, to_z-of_z w64 _ session i)) is)) c.set_data_at.ensures
+
+pub returns-in-Some-clause-writes : goal.returns-in-Some-clause-writes
+returns-in-Some-clause-writes c =
+    let path = subst (λ (o : Option Bytes). IsPathOf false c.args.path.now o) c.in-Some.is c.in_ok-path.ensures in
+    let fits : SFits w32 c.args.version = search rules in
+    let session : SFits w64 c.args.who.session = search rules in
+    IfOk-weaker c.set_data_at.result _ _ (λ d is.
+    set_data-written c.args.who c.args.view.now c.args.path.now c.args.content.now c.args.version c.args.now d
     (subst (λ (t : Bytes × ℤ × ℤ). IsSetData c.args.view.now t.0 c.args.content.now t.1 c.args.now t.2 d) (λ i. (path.0 i, to_z-of_z w32 _ fits i, to_z-of_z w64 _ session i)) is)) c.set_data_at.ensures

@@ -6,13 +6,8 @@ use Rattle.zs_close.specs.Wanting.{AreEndWants}
 use Rattle.zs_close.proofs.KeysRead.{close-needs}
 use Rattle.zs_close.proofs.reap.needs_reap.Goals as goal
 
-pub returns-clause-are : goal.returns-clause-are
-returns-clause-are c =
-    let fits : SFits w64 c.args.session = c.ranges.session in
-    subst (λ (i : ℤ). AreEndWants i c.args.view.now c.in_ok-wants.wants) (to_z-of_z w64 c.args.session fits) c.in_ok-wants.ensures
-
 pub returns-clause-needs : goal.returns-clause-needs
-returns-clause-needs c = λ mine.
+returns-clause-needs c = λ gone mine.
     let fits : SFits w64 c.args.session = c.ranges.session in
     let e = subst (λ (i : ℤ). AreEndWants i c.args.view.now c.in_ok-wants.wants) (to_z-of_z w64 c.args.session fits) c.in_ok-wants.ensures in
     close-needs c.args.view.now (record { session = c.args.session; mine = mine }) e.0 c.in_ok-wants.wants e.1 e.2

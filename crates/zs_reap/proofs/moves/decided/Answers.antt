@@ -10,7 +10,7 @@ returns-in-Planned-clause-asks c =
     let own = λ (P : ℤ → Type 0). subst P (to_z-of_z w64 c.args.session c.ranges.session) in
     let r = c.in_ok-plan.field-0 in
     let v = c.args.view.now in
-    planned-decides c.args.session v r c.in-Planned.plan c.in-Planned.is c.remove.result c.requires.whole
+    planned-decides c.args.session v r c.in-Planned.plan c.in-Planned.is c.remove.result c.requires.ready
     (own (λ i. IsReap i v r) c.in_ok-plan.ensures.seen)
     (own (λ i. IsReapDecision i v r) c.in_ok-plan.ensures.decision)
     (own (λ i. IfReaped (IsReapPlan i v) r) c.in_ok-plan.ensures.plan)
@@ -18,4 +18,4 @@ returns-in-Planned-clause-asks c =
     c.remove.ensures
 
 pub returns-in-Planned-clause-held : goal.returns-in-Planned-clause-held
-returns-in-Planned-clause-held c = planned-held c.in-Planned.plan c.remove.result c.remove.ensures
+returns-in-Planned-clause-held c = planned-held c.args.session c.requires.real c.in-Planned.plan c.remove.result c.remove.ensures

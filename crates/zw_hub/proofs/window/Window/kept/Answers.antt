@@ -1,5 +1,4 @@
 use Rattle.std.proofs.Common.{rules, ◌≡◌, ℤ, pos, ◌+ℤ◌, ◌-ℤ◌, ◌≤ℤ◌, Some, slice_get, sym, ◌∙◌, ap, subst, arith, to_z, of_z, w64, to_z-of_z}
-use Rattle.std.specs.Arc.{arc_value}
 use Rattle.std.specs.Option.{option_copied}
 use Rattle.std.proofs.lemmas.Int.{ints}
 use lib.IntN.{nat_abs}
@@ -8,20 +7,20 @@ use Rattle.zn_layout.specs.declared.entry.Entry.{Entry}
 use Rattle.zw_hub.specs.declared.published.Published.{Published}
 use Rattle.zw_hub.specs.Lists.{floor, IsAt}
 use Rattle.zw_hub.specs.Windows.{published}
-use Rattle.zw_hub.proofs.Keeping.{kept_at}
+use Rattle.zw_hub.proofs.Keeping.{kept_at, kept_fed}
 use Rattle.zw_hub.proofs.window.Window.kept.Goals as goal
 
-pub returns-in-Ok : goal.returns-in-Ok
-returns-in-Ok c =
+pub returns : goal.returns
+returns c =
     let cursor = c.args.cursor in
+    let entry : Entry = c.unwrap.result.now in
     let place = nat_abs (to_z w64 (of_z w64 (to_z w64 (of_z w64 cursor) -ℤ to_z w64 (of_z w64 c.floor.result)))) in
-    let at : slice_get c.self.inside.ring.items place ≡ Some c.unwrap-entry.result.now = sym c.get.ensures ∙ ap option_copied c.unwrap-entry.ensures in
+    let at : slice_get c.self.inside.ring.items place ≡ Some entry = sym c.get.ensures ∙ ap option_copied c.unwrap.ensures in
     let f : SFits w64 cursor = c.ranges.cursor in
     let g : SFits w64 c.floor.result = search rules in
     let least : floor (published c.self.inside) ≡ c.floor.result = ap floor c.self.view_is ∙ sym c.floor.ensures in
     let above : c.floor.result ≤ℤ cursor = subst (λ (z : ℤ). z ≤ℤ cursor) (sym c.floor.ensures) c.requires.least in
-    let is : floor (published c.self.inside) +ℤ pos place ≡ cursor = grind (arith, ints, to_z-of_z) in (
-      c.requires.least,
-      subst (λ (list : Published). IsAt list (cursor +ℤ pos 1) (arc_value c.in-Ok.entry)) c.self.view_is
-          (subst (λ (entry : Entry). IsAt (published c.self.inside) (cursor +ℤ pos 1) entry) (sym c.in-Ok.ensures) (kept_at c.self.inside c.self.invariant cursor place c.unwrap-entry.result.now is at)),
-    )
+    let is : floor (published c.self.inside) +ℤ pos place ≡ cursor = grind (arith, ints, to_z-of_z) in
+    kept_fed c.args.self.now cursor entry c.answer.result c.requires.least
+    (subst (λ (list : Published). IsAt list (cursor +ℤ pos 1) entry) c.self.view_is (kept_at c.self.inside c.self.invariant cursor place entry is at))
+    c.answer.ensures
