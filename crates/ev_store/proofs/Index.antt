@@ -1,9 +1,8 @@
 -- A key's versions: what a look-up reads, and what a change adds.
-use Rattle.std.proofs.Common.{◌≡◌, ℕ, zero, suc, ◌+◌, ◌-◌, ◌≤◌, ◌<◌, Bool, true, false, cond, ℤ, pos, List, [], ◌∷◌, ◌++◌, length, get_or, take, drop, Option, Some, None, refl, sym, ap, ◌∙◌, subst, ◌⊎◌, inl, inr, arith}
-use Rattle.std.specs.Prelude.{nat_le, slice_get}
+use Rattle.std.proofs.Common.{◌≡◌, ℕ, zero, suc, ◌+◌, ◌-◌, ◌≤◌, ◌<◌, Bool, true, false, cond, ℤ, pos, List, [], ◌∷◌, ◌++◌, length, get_or, take, drop, Option, Some, None, refl, sym, ap, ◌∙◌, subst, inl, inr, arith}
+use Rattle.std.specs.Prelude.{slice_get}
 use Rattle.std.specs.Option.{unwrap_or}
 use Rattle.std.specs.List.{filter}
-use Rattle.std.specs.List.Sorted.{IsNonDecreasingBy}
 use Rattle.std.proofs.lemmas.Bool.{cases_order}
 use Rattle.std.proofs.lemmas.Bool.{le-leb, lt-leb}
 use Rattle.std.proofs.lemmas.List.{take_more, take_all, take-append-le, take-append-drop, drop-take}
@@ -23,7 +22,7 @@ use Rattle.ev_types.specs.Store.{Change, Puts, Removes}
 use Rattle.ev_store.specs.declared.versions.Version.{Version}
 use Rattle.ev_store.specs.Changes.{key_of}
 use Rattle.ev_store.specs.Folds.{kv_after_put, key_after_change, key_after_changes, key_after_revisions, within_revisions}
-use Rattle.ev_store.specs.Versions.{state_of, state_after, last_state, is_up_to, state_at, AreInOrder, AreUpTo, AddsOne, AddsChange, StandFor, nth_changes, within_at}
+use Rattle.ev_store.specs.Versions.{state_of, state_after, last_state, is_up_to, state_at, AreInOrder, AreUpTo, AddsChange, StandFor, nth_changes, within_at}
 
 -- ---- the last version
 
@@ -107,7 +106,7 @@ length-front zero xs h = refl
 length-front (suc n) [] h = absurd (omega (arith, h))
 length-front (suc n) (x ∷ xs) h = ap suc (length-front n xs (omega (arith, h)))
 
-one_revision_more : (q : Bytes) (i : ℕ) (css : List (List Change)) → i < length css →
+pub one_revision_more : (q : Bytes) (i : ℕ) (css : List (List Change)) → i < length css →
     key_after_revisions 1 q None (take (i + 1) css) ≡ key_after_changes (pos (i + 1)) q (key_after_revisions 1 q None (take i css)) (nth_changes i css)
 one_revision_more q i css within =
     let count : 1 + length (take i css) ≡ i + 1 = (let e = length-front i css (omega (arith, within)) in omega (arith, e)) in
@@ -116,6 +115,10 @@ one_revision_more q i css within =
     ∙ key_after_revisions-append 1 q None (take i css) (get_or css i [] ∷ [])
     ∙ ap (λ n. key_after_changes (pos n) q (key_after_revisions 1 q None (take i css)) (get_or css i [])) count
     ∙ ap (key_after_changes (pos (i + 1)) q (key_after_revisions 1 q None (take i css))) (sym is)
+
+-- the changes of a revision that there is
+pub nth_changes-at : (css : List (List Change)) (i : ℕ) (cs : List Change) → i < length css → cs ≡ get_or css i cs → nth_changes i css ≡ cs
+nth_changes-at css i cs within here = ap (λ o. unwrap_or o []) (slice_get-get_or css i cs within) ∙ sym here
 
 -- ---- the index, step by step
 
@@ -133,22 +136,23 @@ stands-add css i cs c q vs ws h adds = go (same (key_of c) q) refl
   where
     before : Option Kv
     before = key_after_revisions 1 q None (take i css)
+
     go : (b : Bool) → same (key_of c) q ≡ b → StandFor css i (cs ++ c ∷ []) q ws
     go true e =
-      let a = adds.own e in
-      subst (StandFor css i (cs ++ c ∷ []) q) (sym a.added) (record {
-        in_order = order-add (i + 1) vs a.version h.in_order h.up_to a.revision;
-        up_to = up_to-add (i + 1) vs a.version h.up_to (omega (arith, a.revision));
-        whole = λ r le. state_at-later q r vs a.version (omega (arith, a.revision, le)) ∙ h.whole r le;
-        last = last_state-add q vs a.version ∙ a.state ∙ ap (λ o. key_after_change (pos (i + 1)) q o c) h.last ∙ sym (key_after_changes-add (pos (i + 1)) q before cs c);
-      })
+        let a = adds.own e in
+        subst (StandFor css i (cs ++ c ∷ []) q) (sym a.added) (record {
+          in_order = order-add (i + 1) vs a.version h.in_order h.up_to a.revision;
+          up_to = up_to-add (i + 1) vs a.version h.up_to (omega (arith, a.revision));
+          whole = λ r le. state_at-later q r vs a.version (omega (arith, a.revision, le)) ∙ h.whole r le;
+          last = last_state-add q vs a.version ∙ a.state ∙ ap (λ o. key_after_change (pos (i + 1)) q o c) h.last ∙ sym (key_after_changes-add (pos (i + 1)) q before cs c);
+        })
     go false e =
-      subst (StandFor css i (cs ++ c ∷ []) q) (sym (adds.other e)) (record {
-        in_order = h.in_order;
-        up_to = h.up_to;
-        whole = h.whole;
-        last = h.last ∙ sym (key_after_other (pos (i + 1)) q (key_after_changes (pos (i + 1)) q before cs) c e) ∙ sym (key_after_changes-add (pos (i + 1)) q before cs c);
-      })
+        subst (StandFor css i (cs ++ c ∷ []) q) (sym (adds.other e)) (record {
+          in_order = h.in_order;
+          up_to = h.up_to;
+          whole = h.whole;
+          last = h.last ∙ sym (key_after_other (pos (i + 1)) q (key_after_changes (pos (i + 1)) q before cs) c e) ∙ sym (key_after_changes-add (pos (i + 1)) q before cs c);
+        })
 
 -- a revision of which all changes were added
 pub stands-next : (css : List (List Change)) (i : ℕ) (q : Bytes) (vs : List Version) → i < length css → StandFor css i (nth_changes i css) q vs → StandFor css (i + 1) [] q vs
@@ -299,12 +303,12 @@ pub adds-one : (r : ℕ) (number : ℤ) (c : Change) (q : Bytes) (vs ws : List V
     AddsChange r number c q vs ws
 adds-one r number c q vs ws v is state own other = record {
   own = λ e.
-    let eq : key_of c ≡ q = same-true (key_of c) q e in
-    record {
-      version = v;
-      added = own eq;
-      revision = is;
-      state = subst (λ (y : Bytes). state_of y v ≡ key_after_change number y (last_state y vs) c) eq state;
-    };
+      let eq : key_of c ≡ q = same-true (key_of c) q e in
+      record {
+        version = v;
+        added = own eq;
+        revision = is;
+        state = subst (λ (y : Bytes). state_of y v ≡ key_after_change number y (last_state y vs) c) eq state;
+      };
   other = other;
 }

@@ -22,6 +22,7 @@ use Rattle.ev_types.specs.Lapses.{is_leased, leased_keys, removals, lapse, forei
 use Rattle.ev_store.specs.declared.fault.Denied.{Denied}
 use Rattle.ev_store.specs.declared.fault.Denied.TheVariants as denied
 use Rattle.ev_store.specs.Changes.{leased_among, put_keys, are_distinct, puts_once}
+use Rattle.ev_store.specs.Leased.{with_lease}
 use Rattle.ev_store.specs.FirstDenial.{full, lapse_denial, foreign_denial}
 use Rattle.ev_store.proofs.Denying.{full-there}
 use Rattle.ev_store.proofs.Entries.{entries_from_gets}
@@ -57,16 +58,17 @@ ordered-leased id (e ∷ es) h = elim (is_leased id (Some e.1)) as (λ b. IsStri
   | false ↦ ordered-leased id es h.1
 ]
 
-kept_leased : (id : ℤ) (o : Option Kv) → option_filter (λ kv. is_leased id (Some kv)) o ≡ cond (is_leased id o) o None
+kept_leased : (id : ℤ) (o : Option Kv) → option_filter (λ kv. is_leased id (Some kv)) o ≡ with_lease id o
 kept_leased id None = refl
 kept_leased id (Some kv) = refl
 
+-- keys that show all that have the lease as they are now
 pub keys-leased : (s : Store) (id : ℤ) (es : List (Bytes × Kv)) → IsStrictlySortedBy (slice_cmp nat_cmp) (keys_of es) →
-    ((q : Bytes) → lookup (is_at (slice_cmp nat_cmp q)) es ≡ get (present s) q) → keys_of (leased_among id es) ≡ leased_keys s id
+    ((q : Bytes) → with_lease id (lookup (is_at (slice_cmp nat_cmp q)) es) ≡ with_lease id (get (present s) q)) → keys_of (leased_among id es) ≡ leased_keys s id
 keys-leased s id es ordered gets =
     ap keys_of (entries_from_gets nat_list_cmp_total exact_bytes (retain_keys (present s) (λ k. is_leased id (get (present s) k))) (leased_among id es) (ordered-leased id es ordered) (λ q.
     lookup-filter-values (eq_by_cmp_equiv nat_list_cmp_total) (λ kv. is_leased id (Some kv)) q es (IsDistinct-from_sorted (slice_cmp nat_cmp) (keys_of es) ordered)
-    ∙ ap (option_filter (λ kv. is_leased id (Some kv))) (gets q) ∙ kept_leased id (get (present s) q)
+    ∙ kept_leased id (lookup (is_at (slice_cmp nat_cmp q)) es) ∙ gets q
     ∙ sym (get-retain (present s) (λ k. is_leased id (get (present s) k)) q)))
 
 puts-removals : (ks : List Bytes) → put_keys (removals ks) ≡ []

@@ -1,11 +1,10 @@
 -- A range of the index: the keys that it reads are those of the range.
-use Rattle.std.proofs.Common.{rules, ◌≡◌, ℕ, zero, suc, ◌+◌, ◌<◌, length, get_or, Bool, true, false, not, ◌&&◌, ◌||◌, cond, List, [], ◌∷◌, Option, Some, None, refl, sym, ap, ◌∙◌, subst, arith}
+use Rattle.std.proofs.Common.{rules, ◌≡◌, ℕ, get_or, Bool, true, false, not, ◌&&◌, ◌||◌, cond, List, [], ◌∷◌, Option, Some, None, refl, sym, ap, ◌∙◌, subst}
 use Rattle.std.specs.Prelude.{IsTrue}
 use Rattle.std.specs.Option.{unwrap_or, option_or}
 use Rattle.std.specs.List.{All, AllByRecursion, filter}
 use Rattle.std.specs.List.Sorted.{IsStrictlySortedBy}
 use Rattle.std.specs.Map.{lookup, keys_of}
-use Rattle.std.specs.BTreeMap as tree
 use Rattle.std.specs.BTreeMap.{BTreeMap, is_at}
 use Rattle.std.specs.BTreeMap.Range.{range_contains, entries_between, IsEntryInRange}
 use Rattle.std.specs.BTreeMap.Comparable.{le_lt_trans}
@@ -14,17 +13,15 @@ use Rattle.std.specs.declared.cmp.Ordering.TheVariants.{Less, Equal, Greater}
 use Rattle.std.specs.declared.ops.Bound.{Bound}
 use Rattle.std.specs.declared.ops.Bound.TheVariants.{Included, Excluded, Unbounded}
 use Rattle.std.specs.Ordering.{nat_cmp, is_lt, is_le, is_eq, ordering_reverse}
-use Rattle.std.specs.Cmp.{IsTotalOrder}
 use Rattle.std.specs.Cmp.Lexicographic.{slice_cmp, nat_list_cmp_total}
 use Rattle.std.proofs.lemmas.Map.Entries.{lookup-filter-keys}
 use Rattle.zx_base.specs.Maps.{Bytes, same}
-use Rattle.zx_base.proofs.MapLaws.{same-true, same-refl, apart-from_same}
+use Rattle.zx_base.proofs.MapLaws.{same-true, apart-from_same}
 use Rattle.ev_types.proofs.Names.{names-tie}
 use Rattle.ev_types.specs.declared.answer.Kv.{Kv}
-use Rattle.ev_types.specs.declared.ask.RangeReq.{RangeReq}
 use Rattle.ev_types.specs.Ranges.{is_within, is_below, comes_before}
 use Rattle.ev_store.specs.declared.versions.Version.{Version}
-use Rattle.ev_store.specs.Versions.{state_at, versions_of, taken, all_taken, within_at, AreInOrder}
+use Rattle.ev_store.specs.Versions.{state_at, versions_of, all_taken, AreInOrder}
 
 same-flip : (p q : Bytes) → same p q ≡ same q p
 same-flip p q = go (same p q) (same q p) refl refl
@@ -57,19 +54,20 @@ taken-is r q (e ∷ es) h = go (same e.0 q) refl (taken-is r q es h.1)
   where
     found : (b : Bool) → same e.0 q ≡ b → lookup (is_at (slice_cmp nat_cmp q)) (e ∷ es) ≡ cond b (Some e.1) (lookup (is_at (slice_cmp nat_cmp q)) es)
     found b is = ap (λ t. cond t (Some e.1) (lookup (is_at (slice_cmp nat_cmp q)) es)) (names-tie q e.0 ∙ same-flip q e.0 ∙ is)
+
     go : (b : Bool) → same e.0 q ≡ b → all_taken r q None es ≡ state_at q r (unwrap_or (lookup (is_at (slice_cmp nat_cmp q)) es) []) →
         all_taken r q None (e ∷ es) ≡ state_at q r (unwrap_or (lookup (is_at (slice_cmp nat_cmp q)) (e ∷ es)) [])
     go true is rest =
-      let eq : e.0 ≡ q = same-true e.0 q is in
-      ap (λ b. all_taken r q (cond b (option_or (state_at e.0 r e.1) None) None) es) is
-      ∙ absent r q (option_or (state_at e.0 r e.1) None) es (subst (λ (x : Bytes). AllByRecursion (λ y. slice_cmp nat_cmp x y ≡ Less) (keys_of es)) eq h.0)
-      ∙ or-none (state_at e.0 r e.1)
-      ∙ ap (λ (x : Bytes). state_at x r e.1) eq
-      ∙ ap (λ o. state_at q r (unwrap_or o [])) (sym (found true is))
+        let eq : e.0 ≡ q = same-true e.0 q is in
+        ap (λ b. all_taken r q (cond b (option_or (state_at e.0 r e.1) None) None) es) is
+        ∙ absent r q (option_or (state_at e.0 r e.1) None) es (subst (λ (x : Bytes). AllByRecursion (λ y. slice_cmp nat_cmp x y ≡ Less) (keys_of es)) eq h.0)
+        ∙ or-none (state_at e.0 r e.1)
+        ∙ ap (λ (x : Bytes). state_at x r e.1) eq
+        ∙ ap (λ o. state_at q r (unwrap_or o [])) (sym (found true is))
     go false is rest =
-      ap (λ b. all_taken r q (cond b (option_or (state_at e.0 r e.1) None) None) es) is
-      ∙ rest
-      ∙ ap (λ o. state_at q r (unwrap_or o [])) (sym (found false is))
+        ap (λ b. all_taken r q (cond b (option_or (state_at e.0 r e.1) None) None) es) is
+        ∙ rest
+        ∙ ap (λ o. state_at q r (unwrap_or o [])) (sym (found false is))
 
 -- ---- the part of the index between two bounds
 
@@ -167,9 +165,9 @@ within-none from end q e f empty =
     go true b x y = refl
     go false false x y = refl
     go false true x y =
-      let le : is_le (slice_cmp nat_cmp from q) ≡ true = not-before from q ∙ ap not x in
-      let lt : slice_cmp nat_cmp from end ≡ Less = le_lt_trans nat_list_cmp_total from q end (truly _ le) (less-from _ y) in
-      sym (ap is_lt lt) ∙ empty
+        let le : is_le (slice_cmp nat_cmp from q) ≡ true = not-before from q ∙ ap not x in
+        let lt : slice_cmp nat_cmp from end ≡ Less = le_lt_trans nat_list_cmp_total from q end (truly _ le) (less-from _ y) in
+        sym (ap is_lt lt) ∙ empty
 
 -- ---- one key
 

@@ -6,4 +6,5 @@ pub mod Codes
 pub mod Compaction
 pub mod Events
 pub mod Folds
+pub mod Leased
 pub mod Versions

@@ -1,6 +1,6 @@
 -- A key's versions, as the index has them: what each change left of the key, in the order of the revisions. No public contract
 -- names these words.
-use Rattle.std.specs.Prelude.{Bool, ℕ, ◌≤◌, ◌<◌, ℤ, pos, true, false, ◌≡◌, ◌+◌, nat_le, length, List, [], ◌∷◌, ◌++◌, take, slice_get, if◌then◌else◌, Option, Some, None}
+use Rattle.std.specs.Prelude.{Bool, ℕ, ◌≤◌, ℤ, pos, true, false, ◌≡◌, ◌+◌, nat_le, List, [], ◌∷◌, ◌++◌, take, slice_get, if◌then◌else◌, Option, Some, None}
 use Rattle.std.specs.List.{filter}
 use Rattle.std.specs.List.Sorted.{IsNonDecreasingBy}
 use Rattle.std.specs.Option.{unwrap_or, option_or}

@@ -1,12 +1,13 @@
 //! What a revision did to one key.
 
+use crate::shared::Shared;
 use std::marker::Model;
 use zx_base::Bytes;
 
 /// What a put wrote.
 #[derive(Drop)]
 pub struct Content {
-    pub value: Bytes,
+    pub value: Shared,
     /// The lease that the key then has, or 0.
     pub lease: i64,
 }

@@ -1,34 +1,29 @@
 //! The puts of the revisions above a given one.
 
-ghost use Rattle.std.specs.Prelude.{◌≡◌, ◌≤◌, ◌<◌, ◌+◌, ◌++◌, ◌^◌, pos, true, nat_abs, length, take, drop, IfOk, IfErr, OnOk, None, Option};
-ghost use Rattle.std.specs.BTreeMap as tree;
+ghost use Rattle.std.specs.Prelude.{◌≡◌, ◌≤◌, ◌<◌, ◌+◌, ◌++◌, ◌^◌, true, nat_abs, length, take, drop, IfOk, IfErr, OnOk, None, Option};
 ghost use Rattle.std.specs.FinMap.{empty};
 ghost use Rattle.std.specs.List.{list_all};
 ghost use Rattle.std.specs.Option.{option_to_list};
-ghost use Rattle.std.specs.Ordering.{nat_cmp};
-ghost use Rattle.std.specs.Cmp.Lexicographic.{slice_cmp};
-ghost use Rattle.ev_types.specs.Ranges.{is_within};
 ghost use Rattle.ev_types.specs.Store as etcd;
 ghost use Rattle.ev_store.specs.declared.fault.Denied.{Denied as Denial};
 ghost use Rattle.ev_store.specs.Changes.{key_of, puts_once};
 ghost use Rattle.ev_store.specs.Events.{puts_from, puts_above};
 ghost use Rattle.ev_store.specs.FirstDenial.{events_denial, Names};
-ghost use Rattle.ev_store.specs.Folds.{key_after_change, key_after_changes, put_after, puts_after_changes, puts_after_revisions, within_changes};
-ghost use Rattle.zx_base.specs.Maps.{Bytes as ByteList};
+ghost use Rattle.ev_store.specs.Folds.{key_after_changes, key_after_revisions, put_after, puts_after_changes, puts_after_revisions};
 
 use crate::change::Change;
 use crate::fault::{Denied, StoreFault};
-use crate::key::{Found, after_put};
-use crate::chronicle::History;
-use crate::range::{Held, all_keys, hold};
+use crate::history::History;
+use crate::key::{Found, after_changes, after_put};
 use crate::store::Store;
-use ev_types::{Kv, Name, RangeReq};
+use ev_types::Kv;
 use std::alloc::Global;
 use zx_base::{Memory, Seq};
 
 impl Store {
     /// The first `n` puts of the revisions above `rev`, in order, each with its key as it is after that put. Denied as
-    /// `Compacted` where `rev` is below the greatest revision that was compacted. Reads all revisions up to the last put given.
+    /// `Compacted` where `rev` is below the greatest revision that was compacted. Reads the revisions above `rev` up to the
+    /// last put given, and looks up the key of each put.
     pub fn events_since(&self, rev: i64, n: usize) -> Result<Seq<Kv>, StoreFault>
         ensures events { IfOk result (λ kvs. kvs ≡ take n (puts_above self.now (nat_abs rev))) }
         ensures kept { OnOk result (events_denial self.now rev ≡ None) }
@@ -67,70 +62,78 @@ fn puts(alloc: Global, history: &History, before: usize, most: usize) -> Result<
     requires once { list_all puts_once history.now ≡ true }
     ensures { IfOk result (λ kvs. kvs ≡ take most (puts_from (before + 1) (etcd.keys_from 1 empty (take before history.now)) (drop before history.now))) }
 {
-    let all = all_keys(alloc)?;
-    let mut held = history.held(alloc, &all, before)?;
     let mut puts = Seq::new(alloc);
-    push_puts_of_all(alloc, &mut puts, most, &mut held, &all, before, &history.revisions()[before..])?;
+    push_puts_of_all(alloc, &mut puts, most, history, before)?;
     Ok(puts)
 }
 
-/// Adds the puts of these revisions, up to `most` in all. `before` is the number of revisions before them.
-fn push_puts_of_all<'a>(
+/// Adds the puts of the revisions after the first `before`, up to `most` in all.
+fn push_puts_of_all(
     alloc: Global,
     puts: &mut Seq<Kv>,
     most: usize,
-    held: &mut Held<'a>,
-    all: &RangeReq,
+    history: &History,
     before: usize,
-    revisions: &'a [Seq<Change>],
 ) -> Result<(), Memory>
-    requires all { (k : ByteList) → is_within all.now.key all.now.end k ≡ true }
     requires few { length puts.old ≤ most }
-    requires short { before + length revisions.now < 2 ^ 62 }
-    ensures { OnOk result (puts.new ≡ take most (puts.old ++ puts_after_revisions (before + 1) (λ q. tree.get (slice_cmp nat_cmp) held.old q) revisions.now)) }
+    requires within { before ≤ length history.now }
+    ensures { OnOk result (puts.new ≡ take most (puts.old ++ puts_after_revisions (before + 1) (λ q. key_after_revisions 1 q Option.None (take before history.now)) (drop before history.now))) }
 {
-    for (index, changes) in revisions.iter().enumerate() {
+    let revisions = history.revisions();
+    for index in before..revisions.len() {
         if puts.len() == most {
             return Ok(());
         }
-        let revision = (before + index) as i64 + 1;
-        push_puts(alloc, puts, most, held, all, revision, changes.as_slice())?;
+        push_puts(
+            alloc,
+            puts,
+            most,
+            history,
+            index,
+            index as i64 + 1,
+            revisions[index].as_slice(),
+        )?;
     }
     Ok(())
 }
 
-/// Adds the puts of one revision, up to `most` in all, and takes its changes into what is held.
-fn push_puts<'a>(
+/// Adds the puts of one revision, up to `most` in all. `before` is the number of revisions before it.
+fn push_puts(
     alloc: Global,
     puts: &mut Seq<Kv>,
     most: usize,
-    held: &mut Held<'a>,
-    all: &RangeReq,
+    history: &History,
+    before: usize,
     revision: i64,
-    changes: &'a [Change],
+    changes: &[Change],
 ) -> Result<(), Memory>
-    requires all { (k : ByteList) → is_within all.now.key all.now.end k ≡ true }
     requires few { length puts.old ≤ most }
-    ensures held { OnOk result ((q : ByteList) → tree.get (slice_cmp nat_cmp) held.new q ≡ key_after_changes revision q (tree.get (slice_cmp nat_cmp) held.old q) changes.now) }
-    ensures puts { OnOk result (puts.new ≡ take most (puts.old ++ puts_after_changes revision (λ q. tree.get (slice_cmp nat_cmp) held.old q) changes.now)) }
+    requires within { before ≤ length history.now }
+    ensures few { OnOk result (length puts.new ≤ most) }
+    ensures puts { OnOk result (puts.new ≡ take most (puts.old ++ puts_after_changes revision (λ q. key_after_revisions 1 q Option.None (take before history.now)) changes.now)) }
 {
-    for change in changes {
-        let found = put_by(revision, held, change);
+    for (index, change) in changes.iter().enumerate() {
+        let found = put_by(history, before, revision, &changes[..index], change);
         push_first(alloc, puts, most, found)?;
-        hold(held, all, revision, change)?;
     }
     Ok(())
 }
 
-/// The key as a change of this revision puts it; `None` for a removal.
-fn put_by<'a>(revision: i64, held: &Held<'a>, change: &'a Change) -> Option<Found<'a>>
-    ensures { result ≡ put_after revision (tree.get (slice_cmp nat_cmp) held.now (key_of change.now)) change.now }
+/// The key as a change of this revision puts it, after the earlier ones of the revision; `None` for a removal.
+fn put_by<'a>(
+    history: &'a History,
+    before: usize,
+    revision: i64,
+    earlier: &'a [Change],
+    change: &'a Change,
+) -> Option<Found<'a>>
+    requires { before ≤ length history.now }
+    ensures { result ≡ put_after revision (key_after_changes revision (key_of change.now) (key_after_revisions 1 (key_of change.now) Option.None (take before history.now)) earlier.now) change.now }
 {
     let content = change.content.as_ref()?;
-    let name = Name {
-        bytes: change.key.as_slice(),
-    };
-    Some(after_put(revision, held.get(&name), &change.key, content))
+    let found = history.find(&change.key, before);
+    let found = after_changes(revision, found, earlier, change.key.as_slice());
+    Some(after_put(revision, found.as_ref(), &change.key, content))
 }
 
 /// Adds a put while there are fewer than the most.

@@ -1,4 +1,4 @@
-//! One key as the changes leave it, found by reading all of them.
+//! One key as the changes leave it.
 
 ghost use Rattle.std.specs.Prelude.{◌≡◌, ◌<◌, ◌+◌, ◌^◌, length, IfOk, Option};
 ghost use Rattle.std.specs.Option.{option_copied};
@@ -7,17 +7,18 @@ ghost use Rattle.ev_store.specs.Folds.{kv_after_put, key_after_change, key_after
 ghost use Rattle.ev_store.specs.Versions.{kept_kv};
 
 use crate::change::{Change, Content};
+use crate::shared::Shared;
 use crate::versions::Kept;
 use ev_types::Kv;
 use std::alloc::Global;
 use std::marker::Model;
 use zx_base::{Bytes, Memory, Seq};
 
-/// A key that is there. Its bytes are borrowed from the change that put it.
+/// A key that is there. Its bytes are borrowed from the change that put it or from the index.
 #[derive(Drop)]
 pub struct Found<'a> {
     key: &'a Bytes,
-    value: &'a Bytes,
+    value: &'a Shared,
     create_revision: i64,
     mod_revision: i64,
     version: i64,
@@ -54,12 +55,12 @@ impl<'a> Found<'a> {
         }
     }
 
-    /// A copy to keep, without the key.
-    pub fn kept(&self, alloc: Global) -> Result<Kept, Memory>
+    /// What is to be kept of it, without the key. The value gets one more owner, and is not copied.
+    pub fn kept(&self) -> Result<Kept, Memory>
         ensures { IfOk result (λ k. kept_kv self.now.key k ≡ self.now) }
     {
         Ok(Kept {
-            value: Bytes::copy_of(alloc, self.value.as_slice())?,
+            value: self.value.another()?,
             create_revision: self.create_revision,
             mod_revision: self.mod_revision,
             version: self.version,

@@ -23,7 +23,8 @@ use zx_base::{Memory, Seq};
 
 impl Store {
     /// Takes a lease away with all its keys, at one revision, or at none where it has no keys. Gives the store's revision after
-    /// that. Denied as `NoLease` where it is not there, and as `Full` where it has keys and no revision is left.
+    /// that. Denied as `NoLease` where it is not there, and as `Full` where it has keys and no revision is left. Takes time in
+    /// proportion to the puts that named the lease, times the logarithm of the number of keys.
     pub fn lapse(&mut self, id: i64) -> Result<i64, StoreFault>
         ensures lapses { OnOk result (lapses.lapse self.old id ≡ Some self.new) }
         ensures revision { IfOk result (λ r. r ≡ etcd.revision self.new) }
@@ -58,13 +59,12 @@ impl Store {
     {
         let alloc = self.alloc();
         let all = all_keys(alloc)?;
-        let history = self.history();
-        let held = history.held(alloc, &all, history.revisions().len())?;
+        let held = self.history().leased(alloc, id, &all)?;
         removals(alloc, &held, id)
     }
 
     /// Puts a key without a lease, as another user of the etcd might. Gives the store's revision after that. Denied as `Full`
-    /// where no revision is left.
+    /// where no revision is left. Costs what a put costs.
     pub fn foreign(&mut self, key: &[u8], value: &[u8]) -> Result<i64, StoreFault>
         ensures puts { OnOk result (lapses.foreign self.old key.now value.now ≡ Some self.new) }
         ensures revision { IfOk result (λ r. r ≡ etcd.revision self.new) }

@@ -12,6 +12,7 @@ ghost use Rattle.ev_store.specs.Changes.{puts_once};
 use crate::change::{Change, Content};
 use crate::key::{Found, after_changes};
 use crate::range::look;
+use crate::shared::Shared;
 use crate::store::Store;
 use ev_types::{Act, ActAns, Guard, RangeAns, RangeReq};
 use std::alloc::Global;
@@ -61,7 +62,13 @@ impl Store {
         if is_present(range.revision) {
             look(self.alloc(), history, all, changes, range)
         } else {
-            look(self.alloc(), history, first(all, range.revision), &[], range)
+            look(
+                self.alloc(),
+                history,
+                first(all, range.revision),
+                &[],
+                range,
+            )
         }
     }
 
@@ -137,11 +144,11 @@ fn first(all: usize, revision: i64) -> usize
     count.min(all)
 }
 
-/// The change that puts a key; lease 0 is none. Copies the key and the value.
+/// The change that puts a key; lease 0 is none. Copies the key, and the value once.
 pub(crate) fn put(alloc: Global, key: &[u8], value: &[u8], lease: i64) -> Result<Change, Memory>
     ensures { IfOk result (λ c. c ≡ etcd.Puts key.now value.now lease) }
 {
-    let value = Bytes::copy_of(alloc, value)?;
+    let value = Shared::copy_of(alloc, value)?;
     Ok(Change {
         key: Bytes::copy_of(alloc, key)?,
         content: Some(Content { value, lease }),

@@ -14,7 +14,7 @@ ghost use Rattle.ev_store.specs.Folds.{within_change, within_changes, within_rev
 ghost use Rattle.zx_base.specs.Maps.{Bytes as ByteList};
 
 use crate::change::Change;
-use crate::chronicle::History;
+use crate::history::History;
 use crate::key::{Found, after_put};
 use ev_types::{Kv, Name, RangeAns, RangeReq};
 use std::alloc::Global;
@@ -59,7 +59,7 @@ pub fn all_keys(alloc: Global) -> Result<RangeReq, Memory>
 }
 
 /// Takes one change into what is held of the range.
-pub fn hold<'a>(
+fn hold<'a>(
     held: &mut Held<'a>,
     range: &RangeReq,
     revision: i64,
@@ -112,7 +112,12 @@ pub fn held_after<'a>(
 {
     let mut held = held;
     for (index, changes) in revisions.iter().enumerate() {
-        hold_changes(&mut held, range, (before + index) as i64 + 1, changes.as_slice())?;
+        hold_changes(
+            &mut held,
+            range,
+            (before + index) as i64 + 1,
+            changes.as_slice(),
+        )?;
     }
     Ok(held)
 }

@@ -14,7 +14,7 @@ ghost use Rattle.ev_store.specs.Numbers.{HasNumbers};
 
 use crate::change::Change;
 use crate::fault::{Denied, StoreFault};
-use crate::chronicle::History;
+use crate::history::History;
 use crate::leases::Leases;
 use ev_types::{Answer, Ask, RangeReq};
 use std::alloc::Global;

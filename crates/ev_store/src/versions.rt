@@ -8,14 +8,15 @@ ghost use Rattle.zx_base.specs.Maps.{Bytes as ByteList, same};
 
 use crate::change::Change;
 use crate::key::{Found, after_change};
+use crate::shared::Shared;
 use std::alloc::Global;
 use std::collections::BTreeMap;
 use zx_base::{Bytes, Memory, Seq};
 
-/// A key's content as a put left it, without the key.
+/// What a put left of a key, without the key. The value is that of the put's change.
 #[derive(Drop)]
 pub struct Kept {
-    pub value: Bytes,
+    pub value: Shared,
     pub create_revision: i64,
     pub mod_revision: i64,
     pub version: i64,
@@ -81,7 +82,6 @@ fn find_last<'a>(versions: &'a Versions, key: &'a Bytes) -> Option<Found<'a>>
 
 /// The version that a change of this revision makes.
 fn next_version(
-    alloc: Global,
     versions: &Versions,
     revision: usize,
     number: i64,
@@ -92,7 +92,7 @@ fn next_version(
 {
     let before = find_last(versions, &change.key);
     let content = match after_change(number, before, change, change.key.as_slice()) {
-        Some(found) => Some(found.kept(alloc)?),
+        Some(found) => Some(found.kept()?),
         None => None,
     };
     Ok(Version { revision, content })
@@ -129,6 +129,6 @@ pub fn add_change(
     ensures ok { OnOk result ((q : ByteList) → AddsChange revision number change.now q (versions_of versions.old q) (versions_of versions.new q)) }
     ensures err { OnErr result ((q : ByteList) → versions_of versions.new q ≡ versions_of versions.old q) }
 {
-    let version = next_version(alloc, versions, revision, number, change)?;
+    let version = next_version(versions, revision, number, change)?;
     add_version(alloc, versions, &change.key, version)
 }

@@ -81,7 +81,7 @@ fn hold_all<'a>(
 }
 
 /// Takes a key into what is held, where it is there at this revision.
-fn hold_at<'a>(
+pub fn hold_at<'a>(
     held: &mut Held<'a>,
     key: &'a Bytes,
     versions: &'a Seq<Version>,
@@ -91,7 +91,12 @@ fn hold_at<'a>(
     ensures { OnOk result ((q : ByteList) → tree.get (slice_cmp nat_cmp) held.new q ≡ taken revision key.now versions.now q (tree.get (slice_cmp nat_cmp) held.old q)) }
 {
     if let Some(found) = shown_at(key, versions.as_slice(), revision) {
-        held.insert(Name { bytes: key.as_slice() }, found)?;
+        held.insert(
+            Name {
+                bytes: key.as_slice(),
+            },
+            found,
+        )?;
     }
     Ok(())
 }

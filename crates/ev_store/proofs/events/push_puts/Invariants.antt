@@ -1,14 +1,9 @@
-use Rattle.std.proofs.Common.{◌≡◌, ◌≤◌, ◌++◌, length, take, drop}
-use Rattle.std.specs.BTreeMap as tree
-use Rattle.std.specs.Ordering.{nat_cmp}
-use Rattle.std.specs.Cmp.Lexicographic.{slice_cmp}
-use Rattle.zx_base.specs.Maps.{Bytes}
-use Rattle.ev_store.specs.Folds.{key_after_changes, puts_after_changes}
+use Rattle.std.proofs.Common.{◌≡◌, ◌≤◌, ◌++◌, length, take, drop, None}
+use Rattle.ev_store.specs.Folds.{key_after_changes, key_after_revisions, puts_after_changes}
 use Rattle.ev_store.proofs.events.push_puts.Given as goal
 
-abbrev pub invariant-loop-change : goal.invariant-loop-change
-invariant-loop-change l = record {
+abbrev pub invariant-loop-index : goal.invariant-loop-index
+invariant-loop-index l = record {
   few : length l.puts ≤ l.most;
-  held : (q : Bytes) → key_after_changes l.revision q (tree.get (slice_cmp nat_cmp) l.held q) (drop l.change-index l.changes) ≡ key_after_changes l.revision q (tree.get (slice_cmp nat_cmp) l.fn.held q) l.changes;
-  puts : take l.most (l.puts ++ puts_after_changes l.revision (tree.get (slice_cmp nat_cmp) l.held) (drop l.change-index l.changes)) ≡ take l.most (l.fn.puts ++ puts_after_changes l.revision (tree.get (slice_cmp nat_cmp) l.fn.held) l.changes);
+  puts : take l.most (l.puts ++ puts_after_changes l.revision (λ q. key_after_changes l.revision q (key_after_revisions 1 q None (take l.before l.history)) (take l.index l.changes)) (drop l.index l.changes)) ≡ take l.most (l.fn.puts ++ puts_after_changes l.revision (λ q. key_after_revisions 1 q None (take l.before l.history)) l.changes);
 }

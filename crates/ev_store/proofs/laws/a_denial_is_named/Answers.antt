@@ -1,6 +1,6 @@
 use Rattle.ev_store.proofs.Denying.{named-denied}
 use Rattle.ev_store.proofs.Lapsing.{lapse-named, foreign-named}
-use Rattle.ev_store.proofs.History.{compact-named}
+use Rattle.ev_store.proofs.Past.{compact-named}
 use Rattle.ev_store.proofs.laws.a_denial_is_named.Goals as goal
 
 pub returns-clause-asks : goal.returns-clause-asks

@@ -1,4 +1,4 @@
-use Rattle.ev_store.proofs.History.{carry-earlier}
+use Rattle.ev_store.proofs.Past.{carry-earlier}
 use Rattle.ev_store.proofs.laws.asks_keep_the_past.Goals as goal
 
 pub returns : goal.returns

@@ -1,4 +1,4 @@
-use Rattle.ev_store.proofs.History.{compact-floor, compact-least, compact-rises, compact-keys, compact-reads}
+use Rattle.ev_store.proofs.Past.{compact-floor, compact-least, compact-rises, compact-keys, compact-reads}
 use Rattle.ev_store.proofs.laws.compaction_keeps_reads.Goals as goal
 
 pub returns-clause-floor : goal.returns-clause-floor

@@ -1,4 +1,4 @@
-use Rattle.ev_store.proofs.History.{puts_above-next, puts_in-puts, puts_in-revision, puts-shown}
+use Rattle.ev_store.proofs.Past.{puts_above-next, puts_in-puts, puts_in-revision, puts-shown}
 use Rattle.ev_store.proofs.Putting.{puts_above-none}
 use Rattle.ev_store.proofs.laws.puts_follow_the_revisions.Goals as goal
 

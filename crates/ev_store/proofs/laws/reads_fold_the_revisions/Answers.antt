@@ -1,4 +1,4 @@
-use Rattle.ev_store.proofs.History.{store_at-none, store_at-next, store_at-last, read-present, read-named}
+use Rattle.ev_store.proofs.Past.{store_at-none, store_at-next, store_at-last, read-present, read-named}
 use Rattle.ev_store.proofs.laws.reads_fold_the_revisions.Goals as goal
 
 pub returns-clause-none : goal.returns-clause-none

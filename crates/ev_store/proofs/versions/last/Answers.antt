@@ -1,4 +1,4 @@
-use Rattle.std.proofs.Common.{◌≡◌, sym, ◌∙◌}
+use Rattle.std.proofs.Common.{sym, ◌∙◌}
 use Rattle.ev_store.proofs.Index.{last_state-is}
 use Rattle.ev_store.proofs.versions.last.Goals as goal
 

@@ -1,11 +1,11 @@
-use Rattle.std.proofs.Common.{◌≡◌, [], ◌∷◌, Bool, true, false, not, cond, None, sym, ap, ◌∙◌, arith}
+use Rattle.std.proofs.Common.{◌≡◌, [], ◌∷◌, true, false, cond, None, sym, ap, ◌∙◌, arith}
 use Rattle.std.specs.BTreeMap as tree
 use Rattle.std.specs.Ordering.{nat_cmp, is_lt}
 use Rattle.std.specs.Cmp.Lexicographic.{slice_cmp}
 use Rattle.std.specs.declared.ops.Bound.TheVariants.{Included, Excluded, Unbounded}
 use Rattle.std.proofs.lemmas.Result.{IfOk-weaker}
 use Rattle.std.proofs.lemmas.Grind.{common_steps}
-use Rattle.zx_base.specs.Maps.{Bytes, same}
+use Rattle.zx_base.specs.Maps.{same}
 use Rattle.ev_store.specs.Versions.{state_at, versions_of}
 use Rattle.ev_store.proofs.Ranging.{between-is, in_order-within, within-one, within-open, within-closed, within-none}
 use Rattle.ev_store.proofs.within.held_at.Goals as goal
@@ -27,8 +27,8 @@ returns-then-is-2 c =
     let many : same q0.end [] ≡ false = sym c.is.ensures ∙ c.if-is.false in
     let open_end : same q0.end (0 ∷ []) ≡ true = sym c.is-2.ensures ∙ c.if-is-2.true in
     IfOk-weaker c.hold_all.result _ _ (λ held h q.
-        h q ∙ between-is c.args.revision q (Included q0.key) Unbounded m c.range-from.result (c.range-from.ensures.between tt) c.len.ensures.ordered
-        ∙ ap (λ b. cond b (state_at q c.args.revision (versions_of m q)) None) (within-open q0.key q0.end q many open_end))
+    h q ∙ between-is c.args.revision q (Included q0.key) Unbounded m c.range-from.result (c.range-from.ensures.between tt) c.len.ensures.ordered
+    ∙ ap (λ b. cond b (state_at q c.args.revision (versions_of m q)) None) (within-open q0.key q0.end q many open_end))
     c.hold_all.ensures
 
 pub returns-then-not-is_lt : goal.returns-then-not-is_lt
@@ -52,6 +52,6 @@ returns c =
     let many : same q0.end [] ≡ false = sym c.is.ensures ∙ c.if-is.false in
     let closed : same q0.end (0 ∷ []) ≡ false = sym c.is-2.ensures ∙ c.if-is-2.false in
     IfOk-weaker c.hold_all-2.result _ _ (λ held h q.
-        h q ∙ between-is c.args.revision q (Included q0.key) (Excluded q0.end) m c.range-between.result (c.range-between.ensures.between tt) c.len.ensures.ordered
-        ∙ ap (λ b. cond b (state_at q c.args.revision (versions_of m q)) None) (within-closed q0.key q0.end q many closed))
+    h q ∙ between-is c.args.revision q (Included q0.key) (Excluded q0.end) m c.range-between.result (c.range-between.ensures.between tt) c.len.ensures.ordered
+    ∙ ap (λ b. cond b (state_at q c.args.revision (versions_of m q)) None) (within-closed q0.key q0.end q many closed))
     c.hold_all-2.ensures

@@ -1,10 +1,10 @@
-use Rattle.std.proofs.Common.{◌≡◌, ◌+◌, ◌≤◌, length, Some, refl, sym, ap, ◌∙◌, arith}
+use Rattle.std.proofs.Common.{◌≡◌, ◌≤◌, length, Some, refl, sym, ap, ◌∙◌, arith}
 use Rattle.std.specs.Prelude.{slice_get}
 use Rattle.std.proofs.lemmas.Option.{slice_get_within}
 use Rattle.std.proofs.lemmas.Option.{slice_get_read}
 use Rattle.ev_store.specs.Versions.{versions_of}
 use Rattle.ev_store.proofs.Index.{stands-end}
-use Rattle.ev_store.proofs.chronicle.History.end_revision.Goals as goal
+use Rattle.ev_store.proofs.history.History.end_revision.Goals as goal
 
 pub invariant_of-self : goal.invariant_of-self
 invariant_of-self c =
@@ -17,4 +17,5 @@ invariant_of-self c =
       omega (arith, within),
       omega arith,
       λ q. stands-end css s.indexed s.begun c.in-Some.changes.now q (versions_of s.versions q) there past (c.self.invariant.3 q),
+      c.self.invariant.4,
     )

@@ -1,9 +1,9 @@
-use Rattle.std.proofs.Common.{◌≡◌, ◌+◌, ◌-◌, ◌≤◌, length, take, drop, List, None, sym, ap, ◌∙◌, subst, arith}
+use Rattle.std.proofs.Common.{◌+◌, ◌-◌, ◌≤◌, length, take, drop, List, None, sym, ap, ◌∙◌, subst, arith}
 use Rattle.zx_base.specs.Maps.{Bytes}
 use Rattle.ev_types.specs.Store.{Change}
 use Rattle.ev_store.specs.Folds.{key_after_revisions}
 use Rattle.ev_store.proofs.Index.{read_on, part-is}
-use Rattle.ev_store.proofs.chronicle.History.find.Goals as goal
+use Rattle.ev_store.proofs.history.History.find.Goals as goal
 
 pub find_at-found-requires : goal.find_at-found-requires
 find_at-found-requires c = (c.self.invariant.3 c.args.key.now).in_order

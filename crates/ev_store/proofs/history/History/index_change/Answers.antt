@@ -1,10 +1,21 @@
-use Rattle.std.proofs.Common.{◌≡◌, ◌+◌, ◌<◌, ◌^◌, ℤ, pos, subst, arith, w64, to_z, Some, refl, sym, ap, ◌∙◌}
+use Rattle.std.proofs.Common.{◌≡◌, ◌+◌, ◌<◌, ◌^◌, take, ℤ, pos, subst, arith, w64, to_z, Some, refl, sym, ap, ◌∙◌}
 use Rattle.std.specs.Prelude.{slice_get}
 use Rattle.std.proofs.lemmas.Int.{to_z_pos}
 use Rattle.std.proofs.lemmas.Option.{slice_get_read, slice_get_within}
-use Rattle.ev_store.specs.Versions.{versions_of, AddsChange}
+use Rattle.ev_store.specs.Versions.{versions_of, nth_changes, AddsChange, StandFor}
+use Rattle.ev_store.proofs.Leasing.{names_leased-kept, names_leased-added}
 use Rattle.ev_store.proofs.Index.{stands-change, change-within}
-use Rattle.ev_store.proofs.chronicle.History.index_change.Goals as goal
+use Rattle.ev_store.proofs.history.History.index_change.Goals as goal
+
+pub invariant_of-self : goal.invariant_of-self
+invariant_of-self c =
+    let s = c.self.inside in (
+      c.self.invariant.0,
+      c.self.invariant.1,
+      c.self.invariant.2,
+      c.self.invariant.3,
+      names_leased-kept s.leased c.name_lease.new.leased s.versions s.versions c.name_lease.ensures.kept (λ q. refl) c.self.invariant.4,
+    )
 
 pub invariant_of-self-2 : goal.invariant_of-self-2
 invariant_of-self-2 c =
@@ -20,4 +31,15 @@ invariant_of-self-2 c =
       λ q. stands-change css s.indexed s.begun c.in-Some.changes.now c.in-Some-get.change.now q (versions_of s.versions q) (versions_of c.add_change.new.versions q) there here
           (c.self.invariant.3 q)
           (subst (λ (n : ℤ). AddsChange (s.indexed + 1) n c.in-Some-get.change.now q (versions_of s.versions q) (versions_of c.add_change.new.versions q)) number (c.in_ok-add_change.ensures.ok q)),
+      names_leased-added s.leased c.name_lease.new.leased s.versions c.add_change.new.versions _ _ _ c.name_lease.ensures.kept c.in_ok-name_lease.ensures.named c.in_ok-add_change.ensures.ok c.self.invariant.4,
+    )
+
+pub invariant_of-self-in_err-add_change : goal.invariant_of-self-in_err-add_change
+invariant_of-self-in_err-add_change c =
+    let s = c.self.inside in (
+      c.self.invariant.0,
+      c.self.invariant.1,
+      c.self.invariant.2,
+      λ q. subst (StandFor s.revisions.items s.indexed (take s.begun (nth_changes s.indexed s.revisions.items)) q) (sym (c.in_err-add_change.ensures.err q)) (c.self.invariant.3 q),
+      names_leased-kept s.leased c.name_lease.new.leased s.versions c.add_change.new.versions c.name_lease.ensures.kept c.in_err-add_change.ensures.err c.self.invariant.4,
     )

@@ -1,5 +1,5 @@
 use Rattle.std.proofs.Common.{◌≡◌}
-use Rattle.ev_store.proofs.chronicle.History.catch_up.Given as goal
+use Rattle.ev_store.proofs.history.History.catch_up.Given as goal
 
 abbrev pub invariant-loop : goal.invariant-loop
 invariant-loop l = l.self ≡ l.fn.self
