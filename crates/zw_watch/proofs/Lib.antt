@@ -1,3 +1,3 @@
 pub mod SetLaws
 pub mod SetWatches
-pub mod Firing
+pub mod Undoing

@@ -1,3 +1,4 @@
 pub mod SeenPaths
-pub mod Sets
 pub mod Armed
+pub mod Noted
+pub mod Rounds

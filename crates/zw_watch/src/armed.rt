@@ -5,18 +5,18 @@ ghost use Rattle.zk_model.specs.Watches.{no_watches, is_unarmed, fire};
 ghost use Rattle.zw_watch.specs.Armed.{armed, fired_of};
 ghost use Rattle.zw_watch.specs.SeenPaths.{see_paths, unseen, IsSetWatches};
 
-use crate::lists::PathLists;
 use crate::seen_path::SeenPath;
+use crate::sets::PathSets;
 use std::alloc::Global;
 use std::marker::Model;
 use zk_model::{Notice, Path, Trigger};
 use zx_base::Memory;
 
 /// The data watches and child watches of a connection. Contracts see two sets of paths. The watch of an `exists` is a
-/// data watch.
+/// data watch. A call takes time in proportion to the logarithm of the number of armed paths, for each path that it names.
 #[derive(Drop)]
 pub struct Armed {
-    paths: PathLists,
+    paths: PathSets,
     alloc: Global,
 }
 
@@ -38,7 +38,7 @@ impl Armed {
         ensures { result ≡ no_watches }
     {
         Armed {
-            paths: PathLists::new(alloc),
+            paths: PathSets::new(alloc),
             alloc,
         }
     }

@@ -4,16 +4,17 @@
 //! Each connection keeps an [`Armed`]. A read that asks for a watch calls [`Armed::arm`], each change of the tree
 //! [`Armed::fire`], and a setWatches [`Armed::rearm`], with what was seen at each of its paths ([`SeenPath`]).
 //!
-//! Each look-up goes through all paths that are armed. A setWatches takes time in proportion to the number of its paths times the
-//! number of paths that are armed in the end. Firing copies the path that it tells, and takes no other memory.
+//! The paths stand in two ordered sets, so a call takes time in proportion to the logarithm of the number of armed paths, and a
+//! setWatches that for each of its paths. Arming copies the path; firing copies the path that it tells, and takes no other memory.
 #![tactic(auto)]
 
 mod armed;
-mod lists;
+mod noted;
 mod notices;
 mod paths;
 mod rearm;
 mod seen_path;
+mod sets;
 
 pub use armed::Armed;
 pub use seen_path::{SeenPath, WatchList};

@@ -1,47 +1,71 @@
-//! A set of paths, kept as the list of its members.
+//! A set of paths.
 
-ghost use Rattle.std.specs.Prelude.{◌≡◌, ◌==◌, OnOk, OnErr};
-ghost use Rattle.std.specs.FinMap.{insert, len};
-ghost use Rattle.zk_model.specs.PathSets.{set_of, has};
-ghost use Rattle.zw_watch.specs.Sets.{StartsWith, others};
+ghost use Rattle.std.specs.Prelude.{◌≡◌, ◌==◌, IfOk, OnOk, OnErr};
+ghost use Rattle.std.specs.FinMap.{contains_key, empty, insert, len, remove};
 
 use std::alloc::Global;
-use zx_base::{Memory, Text};
+use std::collections::BTreeSet;
+use std::marker::Model;
+use zx_base::Memory;
 
-pub(crate) fn is_empty(paths: &[Text]) -> bool
-    ensures { result ≡ (len (set_of paths.now) == 0) }
-{
-    paths.is_empty()
+/// A finite set of paths. A call takes the logarithm of the number of paths.
+#[derive(Drop)]
+pub(crate) struct PathSet {
+    /// The bytes of each.
+    paths: BTreeSet<Vec<u8>>,
 }
 
-/// Whether a path is there. Looks at each member.
-pub(crate) fn contains(paths: &[Text], path: &[u8]) -> bool
-    ensures { result ≡ has path.now paths.now }
-{
-    for at in paths {
-        if at.is(path) {
-            return true;
+impl Model for PathSet {
+    ghost use Rattle.std.specs.Prelude.{map};
+    ghost use Rattle.zk_model.specs.Watches.{PathSet as Paths};
+    ghost use Rattle.zk_model.specs.PathSets.{coded_set, set_of};
+
+    ghost Value = { Paths };
+
+    ghost coded = { coded_set };
+
+    ghost view = { λ s. set_of (map (λ p. p.items) s.paths.keys) };
+}
+
+impl PathSet {
+    /// The empty set.
+    pub(crate) fn new(alloc: Global) -> PathSet
+        ensures { result ≡ empty }
+    {
+        PathSet {
+            paths: BTreeSet::new(alloc),
         }
     }
-    false
-}
 
-/// Adds a path at the end, unless it is there.
-pub(crate) fn add(alloc: Global, paths: &mut Vec<Text>, path: &[u8]) -> Result<(), Memory>
-    ensures ok { OnOk result (set_of paths.new.items ≡ insert (set_of paths.old.items) path.now tt) }
-    ensures err { OnErr result (paths.new.items ≡ paths.old.items) }
-    ensures front { StartsWith paths.new.items paths.old.items }
-{
-    if contains(paths, path) {
-        return Ok(());
+    pub(crate) fn is_empty(&self) -> bool
+        ensures { result ≡ (len self.now == 0) }
+    {
+        self.paths.len() == 0
     }
-    paths.push(Text::copy_of(alloc, path)?)?;
-    Ok(())
-}
 
-/// Removes a path, if it is there. Looks at each member.
-pub(crate) fn remove(paths: &mut Vec<Text>, path: &[u8])
-    ensures { paths.new.items ≡ others path.now paths.old.items }
-{
-    paths.retain(|at| !at.is(path));
+    pub(crate) fn contains(&self, path: &[u8]) -> bool
+        ensures { result ≡ contains_key self.now path.now }
+    {
+        self.paths.contains(path)
+    }
+
+    /// Puts a path into the set, and copies it where it is new. Where memory runs out, nothing changes.
+    pub(crate) fn insert(&mut self, alloc: Global, path: &[u8]) -> Result<(), Memory>
+        ensures ok { OnOk result (self.new ≡ insert self.old path.now tt) }
+        ensures err { OnErr result (self.new ≡ self.old) }
+    {
+        if self.contains(path) {
+            return Ok(());
+        }
+        self.paths.insert(Vec::from_slice(alloc, path)?)?;
+        Ok(())
+    }
+
+    /// Takes a path out of the set, and says whether it was there.
+    pub(crate) fn remove(&mut self, path: &[u8]) -> bool
+        ensures rest { self.new ≡ remove self.old path.now }
+        ensures was { result ≡ contains_key self.old path.now }
+    {
+        self.paths.remove(path)
+    }
 }

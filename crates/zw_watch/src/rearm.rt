@@ -1,13 +1,16 @@
 //! Carries out a setWatches (zookeeper.jute, `SetWatches`).
 
-ghost use Rattle.std.specs.Prelude.{◌≡◌, IfOk, OnOk, OnErr};
+ghost use Rattle.std.specs.Prelude.{◌≡◌, [], IfOk, OnOk, OnErr};
 ghost use Rattle.zk_model.specs.Paths.{is_path};
-ghost use Rattle.zw_watch.specs.Armed.{watches_of, StartWith, seen_of};
+ghost use Rattle.zk_model.specs.Watches.{Watches as AnyWatches};
+ghost use Rattle.zw_watch.specs.Armed.{watches_of, seen_of};
+ghost use Rattle.zw_watch.specs.Rounds.{told_of, CanUndo};
 ghost use Rattle.zw_watch.specs.SeenPaths.{if_changed, if_absent, rearming_of, with_rearming, see_at, see_paths, unseen};
 
-use crate::lists::PathLists;
+use crate::noted::Noted;
 use crate::notices::{CHANGED, CHILDREN, CREATED, DELETED, tell};
 use crate::seen_path::{SeenPath, WatchList};
+use crate::sets::PathSets;
 use std::alloc::Global;
 use zk_model::{Notice, Path, PathFault};
 use zx_base::Memory;
@@ -67,56 +70,90 @@ fn rearming_of(alloc: Global, relative: i64, seen: &SeenPath) -> Result<Rearming
     }
 }
 
-impl PathLists {
+/// What a setWatches did so far: the paths that it armed anew, and the notices that it gives.
+#[derive(Drop)]
+pub(crate) struct Round<'a> {
+    on_data: Vec<Noted<'a>>,
+    on_children: Vec<Noted<'a>>,
+    notices: Vec<Notice>,
+}
+
+impl<'a> Round<'a> {
+    /// Nothing yet.
+    fn new(alloc: Global) -> Round<'a>
+        ensures on_data { result.on_data.items ≡ [] }
+        ensures on_children { result.on_children.items ≡ [] }
+        ensures notices { result.notices.items ≡ [] }
+    {
+        Round {
+            on_data: Vec::new(alloc),
+            on_children: Vec::new(alloc),
+            notices: Vec::new(alloc),
+        }
+    }
+}
+
+impl PathSets {
     /// Adds the notice, or arms the watch.
-    fn carry_out(
+    fn carry_out<'a>(
         &mut self,
         alloc: Global,
         rearming: Rearming,
-        path: &[u8],
-        notices: &mut Vec<Notice>,
+        path: &'a [u8],
+        round: &mut Round<'a>,
     ) -> Result<(), Memory>
-        ensures ok { OnOk result (seen_of self.new notices.new.items ≡ with_rearming (seen_of self.old notices.old.items) path.now rearming) }
-        ensures front { StartWith self.new self.old }
+        ensures ok { OnOk result (told_of self.new round.new ≡ with_rearming (told_of self.old round.old) path.now rearming) }
+        ensures undo { (before : AnyWatches) → CanUndo self.old round.old before → CanUndo self.new round.new before }
     {
         match rearming {
-            Rearming::Tells(kind) => tell(alloc, kind, path, notices),
-            Rearming::ArmsData => self.arm(alloc, path, false),
-            Rearming::ArmsChildren => self.arm(alloc, path, true),
+            Rearming::Tells(kind) => tell(alloc, kind, path, &mut round.notices),
+            Rearming::ArmsData => self.on_data.insert_noted(alloc, &mut round.on_data, path),
+            Rearming::ArmsChildren => {
+                self.on_children
+                    .insert_noted(alloc, &mut round.on_children, path)
+            }
             Rearming::ArmsNothing => Ok(()),
         }
     }
 
     /// One path of a setWatches.
-    fn see(
+    fn see<'a>(
         &mut self,
         alloc: Global,
         relative: i64,
-        seen: &SeenPath,
-        notices: &mut Vec<Notice>,
+        seen: &'a SeenPath,
+        round: &mut Round<'a>,
     ) -> Result<(), Memory>
-        ensures ok { OnOk result (seen_of self.new notices.new.items ≡ see_at relative (seen_of self.old notices.old.items) seen.now) }
-        ensures front { StartWith self.new self.old }
+        ensures ok { OnOk result (told_of self.new round.new ≡ see_at relative (told_of self.old round.old) seen.now) }
+        ensures undo { (before : AnyWatches) → CanUndo self.old round.old before → CanUndo self.new round.new before }
     {
         let rearming = rearming_of(alloc, relative, seen)?;
-        self.carry_out(alloc, rearming, seen.path.as_slice(), notices)
+        self.carry_out(alloc, rearming, seen.path.as_slice(), round)
     }
 
     /// Goes through the paths. Where memory runs out, those before stay armed.
-    fn see_paths(
+    fn see_paths<'a>(
         &mut self,
         alloc: Global,
         relative: i64,
-        seen: &[SeenPath],
-    ) -> Result<Vec<Notice>, Memory>
-        ensures ok { IfOk result (λ ns. seen_of self.new ns.items ≡ see_paths relative (unseen (watches_of self.old)) seen.now) }
-        ensures front { StartWith self.new self.old }
+        seen: &'a [SeenPath],
+        round: &mut Round<'a>,
+    ) -> Result<(), Memory>
+        ensures ok { OnOk result (told_of self.new round.new ≡ see_paths relative (told_of self.old round.old) seen.now) }
+        ensures undo { (before : AnyWatches) → CanUndo self.old round.old before → CanUndo self.new round.new before }
     {
-        let mut notices = Vec::new(alloc);
         for path in seen {
-            self.see(alloc, relative, path, &mut notices)?;
+            self.see(alloc, relative, path, round)?;
         }
-        Ok(notices)
+        Ok(())
+    }
+
+    /// Takes out what was armed anew.
+    fn undo(&mut self, round: &Round<'_>)
+        ensures { (before : AnyWatches) → CanUndo self.old round.now before → watches_of self.new ≡ before }
+    {
+        self.on_data.remove_all(round.on_data.as_slice());
+        self.on_children.remove_all(round.on_children.as_slice());
     }
 
     /// Goes through the paths; or changes nothing, where memory runs out.
@@ -129,14 +166,11 @@ impl PathLists {
         ensures ok { IfOk result (λ ns. seen_of self.new ns.items ≡ see_paths relative (unseen (watches_of self.old)) seen.now) }
         ensures err { OnErr result (watches_of self.new ≡ watches_of self.old) }
     {
-        let on_data = self.on_data.len();
-        let on_children = self.on_children.len();
-        match self.see_paths(alloc, relative, seen) {
-            Ok(notices) => Ok(notices),
-            Err(refused) => {
-                self.keep_first(on_data, on_children);
-                Err(refused)
-            }
+        let mut round = Round::new(alloc);
+        if let Err(refused) = self.see_paths(alloc, relative, seen, &mut round) {
+            self.undo(&round);
+            return Err(refused);
         }
+        Ok(round.notices)
     }
 }

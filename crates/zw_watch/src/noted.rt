@@ -1,0 +1,54 @@
+//! The paths that a setWatches put into a set, so that they can be taken out again.
+
+ghost use Rattle.std.specs.Prelude.{◌≡◌, IfOk, OnOk, OnErr, [], ◌∷◌, ◌++◌};
+ghost use Rattle.std.specs.FinMap.{insert};
+ghost use Rattle.zk_model.specs.Watches.{PathSet as Paths};
+ghost use Rattle.zw_watch.specs.Noted.{IsWithout};
+
+use crate::paths::PathSet;
+use std::alloc::Global;
+use std::marker::Model;
+use zx_base::Memory;
+
+/// A path, borrowed.
+#[derive(Drop)]
+pub(crate) struct Noted<'a> {
+    path: &'a [u8],
+}
+
+impl<'a> Model for Noted<'a> {
+    ghost use Rattle.std.specs.Prelude.{List, ℕ};
+
+    ghost Value = { List ℕ };
+
+    ghost view = { λ n. n.path.now };
+}
+
+impl PathSet {
+    /// Puts a path into the set, and notes it where it is new.
+    pub(crate) fn insert_noted<'a>(
+        &mut self,
+        alloc: Global,
+        noted: &mut Vec<Noted<'a>>,
+        path: &'a [u8],
+    ) -> Result<(), Memory>
+        ensures ok { OnOk result (self.new ≡ insert self.old path.now tt) }
+        ensures noted { (before : Paths) → IsWithout self.old noted.old.items before → IsWithout self.new noted.new.items before }
+    {
+        if self.contains(path) {
+            return Ok(());
+        }
+        noted.push(Noted { path })?;
+        self.insert(alloc, path)?;
+        Ok(())
+    }
+
+    /// Takes the noted paths out of the set.
+    pub(crate) fn remove_all(&mut self, noted: &[Noted<'_>])
+        ensures { (before : Paths) → IsWithout self.old noted.now before → self.new ≡ before }
+    {
+        for path in noted {
+            self.remove(path.path);
+        }
+    }
+}
