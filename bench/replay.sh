@@ -71,7 +71,7 @@ P
 }
 
 for connections in 1 16; do
-  for n in 1000 2000 4000; do
+  for n in 4000 8000 16000; do
     requests "$n" "$connections" >"$work/script"
     measure "$n requests on $connections" "$work/script" 0 65536
   done

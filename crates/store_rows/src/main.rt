@@ -9,6 +9,7 @@ mod asks;
 mod changes;
 mod keys;
 mod records;
+mod time;
 mod words;
 
 use anyhow::{Result, bail};
@@ -53,9 +54,13 @@ impl Rows for Vectors {
     }
 }
 
-/// Looks in the folder that its first argument names, and without one in `vectors`.
+/// Looks in the folder that its first argument names, and without one in `vectors`. The argument `time` measures the store.
 fn main(rt: HostRuntime) -> Result<ExitCode> {
     let folder = argument_or(&rt, "vectors")?;
+    if folder.as_str() == "time" {
+        time::run(&rt)?;
+        return Ok(ExitCode::SUCCESS);
+    }
     let mut failed = 0u64;
     for (name, kind) in FILES {
         failed = failed.saturating_add(tried(&rt, folder.as_str(), name, kind)?);
