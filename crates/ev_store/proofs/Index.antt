@@ -7,7 +7,7 @@ use Rattle.std.proofs.lemmas.Bool.{cases_order}
 use Rattle.std.proofs.lemmas.Bool.{le-leb, lt-leb}
 use Rattle.std.proofs.lemmas.List.{take_more, take_all, take-append-le, take-append-drop, drop-take}
 use Rattle.std.proofs.lemmas.List.Elements.{filter-append}
-use Rattle.std.proofs.lemmas.List.Sorted.{IsNonDecreasingBy-push, IsNonDecreasingBy-short}
+use Rattle.std.proofs.lemmas.List.Sorted.{IsNonDecreasingBy-push}
 use Rattle.std.proofs.lemmas.Option.{slice_get_within, get_or_from_slice_get, slice_get-get_or}
 use Rattle.std.specs.BTreeMap.{is_at}
 use Rattle.std.specs.Ordering.{nat_cmp}
@@ -122,15 +122,7 @@ nth_changes-at css i cs within here = ap (λ o. unwrap_or o []) (slice_get-get_o
 
 -- ---- the index, step by step
 
-pub stands-new : (q : Bytes) → StandFor ([] ∷ []) 0 [] q []
-stands-new q = record {
-  in_order = IsNonDecreasingBy-short (λ (v : Version). v.revision) [] (omega arith);
-  up_to = tt;
-  whole = λ r le. let e : r ≡ 0 = omega (arith, le) in sym (ap (λ n. key_after_revisions 1 q None (take n ([] ∷ []))) e);
-  last = refl;
-}
-
-pub stands-add : (css : List (List Change)) (i : ℕ) (cs : List Change) (c : Change) (q : Bytes) (vs ws : List Version) →
+stands-add : (css : List (List Change)) (i : ℕ) (cs : List Change) (c : Change) (q : Bytes) (vs ws : List Version) →
     StandFor css i cs q vs → AddsChange (i + 1) (pos (i + 1)) c q vs ws → StandFor css i (cs ++ c ∷ []) q ws
 stands-add css i cs c q vs ws h adds = go (same (key_of c) q) refl
   where
@@ -295,20 +287,3 @@ module _ {X : Type 0} where
         | true ↦ λ e. is ∙ ap (λ y. unwrap_or (m y) []) (same-true k q e)
         | false ↦ λ e. refl
       ] refl
-
--- ---- what a change makes of each key's versions
-
-pub adds-one : (r : ℕ) (number : ℤ) (c : Change) (q : Bytes) (vs ws : List Version) (v : Version) → v.revision ≡ r →
-    state_of (key_of c) v ≡ key_after_change number (key_of c) (last_state (key_of c) vs) c → (key_of c ≡ q → ws ≡ vs ++ v ∷ []) → (same (key_of c) q ≡ false → ws ≡ vs) →
-    AddsChange r number c q vs ws
-adds-one r number c q vs ws v is state own other = record {
-  own = λ e.
-      let eq : key_of c ≡ q = same-true (key_of c) q e in
-      record {
-        version = v;
-        added = own eq;
-        revision = is;
-        state = subst (λ (y : Bytes). state_of y v ≡ key_after_change number y (last_state y vs) c) eq state;
-      };
-  other = other;
-}

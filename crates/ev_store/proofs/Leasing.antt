@@ -2,15 +2,12 @@
 use Rattle.std.proofs.Common.{◌≡◌, ℕ, zero, suc, ◌+◌, Bool, true, false, cond, ◌&&◌, ◌||◌, ℤ, pos, List, [], ◌∷◌, ◌++◌, length, take, Option, Some, None, refl, sym, ap, ◌∙◌, arith}
 use Rattle.std.specs.Option.{unwrap_or, option_or}
 use Rattle.std.specs.BTreeMap.{BTreeMap, get, is_at}
-use Rattle.std.specs.declared.cmp.Ordering.{Ordering}
-use Rattle.std.specs.declared.cmp.Ordering.TheVariants.{Less, Equal, Greater}
-use Rattle.std.specs.Ordering.{int_cmp, int_eq, is_eq}
+use Rattle.std.specs.Ordering.{int_cmp, int_eq}
 use Rattle.std.specs.Cmp.{int_cmp_total, eq_by_cmp_equiv}
 use Rattle.std.proofs.lemmas.Bool.{and_parts}
 use Rattle.std.proofs.lemmas.Bool.Decides.{Decides-int_eq}
 use Rattle.std.proofs.lemmas.List.{take_all}
 use Rattle.std.proofs.lemmas.List.Folds.{list_any-append}
-use Rattle.std.proofs.lemmas.Map.Lookups.{exact_signed}
 use Rattle.zx_base.specs.Maps.{Bytes, same}
 use Rattle.zx_base.proofs.MapLaws.{same-refl, same-true}
 use Rattle.ev_types.specs.declared.answer.Kv.{Kv}
@@ -26,11 +23,6 @@ use Rattle.ev_store.proofs.Index.{last_state-add}
 
 -- ---- one key more
 
-equal-from_eq : (o : Ordering) → is_eq o ≡ true → o ≡ Equal
-equal-from_eq Equal h = refl
-equal-from_eq Less h = absurd cc
-equal-from_eq Greater h = absurd cc
-
 or_left : (a b : Bool) → a ≡ true → (a || b) ≡ true
 or_left true b h = refl
 or_left false b h = absurd cc
@@ -39,31 +31,12 @@ or_right : (a b : Bool) → b ≡ true → (a || b) ≡ true
 or_right true b h = refl
 or_right false b h = h
 
-names-more : (ks : List Bytes) (k q : Bytes) → names ks q ≡ true → names (ks ++ k ∷ []) q ≡ true
-names-more ks k q h = list_any-append (λ x. same x q) ks (k ∷ []) ∙ or_left (names ks q) _ h
-
 names-last : (ks : List Bytes) (k : Bytes) → names (ks ++ k ∷ []) k ≡ true
 names-last ks k = list_any-append (λ x. same x k) ks (k ∷ []) ∙ or_right (names ks k) _ (or_left (same k k) false (same-refl k))
 
 module _ (old new : BTreeMap ℤ (List Bytes)) (id : ℤ) (w : List Bytes) (writes : (j : ℤ) → get int_cmp new j ≡ cond (is_at (int_cmp id) j) (Some w) (get int_cmp old j)) where
   named-own : named_with new id ≡ w
   named-own = ap (λ o. unwrap_or o []) (writes id ∙ ap (λ b. cond b (Some w) (get int_cmp old id)) ((eq_by_cmp_equiv int_cmp_total).refl id))
-
-  -- the lease's list was written, and has all that it had
-  pub keeps-written : ((q : Bytes) → names (named_with old id) q ≡ true → names w q ≡ true) → KeepsNames old new
-  keeps-written more j q h = go (is_at (int_cmp id) j) refl
-    where
-      go : (b : Bool) → is_at (int_cmp id) j ≡ b → names (named_with new j) q ≡ true
-      go true e =
-          let eq : id ≡ j = exact_signed id j (equal-from_eq _ e) in
-          ap (λ o. names (unwrap_or o []) q) (writes j ∙ ap (λ b. cond b (Some w) (get int_cmp old j)) e) ∙ more q (ap (λ i. names (named_with old i) q) eq ∙ h)
-      go false e = ap (λ o. names (unwrap_or o []) q) (writes j ∙ ap (λ b. cond b (Some w) (get int_cmp old j)) e) ∙ h
-
-  pub keeps-added : (k : Bytes) → w ≡ named_with old id ++ k ∷ [] → KeepsNames old new
-  keeps-added k is = keeps-written (λ q h. ap (λ ks. names ks q) is ∙ names-more (named_with old id) k q h)
-
-  pub keeps-same : w ≡ named_with old id → KeepsNames old new
-  keeps-same is = keeps-written (λ q h. ap (λ ks. names ks q) is ∙ h)
 
   pub named-added : (k : Bytes) → w ≡ named_with old id ++ k ∷ [] → names (named_with new id) k ≡ true
   named-added k is = ap (λ ks. names ks k) (named-own ∙ is) ∙ names-last (named_with old id) k
@@ -76,9 +49,6 @@ names-put leased k v lease named id gives =
     ap (λ i. names (named_with leased i) k) eq ∙ named
 
 -- ---- the index, step by step
-
-pub names_leased-new : (leased : BTreeMap ℤ (List Bytes)) (versions : BTreeMap Bytes (List Version)) → ((q : Bytes) → versions_of versions q ≡ []) → NamesLeased leased versions
-names_leased-new leased versions none id q has = absurd (let e = ap (λ vs. is_leased id (last_state q vs)) (none q) in cc)
 
 pub names_leased-kept : (leased more : BTreeMap ℤ (List Bytes)) (old new : BTreeMap Bytes (List Version)) → KeepsNames leased more → ((q : Bytes) → versions_of new q ≡ versions_of old q) →
     NamesLeased leased old → NamesLeased more new

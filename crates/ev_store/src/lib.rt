@@ -17,7 +17,8 @@
 //! | `events_since` | the changes of the revisions that it reads, up to the last put given, times log k + log v |
 //! | `compact` | 1 |
 //!
-//! Nothing is forgotten: memory grows with all that was ever put. A value is kept once, a key once for each of its changes.
+//! Nothing is forgotten: memory grows with all that was ever put. A value is kept once; a key once for each change of it, once in
+//! the index, and once for each put of it that names a lease.
 //!
 //! # Memory
 //!

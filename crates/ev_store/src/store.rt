@@ -183,7 +183,7 @@ impl Store {
 
     /// Carries out one ask. Where several causes deny it, the first is named, in this order: a list that is too long; a key that
     /// a list writes twice; what the operations of the chosen list name, one after the other; a full store. A grant's number is
-    /// to be at least 1, and its seconds from 0 to below 2^62.
+    /// to be at least 1, and its seconds from 0 to below 2^62. The crate's page says what an ask costs.
     pub fn carry_out(&mut self, ask: &Ask) -> Result<Answer, StoreFault>
         requires { IsGrantable ask.now }
         ensures carried { IfOk result (λ a. carry self.old ask.now ≡ Some (self.new, a)) }
