@@ -1,3 +1,4 @@
+pub mod Blanks
 pub mod Bodies
 pub mod Chunks
 pub mod Framings
@@ -9,6 +10,7 @@ pub mod NextLines
 pub mod Places
 pub mod Reading
 pub mod Sending
+pub mod Spelled
 pub mod Streams
 pub mod Takings
 pub mod Wholes

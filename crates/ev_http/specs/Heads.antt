@@ -1,5 +1,5 @@
 -- Heads of HTTP/1.1 messages (RFC 9112, sections 2 to 5), as the kit's parser reads them.
-use Rattle.std.specs.Prelude.{◌≡◌, ℕ, ◌<◌, ◌≤◌, ◌⊎◌, List, ◌++◌, length, ⊤, Result, Ok, Err}
+use Rattle.std.specs.Prelude.{◌≡◌, ℕ, ◌<◌, ◌≤◌, ◌⊎◌, List, ◌++◌, length, ⊤, Bool, ◌==◌, ◌||◌, Result, Ok, Err}
 use Rattle.std.specs.Global.{Vec}
 use Rattle.httparse.specs.Grammar.{Field, RequestHead, IsRequestHead, print_request, ResponseHead, IsResponseHead, print_response, MayBecomeRequest, MayBecomeResponse}
 use Rattle.ev_http.specs.declared.fault.HttpFault.{HttpFault}
@@ -8,6 +8,10 @@ use Rattle.ev_http.specs.declared.head.Kind.{Kind}
 use Rattle.ev_http.specs.declared.head.Kind.TheVariants as kind
 use Rattle.ev_http.specs.declared.taking.Tally.{Tally}
 use Rattle.ev_http.specs.Taking.{Told, Ends, counted}
+
+-- CR or LF: what the empty lines in front of a head are made of.
+abbrev pub is_blank_byte : ℕ → Bool
+is_blank_byte b = b == 13 || b == 10
 
 -- These bytes are a head with these fields.
 abbrev pub IsHead : Kind → List Field → List ℕ → Type 0

@@ -161,6 +161,16 @@ pub record HoldsRequest (goes : Route) (body rest bytes : List ℕ) : Type 0 whe
   pub says : JudgesRequest (Ok (goes, length body)) h head
   pub bytes_are : bytes ≡ head ++ (body ++ rest)
 
+-- The bytes begin with a whole response that has this status and whose head announces as many bytes as this body has, and then the
+-- body and the rest come.
+pub record HoldsStatus (status : ℕ) (body rest bytes : List ℕ) : Type 0 where
+  pub h : ResponseHead
+  pub head : List ℕ
+  pub whole : IsWholeResponse h head
+  pub says : status_code h ≡ status
+  pub framed : framing_of kind.Response h.fields ≡ Ok (framing.Counted (length body))
+  pub bytes_are : bytes ≡ head ++ (body ++ rest)
+
 -- The reading of a whole request whose body is within its limit: it is read, and the bytes after it are left in the source; or
 -- there is a fault of the source or want of memory.
 abbrev pub ReadsRequestBody : Result (Route × Vec ℕ) HttpFault → Route → List ℕ → List ℕ → Option (List ℕ) → Type 0

@@ -1,5 +1,5 @@
 -- What is sent: requests to a gateway, and the responses of one.
-use Rattle.std.specs.Prelude.{◌≡◌, ℕ, List, [], ◌++◌, Option, Result, Ok, Err, codes, unwrap_or, if◌then◌else◌, nat_le, nat_lt, ◌&&◌}
+use Rattle.std.specs.Prelude.{◌≡◌, ℕ, ◌≤◌, All, List, [], ◌++◌, Option, Result, Ok, Err, codes, unwrap_or, if◌then◌else◌, nat_le, nat_lt, ◌&&◌}
 use Rattle.std.specs.Fmt.{decimal}
 use Rattle.http.specs.StatusCode.{reason_phrase}
 use Rattle.ev_types.specs.declared.route.Route.{Route}
@@ -14,6 +14,10 @@ use Rattle.ev_http.specs.Messages.{path_of}
 -- The reason phrase of a status, empty where it has none.
 abbrev pub phrase_of : ℕ → List ℕ
 phrase_of status = if nat_le 100 status && nat_lt status 1000 then unwrap_or (reason_phrase status) [] else []
+
+-- A host as it stands in an address: each byte is visible ASCII.
+abbrev pub IsHost : List ℕ → Type 0
+IsHost host = All (λ b. (33 ≤ b) × (b ≤ 126)) host
 
 -- The fixed texts of heads.
 unfoldable pub text_of : Fixed → List ℕ

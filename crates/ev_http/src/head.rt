@@ -1,7 +1,8 @@
 //! The head of a message.
 
-ghost use Rattle.std.specs.Prelude.{◌≡◌, ◌<◌, ◌≤◌, ◌++◌, List, ℕ, length};
-ghost use Rattle.ev_http.specs.Heads.{HasNoHead, MayBecome, NeverFits, BeginsWithHead, IsOpenHead, TakesHead, HeadAnswer};
+ghost use Rattle.std.specs.List.{list_all};
+ghost use Rattle.std.specs.Prelude.{◌≡◌, ◌<◌, ◌≤◌, ◌++◌, List, ℕ, length, true};
+ghost use Rattle.ev_http.specs.Heads.{is_blank_byte, HasNoHead, MayBecome, NeverFits, BeginsWithHead, IsOpenHead, TakesHead, HeadAnswer};
 ghost use Rattle.ev_http.specs.Taking.{Took, told, failed};
 
 use crate::fault::HttpFault;
@@ -75,8 +76,35 @@ fn judge(kind: Kind, bytes: &[u8]) -> Judged
     }
 }
 
-/// Takes the rest of a head, and no byte after it. The head is parsed anew at each of its lines. What was taken stays in `head`,
-/// whatever the answer, but for a byte that there was no memory for.
+/// Whether the bytes are CR and LF alone.
+fn is_blank(bytes: &[u8]) -> bool
+    ensures { result ≡ list_all is_blank_byte bytes.now }
+{
+    bytes.iter().all(|byte| *byte == b'\r' || *byte == b'\n')
+}
+
+/// Whether the bytes are CR and LF alone, where those before the index `from` are so if `was_blank` is true.
+fn stays_blank(was_blank: bool, bytes: &[u8], from: usize) -> bool
+    ensures { (before added : List ℕ) → bytes.now ≡ before ++ added → from ≡ length before → (was_blank ≡ true → list_all is_blank_byte before ≡ true)
+        → result ≡ true → list_all is_blank_byte bytes.now ≡ true }
+{
+    was_blank && from <= bytes.len() && is_blank(&bytes[from..])
+}
+
+/// What the bytes so far come to. They are not parsed where they are CR and LF alone.
+fn judge_begun(blank: bool, kind: Kind, bytes: &[u8]) -> Judged
+    ensures whole { result ≡ Judged.Whole → BeginsWithHead kind bytes.now }
+    ensures more { (blank ≡ true → list_all is_blank_byte bytes.now ≡ true) → result ≡ Judged.More → HasNoHead kind bytes.now }
+    ensures never { result ≡ Judged.Never → NeverFits kind bytes.now }
+{
+    if blank {
+        return Judged::More;
+    }
+    judge(kind, bytes)
+}
+
+/// Takes the rest of a head, and no byte after it. The head is parsed anew at each of its lines, but for the empty lines in front of
+/// it. What was taken stays in `head`, whatever the answer, but for a byte that there was no memory for.
 pub fn take_head<S: Source>(
     source: &mut S,
     tally: &mut Tally,
@@ -91,13 +119,18 @@ pub fn take_head<S: Source>(
         × (IsOpenHead kind head.old.items → TakesHead result kind head.old.items added head.new.items
         (told S.given S.left S.counts S.ended S.name source.new) tally.new) }
 {
+    let mut blank = is_blank(head.as_slice());
     'lines: loop {
+        let from = head.len();
         match take_line(source, tally, head, MAX_HEAD) {
-            Ok(Cut::LineFeed) => match judge(kind, head.as_slice()) {
-                Judged::Whole => return Ok(()),
-                Judged::More => {}
-                Judged::Never => return Err(HttpFault::Head),
-            },
+            Ok(Cut::LineFeed) => {
+                blank = stays_blank(blank, head.as_slice(), from);
+                match judge_begun(blank, kind, head.as_slice()) {
+                    Judged::Whole => return Ok(()),
+                    Judged::More => {}
+                    Judged::Never => return Err(HttpFault::Head),
+                }
+            }
             Ok(Cut::Full) => return Err(HttpFault::Head),
             Ok(Cut::End) => match judge(kind, head.as_slice()) {
                 Judged::Never => return Err(HttpFault::Head),

@@ -48,6 +48,7 @@ mod body;
 mod fault;
 mod framing;
 mod head;
+mod laws;
 mod lines;
 mod request;
 mod response;
@@ -55,6 +56,7 @@ mod send;
 mod taking;
 
 pub use fault::HttpFault;
+pub use laws::{requests_come_back, responses_come_back};
 pub use lines::Lines;
 pub use request::read_request;
 pub use response::read_response;

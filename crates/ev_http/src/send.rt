@@ -26,14 +26,28 @@ fn write_all<K: Sink>(sink: &mut K, bytes: &[u8]) -> Result<(), HttpFault>
     Ok(())
 }
 
+/// Up to how many bytes a body is copied behind its head, so that both go out in one write. A longer body is not copied.
+const MAX_JOINED: usize = 16384;
+
 /// Writes a head and then a body.
-fn write_message<K: Sink>(sink: &mut K, head: &[u8], body: &[u8]) -> Result<(), HttpFault>
+fn write_both<K: Sink>(sink: &mut K, head: &[u8], body: &[u8]) -> Result<(), HttpFault>
     ensures { Wrote result (head.now ++ body.now) (K.taken sink.old) (K.taken sink.new) (K.counts sink.old) (K.counts sink.new) (K.name sink.old) (K.name sink.new) }
 {
     match write_all(sink, head) {
         Ok(()) => write_all(sink, body),
         Err(fault) => Err(fault),
     }
+}
+
+/// Writes a head and a body: a short body together with its head, unless there is no memory for the copy.
+fn write_message<K: Sink>(sink: &mut K, head: String, body: &[u8]) -> Result<(), HttpFault>
+    ensures { Wrote result (string_bytes head ++ body.now) (K.taken sink.old) (K.taken sink.new) (K.counts sink.old) (K.counts sink.new) (K.name sink.old) (K.name sink.new) }
+{
+    let mut message = head.into_bytes();
+    if body.len() <= MAX_JOINED && message.extend_from_slice(body).is_ok() {
+        return write_all(sink, message.as_slice());
+    }
+    write_both(sink, message.as_slice(), body)
 }
 
 /// The fixed texts of heads.
@@ -101,8 +115,8 @@ fn response_head(alloc: Global, status: u16, length: usize) -> Result<String, Al
     format!(in alloc; "{version}{status}{blank}{phrase}{fields}{length}{end}")
 }
 
-/// Sends a request to a gateway: its head, in one write where the sink takes it whole, and then its body. `host` is written as it
-/// is given. After `WriteFault` a front of the message was sent; after `Memory` nothing was.
+/// Sends a request to a gateway. Head and body go out in one write where the body has at most 16,384 bytes and the sink takes them
+/// whole. `host` is written as it is given. After `WriteFault` a front of the message was sent; after `Memory` nothing was.
 pub fn send_request<K: Sink>(
     alloc: Global,
     sink: &mut K,
@@ -113,13 +127,13 @@ pub fn send_request<K: Sink>(
     ensures { Sends result (request_head host.now route (length body.now) ++ body.now) (K.taken sink.old) (K.taken sink.new) (K.counts sink.old) (K.counts sink.new) (K.name sink.old) (K.name sink.new) }
 {
     match request_head(alloc, host, route, body.len()) {
-        Ok(head) => write_message(sink, head.as_bytes(), body),
+        Ok(head) => write_message(sink, head, body),
         Err(_) => Err(HttpFault::Memory),
     }
 }
 
-/// Sends a response of a gateway. The status is meant to be from 100 to 999. After `WriteFault` a front of the message was sent;
-/// after `Memory` nothing was.
+/// Sends a response of a gateway, as [`send_request`] does a request. The status is meant to be from 100 to 999. After `WriteFault`
+/// a front of the message was sent; after `Memory` nothing was.
 pub fn send_response<K: Sink>(
     alloc: Global,
     sink: &mut K,
@@ -129,7 +143,7 @@ pub fn send_response<K: Sink>(
     ensures { Sends result (response_head status (length body.now) ++ body.now) (K.taken sink.old) (K.taken sink.new) (K.counts sink.old) (K.counts sink.new) (K.name sink.old) (K.name sink.new) }
 {
     match response_head(alloc, status, body.len()) {
-        Ok(head) => write_message(sink, head.as_bytes(), body),
+        Ok(head) => write_message(sink, head, body),
         Err(_) => Err(HttpFault::Memory),
     }
 }
