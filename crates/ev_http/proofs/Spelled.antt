@@ -1,6 +1,6 @@
 -- What is sent is a head that is read.
 use Rattle.std.proofs.Common.{◌≡◌, ℕ, ◌+◌, ◌<◌, ◌≤◌, ◌^◌, ◌/◌, ◌%◌, ◌==◌, List, [], ◌∷◌, ◌++◌, length, reverse, Bool, true, false, ◌&&◌, IsTrue, Option, Some, None, Ok, refl, sym, ap, ◌∙◌, append_assoc, append-nil, length-append, arith, codes, rules}
-use Rattle.std.specs.Prelude.{All, if◌then◌else◌, unwrap_or, nat_le, nat_lt}
+use Rattle.std.specs.Prelude.{All, map, if◌then◌else◌, unwrap_or, nat_le, nat_lt}
 use Rattle.std.specs.Fmt.{decimal}
 use Rattle.std.specs.List.{list_all}
 use Rattle.std.specs.Char.{is_ascii_digit}
@@ -14,6 +14,7 @@ use Rattle.std.proofs.lemmas.Bool.Decides.{nat_tests}
 use Rattle.std.proofs.lemmas.Str.Parse.{digit_from_value}
 use Rattle.http.specs.StatusCode.{reason_phrase}
 use Rattle.httparse.specs.Grammar.{AllPass, is_token_byte, is_uri_byte, is_value_byte, is_ows, skip_ows, trim_ows, crlf, print_end, print_version, Field, IsField, RequestHead, IsRequestHead, print_request, ResponseHead, IsResponseHead, print_response}
+use Rattle.httparse.specs.Spans.{name_and_value}
 use Rattle.httparse.proofs.TrimLemmas.{AllPass-reverse, trim_ows_space, skip_ows_no}
 use Rattle.httparse.proofs.GrammarLemmas.{print_request-append, print_response-append, cons-append}
 use Rattle.ev_types.specs.declared.route.Route.{Route}
@@ -24,7 +25,7 @@ use Rattle.ev_http.specs.declared.send.Fixed.TheVariants as fixed
 use Rattle.ev_http.specs.Taking.{counted}
 use Rattle.ev_http.specs.Framing.{is_word, count_of, after_field, framing_of}
 use Rattle.ev_http.specs.Messages.{path_of, is_post, HoldsRequest, HoldsResponse, HoldsStatus}
-use Rattle.ev_http.specs.Sending.{IsHost, phrase_of, text_of, request_head, response_head}
+use Rattle.ev_http.specs.Sending.{IsHost, IsPlainRequest, IsPlainResponse, common_fields, phrase_of, text_of, request_head, response_head}
 use Rattle.ev_http.proofs.Framings.{some_count}
 
 -- ---- bytes
@@ -71,6 +72,38 @@ host_passes [] all = refl
 host_passes (b ∷ host) all =
     let at = All-head (λ (b : ℕ). (33 ≤ b) × (b ≤ 126)) b host all in
     ap (λ c. c && list_all is_value_byte host) (visible_is_value b at.0 at.1) ∙ host_passes host (All-tail (λ (b : ℕ). (33 ≤ b) × (b ≤ 126)) b host all)
+
+visible_is_no_blank : (b : ℕ) → 33 ≤ b → b ≤ 126 → is_ows b ≡ false
+visible_is_no_blank b low high = grind (arith, nat_tests)
+
+-- a byte that is visible, as a test
+visible : ℕ → Bool
+visible b = nat_le 33 b && nat_le b 126
+
+visible_tested : (b : ℕ) → 33 ≤ b → b ≤ 126 → visible b ≡ true
+unfolding visible
+visible_tested b low high = grind (arith, nat_tests)
+
+visible_within : (b : ℕ) → visible b ≡ true → (33 ≤ b) × (b ≤ 126)
+unfolding visible
+visible_within b e = grind (arith, nat_tests)
+
+visible_host : (host : List ℕ) → IsHost host → AllPass visible host
+visible_host [] all = All-nil (λ b. IsTrue (visible b))
+visible_host (b ∷ host) all =
+    let at = All-head (λ (b : ℕ). (33 ≤ b) × (b ≤ 126)) b host all in
+    All-cons (λ b. IsTrue (visible b)) b host (visible_tested b at.0 at.1) (visible_host host (All-tail (λ (b : ℕ). (33 ≤ b) × (b ≤ 126)) b host all))
+
+skip_visible : (bytes : List ℕ) → AllPass visible bytes → skip_ows bytes ≡ bytes
+skip_visible [] pass = refl
+skip_visible (b ∷ bytes) pass =
+    let at = visible_within b (All-head (λ b. IsTrue (visible b)) b bytes pass) in
+    skip_ows_no refl (sym (visible_is_no_blank b at.0 at.1))
+
+trim_host : (host : List ℕ) → IsHost host → trim_ows (32 ∷ host) ≡ host
+trim_host host is =
+    let pass = visible_host host is in
+    trim_ows_space host (skip_visible host pass) (skip_visible (reverse host) (AllPass-reverse visible host pass))
 
 skip_digits : (ds : List ℕ) → AllPass is_ascii_digit ds → skip_ows ds ≡ ds
 skip_digits [] pass = refl
@@ -292,6 +325,34 @@ request_back host body rest goes is_host short small =
       bytes_are = append_assoc (request_head host goes n) body rest;
     }
 
+trim_kind : trim_ows (32 ∷ codes "application/json") ≡ codes "application/json"
+unfolding trim_ows
+trim_kind = refl
+
+common_says : (n : ℕ) → n < 2 ^ 64 → map name_and_value (common (decimal n)) ≡ common_fields n
+common_says n fits =
+    let length_is = trim_digits (decimal n) (all_pass is_ascii_digit (decimal n) (number n fits).are_digits) in
+    rw (trim_kind, length_is) refl
+
+all_crlf : (ds : List ℕ) → All (λ (f : Field). f.end ≡ crlf) (common ds)
+all_crlf ds =
+    All-cons (λ (f : Field). f.end ≡ crlf) (field (codes "content-type") (codes "application/json")) (field (codes "content-length") ds ∷ []) refl
+    (All-cons (λ (f : Field). f.end ≡ crlf) (field (codes "content-length") ds) [] refl (All-nil (λ (f : Field). f.end ≡ crlf)))
+
+pub request_form : (host : List ℕ) (goes : Route) (n : ℕ) → IsHost host → n ≤ 8388608 → (h : RequestHead) × (request_head host goes n ≡ print_request h) × IsPlainRequest host n h
+request_form host goes n is_host small = (
+  head_to host goes n,
+  printed_request host goes n,
+  record {
+    alone = refl;
+    version = refl;
+    start = refl;
+    lines = All-cons (λ (f : Field). f.end ≡ crlf) (field (codes "host") host) (common (decimal n)) refl (all_crlf (decimal n));
+    last = refl;
+    says = ap (λ (x : List ℕ). (codes "host", x) ∷ map name_and_value (common (decimal n))) (trim_host host is_host) ∙ ap (λ (x : List (List ℕ × List ℕ)). (codes "host", host) ∷ x) (common_says n (omega arith));
+  },
+)
+
 -- ---- responses
 
 abbrev head_of : ℕ → ℕ → ResponseHead
@@ -359,3 +420,10 @@ good_response_back body rest small =
       alone = tt;
       bytes_are = is.bytes_are;
     }
+
+pub response_form : (status n : ℕ) → 100 ≤ status → status < 1000 → n ≤ 8388608 → (h : ResponseHead) × (response_head status n ≡ print_response h) × IsPlainResponse status n h
+response_form status n low high small = (
+  head_of status n,
+  printed_response status n,
+  record { alone = refl; version = refl; phrase = refl; start = refl; lines = all_crlf (decimal n); last = refl; says = common_says n (omega arith) },
+)

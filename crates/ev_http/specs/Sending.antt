@@ -1,7 +1,9 @@
 -- What is sent: requests to a gateway, and the responses of one.
-use Rattle.std.specs.Prelude.{◌≡◌, ℕ, ◌≤◌, All, List, [], ◌++◌, Option, Result, Ok, Err, codes, unwrap_or, if◌then◌else◌, nat_le, nat_lt, ◌&&◌}
+use Rattle.std.specs.Prelude.{◌≡◌, ℕ, ◌≤◌, All, map, List, [], ◌∷◌, ◌++◌, Option, Some, Result, Ok, Err, codes, unwrap_or, if◌then◌else◌, nat_le, nat_lt, ◌&&◌}
 use Rattle.std.specs.Fmt.{decimal}
 use Rattle.http.specs.StatusCode.{reason_phrase}
+use Rattle.httparse.specs.Grammar.{crlf, Field, RequestHead, ResponseHead}
+use Rattle.httparse.specs.Spans.{name_and_value}
 use Rattle.ev_types.specs.declared.route.Route.{Route}
 use Rattle.zx_outside.specs.Counts.{OutputCounts, one_more}
 use Rattle.zx_outside.specs.Writing.{Takes, TakesFront}
@@ -54,3 +56,27 @@ Wrote (Err fault.ReadFault) bytes taken taken' counts counts' name name' = ⊥
 abbrev pub Sends : Result (Unit {0}) HttpFault → List ℕ → Option (List ℕ) → Option (List ℕ) → OutputCounts → OutputCounts → ℕ → ℕ → Type 0
 Sends (Err fault.Memory) bytes taken taken' counts counts' name name' = (taken' ≡ taken) × (counts' ≡ counts) × (name' ≡ name)
 Sends result bytes taken taken' counts counts' name name' = Wrote result bytes taken taken' counts counts' name name'
+
+-- The fields that each message has, by name and value: the kind of its body and its length in bytes.
+abbrev pub common_fields : ℕ → List (List ℕ × List ℕ)
+common_fields n = (codes "content-type", codes "application/json") ∷ ((codes "content-length", decimal n) ∷ [])
+
+-- A head as one has to send it (RFC 9112, sections 2.1 to 2.3, 3.2 and 5): no empty line in front, version 1.1, each line ended by
+-- CR LF, and among the fields the host.
+pub record IsPlainRequest (host : List ℕ) (n : ℕ) (h : RequestHead) : Type 0 where
+  pub alone : h.blank ≡ []
+  pub version : h.minor ≡ 1
+  pub start : h.line_end ≡ crlf
+  pub lines : All (λ (f : Field). f.end ≡ crlf) h.fields
+  pub last : h.last ≡ crlf
+  pub says : map name_and_value h.fields ≡ (codes "host", host) ∷ common_fields n
+
+-- The same of a response, with the phrase of its status.
+pub record IsPlainResponse (status n : ℕ) (h : ResponseHead) : Type 0 where
+  pub alone : h.blank ≡ []
+  pub version : h.minor ≡ 1
+  pub phrase : h.reason ≡ Some (phrase_of status)
+  pub start : h.line_end ≡ crlf
+  pub lines : All (λ (f : Field). f.end ≡ crlf) h.fields
+  pub last : h.last ≡ crlf
+  pub says : map name_and_value h.fields ≡ common_fields n

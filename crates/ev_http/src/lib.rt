@@ -22,8 +22,10 @@
 //!
 //! # Writing
 //!
-//! A request has the fields host, content-type and content-length, a response has the last two. Head and body are written one
-//! after the other, each until the sink has taken it whole or has a fault.
+//! A request has the fields host, content-type and content-length, a response has the last two. Head and body are written until the
+//! sink has taken them whole or has a fault: in one piece where the body has at most 16,384 bytes, since two small writes to a
+//! socket cost two packets; a longer body is not copied. What is written is what is read, whatever follows it
+//! ([`requests_come_back`], [`responses_come_back`]).
 //!
 //! # Limits
 //!
@@ -39,7 +41,7 @@
 //!
 //! Heads, lines before chunks and trailers are taken byte by byte, so a source that asks the system for each read wants a
 //! buffer in front. Bodies are taken in pieces of up to 4,096 bytes, each copied once. A head is parsed anew at each of its
-//! lines, and once more for its fields. A call keeps the head, the body and one line before a chunk or the trailer fields,
+//! lines, but for empty lines in front of it, and once more for its fields. A call keeps the head, the body and one line before a chunk or the trailer fields,
 //! each in a buffer that grows by doubling. A [`Lines`] keeps the bytes after the last line that it gave: less than one line
 //! and a piece. It scans each byte once. When it gives a line, it copies the bytes after it, which are less than a piece.
 #![tactic(auto)]

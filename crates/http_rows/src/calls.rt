@@ -20,7 +20,8 @@ pub fn outcome(
         "lines" => lines(alloc, source_of(alloc, given, cut)?),
         "idle" => response(alloc, idle_source(alloc, given)?),
         "paused" => lines(alloc, paused_source(alloc, given)?),
-        "ask" => ask(alloc, given),
+        "ask" => ask(alloc, given, Vec::new(alloc)),
+        "torn" => ask(alloc, given, Vec::from_slice(alloc, &[2])?),
         "answer" => answer(alloc, given),
         _ => return Ok(None),
     };
@@ -122,8 +123,9 @@ fn route_named(name: &str) -> Route {
     }
 }
 
-fn ask(alloc: Global, text: &str) -> Result<Vec<u8>, AllocError> {
-    let mut sink = MemSink::new(alloc, Vec::new(alloc));
+/// What `send_request` writes to a sink whose listed writes fail.
+fn ask(alloc: Global, text: &str, failing: Vec<u64>) -> Result<Vec<u8>, AllocError> {
+    let mut sink = MemSink::new(alloc, failing);
     let Some((name, rest)) = text.split_once(' ') else {
         return Vec::from_slice(alloc, b"no route");
     };

@@ -11,6 +11,7 @@
 //! | `idle TURNS BYTES = OUTCOME` | as `response`, from a source that is idle for TURNS turns before its first byte |
 //! | `paused ONES NEXT BYTES = OUTCOME` | as `lines`: ONES bytes come one by one, then NEXT at once, then 6,000 idle turns |
 //! | `ask ROUTE HOST BODY = BYTES` | what `send_request` writes |
+//! | `torn ROUTE HOST BODY = OUTCOME` | the same, to a sink whose second write fails: the bytes, or the fault |
 //! | `answer STATUS BODY = BYTES` | what `send_response` writes |
 //!
 //! The first three are read in pieces of 1, 2 and 7 bytes, with an idle turn before each of the first 500, and in pieces as

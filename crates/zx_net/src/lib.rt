@@ -31,6 +31,7 @@
 //! stand in a crate above.
 #![tactic(auto)]
 
+mod bell;
 mod clock;
 mod inline_spawner;
 mod memory_clock;
@@ -39,6 +40,7 @@ mod named;
 mod net;
 mod spawner;
 
+pub use bell::{Bell, Wakes};
 pub use clock::Clock;
 pub use inline_spawner::InlineSpawner;
 pub use memory_clock::MemClock;

@@ -1,5 +1,8 @@
-use Rattle.ev_http.proofs.Spelled.{response_back, good_response_back}
+use Rattle.ev_http.proofs.Spelled.{response_form, response_back, good_response_back}
 use Rattle.ev_http.proofs.laws.responses_come_back.Goals as goal
+
+pub returns-clause-form : goal.returns-clause-form
+returns-clause-form c = response_form
 
 pub returns-clause-status : goal.returns-clause-status
 returns-clause-status c = response_back

@@ -1,0 +1,31 @@
+//! What wakes a reader.
+
+ghost use Rattle.std.specs.Prelude.{◌≡◌};
+
+use std::alloc::Global;
+use std::sync::Arc;
+use zx_outside::Source;
+
+/// Wakes the one who waits for a source, from another thread.
+pub trait Bell {
+    /// Asks for one wake. Comes before the look at what the other thread gives.
+    fn arm(&self);
+
+    /// Wakes the reader, if it asked for that and was not woken since. Comes after the other thread has given.
+    fn ring(&self);
+}
+
+/// A source that may have a bell.
+pub trait Wakes: Source {
+    /// What wakes the one who waits for this source.
+    type Bell: Bell + Send + Sync + Drop + 'static;
+
+    /// Hangs a bell: from now on a read that waits answers [`Got::Nothing`](zx_outside::Got::Nothing) once it is rung.
+    /// `None` where there is no bell to be had; the source is then as before.
+    fn bell(&mut self) -> Option<Arc<Self::Bell, Global>>
+        ensures given { Self.given self.new ≡ Self.given self.old }
+        ensures left { Self.left self.new ≡ Self.left self.old }
+        ensures counts { Self.counts self.new ≡ Self.counts self.old }
+        ensures ended { Self.ended self.new ≡ Self.ended self.old }
+        ensures named { Self.name self.new ≡ Self.name self.old };
+}

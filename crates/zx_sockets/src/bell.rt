@@ -1,0 +1,106 @@
+//! What wakes a reader that waits for its peer.
+
+use mio::unix::SourceFd;
+use mio::{Events, Interest, Poll, Token, Waker};
+use std::alloc::Global;
+use std::net::{Net as SystemNet, TcpStream};
+use std::os::fd::AsRawFd;
+use std::sync::Arc;
+use std::sync::atomic::{AtomicBool, Ordering};
+use std::time::Duration;
+use zx_net::Bell;
+
+/// The events of the peer's bytes.
+const PEER: Token = Token(0);
+
+/// The events of the bell.
+const BELL: Token = Token(1);
+
+/// The longest wait for a byte or the bell, in milliseconds.
+const LONGEST_WAIT: u64 = 1000;
+
+/// Wakes the reader of one stream.
+#[derive(Drop)]
+pub struct SocketBell {
+    waker: Waker,
+    is_armed: AtomicBool,
+}
+
+impl Bell for SocketBell {
+    fn arm(&self) {
+        self.is_armed.store(true, Ordering::SeqCst);
+    }
+
+    fn ring(&self) {
+        if self.is_armed.swap(false, Ordering::SeqCst) {
+            let _ = self.waker.wake();
+        }
+    }
+}
+
+/// Waits for bytes of the peer and for the bell at once.
+#[derive(Drop)]
+pub struct Ear {
+    poll: Poll,
+    events: Events,
+    /// The system reported a change of the stream only if it came after the last read found nothing more.
+    is_drained: bool,
+    /// The peer sends no more, or the stream broke: a read answers at once.
+    is_closing: bool,
+}
+
+impl Ear {
+    /// An ear for this stream, and its bell; `None` where the system refuses one, or memory.
+    pub fn new<R: SystemNet>(
+        rt: &R,
+        alloc: Global,
+        stream: &TcpStream,
+    ) -> Option<(Ear, Arc<SocketBell, Global>)> {
+        let poll = Poll::new(rt).ok()?;
+        let waker = Waker::new(poll.registry(), BELL).ok()?;
+        let fd = stream.as_raw_fd();
+        poll.registry()
+            .register(&mut SourceFd(&fd), PEER, Interest::READABLE)
+            .ok()?;
+        let events = Events::with_capacity(alloc, 4).ok()?;
+        let bell = SocketBell {
+            waker,
+            is_armed: AtomicBool::new(false),
+        };
+        let bell = Arc::new(alloc, bell).ok()?;
+        let ear = Ear {
+            poll,
+            events,
+            is_drained: false,
+            is_closing: false,
+        };
+        Some((ear, bell))
+    }
+
+    /// Waits for a byte or the bell, and says whether it is worth reading now.
+    pub fn hears(&mut self) -> bool {
+        if !self.is_drained || self.is_closing {
+            return true;
+        }
+        if self
+            .poll
+            .poll(&mut self.events, Some(Duration::from_millis(LONGEST_WAIT)))
+            .is_err()
+        {
+            return true;
+        }
+        let mut hears = false;
+        for event in self.events.iter() {
+            if event.token() == PEER {
+                hears = true;
+                self.is_closing = event.is_read_closed() || event.is_error();
+            }
+        }
+        hears
+    }
+
+    /// Notes whether the last read took all that there was.
+    pub fn note(&mut self, is_drained: bool) {
+        self.is_drained = is_drained;
+    }
+}

@@ -1,0 +1,51 @@
+//! The system's clock, sockets and threads as the [`Clock`](zx_net::Clock), [`Net`](zx_net::Net) and
+//! [`Spawner`](zx_net::Spawner) of `zx_net`. Only a program's `main`, and a test over the loopback, name this crate.
+//!
+//! # Streams
+//!
+//! Both ends of a TCP stream share one descriptor. What is written goes out at once (`TCP_NODELAY`). A read waits at
+//! most 10 milliseconds for a byte, or what the system makes of them, and then answers an idle turn. A source reads
+//! the system's bytes into a buffer of its own and hands them out from there, so reading byte by byte is cheap. After
+//! the peer's end the system is not asked again. A write that takes no byte within 60 seconds is a fault.
+//!
+//! A peer that was accepted and says nothing does not hold its place for good: where 60 seconds passed since its last
+//! byte, an idle turn is a fault instead. A stream that was dialled has no such limit.
+//!
+//! # Bells
+//!
+//! A reader that waits for its peer and for another thread at once asks its source for a bell
+//! ([`Wakes::bell`](zx_net::Wakes::bell)). From then on a read waits for a byte or the bell, up to a second, and costs
+//! no turns in between. The reader arms the bell before it looks at what the other thread gives, and the other thread
+//! rings after it gave: so a ring between the look and the wait ends the wait, and none is lost. A bell costs the
+//! source two descriptors more.
+//!
+//! # Accepts and dials
+//!
+//! Where an accept fails for a cause that passes (no descriptors or no memory left, a peer that is gone already, a
+//! signal), it is tried again after 50 milliseconds, and no fault is counted. A dial gives each address of a host 5
+//! seconds. A net that [`another`](zx_net::Net::another) gave belongs to a worker that dials again and again, so it
+//! waits before a dial that comes within 10 seconds of its last one: 0.1 seconds, twice as long for each such dial in
+//! a row, at most 6.4.
+//!
+//! # What is proved
+//!
+//! Every function is safe, counts are exact, an end is for good, and names are as `zx_net` has them. No contract says
+//! what a socket gives or takes, or when a thread runs: that is tested.
+#![tactic(auto)]
+
+mod bell;
+mod clock;
+mod net;
+mod pauses;
+mod sink;
+mod source;
+mod spawner;
+#[cfg(test)]
+mod tests;
+
+pub use bell::SocketBell;
+pub use clock::StdClock;
+pub use net::{StdDoor, StdNet};
+pub use sink::SocketSink;
+pub use source::SocketSource;
+pub use spawner::ThreadSpawner;

@@ -1,0 +1,223 @@
+//! The system's sockets as a net.
+
+ghost use Rattle.std.specs.Prelude.{◌≡◌, false, IfSome};
+ghost use Rattle.zx_sockets.specs.Nets.{is_passing};
+
+use crate::pauses::Pauses;
+use crate::sink::SocketSink;
+use crate::source::{Patience, SocketSource};
+use std::alloc::Global;
+use std::net::{Net as SystemNet, TcpListener, TcpStream, ToSocketAddrs};
+use std::sync::Arc;
+use std::time::{Clock as SystemClock, Duration};
+use std::{io, thread};
+use zx_net::{Net, NetFailed};
+
+/// How long a read waits for a byte, in milliseconds.
+const READ_WAIT: u64 = 10;
+
+/// How long a write waits until a byte was taken, in milliseconds.
+const WRITE_WAIT: u64 = 60_000;
+
+/// How long a peer that was accepted may say nothing, in milliseconds.
+const LONGEST_SILENCE: u64 = 60_000;
+
+/// How long an address is dialled, in milliseconds.
+const DIAL_WAIT: u64 = 5_000;
+
+/// The moment before an accept is tried again, in milliseconds.
+const ACCEPT_PAUSE: u64 = 50;
+
+/// The faults of an accept that pass, by their code (errno of Linux): a signal, no memory, no descriptor left in the system or in
+/// the process, a peer that is gone already, no room for buffers.
+const PASSING: [i32; 6] = [4, 12, 23, 24, 103, 105];
+
+/// A door of the system: a socket that listens.
+#[derive(Drop)]
+pub struct StdDoor {
+    listener: TcpListener,
+}
+
+/// The system's sockets.
+#[derive(Drop)]
+pub struct StdNet<R> {
+    rt: R,
+    alloc: Global,
+    door_faults: u64,
+    dial_faults: u64,
+    accepted: u64,
+    /// The pauses of a worker's net. The first net of a program dials at once.
+    pauses: Option<Pauses>,
+}
+
+impl<R: SystemNet<Listener = TcpListener, Stream = TcpStream> + SystemClock + Copy> StdNet<R> {
+    /// The net of this runtime, whose dials do not wait for one another.
+    pub fn new(rt: R, alloc: Global) -> StdNet<R>
+        ensures door_faults { result.door_faults ≡ 0 }
+        ensures dial_faults { result.dial_faults ≡ 0 }
+        ensures accepted { result.accepted ≡ 0 }
+    {
+        StdNet {
+            rt,
+            alloc,
+            door_faults: 0,
+            dial_faults: 0,
+            accepted: 0,
+            pauses: None,
+        }
+    }
+}
+
+/// Has reads and writes wait for their time, and small writes go out at once.
+fn prepare(stream: &TcpStream) -> io::Result<()> {
+    stream.set_nodelay(true)?;
+    stream.set_read_timeout(Some(Duration::from_millis(READ_WAIT)))?;
+    stream.set_write_timeout(Some(Duration::from_millis(WRITE_WAIT)))
+}
+
+/// Both ends of a stream, under a name; `None` where the stream is broken already or memory is refused.
+pub fn ends_of<R: SystemClock + Copy>(
+    rt: R,
+    alloc: Global,
+    stream: TcpStream,
+    name: u64,
+    patience: Option<Patience>,
+) -> Option<(SocketSource<R>, SocketSink)>
+    ensures source { IfSome result (λ ends. (ends.0.ended ≡ false) × (ends.0.faults ≡ 0) × (ends.0.idles ≡ 0) × (ends.0.name ≡ name)) }
+    ensures sink { IfSome result (λ ends. (ends.1.faults ≡ 0) × (ends.1.name ≡ name)) }
+{
+    if prepare(&stream).is_err() {
+        return None;
+    }
+    let Ok(mine) = Arc::new(alloc, stream) else {
+        return None;
+    };
+    let Ok(theirs) = Arc::try_clone(&mine) else {
+        return None;
+    };
+    match SocketSource::new(rt, alloc, mine, name, patience) {
+        Ok(source) => Some((source, SocketSink::new(theirs, name))),
+        Err(_) => None,
+    }
+}
+
+/// Whether an accept with this fault may be tried again.
+fn is_passing(code: Option<i32>) -> bool
+    ensures { result ≡ is_passing code }
+{
+    match code {
+        Some(code) => PASSING.contains(&code),
+        None => false,
+    }
+}
+
+/// Accepts the next stream at a door, under a name; `None` where the door is broken.
+fn next_ends<R: SystemClock + Copy>(
+    rt: R,
+    alloc: Global,
+    door: &StdDoor,
+    name: u64,
+) -> Option<(SocketSource<R>, SocketSink)>
+    ensures source { IfSome result (λ ends. (ends.0.ended ≡ false) × (ends.0.faults ≡ 0) × (ends.0.idles ≡ 0) × (ends.0.name ≡ name)) }
+    ensures sink { IfSome result (λ ends. (ends.1.faults ≡ 0) × (ends.1.name ≡ name)) }
+{
+    for _ in 0..u64::MAX {
+        match door.listener.accept() {
+            Ok((stream, _)) => {
+                let patience = Patience::new(&rt, Duration::from_millis(LONGEST_SILENCE));
+                if let Some(ends) = ends_of(rt, alloc, stream, name, patience) {
+                    return Some(ends);
+                }
+            }
+            Err(error) if is_passing(error.raw_os_error()) => {}
+            Err(_) => return None,
+        }
+        thread::sleep(&rt, Duration::from_millis(ACCEPT_PAUSE));
+    }
+    None
+}
+
+/// Connects to the first address of a host that answers.
+fn connect<R: SystemNet<Stream = TcpStream>>(rt: &R, address: &str) -> Option<TcpStream> {
+    let Ok(found) = address.to_socket_addrs(rt) else {
+        return None;
+    };
+    for address in found {
+        if let Ok(stream) = TcpStream::connect_timeout(
+            rt,
+            &address,
+            Duration::from_millis(DIAL_WAIT),
+        ) {
+            return Some(stream);
+        }
+    }
+    None
+}
+
+impl<
+    R: SystemNet<Listener = TcpListener, Stream = TcpStream> + SystemClock + Copy + Send + 'static,
+> Net for StdNet<R> {
+    ghost use Rattle.std.specs.Prelude.{◌≡◌, None, OnErr, IfOk};
+
+    type Door = StdDoor;
+
+    type In = SocketSource<R>;
+
+    type Out = SocketSink;
+
+    ghost counts = { λ s. record { door_faults = s.door_faults; dial_faults = s.dial_faults; accepted = s.accepted } };
+
+    ghost streams = { λ _. None };
+
+    fn bind(&mut self, address: &str) -> Result<StdDoor, NetFailed> {
+        match TcpListener::bind(&self.rt, address) {
+            Ok(listener) => Ok(StdDoor { listener }),
+            Err(_) => {
+                self.door_faults = self.door_faults.saturating_add(1);
+                Err(NetFailed)
+            }
+        }
+    }
+
+    fn accept(&mut self, door: &mut StdDoor) -> Result<(SocketSource<R>, SocketSink), NetFailed> {
+        let name = self.accepted.saturating_add(1);
+        match next_ends(self.rt, self.alloc, door, name) {
+            Some(ends) => {
+                self.accepted = name;
+                Ok(ends)
+            }
+            None => {
+                self.door_faults = self.door_faults.saturating_add(1);
+                Err(NetFailed)
+            }
+        }
+    }
+
+    fn dial(&mut self, address: &str) -> Result<(SocketSource<R>, SocketSink), NetFailed> {
+        if let Some(pauses) = &mut self.pauses {
+            pauses.wait(&self.rt);
+        }
+        let dialled = match connect(&self.rt, address) {
+            Some(stream) => ends_of(self.rt, self.alloc, stream, 0, None),
+            None => None,
+        };
+        match dialled {
+            Some(ends) => Ok(ends),
+            None => {
+                self.dial_faults = self.dial_faults.saturating_add(1);
+                Err(NetFailed)
+            }
+        }
+    }
+
+    fn another(&self) -> StdNet<R> {
+        StdNet {
+            rt: self.rt,
+            alloc: self.alloc,
+            door_faults: 0,
+            dial_faults: 0,
+            accepted: 0,
+            pauses: Some(Pauses::new()),
+        }
+    }
+}

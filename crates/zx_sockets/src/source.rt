@@ -1,0 +1,237 @@
+//! What comes from a peer over TCP.
+
+ghost use Rattle.std.specs.Prelude.{◌≡◌, ◌≤◌, ◌<◌, true, false, vec_len, IfOk};
+ghost use Rattle.zx_outside.specs.Adapters.{is_idle, got_of};
+ghost use Rattle.zx_outside.specs.Reading.{EndsForGood, counts_after_read};
+ghost use Rattle.zx_sockets.specs.Refilling.{Refilled};
+
+use crate::bell::{Ear, SocketBell};
+use std::alloc::{AllocError, Global};
+use std::io;
+use std::io::{ErrorKind, Read};
+use std::net::{Net as SystemNet, TcpStream};
+use std::sync::Arc;
+use std::time::{Clock as SystemClock, Duration, Instant};
+use zx_net::Wakes;
+use zx_outside::{Got, Source};
+
+/// How many bytes are asked of the system at once.
+const ROOM: usize = 8192;
+
+/// The source end of a TCP stream.
+#[derive(Drop)]
+pub struct SocketSource<R> {
+    rt: R,
+    alloc: Global,
+    stream: Arc<TcpStream>,
+    room: Vec<u8>,
+    at: usize,
+    end: usize,
+    ended: bool,
+    faults: u64,
+    idles: u64,
+    name: u64,
+    /// How long the peer may say nothing, and since when it does; `None`: for ever.
+    patience: Option<Patience>,
+    ear: Option<Ear>,
+    ghost kept: { at ≤ end },
+    ghost fits: { end ≤ vec_len room },
+    ghost over: { ended ≡ true → at ≡ end },
+}
+
+/// How long a peer may say nothing.
+#[derive(Clone, Copy, Drop)]
+pub struct Patience {
+    limit: Duration,
+    since: Instant,
+}
+
+impl Patience {
+    /// From now on; `None` where the system tells no time.
+    pub fn new<R: SystemClock>(rt: &R, limit: Duration) -> Option<Patience> {
+        let since = Instant::now(rt).ok()?;
+        Some(Patience { limit, since })
+    }
+}
+
+/// Whether the peer has said nothing for too long.
+fn is_over<R: SystemClock>(rt: &R, patience: &Option<Patience>) -> bool {
+    let Some(patience) = patience else {
+        return false;
+    };
+    match patience.since.elapsed(rt) {
+        Ok(silence) => silence >= patience.limit,
+        Err(_) => false,
+    }
+}
+
+/// The patience after a byte came.
+fn renewed<R: SystemClock>(rt: &R, patience: &Option<Patience>) -> Option<Patience> {
+    let patience = patience.as_ref()?;
+    Patience::new(rt, patience.limit)
+}
+
+/// Whether an error of this kind says only that no byte came in time.
+fn is_idle(kind: ErrorKind) -> bool
+    ensures { result ≡ is_idle kind }
+{
+    matches!(kind, ErrorKind::WouldBlock | ErrorKind::Interrupted)
+}
+
+/// What the outcome of a read of the system means: no byte is the end, and an error is an idle turn or a fault.
+fn judge(outcome: io::Result<usize>) -> Got
+    ensures { result ≡ got_of outcome }
+{
+    match outcome {
+        Ok(0) => Got::End,
+        Ok(count) => Got::Bytes(count),
+        Err(error) if is_idle(error.kind()) => Got::Nothing,
+        Err(_) => Got::Failed,
+    }
+}
+
+/// Waits for a byte or the bell where there is one, and says whether it is worth reading now.
+fn hears(ear: &mut Option<Ear>) -> bool {
+    match ear {
+        None => true,
+        Some(ear) => ear.hears(),
+    }
+}
+
+/// Notes whether the last read took all that there was.
+fn note(ear: &mut Option<Ear>, is_drained: bool) {
+    if let Some(ear) = ear {
+        ear.note(is_drained);
+    }
+}
+
+impl<R: SystemClock + Copy> SocketSource<R> {
+    /// The source end of this stream, under a name. A peer that says nothing for too long is a fault.
+    pub fn new(
+        rt: R,
+        alloc: Global,
+        stream: Arc<TcpStream>,
+        name: u64,
+        patience: Option<Patience>,
+    ) -> Result<SocketSource<R>, AllocError>
+        ensures { IfOk result (λ source. (source.ended ≡ false) × (source.faults ≡ 0) × (source.idles ≡ 0) × (source.name ≡ name)) }
+    {
+        let room = vec![in alloc; 0u8; ROOM]?;
+        Ok(SocketSource {
+            rt,
+            alloc,
+            stream,
+            room,
+            at: 0,
+            end: 0,
+            ended: false,
+            faults: 0,
+            idles: 0,
+            name,
+            patience,
+            ear: None,
+        })
+    }
+
+    /// Counts a turn in which no byte came: an idle turn, or a fault where the peer has said nothing for too long.
+    fn pass_turn(&mut self) -> Got
+        requires empty { self.old.at ≡ self.old.end }
+        requires open { self.old.ended ≡ false }
+        ensures filled { Refilled result self.new.at self.new.end }
+        ensures counts { record { faults = self.new.faults; idles = self.new.idles } ≡ counts_after_read result (record { faults = self.old.faults; idles = self.old.idles }) }
+        ensures end { EndsForGood result self.old.ended self.new.ended }
+        ensures named { self.new.name ≡ self.old.name }
+    {
+        if is_over(&self.rt, &self.patience) {
+            self.faults = self.faults.saturating_add(1);
+            return Got::Failed;
+        }
+        self.idles = self.idles.saturating_add(1);
+        Got::Nothing
+    }
+
+    /// Asks the system for bytes once.
+    fn refill(&mut self) -> Got
+        requires { self.old.at ≡ self.old.end }
+        ensures filled { Refilled result self.new.at self.new.end }
+        ensures counts { record { faults = self.new.faults; idles = self.new.idles } ≡ counts_after_read result (record { faults = self.old.faults; idles = self.old.idles }) }
+        ensures end { EndsForGood result self.old.ended self.new.ended }
+        ensures named { self.new.name ≡ self.old.name }
+    {
+        if self.ended {
+            return Got::End;
+        }
+        if !hears(&mut self.ear) {
+            return self.pass_turn();
+        }
+        let mut stream: &TcpStream = &self.stream;
+        let answer = judge(stream.read(self.room.as_mut_slice()));
+        match answer {
+            Got::Bytes(count) => {
+                self.at = 0;
+                self.end = count;
+                note(&mut self.ear, count < self.room.len());
+                self.patience = renewed(&self.rt, &self.patience);
+                answer
+            }
+            Got::Nothing => {
+                note(&mut self.ear, true);
+                self.pass_turn()
+            }
+            Got::End => {
+                self.ended = true;
+                answer
+            }
+            Got::Failed => {
+                self.faults = self.faults.saturating_add(1);
+                answer
+            }
+        }
+    }
+}
+
+impl<R: SystemClock + Copy> Source for SocketSource<R> {
+    ghost use Rattle.std.specs.Prelude.{◌≡◌, ◌<◌, length, None};
+    ghost use Rattle.zx_outside.specs.Reading.{FitsBuffer, Reads, EndsForGood, counts_after_read};
+
+    ghost given = { λ _. None };
+
+    ghost left = { λ _. None };
+
+    ghost counts = { λ s. record { faults = s.faults; idles = s.idles } };
+
+    ghost ended = { λ s. s.ended };
+
+    ghost name = { λ s. s.name };
+
+    fn read(&mut self, buf: &mut [u8]) -> Got
+        requires { 0 < length buf.old }
+        ensures size { FitsBuffer result (length buf.new) }
+        ensures bytes { Reads result buf.new None None None None }
+        ensures counts { record { faults = self.new.faults; idles = self.new.idles } ≡ counts_after_read result (record { faults = self.old.faults; idles = self.old.idles }) }
+        ensures end { EndsForGood result self.old.ended self.new.ended }
+        ensures named { self.new.name ≡ self.old.name }
+    {
+        if self.at == self.end {
+            match self.refill() {
+                Got::Bytes(_) => {}
+                other => return other,
+            }
+        }
+        let count = buf.len().min(self.end - self.at);
+        let from = self.at;
+        buf[..count].copy_from_slice(&self.room.as_slice()[from..from + count]);
+        self.at += count;
+        Got::Bytes(count)
+    }
+}
+
+impl<R: SystemClock + SystemNet + Copy> Wakes for SocketSource<R> {
+    type Bell = SocketBell;
+
+    fn bell(&mut self) -> Option<Arc<SocketBell>> {
+        let (ear, bell) = Ear::new(&self.rt, self.alloc, &self.stream)?;
+        self.ear = Some(ear);
+        Some(bell)
+    }
+}

@@ -1,0 +1,166 @@
+use crate::net::ends_of;
+use crate::source::Patience;
+use crate::{StdClock, StdNet, ThreadSpawner};
+use std::net::{TcpListener, TcpStream};
+use std::sync::Arc;
+use std::sync::atomic::{AtomicU64, Ordering};
+use std::test::Fail;
+use std::thread;
+use std::time::{Duration, Instant};
+use zx_net::{Bell, Clock, Net, Spawner, Wakes};
+use zx_outside::{Got, Sink, Source, Took};
+
+/// How many turns a test waits at most for what has to come.
+const TURNS: u32 = 6000;
+
+/// An address of the loopback at which nobody listens.
+fn free_address(rt: &HostRuntime) -> Result<String, Fail> {
+    let listener = TcpListener::bind(rt, "127.0.0.1:0")?;
+    let port = listener.local_addr()?.port();
+    Ok(format!(in rt.alloc(); "127.0.0.1:{port}")?)
+}
+
+/// The next byte that comes.
+fn next_byte<S: Source>(source: &mut S) -> Option<u8> {
+    let mut one = [0u8; 1];
+    for _ in 0..TURNS {
+        match source.read(&mut one) {
+            Got::Bytes(_) => return Some(one[0]),
+            Got::Nothing => {}
+            Got::End | Got::Failed => return None,
+        }
+    }
+    None
+}
+
+/// Whether these bytes come next.
+fn comes<S: Source>(source: &mut S, wanted: &[u8]) -> bool {
+    for byte in wanted {
+        if next_byte(source) != Some(*byte) {
+            return false;
+        }
+    }
+    true
+}
+
+/// What a read answers.
+fn turn<S: Source>(source: &mut S) -> Got {
+    let mut one = [0u8; 1];
+    source.read(&mut one)
+}
+
+#[test]
+fn the_clock_tells_the_time(rt: HostRuntime) {
+    let mut clock = StdClock::new(rt);
+    let then = clock.now();
+    assert!(rt; then > 1_700_000_000_000);
+    assert!(rt; clock.another().now() > 1_700_000_000_000);
+}
+
+#[test]
+fn a_job_runs_in_a_thread(rt: HostRuntime) -> Result<(), Fail> {
+    let runs = Arc::new(rt.alloc(), AtomicU64::new(0))?;
+    let theirs = Arc::try_clone(&runs)?;
+    let mut spawner = ThreadSpawner::new(rt);
+    let job = move || {
+        let _before = theirs.fetch_add(1, Ordering::SeqCst);
+    };
+    assert!(rt; spawner.start(job).is_ok());
+    for _ in 0..TURNS {
+        if runs.load(Ordering::SeqCst) == 1 {
+            return Ok(());
+        }
+        thread::sleep(&rt, Duration::from_millis(10));
+    }
+    assert!(rt; false);
+    Ok(())
+}
+
+#[test]
+fn bytes_pass_both_ways(rt: HostRuntime) -> Result<(), Fail> {
+    let address = free_address(&rt)?;
+    let mut net = StdNet::new(rt, rt.alloc());
+    let Ok(mut door) = net.bind(address.as_str()) else {
+        return Err(Fail::from("bind"));
+    };
+    // The dialled stream waits at the door, so one thread is enough.
+    let (Ok((mut near, mut to_far)), Ok((mut far, mut to_near))) = (
+        net.dial(address.as_str()),
+        net.accept(&mut door),
+    ) else {
+        return Err(Fail::from("stream"));
+    };
+    assert!(rt; turn(&mut far) == Got::Nothing);
+    assert!(rt; to_far.write(b"ping") == Took::Bytes(4));
+    assert!(rt; comes(&mut far, b"ping"));
+    assert!(rt; to_near.write(b"pong") == Took::Bytes(4));
+    assert!(rt; comes(&mut near, b"pong"));
+    drop(near);
+    drop(to_far);
+    assert!(rt; next_byte(&mut far) == None);
+    assert!(rt; turn(&mut far) == Got::End);
+    Ok(())
+}
+
+#[test]
+fn a_bell_ends_a_wait(rt: HostRuntime) -> Result<(), Fail> {
+    let address = free_address(&rt)?;
+    let mut net = StdNet::new(rt, rt.alloc());
+    let Ok(mut door) = net.bind(address.as_str()) else {
+        return Err(Fail::from("bind"));
+    };
+    let (Ok((_near, mut to_far)), Ok((mut far, _to_near))) = (
+        net.dial(address.as_str()),
+        net.accept(&mut door),
+    ) else {
+        return Err(Fail::from("stream"));
+    };
+    let Some(bell) = far.bell() else {
+        return Err(Fail::from("bell"));
+    };
+    // The first turn asks the system, and finds nothing.
+    assert!(rt; turn(&mut far) == Got::Nothing);
+    // A bell that was rung before the wait ends it; one that is lost takes a second each time.
+    let mut was_woken = false;
+    for _ in 0..10u32 {
+        bell.arm();
+        bell.ring();
+        let since = Instant::now(&rt)?;
+        assert!(rt; turn(&mut far) == Got::Nothing);
+        was_woken = was_woken || since.elapsed(&rt)? < Duration::from_millis(900);
+    }
+    assert!(rt; was_woken);
+    assert!(rt; to_far.write(b"ping") == Took::Bytes(4));
+    assert!(rt; comes(&mut far, b"ping"));
+    drop(to_far);
+    drop(_near);
+    assert!(rt; next_byte(&mut far) == None);
+    assert!(rt; turn(&mut far) == Got::End);
+    Ok(())
+}
+
+#[test]
+fn silence_is_a_fault_in_the_end(rt: HostRuntime) -> Result<(), Fail> {
+    let listener = TcpListener::bind(&rt, "127.0.0.1:0")?;
+    let near = TcpStream::connect(&rt, listener.local_addr()?)?;
+    let (far, _) = listener.accept()?;
+    let patience = Patience::new(&rt, Duration::from_millis(0));
+    let Some((mut source, _sink)) = ends_of(rt, rt.alloc(), far, 7, patience) else {
+        return Err(Fail::from("ends"));
+    };
+    assert!(rt; turn(&mut source) == Got::Failed);
+    drop(near);
+    Ok(())
+}
+
+#[test]
+fn a_worker_waits_between_its_dials(rt: HostRuntime) -> Result<(), Fail> {
+    let address = free_address(&rt)?;
+    let net = StdNet::new(rt, rt.alloc());
+    let mut worker = net.another();
+    let since = Instant::now(&rt)?;
+    assert!(rt; worker.dial(address.as_str()).is_err());
+    assert!(rt; worker.dial(address.as_str()).is_err());
+    assert!(rt; since.elapsed(&rt)? >= Duration::from_millis(100));
+    Ok(())
+}
