@@ -29,3 +29,13 @@ pub trait Wakes: Source {
         ensures ended { Self.ended self.new ≡ Self.ended self.old }
         ensures named { Self.name self.new ≡ Self.name self.old };
 }
+
+/// The bell of a source in memory, whose reads never wait: there is none to ring.
+#[derive(Clone, Copy, Debug, Drop)]
+pub struct NoBell;
+
+impl Bell for NoBell {
+    fn arm(&self) {}
+
+    fn ring(&self) {}
+}

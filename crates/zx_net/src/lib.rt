@@ -21,6 +21,12 @@
 //! In a [`MemNet`] each accepted stream ends at once, each dialled one gives listed bytes, and what is written stays
 //! in memory. A net in memory tells the bytes that its next dials give; a net of the system tells nothing of them.
 //!
+//! # Bells
+//!
+//! One who waits for a source and for another thread at once asks the source for a [`Bell`] ([`Wakes::bell`]), arms it,
+//! looks at what the other thread gives, and then reads. The other thread gives, and then rings. A read that waits
+//! answers an idle turn once the bell was rung, so no ring between the look and the read is lost.
+//!
 //! # Jobs
 //!
 //! [`Spawner::start`] has a job run, in a thread of its own or in place, and hands it back where it could not be
@@ -40,7 +46,7 @@ mod named;
 mod net;
 mod spawner;
 
-pub use bell::{Bell, Wakes};
+pub use bell::{Bell, NoBell, Wakes};
 pub use clock::Clock;
 pub use inline_spawner::InlineSpawner;
 pub use memory_clock::MemClock;

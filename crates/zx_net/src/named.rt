@@ -2,6 +2,9 @@
 
 ghost use Rattle.std.specs.Prelude.{◌≡◌};
 
+use crate::{NoBell, Wakes};
+use std::alloc::Global;
+use std::sync::Arc;
 use zx_outside::{Got, Sink, Source, Took};
 
 /// A source or a sink that goes by another name. All else is as `inner` has it.
@@ -41,6 +44,14 @@ impl<S: Source> Source for Named<S> {
 
     fn read(&mut self, buf: &mut [u8]) -> Got {
         self.inner.read(buf)
+    }
+}
+
+impl<S: Source> Wakes for Named<S> {
+    type Bell = NoBell;
+
+    fn bell(&mut self) -> Option<Arc<NoBell, Global>> {
+        None
     }
 }
 

@@ -7,7 +7,7 @@ use std::sync::atomic::{AtomicU64, Ordering};
 use std::test::Fail;
 use std::thread;
 use std::time::{Duration, Instant};
-use zx_net::{Bell, Clock, Net, Spawner, Wakes};
+use zx_net::{Bell, Clock, InlineSpawner, MemNet, Net, Spawner, Wakes};
 use zx_outside::{Got, Sink, Source, Took};
 
 /// How many turns a test waits at most for what has to come.
@@ -162,5 +162,40 @@ fn a_worker_waits_between_its_dials(rt: HostRuntime) -> Result<(), Fail> {
     assert!(rt; worker.dial(address.as_str()).is_err());
     assert!(rt; worker.dial(address.as_str()).is_err());
     assert!(rt; since.elapsed(&rt)? >= Duration::from_millis(100));
+    Ok(())
+}
+
+#[test]
+fn a_job_runs_in_place(rt: HostRuntime) -> Result<(), Fail> {
+    let runs = Arc::new(rt.alloc(), AtomicU64::new(0))?;
+    let mut spawner = InlineSpawner::<HostRuntime>::new(vec![in rt.alloc(); 2]?);
+    let theirs = Arc::try_clone(&runs)?;
+    let first = spawner.start(move || {
+        let _before = theirs.fetch_add(1, Ordering::SeqCst);
+    });
+    assert!(rt; first.is_ok());
+    assert!(rt; runs.load(Ordering::SeqCst) == 1);
+    let theirs = Arc::try_clone(&runs)?;
+    let second = spawner.start(move || {
+        let _before = theirs.fetch_add(1, Ordering::SeqCst);
+    });
+    assert!(rt; second.is_err());
+    assert!(rt; runs.load(Ordering::SeqCst) == 1);
+    Ok(())
+}
+
+#[test]
+fn a_net_in_memory_gives_its_streams(rt: HostRuntime) -> Result<(), Fail> {
+    let alloc = rt.alloc();
+    let streams = vec![in alloc; Vec::from_slice(alloc, b"etcd")?]?;
+    let mut net = MemNet::new(alloc, vec![in alloc; 2]?, streams);
+    let Ok((mut source, mut sink)) = net.dial("etcd:2379") else {
+        return Err(Fail::from("dial"));
+    };
+    assert!(rt; comes(&mut source, b"etcd"));
+    assert!(rt; turn(&mut source) == Got::End);
+    assert!(rt; sink.write(b"ask") == Took::Bytes(3));
+    assert!(rt; sink.inner().bytes() == b"ask".as_slice());
+    assert!(rt; net.dial("etcd:2379").is_err());
     Ok(())
 }
