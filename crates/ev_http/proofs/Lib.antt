@@ -11,6 +11,7 @@ pub mod Places
 pub mod Reading
 pub mod Sending
 pub mod Spelled
+pub mod Streamed
 pub mod Streams
 pub mod Takings
 pub mod Wholes

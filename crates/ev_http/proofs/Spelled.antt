@@ -30,12 +30,12 @@ use Rattle.ev_http.proofs.Framings.{some_count}
 
 -- ---- bytes
 
-both : (a b : Bool) → (a && b) ≡ true → (a ≡ true) × (b ≡ true)
+pub both : (a b : Bool) → (a && b) ≡ true → (a ≡ true) × (b ≡ true)
 both true b e = (refl, e)
 both false b e = absurd (let apart : false ≡ true = e in cc)
 
 -- a test that computes
-all_pass : (test : ℕ → Bool) (xs : List ℕ) → list_all test xs ≡ true → AllPass test xs
+pub all_pass : (test : ℕ → Bool) (xs : List ℕ) → list_all test xs ≡ true → AllPass test xs
 all_pass test [] e = All-nil (λ b. IsTrue (test b))
 all_pass test (x ∷ xs) e =
     let two = both (test x) (list_all test xs) e in
@@ -49,7 +49,7 @@ ascii (x ∷ xs) e =
 
 -- ---- digits
 
-digits_pass : (test : ℕ → Bool) → ((b : ℕ) → 48 ≤ b → b ≤ 57 → test b ≡ true) → (ds : List ℕ) → AllDigits 10 ds → list_all test ds ≡ true
+pub digits_pass : (test : ℕ → Bool) → ((b : ℕ) → 48 ≤ b → b ≤ 57 → test b ≡ true) → (ds : List ℕ) → AllDigits 10 ds → list_all test ds ≡ true
 digits_pass test is [] all = refl
 digits_pass test is (d ∷ ds) all =
     let at = digit_from_value d all.0 in
@@ -232,14 +232,14 @@ phrase_passes status =
 
 -- ---- fields
 
-abbrev field : List ℕ → List ℕ → Field
+abbrev pub field : List ℕ → List ℕ → Field
 field name value = record { name = name; raw = 32 ∷ value; end = crlf }
 
 -- the fields of each message: its type and its length
 abbrev common : List ℕ → List Field
 common ds = field (codes "content-type") (codes "application/json") ∷ (field (codes "content-length") ds ∷ [])
 
-is_field : (name value : List ℕ) → 0 < length name → list_all is_token_byte name ≡ true → list_all is_value_byte value ≡ true → IsField (field name value)
+pub is_field : (name value : List ℕ) → 0 < length name → list_all is_token_byte name ≡ true → list_all is_value_byte value ≡ true → IsField (field name value)
 is_field name value some token is = record {
   name = (some, all_pass is_token_byte name token);
   raw = all_pass is_value_byte (32 ∷ value) is;
@@ -325,7 +325,7 @@ request_back host body rest goes is_host short small =
       bytes_are = append_assoc (request_head host goes n) body rest;
     }
 
-trim_kind : trim_ows (32 ∷ codes "application/json") ≡ codes "application/json"
+pub trim_kind : trim_ows (32 ∷ codes "application/json") ≡ codes "application/json"
 unfolding trim_ows
 trim_kind = refl
 

@@ -5,3 +5,4 @@ pub mod Messages
 pub mod Sending
 pub mod Stream
 pub mod Taking
+pub mod Chunked

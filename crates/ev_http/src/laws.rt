@@ -1,8 +1,10 @@
 //! What is true of every message that is sent. These functions do nothing: each clause is a law of the definitions.
 
-ghost use Rattle.std.specs.Prelude.{◌≡◌, ℕ, ◌<◌, ◌≤◌, ◌++◌, List, length};
+ghost use Rattle.std.specs.Prelude.{◌≡◌, ℕ, ◌<◌, ◌≤◌, ◌++◌, All, List, length};
+ghost use Rattle.std.specs.List.{flat_map};
 ghost use Rattle.httparse.specs.Grammar.{RequestHead, print_request, ResponseHead, print_response};
 ghost use Rattle.ev_types.specs.declared.route.Route.{Route};
+ghost use Rattle.ev_http.specs.Chunked.{IsPiece, stream_head, chunk, last_chunk};
 ghost use Rattle.ev_http.specs.Messages.{HoldsRequest, HoldsResponse, HoldsStatus};
 ghost use Rattle.ev_http.specs.Sending.{IsHost, IsPlainRequest, IsPlainResponse, request_head, response_head};
 
@@ -23,4 +25,10 @@ pub fn responses_come_back()
     ensures status { (status : ℕ) (body rest : List ℕ) → 100 ≤ status → status < 1000 → length body ≤ 8388608
         → HoldsStatus status body rest ((response_head status (length body) ++ body) ++ rest) }
     ensures good { (body rest : List ℕ) → length body ≤ 8388608 → HoldsResponse body rest ((response_head 200 (length body) ++ body) ++ rest) }
+{}
+
+/// A stream that is sent in chunks is read as what they carry, joined, whatever bytes follow its last chunk.
+pub fn streams_come_back()
+    ensures { (pieces : List (List ℕ)) (rest : List ℕ) → All IsPiece pieces
+        → HoldsResponse (flat_map (λ (piece : List ℕ). piece) pieces) rest ((stream_head ++ (flat_map chunk pieces ++ last_chunk)) ++ rest) }
 {}

@@ -27,6 +27,9 @@
 //! socket cost two packets; a longer body is not copied. What is written is what is read, whatever follows it
 //! ([`requests_come_back`], [`responses_come_back`]).
 //!
+//! A stream goes out by [`send_stream_head`], [`send_chunk`] for each of its pieces and [`send_last_chunk`]
+//! ([`streams_come_back`]).
+//!
 //! # Limits
 //!
 //! | What | At most | Beyond it |
@@ -47,6 +50,7 @@
 #![tactic(auto)]
 
 mod body;
+mod chunked;
 mod fault;
 mod framing;
 mod head;
@@ -57,8 +61,9 @@ mod response;
 mod send;
 mod taking;
 
+pub use chunked::{send_chunk, send_last_chunk, send_stream_head};
 pub use fault::HttpFault;
-pub use laws::{requests_come_back, responses_come_back};
+pub use laws::{requests_come_back, responses_come_back, streams_come_back};
 pub use lines::Lines;
 pub use request::read_request;
 pub use response::read_response;

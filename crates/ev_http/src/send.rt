@@ -13,7 +13,7 @@ use std::alloc::{AllocError, Global};
 use zx_outside::{Sink, Took};
 
 /// Writes all of the bytes, or up to the first fault of the sink.
-fn write_all<K: Sink>(sink: &mut K, bytes: &[u8]) -> Result<(), HttpFault>
+pub fn write_all<K: Sink>(sink: &mut K, bytes: &[u8]) -> Result<(), HttpFault>
     ensures { Wrote result bytes.now (K.taken sink.old) (K.taken sink.new) (K.counts sink.old) (K.counts sink.new) (K.name sink.old) (K.name sink.new) }
 {
     let mut at = 0;

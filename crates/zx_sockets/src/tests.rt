@@ -84,11 +84,11 @@ fn bytes_pass_both_ways(rt: HostRuntime) -> Result<(), Fail> {
         return Err(Fail::from("bind"));
     };
     // The dialled stream waits at the door, so one thread is enough.
-    let (Ok((mut near, mut to_far)), Ok((mut far, mut to_near))) = (
-        net.dial(address.as_str()),
-        net.accept(&mut door),
-    ) else {
-        return Err(Fail::from("stream"));
+    let Ok((mut near, mut to_far)) = net.dial(address.as_str()) else {
+        return Err(Fail::from("dial"));
+    };
+    let Ok((mut far, mut to_near)) = net.accept(&mut door) else {
+        return Err(Fail::from("accept"));
     };
     assert!(rt; turn(&mut far) == Got::Nothing);
     assert!(rt; to_far.write(b"ping") == Took::Bytes(4));
@@ -109,11 +109,11 @@ fn a_bell_ends_a_wait(rt: HostRuntime) -> Result<(), Fail> {
     let Ok(mut door) = net.bind(address.as_str()) else {
         return Err(Fail::from("bind"));
     };
-    let (Ok((_near, mut to_far)), Ok((mut far, _to_near))) = (
-        net.dial(address.as_str()),
-        net.accept(&mut door),
-    ) else {
-        return Err(Fail::from("stream"));
+    let Ok((near, mut to_far)) = net.dial(address.as_str()) else {
+        return Err(Fail::from("dial"));
+    };
+    let Ok((mut far, _to_near)) = net.accept(&mut door) else {
+        return Err(Fail::from("accept"));
     };
     let Some(bell) = far.bell() else {
         return Err(Fail::from("bell"));
@@ -133,7 +133,7 @@ fn a_bell_ends_a_wait(rt: HostRuntime) -> Result<(), Fail> {
     assert!(rt; to_far.write(b"ping") == Took::Bytes(4));
     assert!(rt; comes(&mut far, b"ping"));
     drop(to_far);
-    drop(_near);
+    drop(near);
     assert!(rt; next_byte(&mut far) == None);
     assert!(rt; turn(&mut far) == Got::End);
     Ok(())
