@@ -10,6 +10,8 @@ mod tries;
 mod words;
 
 pub use hexes::{bytes_of, hex_of};
-pub use pieces::{Piece, joined};
-pub use tries::{Rows, argument_or, status_of, try_file, try_file_in};
-pub use words::Words;
+pub use pieces::{Piece, joined, push, push_number, push_unless_zero, push_word, said};
+pub use tries::{
+    Rows, Steps, argument_or, found_in_steps, status_of, try_file, try_file_in, try_files_in,
+};
+pub use words::{Words, word_of};

@@ -31,3 +31,44 @@ fn add(alloc: Global, text: &mut String, piece: Piece<'_>) -> Result<(), Memory>
     }
     Ok(())
 }
+
+/// Adds to a text.
+pub fn push(text: &mut String, words: &str) -> Result<(), Memory> {
+    text.push_str(words)?;
+    Ok(())
+}
+
+/// Adds a blank and a word.
+pub fn push_word(text: &mut String, word: &str) -> Result<(), Memory> {
+    push(text, " ")?;
+    push(text, word)
+}
+
+/// Adds a number in decimal after this text.
+pub fn push_number(
+    alloc: Global,
+    text: &mut String,
+    front: &str,
+    number: i64,
+) -> Result<(), Memory> {
+    push(text, front)?;
+    push(text, format!(in alloc; "{number}")?.as_str())
+}
+
+/// Adds a number after this text; nothing for 0.
+pub fn push_unless_zero(
+    alloc: Global,
+    text: &mut String,
+    front: &str,
+    number: i64,
+) -> Result<(), Memory> {
+    if number == 0 {
+        return Ok(());
+    }
+    push_number(alloc, text, front, number)
+}
+
+/// This text alone, as what comes of a row.
+pub fn said(alloc: Global, words: &str) -> Result<Option<String>, Memory> {
+    Ok(Some(String::from_str(alloc, words)?))
+}

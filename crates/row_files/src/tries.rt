@@ -1,7 +1,9 @@
 //! The rows of one file, in order.
 
-ghost use Rattle.std.specs.Prelude.{◌≡◌, None, string_bytes};
+ghost use Rattle.std.specs.Prelude.{◌≡◌, ◌↔◌, None, string_bytes};
+ghost use Rattle.std.specs.Process.{exit_status};
 
+use crate::pieces::push;
 use anyhow::{Context, Result, bail};
 use std::alloc::Global;
 use std::process::ExitCode;
@@ -23,12 +25,53 @@ pub fn argument_or(rt: &HostRuntime, without: &str) -> Result<String> {
 }
 
 /// The status of a program that found so many rows to differ: success where it is none.
-pub fn status_of(failed: u64) -> ExitCode {
+pub fn status_of(failed: u64) -> ExitCode
+    ensures { exit_status result ≡ 0 ↔ failed ≡ 0 }
+{
     if failed == 0 {
         ExitCode::SUCCESS
     } else {
         ExitCode::FAILURE
     }
+}
+
+/// What comes of a row of steps, with `; ` between them, as the text of what comes of each.
+pub trait Steps {
+    /// What comes of a step; `None` where it cannot be read.
+    fn step(&mut self, alloc: Global, step: &str) -> Result<Option<String>, Memory>;
+}
+
+/// What comes of the steps of a row, with `; ` between them; `None` where one cannot be read.
+pub fn found_in_steps<T: Steps>(
+    alloc: Global,
+    steps: &mut T,
+    left: &str,
+) -> Result<Option<String>, Memory> {
+    let mut found = String::new(alloc);
+    for step in left.split("; ") {
+        let Some(said) = steps.step(alloc, step)? else {
+            return Ok(None);
+        };
+        if !found.is_empty() {
+            push(&mut found, "; ")?;
+        }
+        push(&mut found, said.as_str())?;
+    }
+    Ok(Some(found))
+}
+
+/// How many rows differ in the files of these names in a folder, each of its own kind of rows.
+pub fn try_files_in<T: Rows + Copy>(
+    rt: &HostRuntime,
+    folder: &str,
+    files: &[(&'static str, T)],
+) -> Result<u64> {
+    let mut failed = 0u64;
+    for (name, kind) in files {
+        let mut rows = *kind;
+        failed = failed.saturating_add(try_file_in(rt, folder, name, &mut rows)?);
+    }
+    Ok(failed)
 }
 
 /// How many rows differ in the file of this name in a folder, as [`try_file`] counts them.

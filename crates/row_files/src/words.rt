@@ -47,3 +47,14 @@ impl<'a> Words<'a> {
         self.word()?.parse::<u64>().ok()
     }
 }
+
+/// Bytes as a word: `-` for none, and `?` where they are no UTF-8.
+pub fn word_of(bytes: &[u8]) -> &str {
+    if bytes.is_empty() {
+        return "-";
+    }
+    match str::from_utf8(bytes) {
+        Ok(word) => word,
+        Err(_) => "?",
+    }
+}

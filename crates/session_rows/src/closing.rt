@@ -3,7 +3,7 @@
 ghost use Rattle.std.specs.Prelude.{◌≤ℤ◌, pos};
 
 use crate::answers::answer_of;
-use crate::words::{damaged_text, txn_text};
+use crate::words::{ask_text, damaged_text};
 use ev_store::Store;
 use ev_types::{ActAns, Answer, Ask, TxnReq};
 use row_files::{Piece, Words, joined};
@@ -57,16 +57,27 @@ fn read(alloc: Global, store: &mut Store, who: Who, view: &mut View) -> Result<R
         return Ok(Round::Whole);
     }
     let ask = reading(alloc, view.revision(), wants.as_slice())?;
-    match answer_of(alloc, store, &ask)? {
+    let answered = answer_of(alloc, store, &ask)?;
+    taken(alloc, view, wants.as_slice(), &answered)
+}
+
+/// Adds what the answer has.
+fn taken(
+    alloc: Global,
+    view: &mut View,
+    wants: &[Want],
+    answered: &Result<Answer, String>,
+) -> Result<Round, Memory> {
+    match answered {
         Ok(
             Answer::Txn {
                 revision,
                 parts,
                 ..
             },
-        ) => added(alloc, view, wants.as_slice(), revision, parts.as_slice()),
+        ) => added(alloc, view, wants, *revision, parts.as_slice()),
         Ok(_) => Ok(Round::Said(String::from_str(alloc, "no answer")?)),
-        Err(denial) => Ok(Round::Said(denial)),
+        Err(denial) => Ok(Round::Said(String::from_str(alloc, denial.as_str())?)),
     }
 }
 
@@ -131,23 +142,38 @@ fn answered(alloc: Global, reply: &Reply) -> Result<String, Memory> {
 
 /// `N rounds, TRANSACTION, at REVISION`, or that a guard failed
 fn planned(alloc: Global, store: &mut Store, plan: Plan, rounds: u32) -> Result<String, Memory> {
+    let ask = Ask::Txn(txn_of(alloc, plan)?);
+    let text = ask_text(alloc, &ask)?;
+    let answered = answer_of(alloc, store, &ask)?;
+    outcome_text(alloc, rounds, text.as_str(), &answered)
+}
+
+/// The transaction of a plan.
+fn txn_of(alloc: Global, plan: Plan) -> Result<TxnReq, Memory> {
     let failure = ranges(alloc, 0, plan.again.as_slice())?;
-    let txn = TxnReq {
+    Ok(TxnReq {
         guards: plan.guards,
         success: plan.success,
         failure,
-    };
-    let text = txn_text(alloc, &txn)?;
-    match answer_of(alloc, store, &Ask::Txn(txn))? {
+    })
+}
+
+fn outcome_text(
+    alloc: Global,
+    rounds: u32,
+    words: &str,
+    answered: &Result<Answer, String>,
+) -> Result<String, Memory> {
+    match answered {
         Ok(
             Answer::Txn {
                 revision,
                 succeeded,
                 ..
             },
-        ) => done_text(alloc, rounds, text.as_str(), succeeded, revision),
+        ) => done_text(alloc, rounds, words, *succeeded, *revision),
         Ok(_) => Ok(String::from_str(alloc, "no answer")?),
-        Err(denial) => Ok(denial),
+        Err(denial) => Ok(String::from_str(alloc, denial.as_str())?),
     }
 }
 

@@ -1,36 +1,14 @@
 //! Asks in words.
 
 use ev_types::{Act, Ask, Guard, TxnReq};
-use row_files::{Piece, hex_of, joined};
+use row_files::{Piece, hex_of, joined, push, push_number, push_unless_zero, push_word, word_of};
 use std::alloc::Global;
 use zx_base::Memory;
 
-/// Bytes as a word: `-` for none, and `?` where they are not UTF-8.
-pub fn word_of<'a>(bytes: &'a [u8]) -> &'a str {
-    if bytes.is_empty() {
-        return "-";
-    }
-    match std::str::from_utf8(bytes) {
-        Ok(word) => word,
-        Err(_) => "?",
-    }
-}
-
-fn push(text: &mut String, words: &str) -> Result<(), Memory> {
-    text.push_str(words)?;
-    Ok(())
-}
-
-fn push_word(text: &mut String, word: &str) -> Result<(), Memory> {
-    push(text, " ")?;
-    push(text, word)
-}
-
 /// ` KEY@MOD_REVISION`
 fn push_guard(alloc: Global, text: &mut String, guard: &Guard) -> Result<(), Memory> {
-    let revision = guard.mod_revision;
     push_word(text, word_of(guard.key.as_slice()))?;
-    push(text, format!(in alloc; "@{revision}")?.as_str())
+    push_number(alloc, text, "@", guard.mod_revision)
 }
 
 /// ` put KEY VALUE`, with `lease ID` after it if it has one; ` delete KEY`; ` get KEY`, with `at REVISION` after it where it is not
@@ -41,7 +19,7 @@ fn push_act(alloc: Global, text: &mut String, act: &Act) -> Result<(), Memory> {
             push_word(text, "put")?;
             push_word(text, word_of(key.as_slice()))?;
             push_bytes(alloc, text, value.as_slice())?;
-            push_number(alloc, text, "lease", *lease)
+            push_unless_zero(alloc, text, " lease ", *lease)
         }
         Act::Delete { key } => {
             push_word(text, "delete")?;
@@ -50,7 +28,7 @@ fn push_act(alloc: Global, text: &mut String, act: &Act) -> Result<(), Memory> {
         Act::Range(range) => {
             push_word(text, "get")?;
             push_word(text, word_of(range.key.as_slice()))?;
-            push_number(alloc, text, "at", range.revision)
+            push_unless_zero(alloc, text, " at ", range.revision)
         }
     }
 }
@@ -58,15 +36,6 @@ fn push_act(alloc: Global, text: &mut String, act: &Act) -> Result<(), Memory> {
 /// A blank and bytes in hex
 fn push_bytes(alloc: Global, text: &mut String, bytes: &[u8]) -> Result<(), Memory> {
     push_word(text, hex_of(alloc, bytes)?.as_str())
-}
-
-/// ` WORD NUMBER`, nothing for 0
-fn push_number(alloc: Global, text: &mut String, word: &str, number: i64) -> Result<(), Memory> {
-    if number == 0 {
-        return Ok(());
-    }
-    push_word(text, word)?;
-    push(text, format!(in alloc; " {number}")?.as_str())
 }
 
 fn push_acts(alloc: Global, text: &mut String, acts: &[Act]) -> Result<(), Memory> {
@@ -77,7 +46,7 @@ fn push_acts(alloc: Global, text: &mut String, acts: &[Act]) -> Result<(), Memor
 }
 
 /// `if GUARDS do OPERATIONS else OPERATIONS`, or the operations alone where nothing is guarded
-pub fn txn_text(alloc: Global, txn: &TxnReq) -> Result<String, Memory> {
+fn txn_text(alloc: Global, txn: &TxnReq) -> Result<String, Memory> {
     let mut text = String::new(alloc);
     push_txn(alloc, &mut text, txn)?;
     Ok(text)

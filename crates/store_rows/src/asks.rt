@@ -1,10 +1,10 @@
 //! Asks and their answers.
 
 use crate::changes::{compact, events, foreign, lapse};
-use crate::words::{bytes_of, number, push, word_of};
+use crate::words::{bytes_of, number};
 use ev_store::{Denied, Store, StoreFault};
 use ev_types::{Act, ActAns, Answer, Ask, Guard, Kv, RangeAns, RangeReq, TxnReq};
-use row_files::{Piece, joined};
+use row_files::{Piece, joined, push, word_of};
 use std::alloc::Global;
 use zx_base::{Memory, Seq};
 

@@ -1,6 +1,7 @@
 //! The keys of the stored layout.
 
-use crate::words::{number, word_of};
+use crate::words::number;
+use row_files::word_of;
 use std::alloc::Global;
 use zn_layout::{counts_key, data_key, head_key, lease_key, session_key};
 use zx_base::{Bytes, Memory};

@@ -1,7 +1,6 @@
 //! Records, which are read and written again.
 
-use crate::words::{push, word_of};
-use row_files::{Piece, hex_of, joined};
+use row_files::{Piece, hex_of, joined, push, word_of};
 use std::alloc::Global;
 use zk_model::{Path, Trigger};
 use zn_layout::{

@@ -10,7 +10,7 @@ mod shows;
 mod transcripts;
 
 use anyhow::Result;
-use row_files::{Rows, argument_or, status_of, try_file_in};
+use row_files::{Rows, argument_or, status_of, try_files_in};
 use std::alloc::Global;
 use std::process::ExitCode;
 use zx_base::Memory;
@@ -42,19 +42,10 @@ const FILES: [(&'static str, Kind); 3] = [
 /// Looks in the folder that its first argument names, and without one in `vectors`.
 fn main(rt: HostRuntime) -> Result<ExitCode> {
     let folder = argument_or(&rt, "vectors")?;
-    let mut failed = 0u64;
-    for (name, kind) in FILES {
-        failed = failed.saturating_add(tried(&rt, folder.as_str(), name, kind)?);
-    }
+    let mut failed = try_files_in(&rt, folder.as_str(), &FILES)?;
     if longest::problem(rt.alloc()) != Ok(false) {
         eprintln!(rt; "differs: the longest line of a script")?;
         failed = failed.saturating_add(1);
     }
     Ok(status_of(failed))
-}
-
-/// How many rows of a file differ.
-fn tried(rt: &HostRuntime, folder: &str, name: &str, kind: Kind) -> Result<u64> {
-    let mut rows = kind;
-    try_file_in(rt, folder, name, &mut rows)
 }
