@@ -1,11 +1,12 @@
 //! A service with one connection, which takes one step after another.
 
-use crate::requests::{number, request_of};
-use crate::texts::{node_text, notice_texts, reply_text, session_text, trigger_texts};
-use row_files::Words;
+use crate::texts::{node_text, reply_text, session_text, trigger_texts};
+use row_files::{Piece, Steps, Words, joined, push, said};
+use row_words::{notice_texts, request};
 use std::alloc::Global;
+use std::mem;
 use zk_answers::{Told, Watches, plain_request, tree_reply};
-use zk_history::{Applied, Past, Session, State, apply, commit};
+use zk_history::{Applied, Commit, Past, Session, State, apply, commit};
 use zk_model::{ConnectRequest, Reply, Request};
 use zk_plain::{Fault, Turn, begin};
 use zk_transcript::{TranscriptLine, UpdateKind, UpdateRec};
@@ -20,13 +21,6 @@ pub struct Service {
     limit: usize,
 }
 
-/// What a step left, and what is said of it.
-#[derive(Drop)]
-pub struct Stepped {
-    pub service: Service,
-    pub said: String,
-}
-
 /// The time of each create, delete, setData and multi, in milliseconds.
 const TIME: u64 = 1000;
 
@@ -39,21 +33,16 @@ fn or_stop<T: Drop>(outcome: Result<T, Fault>) -> Result<Option<T>, Memory> {
     }
 }
 
-fn after_step(alloc: Global, service: Service, word: &str) -> Result<Option<Stepped>, Memory> {
-    Ok(Some(Stepped {
-        service,
-        said: String::from_str(alloc, word)?,
-    }))
-}
-
-/// What is told: the reply, and after `told` the notices that come before it.
-fn told_text(alloc: Global, told: &Told) -> Result<String, Memory> {
-    let mut text = reply_text(alloc, &told.reply)?;
-    if told.notices.len() != 0 {
-        text.push_str(" told ")?;
-        text.push_str(notice_texts(alloc, told.notices.as_slice())?.as_str())?;
+impl Steps for Service {
+    fn step(&mut self, alloc: Global, step: &str) -> Result<Option<String>, Memory> {
+        let Some((word, rest)) = step.split_once(' ') else {
+            return self.shown(alloc, step, "");
+        };
+        match word.parse::<i64>() {
+            Ok(zxid) => self.at(alloc, zxid, rest),
+            Err(_) => self.shown(alloc, word, rest),
+        }
     }
-    Ok(text)
 }
 
 impl Service {
@@ -73,148 +62,136 @@ impl Service {
         })
     }
 
-    /// The service after a step, or `None` where the step has no known form.
-    pub fn taken(self, alloc: Global, step: &str) -> Result<Option<Stepped>, Memory> {
-        let Some((word, rest)) = step.split_once(' ') else {
-            return self.shown(alloc, step, "");
-        };
-        match word.parse::<i64>() {
-            Ok(zxid) => self.at(alloc, zxid, rest),
-            Err(_) => self.shown(alloc, word, rest),
+    /// A step without a zxid: one that shows something of the service, or has a number.
+    fn shown(&mut self, alloc: Global, word: &str, rest: &str) -> Result<Option<String>, Memory> {
+        match word {
+            "count" => Ok(Some(self.count_text(alloc)?)),
+            "seen" => Ok(Some(trigger_texts(alloc, self.state.triggers())?)),
+            "node" => Ok(Some(node_text(alloc, self.state.tree(), rest.as_bytes())?)),
+            "begin" => begun(alloc, rest),
+            _ => match rest.parse::<i64>() {
+                Ok(number) => self.numbered(alloc, word, number),
+                Err(_) => Ok(None),
+            },
         }
     }
 
-    /// A step without a zxid: one that shows something of the service, `as`, `limit`, `lapse` or `begin`.
-    fn shown(self, alloc: Global, word: &str, rest: &str) -> Result<Option<Stepped>, Memory> {
-        let mut service = self;
-        let said = match word {
-            "count" => {
-                let (zxid, updates) = (service.state.zxid(), service.state.updates());
-                format!(in alloc; "{zxid} {updates}")?
-            }
-            "seen" => trigger_texts(alloc, service.state.triggers())?,
-            "node" => node_text(alloc, service.state.tree(), rest.as_bytes())?,
-            "session" => {
-                let Ok(id) = rest.parse::<i64>() else {
-                    return Ok(None);
-                };
-                session_text(alloc, service.state.session(id))?
-            }
+    /// The last zxid and the number of updates.
+    fn count_text(&self, alloc: Global) -> Result<String, Memory> {
+        let pieces = [
+            Piece::Number(self.state.zxid()),
+            Piece::Text(" "),
+            Piece::Count(self.state.updates()),
+        ];
+        joined(alloc, &pieces)
+    }
+
+    /// `session ID`, `as ID`, `limit N` or `lapse ID`
+    fn numbered(
+        &mut self,
+        alloc: Global,
+        word: &str,
+        number: i64,
+    ) -> Result<Option<String>, Memory> {
+        match word {
+            "session" => Ok(Some(session_text(alloc, self.state.session(number))?)),
             "as" => {
-                let Ok(id) = rest.parse::<i64>() else {
-                    return Ok(None);
-                };
-                service.session = id;
-                String::from_str(alloc, "ok")?
+                self.session = number;
+                said(alloc, "ok")
             }
             "limit" => {
-                let Ok(limit) = rest.parse::<usize>() else {
+                let Ok(limit) = usize::try_from(number) else {
                     return Ok(None);
                 };
-                service.limit = limit;
-                String::from_str(alloc, "ok")?
+                self.limit = limit;
+                said(alloc, "ok")
             }
-            "lapse" => {
-                let Ok(id) = rest.parse::<i64>() else {
-                    return Ok(None);
-                };
-                return service.line(alloc, &TranscriptLine::Lapse { revision: 0, id });
-            }
-            "begin" => return begun(alloc, service, rest),
-            _ => return Ok(None),
-        };
-        Ok(Some(Stepped { service, said }))
+            "lapse" => self.line(
+                alloc,
+                &TranscriptLine::Lapse {
+                    revision: 0,
+                    id: number,
+                },
+            ),
+            _ => Ok(None),
+        }
     }
 
     /// A step at a zxid: a request, or an update of a session.
-    fn at(self, alloc: Global, zxid: i64, rest: &str) -> Result<Option<Stepped>, Memory> {
+    fn at(&mut self, alloc: Global, zxid: i64, rest: &str) -> Result<Option<String>, Memory> {
         let mut words = Words::new(rest);
-        let kind = match words.word() {
-            Some("begins") => return self.begins(alloc, zxid, words),
-            Some("attach") => {
-                let (Some(id), Some(connection)) = (
-                    number::<i64>(&mut words),
-                    number::<u32>(&mut words),
-                ) else {
-                    return Ok(None);
-                };
-                UpdateKind::Attach { id, connection }
-            }
-            Some("closed") => {
-                let Some(id) = number::<i64>(&mut words) else {
-                    return Ok(None);
-                };
-                UpdateKind::Closed {
-                    id,
-                    connection: 1,
-                    index: 1,
-                }
-            }
-            Some("reaped") => {
-                let Some(id) = number::<i64>(&mut words) else {
-                    return Ok(None);
-                };
-                UpdateKind::Reaped { id }
-            }
-            _ => {
-                return match request_of(alloc, rest)? {
-                    Some(request) => self.asked(alloc, zxid, request),
-                    None => Ok(None),
-                };
-            }
-        };
-        self.line(alloc, &TranscriptLine::Update(UpdateRec { zxid, kind }))
+        let kind = words.word();
+        if kind == Some("begins") {
+            return self.begins(alloc, zxid, &mut words);
+        }
+        match update_of(kind, &mut words) {
+            Some(kind) => self.line(alloc, &TranscriptLine::Update(UpdateRec { zxid, kind })),
+            None => self.requested(alloc, zxid, rest),
+        }
     }
 
     /// A step that is a line of a transcript, for which no earlier line is looked up.
-    fn line(self, alloc: Global, line: &TranscriptLine) -> Result<Option<Stepped>, Memory> {
+    fn line(&mut self, alloc: Global, line: &TranscriptLine) -> Result<Option<String>, Memory> {
         let past = Past::new(alloc, &[]);
-        let Some(Applied { state, .. }) = or_stop(apply(alloc, &past, self.state, line))? else {
-            return Ok(None);
-        };
-        let service = Service {
-            state,
-            watches: self.watches,
-            session: self.session,
-            limit: self.limit,
-        };
-        after_step(alloc, service, "ok")
+        match or_stop(apply(alloc, &past, self.taken(alloc), line))? {
+            Some(Applied { state, .. }) => {
+                self.state = state;
+                said(alloc, "ok")
+            }
+            None => Ok(None),
+        }
+    }
+
+    /// Takes the state out.
+    fn taken(&mut self, alloc: Global) -> State {
+        mem::replace(&mut self.state, State::new(alloc))
     }
 
     /// A session begins: its number, its connection and the timeout that was asked for.
-    fn begins(self, alloc: Global, zxid: i64, rest: Words) -> Result<Option<Stepped>, Memory> {
-        let mut words = rest;
+    fn begins(
+        &mut self,
+        alloc: Global,
+        zxid: i64,
+        words: &mut Words,
+    ) -> Result<Option<String>, Memory> {
         let (Some(id), Some(connection), Some(timeout)) = (
-            number::<i64>(&mut words),
-            number::<u32>(&mut words),
-            number::<i32>(&mut words),
+            words.long(),
+            words.number(),
+            words.int(),
         ) else {
             return Ok(None);
         };
-        let asked = Some(ConnectRequest {
-            protocol: 0,
-            last_zxid: 0,
-            timeout,
-            session: 0,
-            passwd: Bytes::new(alloc),
-            read_only: None,
-        });
-        let session = Session::new(alloc, Some((id, [0xaa; 16])), &asked, connection, zxid)?;
-        let opened = self.state.with_session(id, session)?;
-        let Some(state) = or_stop(opened.advanced(zxid, Seq::new(alloc)))? else {
-            return Ok(None);
-        };
-        let service = Service {
-            state,
-            watches: self.watches,
-            session: self.session,
-            limit: self.limit,
-        };
-        after_step(alloc, service, "ok")
+        let session = session_of(alloc, id, connection, timeout, zxid)?;
+        let opened = self.taken(alloc).with_session(id, session)?;
+        match or_stop(opened.advanced(zxid, Seq::new(alloc)))? {
+            Some(state) => {
+                self.state = state;
+                said(alloc, "ok")
+            }
+            None => Ok(None),
+        }
+    }
+
+    fn requested(
+        &mut self,
+        alloc: Global,
+        zxid: i64,
+        rest: &str,
+    ) -> Result<Option<String>, Memory> {
+        let mut words = Words::new(rest);
+        match request(alloc, &mut words)? {
+            Some(request) if words.word().is_none() => self.asked(alloc, zxid, request),
+            _ => Ok(None),
+        }
     }
 
     /// A request is answered: without the tree, by the tree, or by what it commits.
-    fn asked(self, alloc: Global, zxid: i64, request: Request) -> Result<Option<Stepped>, Memory> {
+    fn asked(
+        &mut self,
+        alloc: Global,
+        zxid: i64,
+        request: Request,
+    ) -> Result<Option<String>, Memory> {
         if let Some(told) = plain_request(alloc, &self.watches, &request)? {
             return self.told(alloc, told);
         }
@@ -229,51 +206,58 @@ impl Service {
         match or_stop(looked)? {
             None => Ok(None),
             Some(Some(told)) => self.told(alloc, told),
-            Some(None) => self.committed(alloc, zxid, request),
+            Some(None) => self.carried_out(alloc, zxid, request),
         }
     }
 
-    fn told(self, alloc: Global, told: Told) -> Result<Option<Stepped>, Memory> {
-        let said = told_text(alloc, &told)?;
-        Ok(Some(Stepped {
-            service: Service {
-                state: self.state,
-                watches: told.watches,
-                session: self.session,
-                limit: self.limit,
-            },
-            said,
-        }))
+    /// What is told: the reply, and after `told` the notices that come before it.
+    fn told(&mut self, alloc: Global, told: Told) -> Result<Option<String>, Memory> {
+        let mut text = reply_text(alloc, &told.reply)?;
+        if told.notices.len() != 0 {
+            push(&mut text, " told ")?;
+            push(
+                &mut text,
+                notice_texts(alloc, told.notices.as_slice())?.as_str(),
+            )?;
+        }
+        self.watches = told.watches;
+        Ok(Some(text))
     }
 
-    /// A create, delete, setData or multi is carried out; the notices that it gives come before its reply.
-    fn committed(
-        self,
+    /// A create, delete, setData or multi is carried out.
+    fn carried_out(
+        &mut self,
         alloc: Global,
         zxid: i64,
         request: Request,
-    ) -> Result<Option<Stepped>, Memory> {
+    ) -> Result<Option<String>, Memory> {
         let turn = Turn {
             limit: self.limit,
             session: self.session,
             zxid,
             time: TIME,
         };
-        let Some(Some(done)) = or_stop(commit(alloc, self.state.tree(), &turn, request))? else {
-            return Ok(None);
-        };
-        let fired = self.watches.fire_all(alloc, done.triggers.as_slice())?;
-        let changed = self.state.changed(alloc, done.change)?;
+        match or_stop(commit(alloc, self.state.tree(), &turn, request))? {
+            Some(Some(done)) => self.committed(alloc, zxid, done),
+            _ => Ok(None),
+        }
+    }
+
+    /// The notices that an update gives come before its reply.
+    fn committed(
+        &mut self,
+        alloc: Global,
+        zxid: i64,
+        done: Commit,
+    ) -> Result<Option<String>, Memory> {
+        let armed = mem::replace(&mut self.watches, Watches::new(alloc));
+        let fired = armed.fire_all(alloc, done.triggers.as_slice())?;
+        let changed = self.taken(alloc).changed(alloc, done.change)?;
         let Some(state) = or_stop(changed.advanced(zxid, done.triggers))? else {
             return Ok(None);
         };
-        let service = Service {
-            state,
-            watches: Watches::new(alloc),
-            session: self.session,
-            limit: self.limit,
-        };
-        service.told(
+        self.state = state;
+        self.told(
             alloc,
             Told {
                 reply: Reply::Good(done.response),
@@ -284,8 +268,45 @@ impl Service {
     }
 }
 
-/// Whether a service can begin at a time, in milliseconds; the service of the row stays as it is.
-fn begun(alloc: Global, service: Service, rest: &str) -> Result<Option<Stepped>, Memory> {
+/// `attach ID CONNECTION`, `closed ID` or `reaped ID`
+fn update_of(kind: Option<&str>, words: &mut Words) -> Option<UpdateKind> {
+    match kind? {
+        "attach" => {
+            let id = words.long()?;
+            let connection = words.number()?;
+            Some(UpdateKind::Attach { id, connection })
+        }
+        "closed" => Some(UpdateKind::Closed {
+            id: words.long()?,
+            connection: 1,
+            index: 1,
+        }),
+        "reaped" => Some(UpdateKind::Reaped { id: words.long()? }),
+        _ => None,
+    }
+}
+
+/// A session as it begins, with the password that rows give it.
+fn session_of(
+    alloc: Global,
+    id: i64,
+    connection: u32,
+    timeout: i32,
+    zxid: i64,
+) -> Result<Session, Memory> {
+    let asked = Some(ConnectRequest {
+        protocol: 0,
+        last_zxid: 0,
+        timeout,
+        session: 0,
+        passwd: Bytes::new(alloc),
+        read_only: None,
+    });
+    Session::new(alloc, Some((id, [0xaa; 16])), &asked, connection, zxid)
+}
+
+/// Whether a service can begin at a time, in milliseconds.
+fn begun(alloc: Global, rest: &str) -> Result<Option<String>, Memory> {
     let Ok(now) = rest.parse::<u64>() else {
         return Ok(None);
     };
@@ -295,8 +316,8 @@ fn begun(alloc: Global, service: Service, rest: &str) -> Result<Option<Stepped>,
     });
     let past = Past::new(alloc, &[]);
     match apply(alloc, &past, State::new(alloc), &line) {
-        Ok(_) => after_step(alloc, service, "begun"),
-        Err(Fault::Beyond) => after_step(alloc, service, "beyond"),
+        Ok(_) => said(alloc, "begun"),
+        Err(Fault::Beyond) => said(alloc, "beyond"),
         Err(Fault::Memory) => Err(Memory),
     }
 }

@@ -1,41 +1,12 @@
-//! Reads the rows of the file `paths`, and says on standard error where a row differs.
-//!
-//! A row is LEFT = RIGHT; its first word says what is done, and texts are hex, `-` where they are empty:
-//!
-//! - `path TEXT = read`, or the name of the fault: what [`Path::read`] makes of a text.
-//! - `prefix TEXT = TEXT`, or the name of the fault: what [`Path::read`] makes of the path of a sequential create.
-//! - `long N = LENGTH`, `long-prefix N = LENGTH`, or the name of the fault: the length of what it makes of a slash and N
-//!   letters, as a path or as that of a sequential create.
-//! - `names TEXT = DEPTH NAME PARENT`: a path's depth, its last name and its parent, `none` where it has none.
-//! - `numbered TEXT N = TEXT`: the name of a sequence node, which has to be a child of its parent.
-#![tactic(auto)]
+//! Paths.
 
-use anyhow::Result;
-use row_files::{Piece, Rows, Words, argument_or, bytes_of, hex_of, joined, status_of, try_file};
+use row_files::{Piece, Words, bytes_of, hex_of, joined, said};
 use std::alloc::Global;
-use std::process::ExitCode;
 use zk_model::{Path, PathFault};
 use zx_base::Memory;
 
-/// Tries the file that the first argument names, or `paths` without one.
-fn main(rt: HostRuntime) -> Result<ExitCode> {
-    let file = argument_or(&rt, "paths")?;
-    let mut rows = Paths;
-    Ok(status_of(try_file(&rt, file.as_str(), &mut rows)?))
-}
-
-/// Rows of paths.
-#[derive(Clone, Copy)]
-struct Paths;
-
-impl Rows for Paths {
-    fn found(&mut self, alloc: Global, left: &str) -> Result<Option<String>, Memory> {
-        found_in(alloc, left)
-    }
-}
-
 /// What comes of the left side of a row; `None` where it cannot be read.
-fn found_in(alloc: Global, left: &str) -> Result<Option<String>, Memory> {
+pub fn found(alloc: Global, left: &str) -> Result<Option<String>, Memory> {
     let Some((word, rest)) = left.split_once(' ') else {
         return Ok(None);
     };
@@ -150,10 +121,6 @@ fn is_child(alloc: Global, path: &Path) -> Result<bool, Memory> {
         Some(parent) => Ok(path.is_child_of(parent.bytes())),
         None => Ok(false),
     }
-}
-
-fn said(alloc: Global, word: &str) -> Result<Option<String>, Memory> {
-    Ok(Some(String::from_str(alloc, word)?))
 }
 
 /// The name of a fault.
