@@ -7,12 +7,12 @@ here=$(cd "$(dirname "$0")/.." && pwd)
 work=$(mktemp -d)
 trap 'rm -rf "$work"' EXIT
 
-(cd "$here/crates/ops_bench" && rt run -- 1 >/dev/null)
-program=$here/crates/ops_bench/out/ops_bench
+(cd "$here/crates/ops_rows" && rt run -- time 1 >/dev/null)
+program=$here/crates/ops_rows/out/ops_rows
 
 best() { # best COUNT COLUMN: the least seconds in this column of five runs
   [ -e "$work/$1" ] || for _ in 1 2 3 4 5; do
-    "$program" "$1" time | tail -n 1 >>"$work/$1"
+    "$program" time "$1" | tail -n 1 >>"$work/$1"
   done
   awk -v column="$2" '
     NR == 1 || $column < least { least = $column }

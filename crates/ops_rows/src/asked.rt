@@ -6,15 +6,15 @@ ghost use Rattle.zn_updates.specs.Parts.{part_content};
 ghost use Rattle.zn_multi.specs.Carrying.{AreShort};
 
 use crate::plans::{plan_text, push_act};
-use crate::replies::{push_reply, push_word, word_of};
-use crate::requests::request;
-use row_files::Words;
+use crate::replies::push_reply;
+use row_files::{Words, push_word, said, word_of};
+use row_words::request;
 use std::alloc::Global;
 use zk_model::limit::MAX_FRAME;
-use zk_model::{Part, Request};
+use zk_model::{Part, Reply, Request};
 use zn_multi::{decide_multi, needs_multi};
 use zn_ops::{decide, finish, is_short, is_single, needs};
-use zn_view::{Arm, Decision, View, Want, Who, ranges};
+use zn_view::{Arm, Decision, Plan, View, Want, Who, ranges};
 use zx_base::{Memory, Seq};
 
 /// The time of a decision is below this, in milliseconds.
@@ -97,7 +97,7 @@ fn decision_on_parts(
 }
 
 /// The decision; `None` where something is lacking, or `decide` and `decide_multi` do not take these arguments.
-fn decision(
+pub fn decision(
     alloc: Global,
     request: &Request,
     who: Who,
@@ -181,38 +181,87 @@ fn decision_text(alloc: Global, decision: &Decision) -> Result<String, Memory> {
     }
 }
 
+/// For whom it is decided, and at which time.
+#[derive(Clone, Copy)]
+struct Turn {
+    who: Who,
+    now: u64,
+}
+
+/// `SESSION MINE NOW`
+fn turn_of(words: &mut Words) -> Option<Turn> {
+    let session = words.long()?;
+    let mine = words.long()?;
+    let now = words.place()?;
+    Some(Turn {
+        who: Who { session, mine },
+        now,
+    })
+}
+
+/// `REQUEST`: the decision on it; none where the words spell no request
+fn decision_in(
+    alloc: Global,
+    turn: Turn,
+    view: &View,
+    words: &mut Words,
+) -> Result<Option<Option<Decision>>, Memory> {
+    match request(alloc, words)? {
+        Some(request) => Ok(Some(decision(alloc, &request, turn.who, turn.now, view)?)),
+        None => Ok(None),
+    }
+}
+
 /// `SESSION MINE NOW REQUEST`: the decision, in words
 pub fn decided(alloc: Global, view: &View, words: &mut Words) -> Result<Option<String>, Memory> {
-    let (Some(session), Some(mine), Some(now)) = (words.long(), words.long(), words.place()) else {
+    let Some(turn) = turn_of(words) else {
         return Ok(None);
     };
-    let Some(request) = request(alloc, words)? else {
-        return Ok(None);
-    };
-    match decision(alloc, &request, Who { session, mine }, now, view)? {
-        Some(decision) => Ok(Some(decision_text(alloc, &decision)?)),
-        None => Ok(Some(String::from_str(alloc, "lacks something")?)),
+    match decision_in(alloc, turn, view, words)? {
+        Some(decision) => decided_text(alloc, &decision),
+        None => Ok(None),
+    }
+}
+
+fn decided_text(alloc: Global, decision: &Option<Decision>) -> Result<Option<String>, Memory> {
+    match decision {
+        Some(decision) => Ok(Some(decision_text(alloc, decision)?)),
+        None => said(alloc, "lacks something"),
     }
 }
 
 /// `SESSION MINE NOW ZXID REQUEST`: the reply that its plan earns at that zxid
 pub fn finished(alloc: Global, view: &View, words: &mut Words) -> Result<Option<String>, Memory> {
-    let (Some(session), Some(mine), Some(now)) = (words.long(), words.long(), words.place()) else {
+    let Some(turn) = turn_of(words) else {
         return Ok(None);
     };
     let Some(zxid) = words.long() else {
         return Ok(None);
     };
-    let Some(request) = request(alloc, words)? else {
-        return Ok(None);
-    };
-    match decision(alloc, &request, Who { session, mine }, now, view)? {
-        Some(Decision::Planned(plan)) => {
-            let reply = finish(alloc, plan, zxid)?;
-            let mut text = String::from_str(alloc, "replies")?;
-            push_reply(alloc, &mut text, &reply)?;
-            Ok(Some(text))
-        }
-        _ => Ok(Some(String::from_str(alloc, "no plan")?)),
+    match decision_in(alloc, turn, view, words)? {
+        Some(decision) => finished_text(alloc, decision, zxid),
+        None => Ok(None),
     }
+}
+
+fn finished_text(
+    alloc: Global,
+    decision: Option<Decision>,
+    zxid: i64,
+) -> Result<Option<String>, Memory> {
+    match decision {
+        Some(Decision::Planned(plan)) => Ok(Some(replied(alloc, plan, zxid)?)),
+        _ => said(alloc, "no plan"),
+    }
+}
+
+fn replied(alloc: Global, plan: Plan, zxid: i64) -> Result<String, Memory> {
+    let reply = finish(alloc, plan, zxid)?;
+    reply_text(alloc, &reply)
+}
+
+fn reply_text(alloc: Global, reply: &Reply) -> Result<String, Memory> {
+    let mut text = String::from_str(alloc, "replies")?;
+    push_reply(alloc, &mut text, reply)?;
+    Ok(text)
 }

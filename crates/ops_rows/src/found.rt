@@ -1,11 +1,10 @@
 //! Rows of what was found, which a view takes.
 
-use crate::replies::word_of;
 use crate::values::value;
 use ev_types::{ActAns, Kv, RangeAns};
-use row_files::{Words, hex_of};
+use row_files::{Words, hex_of, said, word_of};
+use row_words::read_path;
 use std::alloc::Global;
-use zk_model::{Path, PathFault};
 use zn_view::{View, ViewFault, Want, are_numbers, is_count};
 use zx_base::{Bytes, Memory, Seq};
 
@@ -45,7 +44,7 @@ fn add(
         return Ok(None);
     }
     match view.add(&wants, revision, &parts) {
-        Ok(()) => Ok(Some(String::from_str(alloc, "added")?)),
+        Ok(()) => said(alloc, "added"),
         Err(fault) => fault_text(alloc, fault),
     }
 }
@@ -142,7 +141,10 @@ fn push_key(alloc: Global, kvs: &mut Seq<Kv>, key: Option<&str>) -> Result<bool,
     Ok(true)
 }
 
-/// `PATH KEY..`: the keys in the range of the node's children, at most 9
+/// The most keys that a row lists.
+const MAX_LISTED: u32 = 1_000_000;
+
+/// `PATH KEY..`: the keys in the range of the node's children
 pub fn listed(
     alloc: Global,
     view: &mut View,
@@ -152,13 +154,11 @@ pub fn listed(
     let Some(text) = words.word() else {
         return Ok(None);
     };
-    let path = match Path::read(alloc, text.as_bytes(), false) {
-        Ok(path) => path,
-        Err(PathFault::Memory) => return Err(Memory),
-        Err(_) => return Ok(None),
+    let Some(path) = read_path(alloc, text)? else {
+        return Ok(None);
     };
     let mut kvs = Seq::new(alloc);
-    for _ in 0..9 {
+    for _ in 0..MAX_LISTED {
         if !push_key(alloc, &mut kvs, words.word())? {
             break;
         }

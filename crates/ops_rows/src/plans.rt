@@ -1,9 +1,11 @@
 //! Plans in words.
 
-use crate::replies::{data_word, push_reply, push_word, word_of};
+use crate::replies::push_reply;
 use ev_types::{Act, Guard, RangeReq};
+use row_files::{Piece, joined, push, push_number, push_unless_zero, push_word, word_of};
+use row_words::{data_word, push_trigger};
 use std::alloc::Global;
-use zk_model::{Path, Trigger};
+use zk_model::Trigger;
 use zn_layout::{RecordFault, read_counts, read_head, read_node, read_session};
 use zn_view::{Plan, Want};
 use zx_base::Memory;
@@ -26,7 +28,7 @@ pub fn plan_text(alloc: Global, plan: &Plan) -> Result<String, Memory> {
         push_again(&mut text, want)?;
     }
     push_word(&mut text, "shows")?;
-    text.push_str(shown.as_str())?;
+    push(&mut text, shown.as_str())?;
     push_word(&mut text, "draft")?;
     push_reply(alloc, &mut text, &plan.draft)?;
     Ok(text)
@@ -58,17 +60,14 @@ fn push_other_head(alloc: Global, text: &mut String, act: &Act, shown: &str) -> 
         return Ok(());
     }
     push_word(text, "[")?;
-    text.push_str(put.as_str())?;
+    push(text, put.as_str())?;
     push_word(text, "]")
 }
 
 /// ` KEY@MOD_REVISION`
 fn push_guard(alloc: Global, text: &mut String, guard: &Guard) -> Result<(), Memory> {
-    let key = word_of(guard.key.as_slice());
-    let revision = guard.mod_revision;
-    let word = format!(in alloc; " {key}@{revision}")?;
-    text.push_str(word.as_str())?;
-    Ok(())
+    push_word(text, word_of(guard.key.as_slice()))?;
+    push_number(alloc, text, "@", guard.mod_revision)
 }
 
 fn push_again(text: &mut String, want: &Want) -> Result<(), Memory> {
@@ -85,7 +84,7 @@ pub fn push_act(alloc: Global, text: &mut String, act: &Act) -> Result<(), Memor
             push_word(text, "put")?;
             push_word(text, word_of(key.as_slice()))?;
             push_record(alloc, text, key.as_slice(), value.as_slice())?;
-            push_number(alloc, text, " lease ", *lease)
+            push_unless_zero(alloc, text, " lease ", *lease)
         }
         Act::Delete { key } => {
             push_word(text, "delete")?;
@@ -103,18 +102,8 @@ fn push_range(alloc: Global, text: &mut String, range: &RangeReq) -> Result<(), 
     if !range.end.as_slice().is_empty() {
         push_word(text, word_of(range.end.as_slice()))?;
     }
-    push_number(alloc, text, "@", range.revision)?;
-    push_number(alloc, text, " limit ", range.limit)
-}
-
-/// A number after its name; nothing for 0.
-fn push_number(alloc: Global, text: &mut String, name: &str, number: i64) -> Result<(), Memory> {
-    if number == 0 {
-        return Ok(());
-    }
-    let word = format!(in alloc; "{name}{number}")?;
-    text.push_str(word.as_str())?;
-    Ok(())
+    push_unless_zero(alloc, text, "@", range.revision)?;
+    push_unless_zero(alloc, text, " limit ", range.limit)
 }
 
 /// The record of a node, of its counts or of a session's nodes, by the key's kind; nothing for any other key.
@@ -139,17 +128,21 @@ fn push_node(alloc: Global, text: &mut String, key: &[u8], value: &[u8]) -> Resu
         Err(RecordFault::Damaged { .. }) => return push_word(text, "damaged"),
         Err(RecordFault::Memory) => return Err(Memory),
     };
-    let (czxid, version, ctime, mtime, owner) = (
-        node.czxid,
-        node.version,
-        node.ctime,
-        node.mtime,
-        node.owner,
-    );
     let data = data_word(alloc, node.content.as_slice())?;
-    let word = format!(in alloc; " {czxid}/{version}/{ctime}/{mtime}/{owner}/{data}")?;
-    text.push_str(word.as_str())?;
-    Ok(())
+    let pieces = [
+        Piece::Number(node.czxid),
+        Piece::Text("/"),
+        Piece::Number(i64::from(node.version)),
+        Piece::Text("/"),
+        Piece::Number(node.ctime),
+        Piece::Text("/"),
+        Piece::Number(node.mtime),
+        Piece::Text("/"),
+        Piece::Number(node.owner),
+        Piece::Text("/"),
+        Piece::Text(data.as_str()),
+    ];
+    push_word(text, joined(alloc, &pieces)?.as_str())
 }
 
 /// ` CREATES/CHILDREN`
@@ -159,10 +152,8 @@ fn push_counts(alloc: Global, text: &mut String, key: &[u8], value: &[u8]) -> Re
         Err(RecordFault::Damaged { .. }) => return push_word(text, "damaged"),
         Err(RecordFault::Memory) => return Err(Memory),
     };
-    let (creates, children) = (counts.creates, counts.children);
-    let word = format!(in alloc; " {creates}/{children}")?;
-    text.push_str(word.as_str())?;
-    Ok(())
+    push_number(alloc, text, " ", i64::from(counts.creates))?;
+    push_number(alloc, text, "/", i64::from(counts.children))
 }
 
 /// ` [ PATH.. ]`
@@ -177,18 +168,4 @@ fn push_nodes(alloc: Global, text: &mut String, key: &[u8], value: &[u8]) -> Res
         push_word(text, word_of(path.bytes()))?;
     }
     push_word(text, "]")
-}
-
-fn push_trigger(text: &mut String, trigger: &Trigger) -> Result<(), Memory> {
-    match trigger {
-        Trigger::Created(path) => push_kind(text, "created", path),
-        Trigger::Deleted(path) => push_kind(text, "deleted", path),
-        Trigger::Changed(path) => push_kind(text, "changed", path),
-        Trigger::Children(path) => push_kind(text, "children", path),
-    }
-}
-
-fn push_kind(text: &mut String, kind: &str, path: &Path) -> Result<(), Memory> {
-    push_word(text, kind)?;
-    push_word(text, word_of(path.bytes()))
 }

@@ -1,46 +1,29 @@
 //! Replies in words.
 
+use row_files::{push_number, push_word, word_of};
+use row_words::data_word;
 use std::alloc::Global;
 use zk_model::{Body, PartResult, Reply, Stat};
 use zx_base::{Memory, Text};
 
-/// Bytes as a word: `-` for no bytes, `?` where they are no UTF-8.
-pub fn word_of<'a>(bytes: &'a [u8]) -> &'a str {
-    if bytes.is_empty() {
-        return "-";
-    }
-    match std::str::from_utf8(bytes) {
-        Ok(word) => word,
-        Err(_) => "?",
-    }
-}
-
-/// A node's data as a word: `~NUMBER` for more than 64 bytes that are all `x`.
-pub fn data_word(alloc: Global, bytes: &[u8]) -> Result<String, Memory> {
-    let length = bytes.len();
-    if length > 64 && bytes.iter().all(|byte| *byte == b'x') {
-        return Ok(format!(in alloc; "~{length}")?);
-    }
-    Ok(String::from_str(alloc, word_of(bytes))?)
-}
-
-/// Appends a blank and the word.
-pub fn push_word(text: &mut String, word: &str) -> Result<(), Memory> {
-    text.push_str(" ")?;
-    text.push_str(word)?;
-    Ok(())
-}
-
 /// ` CZXID/MZXID/PZXID CTIME/MTIME VERSION/CVERSION/AVERSION OWNER LENGTH CHILDREN`
 fn push_stat(alloc: Global, text: &mut String, stat: &Stat) -> Result<(), Memory> {
-    let (czxid, mzxid, pzxid) = (stat.czxid, stat.mzxid, stat.pzxid);
-    let (ctime, mtime) = (stat.ctime, stat.mtime);
-    let (version, cversion, aversion) = (stat.version, stat.cversion, stat.aversion);
-    let (owner, length, children) = (stat.ephemeral_owner, stat.data_length, stat.num_children);
-    let zxids = format!(in alloc; " {czxid}/{mzxid}/{pzxid} {ctime}/{mtime}")?;
-    let counts = format!(in alloc; " {version}/{cversion}/{aversion} {owner} {length} {children}")?;
-    text.push_str(zxids.as_str())?;
-    text.push_str(counts.as_str())?;
+    let fields = [
+        (" ", stat.czxid),
+        ("/", stat.mzxid),
+        ("/", stat.pzxid),
+        (" ", stat.ctime),
+        ("/", stat.mtime),
+        (" ", i64::from(stat.version)),
+        ("/", i64::from(stat.cversion)),
+        ("/", i64::from(stat.aversion)),
+        (" ", stat.ephemeral_owner),
+        (" ", i64::from(stat.data_length)),
+        (" ", i64::from(stat.num_children)),
+    ];
+    for (front, number) in fields {
+        push_number(alloc, text, front, number)?;
+    }
     Ok(())
 }
 
@@ -97,11 +80,7 @@ fn push_part(alloc: Global, text: &mut String, part: &PartResult) -> Result<(), 
             push_stat(alloc, text, stat)
         }
         PartResult::Checked => push_word(text, "checked"),
-        PartResult::Code(code) => {
-            let word = format!(in alloc; " code {code}")?;
-            text.push_str(word.as_str())?;
-            Ok(())
-        }
+        PartResult::Code(code) => push_number(alloc, text, " code ", i64::from(*code)),
     }
 }
 
@@ -117,11 +96,7 @@ fn push_parts(alloc: Global, text: &mut String, parts: &[PartResult]) -> Result<
 /// ` refused CODE`, or the body
 pub fn push_reply(alloc: Global, text: &mut String, reply: &Reply) -> Result<(), Memory> {
     match reply {
-        Reply::Refused(code) => {
-            let word = format!(in alloc; " refused {code}")?;
-            text.push_str(word.as_str())?;
-            Ok(())
-        }
+        Reply::Refused(code) => push_number(alloc, text, " refused ", i64::from(*code)),
         Reply::Good(body) => push_body(alloc, text, body),
     }
 }

@@ -1,6 +1,7 @@
 //! Values as the layout's tables in `docs/FORMATS.md` spell them.
 
 use row_files::Words;
+use row_words::content;
 use std::alloc::Global;
 use zx_base::Memory;
 
@@ -11,26 +12,6 @@ fn long(out: &mut Vec<u8>, number: i64) -> Result<(), Memory> {
 
 fn int(out: &mut Vec<u8>, number: i32) -> Result<(), Memory> {
     out.extend_from_slice(&number.to_be_bytes())?;
-    Ok(())
-}
-
-/// The bytes of a word; `-` is no bytes.
-pub fn content_of<'a>(word: &'a str) -> &'a [u8] {
-    if word == "-" { &[] } else { word.as_bytes() }
-}
-
-/// Appends the bytes of a node's data: those of its word, or for `~NUMBER` so many `x`.
-pub fn push_data(out: &mut Vec<u8>, word: &str) -> Result<(), Memory> {
-    let number = match word.strip_prefix("~") {
-        Some(digits) => digits.parse::<u32>().unwrap_or(0),
-        None => 0,
-    };
-    for _ in 0..number {
-        out.push(b'x')?;
-    }
-    if number == 0 {
-        out.extend_from_slice(content_of(word))?;
-    }
     Ok(())
 }
 
@@ -67,7 +48,7 @@ fn node(alloc: Global, words: &mut Words) -> Result<Option<Vec<u8>>, Memory> {
     long(&mut out, ctime)?;
     long(&mut out, mtime)?;
     long(&mut out, owner)?;
-    push_data(&mut out, data)?;
+    out.extend_from_slice(content(alloc, data)?.as_slice())?;
     Ok(Some(out))
 }
 

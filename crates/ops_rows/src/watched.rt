@@ -1,8 +1,7 @@
 //! What was found at the paths of a setWatches.
 
-use crate::replies::{push_word, word_of};
-use crate::values::content_of;
-use row_files::Words;
+use row_files::{Words, push_number, push_word, word_of};
+use row_words::text;
 use std::alloc::Global;
 use zn_reads::seen_paths;
 use zn_view::View;
@@ -19,7 +18,7 @@ struct Lists {
 
 /// Adds a path to the list of this name; false where no list has it.
 fn push_path(alloc: Global, lists: &mut Lists, list: &str, path: &str) -> Result<bool, Memory> {
-    let path = Text::copy_of(alloc, content_of(path))?;
+    let path = text(alloc, path)?;
     match list {
         "datas" => lists.datas.push(path)?,
         "exists" => lists.exists.push(path)?,
@@ -54,15 +53,12 @@ fn list_word(list: WatchList) -> &'static str {
     }
 }
 
-fn push_seen(alloc: Global, text: &mut String, seen: &SeenPath) -> Result<(), Memory> {
-    push_word(text, list_word(seen.list))?;
-    push_word(text, word_of(seen.path.as_slice()))?;
+fn push_seen(alloc: Global, all: &mut String, seen: &SeenPath) -> Result<(), Memory> {
+    push_word(all, list_word(seen.list))?;
+    push_word(all, word_of(seen.path.as_slice()))?;
     match seen.at {
-        Some(at) => {
-            let at = format!(in alloc; "{at}")?;
-            push_word(text, at.as_str())
-        }
-        None => push_word(text, "none"),
+        Some(at) => push_number(alloc, all, " ", at),
+        None => push_word(all, "none"),
     }
 }
 
@@ -72,9 +68,9 @@ pub fn seen(alloc: Global, view: &View, words: &mut Words) -> Result<Option<Stri
         return Ok(None);
     };
     let seen = seen_paths(alloc, &lists.datas, &lists.exists, &lists.children, view)?;
-    let mut text = String::from_str(alloc, "seen")?;
+    let mut all = String::from_str(alloc, "seen")?;
     for path in &seen {
-        push_seen(alloc, &mut text, path)?;
+        push_seen(alloc, &mut all, path)?;
     }
-    Ok(Some(text))
+    Ok(Some(all))
 }
