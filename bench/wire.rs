@@ -1,4 +1,4 @@
-//! The work of `wire_bench` in plain Rust: the same algorithms, for `rustc -O`. Prints the microseconds of cutting and
+//! The work of `wire_rows time` in plain Rust: the same algorithms, for `rustc -O`. Prints the microseconds of cutting and
 //! reading so many frames, and of writing as many replies.
 
 use std::time::Instant;

@@ -7,8 +7,8 @@ count=${1:-1000000}
 work=$(mktemp -d)
 trap 'rm -rf "$work"' EXIT
 
-(cd "$here/crates/wire_bench" && rt run -- 1 >/dev/null)
-program=$here/crates/wire_bench/out/wire_bench
+(cd "$here/crates/wire_rows" && rt run -- time 1 >/dev/null)
+program=$here/crates/wire_rows/out/wire_rows
 rustc -O --edition 2021 -A dead_code -o "$work/plain" "$here/bench/wire.rs"
 
 best() { # best FILE: the least microseconds of reading and of writing in its lines
@@ -20,7 +20,7 @@ best() { # best FILE: the least microseconds of reading and of writing in its li
 
 # By turns, so that both meet the same moments of a busy machine.
 for _ in 1 2 3 4 5; do
-  "$program" "$count" time | tail -n 1 >>"$work/ours"
+  "$program" time "$count" | tail -n 1 >>"$work/ours"
   "$work/plain" "$count" | tail -n 1 >>"$work/theirs"
 done
 read -r reads writes <<<"$(best "$work/ours")"

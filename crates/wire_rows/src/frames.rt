@@ -1,6 +1,6 @@
 //! Rows of streams that are cut into frames.
 
-use row_files::{Piece, bytes_of, hex_of, joined};
+use row_files::{Piece, bytes_of, hex_of, joined, push};
 use std::alloc::Global;
 use zk_wire::{CutFault, Cutter};
 use zx_base::{Bytes, Memory};
@@ -65,7 +65,6 @@ fn frames_of(alloc: Global, frames: &[Bytes]) -> Result<String, Memory> {
 
 fn push_frame(alloc: Global, all: &mut String, frame: &Bytes) -> Result<(), Memory> {
     let digits = hex_of(alloc, frame.as_slice())?;
-    all.push_str(digits.as_str())?;
-    all.push_str(",")?;
-    Ok(())
+    push(all, digits.as_str())?;
+    push(all, ",")
 }

@@ -4,17 +4,23 @@
 //! the right; each file says in its first lines what its rows are. A packet is hex, spelled by hand from zookeeper.jute, and
 //! stands beside its fields; what can be read is written again too, and the packet has to be the same, in no more room than it
 //! needs. A new row needs no proof.
+//!
+//! `wire_rows time COUNT` prints the microseconds in which COUNT frames are cut and read, and those in which COUNT replies are
+//! written. `bench/wire.sh` runs it beside the same work in plain Rust.
 #![tactic(auto)]
 
 mod connects;
 mod frames;
+mod many;
 mod packets;
 mod replies;
 mod requests;
 
+use crate::many::print_times;
 use anyhow::Result;
-use row_files::{Rows, argument_or, status_of, try_file_in};
+use row_files::{Rows, status_of, try_files_in};
 use std::alloc::Global;
+use std::env;
 use std::process::ExitCode;
 use zx_base::Memory;
 
@@ -28,6 +34,7 @@ enum Kind {
     Notices,
     ConnectResponses,
     Frames,
+    Many,
 }
 
 impl Rows for Kind {
@@ -40,11 +47,12 @@ impl Rows for Kind {
             Kind::Notices => connects::notice(alloc, left),
             Kind::ConnectResponses => connects::answer(alloc, left),
             Kind::Frames => frames::cut(alloc, left),
+            Kind::Many => many::counted(alloc, left),
         }
     }
 }
 
-const FILES: [(&'static str, Kind); 7] = [
+const FILES: [(&'static str, Kind); 8] = [
     ("requests", Kind::Requests),
     ("spellings", Kind::Spellings),
     ("connects", Kind::Connects),
@@ -52,20 +60,22 @@ const FILES: [(&'static str, Kind); 7] = [
     ("notices", Kind::Notices),
     ("connect_responses", Kind::ConnectResponses),
     ("frames", Kind::Frames),
+    ("many", Kind::Many),
 ];
 
 /// Tries the files in the folder that the first argument names, or in `vectors` without one.
 fn main(rt: HostRuntime) -> Result<ExitCode> {
-    let folder = argument_or(&rt, "vectors")?;
-    let mut failed = 0u64;
-    for (name, kind) in FILES {
-        failed = failed.saturating_add(tried(&rt, folder.as_str(), name, kind)?);
+    let mut words = env::args(&rt)?;
+    let _program = words.next();
+    let Some(first) = words.next() else {
+        return try_all(&rt, "vectors");
+    };
+    match words.next() {
+        Some(count) if first.as_str() == "time" => print_times(&rt, count.as_str()),
+        _ => try_all(&rt, first.as_str()),
     }
-    Ok(status_of(failed))
 }
 
-/// How many rows of a file differ.
-fn tried(rt: &HostRuntime, folder: &str, name: &str, kind: Kind) -> Result<u64> {
-    let mut rows = kind;
-    try_file_in(rt, folder, name, &mut rows)
+fn try_all(rt: &HostRuntime, folder: &str) -> Result<ExitCode> {
+    Ok(status_of(try_files_in(rt, folder, &FILES)?))
 }

@@ -1,33 +1,15 @@
 //! Packets and texts in rows.
 
+use row_files::{push_word, word_of};
 use std::alloc::Global;
 use zk_wire::{CutFault, Cutter};
 use zx_base::{Bytes, Memory, Text};
-
-/// A text as it stands, `-` for the empty one.
-pub fn word_of<'a>(text: &'a Text) -> &'a str {
-    let bytes = text.as_slice();
-    if bytes.is_empty() {
-        return "-";
-    }
-    match str::from_utf8(bytes) {
-        Ok(word) => word,
-        Err(_) => "no UTF-8",
-    }
-}
-
-/// Adds a blank and a word.
-pub fn push_word(all: &mut String, word: &str) -> Result<(), Memory> {
-    all.push_str(" ")?;
-    all.push_str(word)?;
-    Ok(())
-}
 
 /// Adds a blank and a name, and then a blank and a text for each text.
 pub fn push_texts(all: &mut String, name: &str, texts: &[Text]) -> Result<(), Memory> {
     push_word(all, name)?;
     for text in texts {
-        push_word(all, word_of(text))?;
+        push_word(all, word_of(text.as_slice()))?;
     }
     Ok(())
 }

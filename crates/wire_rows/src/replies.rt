@@ -1,8 +1,8 @@
 //! Rows of replies.
 
-use crate::packets::{frame_of, is_written, note_of, push_texts, push_word, word_of};
+use crate::packets::{frame_of, is_written, note_of, push_texts};
 use crate::requests::fault_of;
-use row_files::{Piece, Words, bytes_of, hex_of, joined};
+use row_files::{Piece, Words, bytes_of, hex_of, joined, push, push_number, push_word, word_of};
 use std::alloc::Global;
 use zk_model::{Body, PartResult, Reply, Stat};
 use zk_wire::{read_reply, reply_can_be_sent, write_reply};
@@ -81,7 +81,7 @@ fn said_of(alloc: Global, reply: &Reply) -> Result<String, Memory> {
 fn push_body(alloc: Global, all: &mut String, body: &Body) -> Result<(), Memory> {
     match body {
         Body::Empty => Ok(()),
-        Body::Path(path) => push_named(all, "path", word_of(path)),
+        Body::Path(path) => push_named(all, "path", word_of(path.as_slice())),
         Body::Stat(stat) => push_stat(alloc, all, stat),
         Body::Content(content, stat) => {
             push_data(alloc, all, content.as_slice())?;
@@ -114,45 +114,41 @@ fn push_results(alloc: Global, all: &mut String, results: &[PartResult]) -> Resu
     push_word(all, "multi")?;
     for outcome in results {
         push_result(alloc, all, outcome)?;
-        all.push_str(";")?;
+        push(all, ";")?;
     }
     Ok(())
 }
 
 fn push_result(alloc: Global, all: &mut String, outcome: &PartResult) -> Result<(), Memory> {
     match outcome {
-        PartResult::Created(path) => push_named(all, "create path", word_of(path)),
+        PartResult::Created(path) => push_named(all, "create path", word_of(path.as_slice())),
         PartResult::Deleted => push_word(all, "delete"),
         PartResult::Set(stat) => {
             push_word(all, "setData")?;
             push_stat(alloc, all, stat)
         }
         PartResult::Checked => push_word(all, "check"),
-        PartResult::Code(code) => push_word(all, format!(in alloc; "err {code}")?.as_str()),
+        PartResult::Code(code) => push_number(alloc, all, " err ", i64::from(*code)),
     }
 }
 
 /// The fields of a Stat in the order of zookeeper.jute.
 fn push_stat(alloc: Global, all: &mut String, stat: &Stat) -> Result<(), Memory> {
     let fields = [
-        ("stat czxid", stat.czxid),
-        ("mzxid", stat.mzxid),
-        ("ctime", stat.ctime),
-        ("mtime", stat.mtime),
-        ("version", i64::from(stat.version)),
-        ("cversion", i64::from(stat.cversion)),
-        ("aversion", i64::from(stat.aversion)),
-        ("ephemeralOwner", stat.ephemeral_owner),
-        ("dataLength", i64::from(stat.data_length)),
-        ("numChildren", i64::from(stat.num_children)),
-        ("pzxid", stat.pzxid),
+        (" stat czxid ", stat.czxid),
+        (" mzxid ", stat.mzxid),
+        (" ctime ", stat.ctime),
+        (" mtime ", stat.mtime),
+        (" version ", i64::from(stat.version)),
+        (" cversion ", i64::from(stat.cversion)),
+        (" aversion ", i64::from(stat.aversion)),
+        (" ephemeralOwner ", stat.ephemeral_owner),
+        (" dataLength ", i64::from(stat.data_length)),
+        (" numChildren ", i64::from(stat.num_children)),
+        (" pzxid ", stat.pzxid),
     ];
     for (name, number) in fields {
         push_number(alloc, all, name, number)?;
     }
     Ok(())
-}
-
-fn push_number(alloc: Global, all: &mut String, name: &str, number: i64) -> Result<(), Memory> {
-    push_named(all, name, format!(in alloc; "{number}")?.as_str())
 }

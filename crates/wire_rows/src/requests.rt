@@ -1,7 +1,7 @@
 //! Rows of requests.
 
-use crate::packets::{frame_of, is_written, note_of, push_texts, push_word, word_of};
-use row_files::{Piece, bytes_of, hex_of, joined};
+use crate::packets::{frame_of, is_written, note_of, push_texts};
+use row_files::{Piece, bytes_of, hex_of, joined, push, push_word, word_of};
 use std::alloc::Global;
 use zk_model::{Acl, Part, Request};
 use zk_wire::{WireFault, read_request, request_can_be_sent, write_request};
@@ -171,7 +171,7 @@ fn push_lists(
 }
 
 fn named<'a>(alloc: Global, name: &'a str, path: &'a Text) -> Result<String, Memory> {
-    let pieces = [Piece::Text(name), Piece::Text(word_of(path))];
+    let pieces = [Piece::Text(name), Piece::Text(word_of(path.as_slice()))];
     joined(alloc, &pieces)
 }
 
@@ -183,7 +183,7 @@ fn watched<'a>(
 ) -> Result<String, Memory> {
     let pieces = [
         Piece::Text(name),
-        Piece::Text(word_of(path)),
+        Piece::Text(word_of(path.as_slice())),
         Piece::Text(" watch "),
         Piece::Text(if watch { "true" } else { "false" }),
     ];
@@ -198,7 +198,7 @@ fn versioned<'a>(
 ) -> Result<String, Memory> {
     let pieces = [
         Piece::Text(name),
-        Piece::Text(word_of(path)),
+        Piece::Text(word_of(path.as_slice())),
         Piece::Text(" version "),
         Piece::Number(i64::from(version)),
     ];
@@ -214,7 +214,13 @@ fn made(
 ) -> Result<String, Memory> {
     let digits = hex_of(alloc, content)?;
     let acl = acls_of(alloc, entries)?;
-    made_text(alloc, word_of(path), digits.as_str(), acl.as_str(), flags)
+    made_text(
+        alloc,
+        word_of(path.as_slice()),
+        digits.as_str(),
+        acl.as_str(),
+        flags,
+    )
 }
 
 fn made_text<'a>(
@@ -239,7 +245,7 @@ fn made_text<'a>(
 
 fn filled(alloc: Global, path: &Text, content: &[u8], version: i32) -> Result<String, Memory> {
     let digits = hex_of(alloc, content)?;
-    filled_text(alloc, word_of(path), digits.as_str(), version)
+    filled_text(alloc, word_of(path.as_slice()), digits.as_str(), version)
 }
 
 fn filled_text<'a>(
@@ -265,7 +271,7 @@ fn authorized(alloc: Global, kind: i32, scheme: &Text, auth: &[u8]) -> Result<St
         Piece::Text("auth type "),
         Piece::Number(i64::from(kind)),
         Piece::Text(" scheme "),
-        Piece::Text(word_of(scheme)),
+        Piece::Text(word_of(scheme.as_slice())),
         Piece::Text(" auth "),
         Piece::Text(auth.as_str()),
     ];
@@ -285,9 +291,9 @@ fn push_acl(alloc: Global, all: &mut String, entry: &Acl) -> Result<(), Memory> 
     let pieces = [
         Piece::Number(i64::from(entry.perms)),
         Piece::Text(":"),
-        Piece::Text(word_of(&entry.scheme)),
+        Piece::Text(word_of(entry.scheme.as_slice())),
         Piece::Text(":"),
-        Piece::Text(word_of(&entry.id)),
+        Piece::Text(word_of(entry.id.as_slice())),
     ];
     push_word(all, joined(alloc, &pieces)?.as_str())
 }
@@ -303,8 +309,7 @@ fn parts_of(alloc: Global, parts: &[Part]) -> Result<String, Memory> {
 
 fn push_part(alloc: Global, all: &mut String, part: &Part) -> Result<(), Memory> {
     push_word(all, part_of(alloc, part)?.as_str())?;
-    all.push_str(";")?;
-    Ok(())
+    push(all, ";")
 }
 
 fn part_of(alloc: Global, part: &Part) -> Result<String, Memory> {

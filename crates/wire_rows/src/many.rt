@@ -1,10 +1,10 @@
-//! How fast frames are cut and read, and replies written: `wire_bench COUNT` does as many of each and prints what it
-//! counted, `wire_bench COUNT time` the microseconds too. `bench/wire.sh` runs it beside the same work in plain Rust.
-#![tactic(auto)]
+//! Many frames and replies.
 
+use anyhow::{Result as Outcome, bail};
+use row_files::{Piece, joined};
 use std::alloc::Global;
+use std::process::ExitCode;
 use std::time::Instant;
-use std::{env, io};
 use zk_model::{Body, Reply, Request, Stat};
 use zk_wire::{Cutter, read_request, reply_can_be_sent, write_reply};
 use zx_base::{Bytes, Memory};
@@ -30,6 +30,7 @@ const STAT: Stat = Stat {
     pzxid: 3,
 };
 
+/// So many packets, one after the other.
 fn stream_of(alloc: Global, count: u32) -> Result<Vec<u8>, Memory> {
     let mut stream = Vec::new(alloc);
     for _ in 0..count {
@@ -82,46 +83,41 @@ fn write_all(alloc: Global, count: u32, reply: &Reply) -> u64 {
     bytes
 }
 
-fn run(rt: &HostRuntime, count: u32, timed: bool) -> io::Result<()> {
-    let alloc = rt.alloc();
-    let Ok(stream) = stream_of(alloc, count) else {
-        return Err(io::Error::from(io::ErrorKind::OutOfMemory));
-    };
-    let Ok(content) = Bytes::copy_of(alloc, &[120; 100]) else {
-        return Err(io::Error::from(io::ErrorKind::OutOfMemory));
-    };
-    let reply = Reply::Good(Body::Content(content, STAT));
-    measure(rt, stream.as_slice(), count, &reply, timed)
+/// A reply to a getData of 100 bytes.
+fn reply(alloc: Global) -> Result<Reply, Memory> {
+    let content = Bytes::copy_of(alloc, &[120; 100])?;
+    Ok(Reply::Good(Body::Content(content, STAT)))
 }
 
-fn measure(
-    rt: &HostRuntime,
-    stream: &[u8],
-    count: u32,
-    reply: &Reply,
-    timed: bool,
-) -> io::Result<()> {
-    let alloc = rt.alloc();
+/// How many bytes the paths of so many frames have, and so many replies.
+pub fn counted(alloc: Global, count: &str) -> Result<Option<String>, Memory> {
+    let Ok(count) = count.parse::<u32>() else {
+        return Ok(None);
+    };
+    let stream = stream_of(alloc, count)?;
+    let reply = reply(alloc)?;
+    let pieces = [
+        Piece::Count(read_all(alloc, stream.as_slice())),
+        Piece::Text(" bytes of paths read, "),
+        Piece::Count(write_all(alloc, count, &reply)),
+        Piece::Text(" bytes of replies written"),
+    ];
+    Ok(Some(joined(alloc, &pieces)?))
+}
+
+/// Prints the microseconds in which so many frames are cut and read, and so many replies are written.
+pub fn print_times(rt: &HostRuntime, count: &str) -> Outcome<ExitCode> {
+    let count = count.parse::<u32>().unwrap_or(0);
+    let (Ok(stream), Ok(reply)) = (stream_of(rt.alloc(), count), reply(rt.alloc())) else {
+        bail!("out of memory");
+    };
     let start = Instant::now(rt)?;
-    let paths = read_all(alloc, stream);
+    let paths = read_all(rt.alloc(), stream.as_slice());
     let reading = start.elapsed(rt)?.as_micros();
     let start = Instant::now(rt)?;
-    let bytes = write_all(alloc, count, reply);
+    let bytes = write_all(rt.alloc(), count, &reply);
     let writing = start.elapsed(rt)?.as_micros();
-    println!(rt; "{} bytes of paths read", paths)?;
-    println!(rt; "{} bytes of replies written", bytes)?;
-    if timed {
-        println!(rt; "{} {}", reading, writing)?;
-    }
-    Ok(())
-}
-
-fn main(rt: HostRuntime) -> io::Result<()> {
-    let mut words = env::args(&rt)?;
-    let _program = words.next();
-    let count = match words.next() {
-        Some(word) => word.as_str().parse::<u32>().unwrap_or(0),
-        None => 0,
-    };
-    run(&rt, count, words.next().is_some())
+    println!(rt; "{paths} bytes of paths read, {bytes} bytes of replies written")?;
+    println!(rt; "{reading} {writing}")?;
+    Ok(ExitCode::SUCCESS)
 }
