@@ -8,12 +8,12 @@ count=${1:-100000}
 work=$(mktemp -d)
 trap 'rm -rf "$work"' EXIT
 
-(cd "$here/crates/hub_bench" && rt run -- 1 >/dev/null)
-program=$here/crates/hub_bench/out/hub_bench
+(cd "$here/crates/hub_rows" && rt run -- time 1 >/dev/null)
+program=$here/crates/hub_rows/out/hub_rows
 
 # A line of the program: NAME READERS COUNT PUBLISHED ENDED READS TAKEN, the third and fourth number in microseconds.
 for _ in 1 2 3; do
-  "$program" "$count" time >>"$work/runs"
+  "$program" time "$count" >>"$work/runs"
 done
 awk '
   { key = $1 " " $2; rate = $3 / ($4 + 1); reads = $6 / ($5 + 1)

@@ -8,25 +8,42 @@
 //! | `next CURSOR` | the reader reads at this cursor |
 //! | `orphan` | a reader reads whose hub published two entries, was closed and is gone: at 0, at 1 and at 2 |
 //! | `race READERS COUNT` | READERS threads read what another publishes, COUNT entries, until it closes |
+//! | `lock READERS COUNT` | so do they through a ring under one lock, which hubs are compared with |
 //!
 //! In a race each reader takes every entry once and in order, or is told that it lagged and goes on at the floor. Where all
 //! goes well, the same is written whatever the schedule.
+//!
+//! `hub_rows time COUNT` publishes COUNT entries to 1, 8 and 64 readers, through a hub and through a ring under one lock, and
+//! writes of each: `hub` or `lock`, how many readers and entries, the microseconds from the first publish to the last and to the
+//! end of the last reader, and how many reads were made and entries taken. `bench/hub.sh` makes a table of it.
 #![tactic(auto)]
 
+mod lock;
 mod publisher;
 mod race;
 mod trial;
 mod words;
 
-use crate::race::race;
+use crate::race::{Raced, race};
 use crate::trial::{Trial, orphan};
 use crate::words::{end_of, number_of, print_fed};
-use std::io;
+use std::rt::Clock;
 use std::sync::Wait;
 use std::thread::Threads;
+use std::{env, io};
 use zw_hub::Feed;
 
+/// How many threads read, race by race, where they are timed.
+const READERS: [usize; 3] = [1, 8, 64];
+
 fn main(rt: HostRuntime) -> io::Result<()> {
+    let mut words = env::args(&rt)?;
+    let _program = words.next();
+    if let (Some(word), Some(count)) = (words.next(), words.next()) {
+        if word.as_str() == "time" {
+            return print_times(&rt, number_of(count.as_str())?);
+        }
+    }
     let alloc = rt.alloc();
     let mut trial = Trial::new(&rt, alloc, 0)?;
     for line in rt.lines(alloc) {
@@ -36,6 +53,7 @@ fn main(rt: HostRuntime) -> io::Result<()> {
             "hub" => trial = Trial::new(&rt, alloc, number_of(rest)?)?,
             "orphan" => print_orphan(&rt)?,
             "race" => run_race(&rt, rest)?,
+            "lock" => run_lock(&rt, rest)?,
             _ => run(&rt, &mut trial, word, rest)?,
         }
     }
@@ -68,16 +86,21 @@ fn print_orphan<R: Print + Wait + Drop + AllocGlobal>(rt: &R) -> io::Result<()> 
     print_fed(rt, "orphan 2", &end)
 }
 
-fn run_race<R: Threads + Wait + Print + AllocGlobal + Send + Clone + Drop + 'static>(
+/// How many readers and entries a race has.
+fn race_of(rest: &str) -> io::Result<(usize, i64)> {
+    let (readers, count) = words::split(rest);
+    let readers = number_of(readers)?.unsigned_abs() as usize;
+    Ok((readers, number_of(count)?))
+}
+
+fn run_race<R: Threads + Wait + Clock + Print + AllocGlobal + Send + Clone + Drop + 'static>(
     rt: &R,
     rest: &str,
 ) -> io::Result<()> {
-    let (readers, count) = words::split(rest);
-    let readers = number_of(readers)?;
-    let count = number_of(count)?;
-    let taken = race(rt, rt.alloc(), readers.unsigned_abs() as usize, count)?;
+    let (readers, count) = race_of(rest)?;
+    let raced = race(rt, rt.alloc(), readers, count)?;
     let mut reader: u64 = 0;
-    for one in &taken {
+    for one in &raced.taken {
         reader = reader.saturating_add(1);
         if one.is_whole(count) {
             println!(rt;
@@ -88,4 +111,60 @@ fn run_race<R: Threads + Wait + Print + AllocGlobal + Send + Clone + Drop + 'sta
         }
     }
     Ok(())
+}
+
+fn run_lock<R: Threads + Wait + Clock + Print + AllocGlobal + Send + Clone + Drop + 'static>(
+    rt: &R,
+    rest: &str,
+) -> io::Result<()> {
+    let (readers, count) = race_of(rest)?;
+    let raced = lock::race(rt, rt.alloc(), readers, count)?;
+    let mut whole: u64 = 0;
+    for one in &raced.taken {
+        if one.is_whole(count) {
+            whole = whole.saturating_add(1);
+        }
+    }
+    println!(rt;
+        "lock: {whole} of {readers} readers took each of {count} entries, or passed over it by a lag"
+    )
+}
+
+fn print_times<R: Threads + Wait + Clock + Print + AllocGlobal + Send + Clone + Drop + 'static>(
+    rt: &R,
+    count: i64,
+) -> io::Result<()> {
+    for readers in READERS {
+        print_time(
+            rt,
+            "hub",
+            readers,
+            count,
+            &race(rt, rt.alloc(), readers, count)?,
+        )?;
+        print_time(
+            rt,
+            "lock",
+            readers,
+            count,
+            &lock::race(rt, rt.alloc(), readers, count)?,
+        )?;
+    }
+    Ok(())
+}
+
+fn print_time<R: Print>(
+    rt: &R,
+    name: &str,
+    readers: usize,
+    count: i64,
+    raced: &Raced,
+) -> io::Result<()> {
+    let (published, ended) = (raced.published, raced.ended);
+    let (mut reads, mut taken) = (0u64, 0i64);
+    for one in &raced.taken {
+        reads = reads.saturating_add(one.reads);
+        taken = taken.saturating_add(one.entries);
+    }
+    println!(rt; "{name} {readers} {count} {published} {ended} {reads} {taken}")
 }

@@ -2,27 +2,74 @@
 
 use crate::publisher::{Publisher, zxid_of};
 use std::alloc::Global;
+use std::rt::Clock;
 use std::sync::Wait;
 use std::thread::{JoinHandle, Threads};
+use std::time::{Duration, Instant};
 use std::{io, thread};
 use zw_hub::{Fed, Feed, FeedEnd, HubReader};
 
-/// What a reader took until the hub was closed: how many entries, and how many it was told that it lagged past.
+/// What a race came to.
+#[derive(Drop)]
+pub struct Raced {
+    /// What each reader took.
+    pub taken: Vec<Taken>,
+    /// The microseconds from the first publish to the last.
+    pub published: u64,
+    /// The microseconds from the first publish to the end of the last reader.
+    pub ended: u64,
+}
+
+/// What a reader took until there was no more: how many answers, how many entries, and how many it was told that it lagged past.
 #[derive(Clone, Copy, Debug)]
 pub struct Taken {
-    entries: i64,
+    pub reads: u64,
+    pub entries: i64,
     passed_over: i64,
-    cursor: i64,
+    pub cursor: i64,
     /// No answer was wrong, and the last was that the hub is closed.
     is_right: bool,
 }
 
 impl Taken {
+    /// Before the first read.
+    pub const NOTHING: Taken = Taken {
+        reads: 0,
+        entries: 0,
+        passed_over: 0,
+        cursor: 0,
+        is_right: true,
+    };
+
     /// Whether it took each of `count` entries, or was told that it had lagged past it.
     pub fn is_whole(&self, count: i64) -> bool {
         self.is_right
             && self.cursor == count
             && self.entries.saturating_add(self.passed_over) == count
+    }
+
+    /// Notes an answer, and says whether it was the last. Where no entry is there yet, the thread yields.
+    pub fn note(&mut self, fed: &Fed) -> bool {
+        self.reads = self.reads.saturating_add(1);
+        match fed {
+            Fed::Entry(entry) => {
+                *self = self.with(entry.number, entry.zxid);
+                false
+            }
+            Fed::Lagged { cursor, floor } => {
+                *self = self.past(*cursor, *floor);
+                false
+            }
+            Fed::None => {
+                thread::yield_now();
+                false
+            }
+            Fed::Closed(_) => true,
+            Fed::Memory => {
+                self.is_right = false;
+                true
+            }
+        }
     }
 
     fn with(self, number: i64, zxid: i64) -> Taken {
@@ -48,26 +95,34 @@ impl Taken {
     }
 }
 
-/// Lets `readers` threads read the `count` entries that this one publishes.
-pub fn race<R: Threads + Wait + Send + Clone + Drop + 'static>(
+/// Lets `readers` threads read the `count` entries that this one publishes through a hub.
+pub fn race<R: Threads + Wait + Clock + Send + Clone + Drop + 'static>(
     rt: &R,
     alloc: Global,
     readers: usize,
     count: i64,
-) -> io::Result<Vec<Taken>> {
+) -> io::Result<Raced> {
     let (mut publisher, places) = Publisher::open(rt.clone()?, alloc, 0, readers)?;
     let mut workers = Vec::with_capacity(alloc, readers)?;
     for reader in places {
         workers.push(thread::spawn(rt, move || take_all(reader))?)?;
     }
+    let start = Instant::now(rt)?;
     publisher.publish_all(alloc, count)?;
+    let published = micros_in(start.elapsed(rt)?);
     publisher.close(FeedEnd::NoLine)?;
     let taken = join_all(rt, alloc, workers)?;
+    let ended = micros_in(start.elapsed(rt)?);
     drop(publisher);
-    Ok(taken)
+    Ok(Raced {
+        taken,
+        published,
+        ended,
+    })
 }
 
-fn join_all<R: Threads>(
+/// What each of these threads took.
+pub fn join_all<R: Threads>(
     rt: &R,
     alloc: Global,
     workers: Vec<JoinHandle<Taken>>,
@@ -81,21 +136,17 @@ fn join_all<R: Threads>(
 
 /// Reads until the hub is closed.
 fn take_all<R: Wait + Drop>(mut reader: HubReader<R>) -> Taken {
-    let mut taken = Taken {
-        entries: 0,
-        passed_over: 0,
-        cursor: 0,
-        is_right: true,
-    };
+    let mut taken = Taken::NOTHING;
     for _ in 0..u64::MAX {
-        match reader.next(taken.cursor) {
-            Fed::Entry(entry) => taken = taken.with(entry.number, entry.zxid),
-            Fed::Lagged { cursor, floor } => taken = taken.past(cursor, floor),
-            Fed::None => thread::yield_now(),
-            Fed::Closed(_) => return taken,
-            Fed::Memory => break,
+        let fed = reader.next(taken.cursor);
+        if taken.note(&fed) {
+            break;
         }
     }
-    taken.is_right = false;
     taken
+}
+
+/// Whole microseconds.
+pub fn micros_in(time: Duration) -> u64 {
+    u64::try_from(time.as_micros()).unwrap_or(u64::MAX)
 }

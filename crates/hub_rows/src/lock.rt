@@ -1,7 +1,7 @@
 //! Entries through a ring under one lock.
 
-use crate::entry::entry_of;
-use crate::tally::{Race, Taken, Tally, all_of, micros_in};
+use crate::publisher::entry_of;
+use crate::race::{Raced, Taken, join_all, micros_in};
 use std::alloc::{AllocError, Global};
 use std::collections::VecDeque;
 use std::rt::Clock;
@@ -64,36 +64,38 @@ impl Ring {
     }
 }
 
-/// Lets threads read what this one publishes.
+/// Lets `readers` threads read the `count` entries that this one publishes in the ring.
 pub fn race<R: Threads + Wait + Clock + Send + Clone + Drop + 'static>(
     rt: &R,
     alloc: Global,
-    race: Race,
-) -> io::Result<Tally> {
+    readers: usize,
+    count: i64,
+) -> io::Result<Raced> {
     let ring = Ring {
         entries: VecDeque::with_capacity(alloc, MAX_KEPT)?,
         last: 0,
         end: None,
     };
     let shared: Shared = Arc::new(alloc, Mutex::new(ring))?;
-    let mut workers = Vec::with_capacity(alloc, race.readers)?;
-    for _ in 0..race.readers {
+    let mut workers = Vec::with_capacity(alloc, readers)?;
+    for _ in 0..readers {
         let (theirs, handle) = (Arc::try_clone(&shared)?, rt.clone()?);
         workers.push(thread::spawn(rt, move || take_all(&handle, &theirs))?)?;
     }
     let start = Instant::now(rt)?;
-    for number in 0..race.count {
+    for number in 0..count {
         let entry = entry_of(alloc, number.saturating_add(1))?;
         shared.lock(rt).publish(entry)?;
     }
     let published = micros_in(start.elapsed(rt)?);
     shared.lock(rt).end = Some(Arc::new(alloc, FeedEnd::NoLine)?);
-    let mut readers = Vec::with_capacity(alloc, race.readers)?;
-    for worker in workers {
-        readers.push(worker.join(rt))?;
-    }
+    let taken = join_all(rt, alloc, workers)?;
     let ended = micros_in(start.elapsed(rt)?);
-    Ok(all_of(published, ended, readers.as_slice()))
+    Ok(Raced {
+        taken,
+        published,
+        ended,
+    })
 }
 
 fn take_all<R: Wait>(rt: &R, shared: &Shared) -> Taken {
