@@ -1,4 +1,4 @@
-// Writes and reads the answers of `message_bench` as a program over Rust's public crates does: `messages SIZE COUNT` prints
+// Writes and reads the answers of `message_rows time` as a program over Rust's public crates does: `messages SIZE COUNT` prints
 // the microseconds of writing and of reading. The crates cannot be fetched without a network, so their algorithms stand here,
 // written out by hand:
 // - serde_json's writer into one `Vec<u8>`: each name and each string goes through the scan of its escape table, with a comma

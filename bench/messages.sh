@@ -13,8 +13,8 @@ asks=${1:-1000000}
 work=$(mktemp -d)
 trap 'rm -rf "$work"' EXIT
 
-(cd "$here/crates/message_bench" && rt run -- 20 1 >/dev/null)
-program=$here/crates/message_bench/out/message_bench
+(cd "$here/crates/message_rows" && rt run -- time 20 1 >/dev/null)
+program=$here/crates/message_rows/out/message_rows
 rustc -O -C target-cpu=x86-64-v2 --edition 2021 -A dead_code -o "$work/plain" "$here/bench/messages.rs"
 
 best() { # best FILE: the least microseconds of writing, of reading and of parsing alone in its lines
@@ -33,7 +33,7 @@ for row in "20 1" "1400 5" "780000 2000"; do
   rm -f "$work/ours" "$work/theirs"
   # By turns, so that both meet the same moments of a busy machine.
   for _ in $(seq "$rounds"); do
-    "$program" "$size" "$count" time | tail -n 1 >>"$work/ours"
+    "$program" time "$size" "$count" | tail -n 1 >>"$work/ours"
     "$work/plain" "$size" "$count" | tail -n 1 >>"$work/theirs"
   done
   read -r writes reads parses <<<"$(best "$work/ours")"

@@ -1,15 +1,17 @@
-//! Rows of JSON texts. The parts of a row have ` | ` between them. The last is what the body reads as: the one text of the message,
-//! or the fault.
+//! Rows of JSON texts. The parts of the left side have ` | ` between them. The right side is what the body reads as: the one text of
+//! the message, or the fault.
 //!
-//!     ask | ROUTE | BODY | ASK
-//!     answer | ROUTE | ASK | BODY | ANSWER           an answer to that ask
-//!     watch | BODY | WATCH
-//!     line | BODY | created, ended, compacted REV, events REV, or events REV LINE
-//!     repeated | HEX | COUNT | HEX | COUNT | ANSWER  as an answer to the ask that reads the head
+//!     ask | ROUTE | BODY = ASK
+//!     answer | ROUTE | ASK | BODY = ANSWER           an answer to that ask
+//!     watch | BODY = WATCH
+//!     line | BODY = created, ended, compacted REV, events REV, or events REV LINE
+//!     repeated | HEX | COUNT | HEX | COUNT = ANSWER  as an answer to the ask that reads the head
+//!     many | SIZE | COUNT = the bytes that are written of COUNT answers with a value of SIZE bytes, and those that are read
 
-ghost use Rattle.std.specs.Prelude.{◌≡◌, ◌≢◌, Some, None, string_bytes};
+ghost use Rattle.std.specs.Prelude.{◌≢◌, Some};
 ghost use Rattle.ev_types.specs.declared.route.Route.TheVariants as routes;
 
+use crate::many::counted;
 use ev_json::{
     JsonFault, Line, read_answer, read_ask, read_line, read_watch, write_answer, write_ask,
     write_line, write_watch,
@@ -21,13 +23,10 @@ use zx_base::Memory;
 /// The ask that reads the head.
 const HEAD: &str = "{\"success\":[{\"request_range\":{\"key\":\"emsvaGVhZA==\"}}]}";
 
-/// What a row's body reads as, where that is not what the row says; `None` where it is.
-pub fn difference_in(alloc: Global, row: &str) -> Result<Option<String>, Memory> {
-    let Some((kind, rest)) = row.split_once(" | ") else {
-        return Ok(Some(String::from_str(alloc, "no row")?));
-    };
-    let Some((given, wanted)) = rest.rsplit_once(" | ") else {
-        return Ok(Some(String::from_str(alloc, "no row")?));
+/// What the body of a row reads as; `None` where the row has no known form.
+pub fn found(alloc: Global, left: &str) -> Result<Option<String>, Memory> {
+    let Some((kind, given)) = left.split_once(" | ") else {
+        return Ok(None);
     };
     let found = match kind {
         "ask" => ask(alloc, given),
@@ -35,19 +34,10 @@ pub fn difference_in(alloc: Global, row: &str) -> Result<Option<String>, Memory>
         "watch" => watch(alloc, given),
         "line" => line(alloc, given),
         "repeated" => repeated(alloc, given),
-        _ => Ok(String::from_str(alloc, "no kind of row")?),
+        "many" => counted(alloc, given),
+        _ => return Ok(None),
     };
-    Ok(unless_same(found?, wanted))
-}
-
-/// What was found, unless it is exactly what was wanted.
-fn unless_same(found: String, wanted: &str) -> Option<String>
-    ensures { result ≡ None → string_bytes found ≡ wanted.now }
-{
-    if found.as_str() == wanted {
-        return None;
-    }
-    Some(found)
+    Ok(Some(found?))
 }
 
 fn route_named(word: &str) -> Option<Route>

@@ -1,99 +1,57 @@
-//! Tries each row of the tables of messages, and says on standard error which differ. A row is a line of a file; a line
-//! that is empty or begins with `#` is passed over. Nothing is written to standard output, so that a new row is a matter of
-//! its file alone.
+//! Reads and writes the messages of the files in `data/json`, and says on standard error where a row differs.
+//!
+//! A row is LEFT = RIGHT ([`row_files`]); `json.rt` says what its forms are. A new row needs no proof.
+//!
+//! `message_rows time SIZE COUNT` writes an answer with a value of SIZE bytes, and reads it, COUNT times each, and prints the
+//! microseconds of both, and those of the kit's parser and decoder alone. `message_rows hostile HEAD PIECE` reads a body of some
+//! 8,388,608 bytes, the text HEAD and then PIECE again and again, and prints what it is refused for. `bench/messages.sh` runs both.
 #![tactic(auto)]
 
 mod json;
+mod many;
 
-use anyhow::{Context, Result, bail};
+use crate::many::{print_refusal, print_times};
+use anyhow::Result;
+use row_files::{Rows, status_of, try_files_in};
+use std::alloc::Global;
+use std::env;
 use std::process::ExitCode;
-use std::rt::Files;
-use std::{env, fs};
 use zx_base::Memory;
 
-/// The least number of rows that must pass, so that a file that went missing is noticed.
-const MIN_ROWS: u64 = 285;
+/// Rows of JSON texts.
+#[derive(Clone, Copy)]
+struct Messages;
 
-/// Looks in the folder that the first argument names, or in the current one. A second argument is the least number of rows that
-/// must pass there.
+impl Rows for Messages {
+    fn found(&mut self, alloc: Global, left: &str) -> Result<Option<String>, Memory> {
+        json::found(alloc, left)
+    }
+}
+
+const FILES: [(&'static str, Messages); 4] = [
+    ("answers.rows", Messages),
+    ("asks.rows", Messages),
+    ("hostile.rows", Messages),
+    ("lines.rows", Messages),
+];
+
+/// Looks in the folder that the first argument names, and without one in `json`.
 fn main(rt: HostRuntime) -> Result<ExitCode> {
     let mut words = env::args(&rt)?;
     let _program = words.next();
-    let given = words.next();
-    let least = match words.next() {
-        Some(word) => word.as_str().parse::<u64>().unwrap_or(MIN_ROWS),
-        None => MIN_ROWS,
+    let Some(first) = words.next() else {
+        return try_all(&rt, "json");
     };
-    let root = match &given {
-        Some(folder) => folder.as_str(),
-        None => ".",
+    let (Some(second), Some(third)) = (words.next(), words.next()) else {
+        return try_all(&rt, first.as_str());
     };
-    let counts = try_folder(&rt, root)?;
-    let (passed, failed) = (counts.passed, counts.failed);
-    eprintln!(rt; "{passed} passed, {failed} failed")?;
-    Ok(if failed == 0 && passed >= least {
-        ExitCode::SUCCESS
-    } else {
-        ExitCode::FAILURE
-    })
-}
-
-/// How many rows passed, and how many differ.
-#[derive(Clone, Copy)]
-struct Counts {
-    passed: u64,
-    failed: u64,
-}
-
-impl Counts {
-    /// Counts a line, and says on standard error what was found where it differs.
-    fn add(&mut self, rt: &HostRuntime, name: &str, index: usize, line: &str) -> Result<()> {
-        if line.is_empty() || line.starts_with('#') {
-            return Ok(());
-        }
-        match json::difference_in(rt.alloc(), line) {
-            Ok(None) => self.passed = self.passed.saturating_add(1),
-            Ok(Some(found)) => {
-                let number = index.saturating_add(1);
-                eprintln!(rt; "differs {name} line {number}: {found}")?;
-                self.failed = self.failed.saturating_add(1);
-            }
-            Err(Memory) => bail!("out of memory"),
-        }
-        Ok(())
+    match first.as_str() {
+        "time" => print_times(&rt, second.as_str(), third.as_str()),
+        "hostile" => print_refusal(&rt, second.as_str(), third.as_str()),
+        other => try_all(&rt, other),
     }
 }
 
-/// Tries the rows of each file of the folder `json`.
-fn try_folder(rt: &HostRuntime, root: &str) -> Result<Counts> {
-    let folder = format!(in rt.alloc(); "{root}/json")?;
-    let mut counts = Counts {
-        passed: 0,
-        failed: 0,
-    };
-    for name in &names_in(rt, folder.as_str())? {
-        try_file(rt, folder.as_str(), name.as_str(), &mut counts)?;
-    }
-    Ok(counts)
-}
-
-/// The names of a folder's files, in order.
-fn names_in<R: Files + AllocGlobal + Clone + Drop>(rt: &R, folder: &str) -> Result<Vec<String>> {
-    let mut names = Vec::new(rt.alloc());
-    for entry in fs::read_dir(rt, folder).context(format_args!("listing {folder}"))? {
-        let entry = entry?;
-        names.push(String::from_str(rt.alloc(), entry.file_name())?)?;
-    }
-    names.sort()?;
-    Ok(names)
-}
-
-/// Tries the rows of one file.
-fn try_file(rt: &HostRuntime, folder: &str, name: &str, counts: &mut Counts) -> Result<()> {
-    let path = format!(in rt.alloc(); "{folder}/{name}")?;
-    let text = fs::read_to_string(rt, path)?;
-    for (index, line) in text.lines().enumerate() {
-        counts.add(rt, name, index, line)?;
-    }
-    Ok(())
+fn try_all(rt: &HostRuntime, folder: &str) -> Result<ExitCode> {
+    Ok(status_of(try_files_in(rt, folder, &FILES)?))
 }

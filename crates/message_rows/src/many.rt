@@ -1,17 +1,14 @@
-//! How fast answers are written and read: `message_bench SIZE COUNT` writes an answer with a value of SIZE bytes, and reads
-//! it, COUNT times each, and prints the bytes written and the bytes of the values read; `message_bench SIZE COUNT time`
-//! prints the microseconds too, and those of the kit's parser and decoder alone. `message_bench hostile HEAD PIECE` reads a
-//! body of some 8,388,608 bytes, the text HEAD and then PIECE again and again, and prints what it is refused for.
-//! `bench/messages.sh` runs both.
-#![tactic(auto)]
+//! Many answers, and large ones.
 
+use anyhow::{Result as Outcome, bail};
 use base64::engine::general_purpose::STANDARD;
 use ev_json::{JsonFault, read_answer, read_ask, write_answer};
 use ev_types::{ActAns, Answer, Ask, Kv, RangeAns, Route};
+use row_files::{Piece, joined};
 use serde_json::Value;
 use std::alloc::Global;
+use std::process::ExitCode;
 use std::time::Instant;
-use std::{env, io};
 use zx_base::{Bytes, Memory, Seq};
 
 /// The ask that is answered: one range.
@@ -77,6 +74,42 @@ fn read_all(alloc: Global, count: u32, ask: &Ask, text: &[u8]) -> Result<u64, Js
     Ok(bytes)
 }
 
+/// `SIZE | COUNT`: the bytes that are written of so many answers with a value of so many bytes, and those of the values that are read
+pub fn counted(alloc: Global, given: &str) -> Result<String, Memory> {
+    let Some((size, count)) = given.split_once(" | ") else {
+        return Ok(String::from_str(alloc, "no count")?);
+    };
+    let (size, count) = (number(size), number(count));
+    let answer = answer_of(alloc, size)?;
+    let text = write_answer(alloc, &answer)?;
+    let written = write_all(alloc, count, &answer)?;
+    match read_back(alloc, count, text.as_slice()) {
+        Ok(read) => counts_text(alloc, written, read),
+        Err(JsonFault::Memory) => Err(Memory),
+        Err(_) => Ok(String::from_str(alloc, "not read")?),
+    }
+}
+
+fn counts_text(alloc: Global, written: u64, read: u64) -> Result<String, Memory> {
+    let pieces = [
+        Piece::Count(written),
+        Piece::Text(" bytes written, "),
+        Piece::Count(read),
+        Piece::Text(" bytes of values read"),
+    ];
+    joined(alloc, &pieces)
+}
+
+/// Reads an answer so many times, as that to the ask of one range.
+fn read_back(alloc: Global, count: u32, text: &[u8]) -> Result<u64, JsonFault> {
+    let ask = read_ask(alloc, Route::Txn, ASK.as_bytes())?;
+    read_all(alloc, count, &ask, text)
+}
+
+fn number(word: &str) -> u32 {
+    word.parse::<u32>().unwrap_or(0)
+}
+
 /// The value of an answer with `size` bytes, in base64.
 fn spelled(alloc: Global, size: u32) -> Result<String, Memory> {
     let mut value = Vec::new(alloc);
@@ -104,48 +137,38 @@ fn parse_all(alloc: Global, count: u32, text: &[u8], value: &str) -> u64 {
     bytes
 }
 
-fn out_of_memory() -> io::Error {
-    io::Error::from(io::ErrorKind::OutOfMemory)
-}
-
-fn run(rt: &HostRuntime, size: u32, count: u32, timed: bool) -> io::Result<()> {
-    let alloc = rt.alloc();
-    let Ok(ask) = read_ask(alloc, Route::Txn, ASK.as_bytes()) else {
-        return Err(out_of_memory());
+/// Prints the microseconds of so many writes, of so many reads, and of what no reader can do without.
+pub fn print_times(rt: &HostRuntime, size: &str, count: &str) -> Outcome<ExitCode> {
+    let (size, count) = (number(size), number(count));
+    let Ok(answer) = answer_of(rt.alloc(), size) else {
+        bail!("out of memory");
     };
-    let Ok(answer) = answer_of(alloc, size) else {
-        return Err(out_of_memory());
-    };
-    let Ok(text) = write_answer(alloc, &answer) else {
-        return Err(out_of_memory());
+    let (Ok(text), Ok(value)) = (write_answer(rt.alloc(), &answer), spelled(rt.alloc(), size))
+    else {
+        bail!("out of memory");
     };
     let start = Instant::now(rt)?;
-    let Ok(written) = write_all(alloc, count, &answer) else {
-        return Err(out_of_memory());
-    };
+    if write_all(rt.alloc(), count, &answer).is_err() {
+        bail!("out of memory");
+    }
     let writing = start.elapsed(rt)?.as_micros();
     let start = Instant::now(rt)?;
-    let Ok(read) = read_all(alloc, count, &ask, text.as_slice()) else {
-        return Err(out_of_memory());
-    };
-    let reading = start.elapsed(rt)?.as_micros();
-    println!(rt; "{written} bytes written, {read} bytes of values read")?;
-    if timed {
-        let Ok(value) = spelled(alloc, size) else {
-            return Err(out_of_memory());
-        };
-        let start = Instant::now(rt)?;
-        let parsed = parse_all(alloc, count, text.as_slice(), value.as_str());
-        let parsing = start.elapsed(rt)?.as_micros();
-        println!(rt; "{parsed} parsed")?;
-        println!(rt; "{writing} {reading} {parsing}")?;
+    if read_back(rt.alloc(), count, text.as_slice()).is_err() {
+        bail!("not read");
     }
-    Ok(())
+    let reading = start.elapsed(rt)?.as_micros();
+    let start = Instant::now(rt)?;
+    let parsed = parse_all(rt.alloc(), count, text.as_slice(), value.as_str());
+    let parsing = start.elapsed(rt)?.as_micros();
+    println!(rt; "{parsed} parsed")?;
+    println!(rt; "{writing} {reading} {parsing}")?;
+    Ok(ExitCode::SUCCESS)
 }
 
 /// About how many bytes a hostile body has: its pieces have this many or slightly fewer.
 const BODY: usize = 8_388_608;
 
+/// A text, and then a piece again and again.
 fn hostile_body(alloc: Global, head: &[u8], piece: &[u8]) -> Result<Vec<u8>, Memory> {
     let mut body = Vec::with_capacity(alloc, BODY)?;
     body.extend_from_slice(head)?;
@@ -157,8 +180,8 @@ fn hostile_body(alloc: Global, head: &[u8], piece: &[u8]) -> Result<Vec<u8>, Mem
 }
 
 /// What a body is refused for: `not json`, or the member at fault; `read` where it is not refused.
-fn refusal(alloc: Global, ask: &Ask, body: &[u8]) -> Result<&'static str, Memory> {
-    match read_answer(alloc, ask, body) {
+fn refusal(alloc: Global, body: &[u8]) -> Result<&'static str, Memory> {
+    match read_back(alloc, 1, body) {
         Ok(_) => Ok("read"),
         Err(JsonFault::NotJson) => Ok("not json"),
         Err(JsonFault::Unreadable { field }) => Ok(field.snake()),
@@ -166,38 +189,14 @@ fn refusal(alloc: Global, ask: &Ask, body: &[u8]) -> Result<&'static str, Memory
     }
 }
 
-fn run_hostile(rt: &HostRuntime, head: &str, piece: &str) -> io::Result<()> {
-    let alloc = rt.alloc();
-    let Ok(ask) = read_ask(alloc, Route::Txn, ASK.as_bytes()) else {
-        return Err(out_of_memory());
+/// Prints what a body of some 8,388,608 bytes is refused for.
+pub fn print_refusal(rt: &HostRuntime, head: &str, piece: &str) -> Outcome<ExitCode> {
+    let Ok(body) = hostile_body(rt.alloc(), head.as_bytes(), piece.as_bytes()) else {
+        bail!("out of memory");
     };
-    let Ok(body) = hostile_body(alloc, head.as_bytes(), piece.as_bytes()) else {
-        return Err(out_of_memory());
-    };
-    let Ok(refused) = refusal(alloc, &ask, body.as_slice()) else {
-        return Err(out_of_memory());
+    let Ok(refused) = refusal(rt.alloc(), body.as_slice()) else {
+        bail!("out of memory");
     };
     println!(rt; "{refused}")?;
-    Ok(())
-}
-
-fn number(word: Option<String>) -> u32 {
-    match word {
-        Some(word) => word.as_str().parse::<u32>().unwrap_or(0),
-        None => 0,
-    }
-}
-
-fn main(rt: HostRuntime) -> io::Result<()> {
-    let mut words = env::args(&rt)?;
-    let _program = words.next();
-    let first = words.next();
-    let second = words.next();
-    if let (Some(word), Some(head), Some(piece)) = (&first, &second, words.next()) {
-        if word.as_str() == "hostile" {
-            return run_hostile(&rt, head.as_str(), piece.as_str());
-        }
-        return run(&rt, number(first), number(second), true);
-    }
-    run(&rt, number(first), number(second), false)
+    Ok(ExitCode::SUCCESS)
 }
