@@ -1,13 +1,13 @@
 //! Reads and writes the messages of the files in `data/json`, and says on standard error where a row differs.
 //!
-//! A row is LEFT = RIGHT ([`row_files`]); `json.rt` says what its forms are. A new row needs no proof.
+//! A row is LEFT = RIGHT ([`row_files`]); `forms.rt` says what its forms are. A new row needs no proof.
 //!
 //! `message_rows time SIZE COUNT` writes an answer with a value of SIZE bytes, and reads it, COUNT times each, and prints the
 //! microseconds of both, and those of the kit's parser and decoder alone. `message_rows hostile HEAD PIECE` reads a body of some
 //! 8,388,608 bytes, the text HEAD and then PIECE again and again, and prints what it is refused for. `bench/messages.sh` runs both.
 #![tactic(auto)]
 
-mod json;
+mod forms;
 mod many;
 
 use crate::many::{print_refusal, print_times};
@@ -24,7 +24,7 @@ struct Messages;
 
 impl Rows for Messages {
     fn found(&mut self, alloc: Global, left: &str) -> Result<Option<String>, Memory> {
-        json::found(alloc, left)
+        forms::found(alloc, left)
     }
 }
 
