@@ -40,14 +40,15 @@ unfolding snake
 plain-guard n g = rw (guard_data-pieces g) (plain-object n (guard_pieces g) refl (plain-string n _, (plain-string n _, (plain-string n _, (plain-string n _, tt)))))
 
 guard_back : (g : Guard) → GuardFits g → guard_in (guard_data g) ≡ Ok g
-unfolding guard_in snake camel word_in word_or_none word_of
+unfolding guard_in snake camel word_in word_or_none word_of without
 guard_back g h =
     let d = object_of (pieces (guard_pieces g)) in
     let key = key_in-back d g.key (member_one field.Key (guard_pieces g) _ refl refl refl) h.0 in
     let revision = count_in-written field.ModRevision d g.mod_revision (member_two _ (guard_pieces g) _ refl refl refl) h.1 in
+    let no_end = member_two field.RangeEnd (guard_pieces g) _ refl refl refl in
     let equal = member_one field.Result (guard_pieces g) _ refl refl refl in
     let target = member_one field.Target (guard_pieces g) _ refl refl refl in
-    rw (guard_data-pieces g) (rw (key, revision, equal, target) refl)
+    rw (guard_data-pieces g) (rw (key, revision, no_end, equal, target) refl)
 
 -- ---- ranges
 
@@ -146,8 +147,9 @@ delete_back key h =
     let there = member_two field.RequestDeleteRange ps _ refl refl refl in
     let delete = message_in-back field.RequestDeleteRange d inner (there ∙ ap (λ (x : Data). Some x) (delete_data-pieces key)) (object_of-is_object (pieces (delete_pieces key))) in
     let keyed = key_in-back inner key (member_one field.Key (delete_pieces key) _ refl refl refl) h in
+    let no_end = member_two field.RangeEnd (delete_pieces key) _ refl refl refl in
     let no_range = member_two field.RequestRange ps _ refl refl refl in
-    rw (act_data-delete key) (rw (no_put, there, delete, keyed, no_range) refl)
+    rw (act_data-delete key) (rw (no_put, there, delete, keyed, no_end, no_range) refl)
 
 range_act_back : (r : RangeReq) → RangeFits r → act_in (act_data (act.Range r)) ≡ Ok (act.Range r)
 unfolding act_in range_act_in snake camel

@@ -16,7 +16,7 @@ use Rattle.ev_fields.specs.declared.field.Field.TheVariants as field
 use Rattle.ev_json.specs.declared.line.Event.{Event}
 use Rattle.ev_json.specs.Asks.{guard_in, range_in, put_in, delete_in, range_act_in, act_in, txn_in, txn_ask_in, range_ask_in, grant_in, alive_in, ask_in, watch_in}
 use Rattle.ev_json.specs.Answers.{revision_in, kv_in, found_in, put_done_in, deleted_in, range_part_in, part_in, parts_in, txn_answer_in, range_answer_in, granted_in, kept_in, result_in, kept_alive_in, answer_in, kind_named, kind_or_put, kv_needed, unless_head, deletion_in, event_in, news_in, change_in, line_in}
-use Rattle.ev_json.specs.Breaks.{Wrong, Lacks, Excess, AnyItem, InList, InMessage, KeyBreaks, GuardBreaks, RangeBreaks, PutBreaks, ActBreaks, TxnBreaks, GrantBreaks, AskBreaks, WatchBreaks, HeaderBreaks, KvBreaks, FoundBreaks, PartBreaks, PartsBreak, TxnAnswerBreaks, LeaseAnswerBreaks, AnswerBreaks, EventBreaks, ChangeBreaks, LineBreaks}
+use Rattle.ev_json.specs.Breaks.{Wrong, Lacks, Excess, AnyItem, InList, InMessage, KeyBreaks, GuardBreaks, RangeBreaks, PutBreaks, DeleteBreaks, ActBreaks, TxnBreaks, GrantBreaks, AskBreaks, WatchBreaks, HeaderBreaks, KvBreaks, FoundBreaks, PartBreaks, PartsBreak, TxnAnswerBreaks, LeaseAnswerBreaks, AnswerBreaks, EventBreaks, ChangeBreaks, LineBreaks}
 use Rattle.ev_fields.specs.Kinds.{◌>>=◌, member_of, has, known, known_or, optional, needed, count_of, lease_of, from_one, bytes_of, some_byte, word_of, message_of, is_object, count_in, lease_in, flag_in, bytes_in, needed_bytes, needed_count, positive_count, positive_lease, key_in, word_in, word_or_none, message_in, without, each, items_in, list_in}
 
 -- ---- one step of a reading
@@ -131,8 +131,9 @@ unfolding guard_in GuardBreaks word_or_none word_in
 guard_err f d e =
     step (key_in d) _ f e (key_err f d)
     (λ key is e. step (count_in field.ModRevision d) _ f e (count_err field.ModRevision f d)
-    (λ n is e. step (word_or_none field.Result (codes "EQUAL") d) _ f e (wrong (word_of (codes "EQUAL")) field.Result f true d)
-    (λ b is e. lacks (word_of (codes "MOD")) field.Target f d (last (word_in field.Target (codes "MOD") d) _ f e))))
+    (λ n is e. step (without field.RangeEnd d) _ f e (excess field.RangeEnd f d)
+    (λ b is e. step (word_or_none field.Result (codes "EQUAL") d) _ f e (wrong (word_of (codes "EQUAL")) field.Result f true d)
+    (λ b is e. lacks (word_of (codes "MOD")) field.Target f d (last (word_in field.Target (codes "MOD") d) _ f e)))))
 
 range_err : (f : Field) (d : Data) → range_in d ≡ Err f → RangeBreaks f d
 unfolding range_in RangeBreaks
@@ -154,11 +155,12 @@ put_err f d here e =
     (λ b is e. let x = excess field.RequestRange f d (last (without field.RequestRange d) _ f e) in inr (inr (inr (inr (inr (inl (x.0, here, x.1)))))))))))
 
 delete_err : (f : Field) (d : Data) → has field.RequestDeleteRange d ≡ true → delete_in d ≡ Err f → ActBreaks f d
-unfolding delete_in ActBreaks
+unfolding delete_in ActBreaks DeleteBreaks
 delete_err f d here e =
     pass (message_in field.RequestDeleteRange d) _ f e (λ e. inr (inl (here, inl (message_err field.RequestDeleteRange f d e))))
-    (λ delete there e. pass (key_in delete) _ f e (λ e. inr (inl (here, inr (delete, message_found field.RequestDeleteRange d delete there, key_err f delete e))))
-    (λ key is e. let x = excess field.RequestRange f d (last (without field.RequestRange d) _ f e) in inr (inr (inr (inr (inr (inr (x.0, here, x.1))))))))
+    (λ delete there e. pass (key_in delete) _ f e (λ e. inr (inl (here, inr (delete, message_found field.RequestDeleteRange d delete there, inl (key_err f delete e)))))
+    (λ key is e. pass (without field.RangeEnd delete) _ f e (λ e. inr (inl (here, inr (delete, message_found field.RequestDeleteRange d delete there, inr (excess field.RangeEnd f delete e)))))
+    (λ b is e. let x = excess field.RequestRange f d (last (without field.RequestRange d) _ f e) in inr (inr (inr (inr (inr (inr (x.0, here, x.1)))))))))
 
 range_act_err : (f : Field) (d : Data) → has field.RequestRange d ≡ true → range_act_in d ≡ Err f → ActBreaks f d
 unfolding range_act_in ActBreaks

@@ -8,3 +8,5 @@ pub mod AnswerBack
 pub mod LineBack
 pub mod Returns
 pub mod Broken
+pub mod Decoded
+pub mod Fitting

@@ -1,8 +1,8 @@
 -- Each line of a watch that was written reads back.
-use Rattle.std.proofs.Common.{◌≡◌, ℕ, suc, ◌==◌, cond, List, [], ◌∷◌, length, map, Option, Some, None, Ok, refl, ap, ◌∙◌}
+use Rattle.std.proofs.Common.{◌≡◌, ℕ, suc, ◌==◌, true, cond, List, [], ◌∷◌, length, map, Option, Some, None, Ok, refl, ap, ◌∙◌}
 use Rattle.std.specs.Prelude.{ℤ, codes}
 use Rattle.std.specs.List.{AllByRecursion}
-use Rattle.std.proofs.lemmas.Bool.{ne_eqb}
+use Rattle.std.proofs.lemmas.Bool.{ne_eqb, lt-ltb}
 use Rattle.serde_json.specs.Data.{Data}
 use Rattle.serde_json.specs.View.{items_of}
 use Rattle.ev_types.specs.declared.answer.Kv.{Kv}
@@ -13,15 +13,15 @@ use Rattle.ev_json.specs.declared.line.Line.TheVariants as line
 use Rattle.ev_json.specs.declared.line.Event.{Event}
 use Rattle.ev_fields.specs.Names.{snake, camel}
 use Rattle.ev_fields.specs.Members.{none, object_of, kv_member}
-use Rattle.ev_json.specs.Messages.{header_data, kv_data, event_data, change_data, line_data}
+use Rattle.ev_json.specs.Messages.{header_data, kv_data, event_data, change_data, line_data, cancel_data, canceled_data}
 use Rattle.ev_fields.specs.Kinds.{member_of, each, list_in, flag_in, count_in}
-use Rattle.ev_json.specs.Answers.{deletion_in, event_in, puts_of, news_in, change_in, line_in}
-use Rattle.ev_fields.specs.Ranges.{IsCount}
+use Rattle.ev_json.specs.Answers.{deletion_in, event_in, puts_of, canceled_line, news_in, change_in, line_in}
+use Rattle.ev_fields.specs.Ranges.{IsCount, IsPositiveCount}
 use Rattle.ev_json.specs.Ranges.{KvFits, line_of}
 use Rattle.ev_json.proofs.AnswerBack.{plain-header, revision_back, result_in-back}
-use Rattle.ev_fields.proofs.Backs.{if_true, if_some, given-piece, true_if-piece, list_if-piece, more, flag_in-back, object_of-is_object, items_in-back, plain-flag, plain-list}
+use Rattle.ev_fields.proofs.Backs.{in_digits, if_true, if_some, given-piece, number-piece, count_in-written, true_if-piece, list_if-piece, more, flag_in-back, object_of-is_object, items_in-back, plain-flag, plain-list}
 use Rattle.ev_json.proofs.KvBack.{plain-kv, kv_back}
-use Rattle.ev_fields.proofs.Rising.{pieces, one_piece, gathered-pieces, member_one, member_two, Plain, plain-object, plain-single}
+use Rattle.ev_fields.proofs.Rising.{pieces, one_piece, gathered-pieces, member_one, member_two, Plain, plain-object, plain-single, plain-string}
 
 -- ---- events
 
@@ -94,3 +94,49 @@ line_back kvs revision h k =
     let inner = object_of (pieces (change_pieces kvs revision)) in
     let result = result_in-back (object_of (pieces ps)) inner (member_one field.Result ps _ refl refl refl ∙ ap (λ (x : Data). Some x) (change_data-pieces kvs revision)) (object_of-is_object (pieces (change_pieces kvs revision))) in
     rw (line_data-pieces kvs revision) (rw result (change_back kvs revision h k))
+
+-- ---- a line that cancels a watch
+
+abbrev cancel_pieces : ℤ → ℤ → List (Field × Option Data)
+cancel_pieces compacted revision =
+    (field.Canceled, if_true true)
+    ∷ (field.CompactRevision, Some (in_digits compacted))
+    ∷ (field.Header, Some (header_data revision))
+    ∷ []
+
+cancel_data-pieces : (compacted revision : ℤ) → cancel_data compacted revision ≡ object_of (pieces (cancel_pieces compacted revision))
+unfolding cancel_data none
+cancel_data-pieces compacted revision = ap object_of (more (more (true_if-piece _ _) (number-piece _ _)) (given-piece _ _) ∙ gathered-pieces [] (cancel_pieces compacted revision))
+
+plain-cancel : (compacted revision : ℤ) → Plain 126 (cancel_data compacted revision)
+unfolding snake
+plain-cancel compacted revision = rw (cancel_data-pieces compacted revision)
+    (plain-object 125 (cancel_pieces compacted revision) refl (plain-flag 125 true, (plain-string 125 _, (plain-header 124 revision, tt))))
+
+canceled_data-pieces : (compacted revision : ℤ) → canceled_data compacted revision ≡ object_of (pieces (one_piece field.Result (cancel_data compacted revision)))
+unfolding canceled_data none
+canceled_data-pieces compacted revision = ap object_of (given-piece _ _ ∙ gathered-pieces [] (one_piece field.Result (cancel_data compacted revision)))
+
+pub plain-canceled : (compacted revision : ℤ) → Plain 127 (canceled_data compacted revision)
+unfolding snake
+plain-canceled compacted revision = rw (canceled_data-pieces compacted revision) (plain-object 126 (one_piece field.Result (cancel_data compacted revision)) refl (plain-cancel compacted revision, tt))
+
+above_none : (rev : ℤ) → IsPositiveCount rev → canceled_line rev ≡ line.Compacted rev
+above_none rev h = rw h.1 (rw (lt-ltb 0 h.0 h.2) refl)
+
+cancel_back : (compacted revision : ℤ) → IsPositiveCount compacted → change_in (object_of (pieces (cancel_pieces compacted revision))) ≡ Ok (line.Compacted compacted)
+unfolding change_in snake camel
+cancel_back compacted revision h =
+    let ps = cancel_pieces compacted revision in
+    let d = object_of (pieces ps) in
+    let canceled = flag_in-back field.Canceled d true (member_one _ ps _ refl refl refl) in
+    let rev = count_in-written field.CompactRevision d compacted (member_two _ ps _ refl refl refl) (h.0, h.1, h.3) in
+    rw (canceled, rev) (ap (λ (l : Line). Ok l) (above_none compacted h))
+
+pub canceled_back : (compacted revision : ℤ) → IsPositiveCount compacted → line_in (canceled_data compacted revision) ≡ Ok (line.Compacted compacted)
+unfolding line_in object_of snake camel
+canceled_back compacted revision h =
+    let ps = one_piece field.Result (cancel_data compacted revision) in
+    let inner = object_of (pieces (cancel_pieces compacted revision)) in
+    let result = result_in-back (object_of (pieces ps)) inner (member_one field.Result ps _ refl refl refl ∙ ap (λ (x : Data). Some x) (cancel_data-pieces compacted revision)) (object_of-is_object (pieces (cancel_pieces compacted revision))) in
+    rw (canceled_data-pieces compacted revision) (rw result (cancel_back compacted revision h))

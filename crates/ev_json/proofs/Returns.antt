@@ -8,15 +8,16 @@ use Rattle.ev_types.specs.declared.answer.Answer.{Answer}
 use Rattle.ev_types.specs.declared.answer.Kv.{Kv}
 use Rattle.ev_types.specs.declared.ask.Ask.{Ask}
 use Rattle.ev_types.specs.declared.ask.Ask.TheVariants as ask
+use Rattle.ev_json.specs.declared.line.Line.TheVariants as line
 use Rattle.ev_json.specs.Answers.{line_in}
 use Rattle.ev_json.specs.Asks.{ask_in, watch_in}
 use Rattle.ev_json.specs.Bodies.{ReadsAs, IsOneLine, message_body, reads}
-use Rattle.ev_json.specs.Messages.{ask_data, route_of, answer_data, watch_data, line_data}
+use Rattle.ev_json.specs.Messages.{ask_data, route_of, answer_data, watch_data, line_data, canceled_data}
 use Rattle.ev_fields.specs.Ranges.{IsCount, IsKey, IsPositiveCount}
 use Rattle.ev_json.specs.Ranges.{KvFits, AskFits, AnswerFits, line_of}
 use Rattle.ev_json.proofs.AnswerBack.{plain-answer, answer_back}
 use Rattle.ev_json.proofs.AskBack.{plain-ask, ask_back, plain-watch, watch_back}
-use Rattle.ev_json.proofs.LineBack.{plain-line, line_back}
+use Rattle.ev_json.proofs.LineBack.{plain-line, line_back, plain-canceled, canceled_back}
 use Rattle.ev_json.proofs.Lines.{first_line-one}
 use Rattle.ev_fields.proofs.Rising.{read-plain}
 
@@ -51,4 +52,11 @@ answer_returns asked a bytes u e h =
     let whole = body_of asked bytes (answer_inside a bytes e) in
     rw whole (u, answer_data a, ap read e ∙ read-plain (answer_data a) (plain-answer a), answer_back asked a h)
 
-pub ruleset returned = (ask_returns, watch_returns, line_returns, answer_returns, answer_inside, line_inside)
+pub canceled_returns : (compacted revision : ℤ) (bytes : List ℕ) → IsUtf8 bytes → bytes ≡ compact_text (canceled_data compacted revision) → IsPositiveCount compacted → ReadsAs line_in bytes (line.Compacted compacted)
+unfolding ReadsAs
+canceled_returns compacted revision bytes u e h = (u, canceled_data compacted revision, ap read e ∙ read-plain (canceled_data compacted revision) (plain-canceled compacted revision), canceled_back compacted revision h)
+
+pub canceled_inside : (compacted revision : ℤ) (bytes : List ℕ) → bytes ≡ compact_text (canceled_data compacted revision) → IsOneLine bytes
+canceled_inside compacted revision bytes e = rw e (plain-canceled compacted revision).inside
+
+pub ruleset returned = (ask_returns, watch_returns, line_returns, answer_returns, canceled_returns, answer_inside, line_inside, canceled_inside)

@@ -14,11 +14,13 @@ use Rattle.ev_fields.specs.declared.field.Field.{Field}
 use Rattle.ev_fields.specs.declared.field.Field.TheVariants as field
 use Rattle.ev_fields.specs.Kinds.{◌>>=◌, known, message_of, has, count_in, lease_in, flag_in, bytes_in, key_in, positive_count, positive_lease, word_in, word_or_none, message_in, without, list_in}
 
--- a compare: its target is MOD, and its result EQUAL or left out
+-- a compare: its target is MOD, and its result EQUAL or left out. It is of one key: etcd would compare a whole range where there is
+-- a `range_end`
 unfoldable pub guard_in : Data → Result Guard Field
 guard_in d = do
   key ← key_in d
   mod_revision ← count_in field.ModRevision d
+  no_end ← without field.RangeEnd d
   same ← word_or_none field.Result (codes "EQUAL") d
   right ← word_in field.Target (codes "MOD") d
   Ok (record { key = key; mod_revision = mod_revision })
@@ -42,10 +44,12 @@ put_in d = do
   no_range ← without field.RequestRange d
   Ok (act.Put key value lease)
 
+-- a delete is of one key: etcd would delete a whole range where there is a `range_end`
 unfoldable pub delete_in : Data → Result Act Field
 delete_in d = do
   delete ← message_in field.RequestDeleteRange d
   key ← key_in delete
+  no_end ← without field.RangeEnd delete
   no_range ← without field.RequestRange d
   Ok (act.Delete key)
 

@@ -47,13 +47,16 @@ abbrev pub KeyBreaks : Field → Data → Type 0
 KeyBreaks f d = Lacks (λ v. some_byte (bytes_of v)) field.Key f d
 
 unfoldable pub GuardBreaks : Field → Data → Type 0
-GuardBreaks f d = KeyBreaks f d ⊎ (Wrong count_of field.ModRevision f d ⊎ (Wrong (word_of (codes "EQUAL")) field.Result f d ⊎ Lacks (word_of (codes "MOD")) field.Target f d))
+GuardBreaks f d = KeyBreaks f d ⊎ (Wrong count_of field.ModRevision f d ⊎ (Excess field.RangeEnd f d ⊎ (Wrong (word_of (codes "EQUAL")) field.Result f d ⊎ Lacks (word_of (codes "MOD")) field.Target f d)))
 
 unfoldable pub RangeBreaks : Field → Data → Type 0
 RangeBreaks f d = KeyBreaks f d ⊎ (Wrong as_bool field.KeysOnly f d ⊎ (Wrong count_of field.Limit f d ⊎ (Wrong bytes_of field.RangeEnd f d ⊎ Wrong count_of field.Revision f d)))
 
 unfoldable pub PutBreaks : Field → Data → Type 0
 PutBreaks f d = KeyBreaks f d ⊎ (Wrong lease_of field.Lease f d ⊎ Wrong bytes_of field.Value f d)
+
+unfoldable pub DeleteBreaks : Field → Data → Type 0
+DeleteBreaks f d = KeyBreaks f d ⊎ Excess field.RangeEnd f d
 
 -- both members are there, where only one may be; the second is named
 abbrev pub Beside : Field → Field → Field → Data → Type 0
@@ -73,7 +76,7 @@ TwoOfThree f d = Beside field.RequestPut field.RequestDeleteRange f d ⊎ (Besid
 
 -- an operation has none or two of its three members, or the one that it has breaks its rules
 unfoldable pub ActBreaks : Field → Data → Type 0
-ActBreaks f d = InGiven PutBreaks field.RequestPut f d ⊎ (InGiven KeyBreaks field.RequestDeleteRange f d ⊎ (InGiven RangeBreaks field.RequestRange f d ⊎ (NoneOfThree f d ⊎ TwoOfThree f d)))
+ActBreaks f d = InGiven PutBreaks field.RequestPut f d ⊎ (InGiven DeleteBreaks field.RequestDeleteRange f d ⊎ (InGiven RangeBreaks field.RequestRange f d ⊎ (NoneOfThree f d ⊎ TwoOfThree f d)))
 
 -- the body is no object, for which its success list is named; or one of the three lists breaks its rules
 unfoldable pub TxnBreaks : Field → Data → Type 0

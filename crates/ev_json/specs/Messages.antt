@@ -1,6 +1,6 @@
 -- The messages of etcd's JSON gateway as they are written, member by member in the order of their names (etcd API reference:
 -- "KV", "Lease", "Watch"). Each message has one text: compact, without blanks.
-use Rattle.std.specs.Prelude.{ℕ, ℤ, List, ◌++◌, ◌==◌, length, map, Bool, codes}
+use Rattle.std.specs.Prelude.{true, ℕ, ℤ, List, ◌++◌, ◌==◌, length, map, Bool, codes}
 use Rattle.serde_json.specs.Data.{Data}
 use Rattle.serde_json.specs.Written.{compact_text}
 use Rattle.ev_types.specs.declared.answer.Kv.{Kv}
@@ -172,3 +172,17 @@ line_data events revision = object_of (none ++ given field.Result (change_data e
 -- the one text of a watch's line, without its line feed
 unfoldable pub line_text : List Kv → ℤ → List ℕ
 line_text events revision = compact_text (line_data events revision)
+
+-- a watch is canceled, since the revisions below this one were compacted
+unfoldable pub cancel_data : ℤ → ℤ → Data
+cancel_data compacted revision = object_of (none
+    ++ true_if field.Canceled true
+    ++ number field.CompactRevision compacted
+    ++ given field.Header (header_data revision))
+
+unfoldable pub canceled_data : ℤ → ℤ → Data
+canceled_data compacted revision = object_of (none ++ given field.Result (cancel_data compacted revision))
+
+-- the one text of the line that cancels a watch, without its line feed
+unfoldable pub canceled_text : ℤ → ℤ → List ℕ
+canceled_text compacted revision = compact_text (canceled_data compacted revision)

@@ -24,6 +24,7 @@ impl Read for Guard {
     fn read(alloc: Global, value: &Value) -> Result<Guard, JsonFault> {
         let key = key(alloc, value)?;
         let mod_revision = count(value, Field::ModRevision)?;
+        without(value, Field::RangeEnd)?;
         word_or_none(value, Field::Result, "EQUAL")?;
         word(value, Field::Target, "MOD")?;
         Ok(Guard { key, mod_revision })
@@ -73,6 +74,7 @@ fn delete(alloc: Global, value: &Value) -> Result<Act, JsonFault>
 {
     let delete = message(value, Field::RequestDeleteRange)?;
     let key = key(alloc, delete)?;
+    without(delete, Field::RangeEnd)?;
     without(value, Field::RequestRange)?;
     Ok(Act::Delete { key })
 }

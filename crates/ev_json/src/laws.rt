@@ -10,11 +10,12 @@ ghost use Rattle.ev_types.specs.declared.ask.Ask.{Ask};
 ghost use Rattle.ev_types.specs.declared.route.Route.{Route};
 ghost use Rattle.ev_json.specs.Answers.{answer_in, line_in};
 ghost use Rattle.ev_json.specs.Asks.{ask_in, watch_in};
-ghost use Rattle.ev_json.specs.Bodies.{IsOneLine, first_line};
+ghost use Rattle.ev_json.specs.Bodies.{IsOneLine, first_line, reads, reads_ask, reads_watch, reads_line};
 ghost use Rattle.ev_json.specs.Breaks.{AskBreaks, AnswerBreaks, WatchBreaks, LineBreaks};
 ghost use Rattle.ev_json.specs.Messages.{ask_data, ask_text, route_of, answer_data, answer_text, watch_data, watch_text, line_data, line_text};
 ghost use Rattle.ev_fields.specs.Ranges.{IsCount, IsKey, IsPositiveCount};
-ghost use Rattle.ev_json.specs.Ranges.{KvFits, AskFits, AnswerFits, line_of};
+ghost use Rattle.ev_json.specs.Ranges.{KvFits, AskFits, AnswerFits, LineFits, line_of};
+ghost use Rattle.ev_json.specs.declared.line.Line.{Line};
 ghost use Rattle.ev_fields.specs.declared.field.Field.{Field};
 
 /// Each written text is JSON, and its value has exactly the members that were written.
@@ -47,4 +48,13 @@ pub fn named_members_break_rules()
     ensures answers { (asked : Ask) (f : Field) (d : Data) → answer_in asked d ≡ Err f → AnswerBreaks asked f d }
     ensures watches { (f : Field) (d : Data) → watch_in d ≡ Err f → WatchBreaks f d }
     ensures lines { (f : Field) (d : Data) → line_in d ≡ Err f → LineBreaks f d }
+{}
+
+/// What is read is within the ranges of `specs/Ranges`, whatever is asked or answered. So an answer that is read fits its ask, and
+/// an ask that is read can be written again.
+pub fn what_is_read_fits()
+    ensures answers { (asked : Ask) (a : Answer) (body : List ℕ) → reads asked body a → AnswerFits asked a }
+    ensures asks { (to : Route) (a : Ask) (body : List ℕ) → reads_ask to body a → AskFits a }
+    ensures watches { (from : ℤ) (key body : List ℕ) → reads_watch body from key → IsPositiveCount from × IsKey key }
+    ensures lines { (l : Line) (bytes : List ℕ) → reads_line bytes l → LineFits l }
 {}

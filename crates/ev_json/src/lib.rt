@@ -2,7 +2,8 @@
 //!
 //! A client writes asks with [`write_ask`] and [`write_watch`], and reads what comes back with [`read_answer`] and
 //! [`read_line`]. A gateway reads asks with [`read_ask`] and [`read_watch`], and answers with [`write_answer`] and
-//! [`write_line`]. Cutting HTTP messages into bodies, and streams into lines, is left to the caller.
+//! [`write_line`], or, where the revision to watch from was compacted, with [`write_canceled`]. Cutting HTTP messages into bodies,
+//! and streams into lines, is left to the caller.
 //!
 //! # Writing
 //!
@@ -14,7 +15,8 @@
 //! # Reading
 //!
 //! `specs/Asks` and `specs/Answers` say what is read, a line for each member, in the words of `ev_fields`: whether it must be
-//! there, its kind, and its range. Unknown members are passed over, and of two members with one name the last counts. A name is
+//! there, its kind, and its range. Unknown members are passed over, but for a `range_end` in a compare or a delete: those are of one
+//! key here, so an end that is given is a fault. Of two members with one name the last counts. A name is
 //! looked up in snake case, and otherwise in camel case. A number may be a string of digits or a JSON integer. What cannot be
 //! read gives a [`JsonFault`]: the body is not JSON, or a member is at fault and named. The line of a watch that was canceled,
 //! or that etcd ended with an error, needs no header.
@@ -43,7 +45,10 @@ mod writing;
 
 pub use ev_fields::fault::JsonFault;
 pub use ev_fields::field::Field;
-pub use laws::{messages_come_back, named_members_break_rules, texts_are_json, texts_are_lines};
+pub use laws::{
+    messages_come_back, named_members_break_rules, texts_are_json, texts_are_lines,
+    what_is_read_fits,
+};
 pub use line::Line;
 pub use reading::{read_answer, read_ask, read_line, read_watch};
-pub use writing::{write_answer, write_ask, write_line, write_watch};
+pub use writing::{write_answer, write_ask, write_canceled, write_line, write_watch};

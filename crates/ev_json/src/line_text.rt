@@ -5,7 +5,7 @@ ghost use Rattle.std.specs.List.{flat_map};
 ghost use Rattle.serde_json.specs.Data.{array};
 ghost use Rattle.serde_json.specs.View.{items_of};
 ghost use Rattle.ev_fields.specs.Members.{given, list_if};
-ghost use Rattle.ev_json.specs.Messages.{event_data, change_data, line_data};
+ghost use Rattle.ev_json.specs.Messages.{event_data, change_data, line_data, cancel_data, canceled_data};
 ghost use Rattle.ev_fields.specs.Open.{Adds, data_tokens};
 ghost use Rattle.ev_fields.specs.declared.field.Field.TheVariants.{Events};
 
@@ -101,6 +101,57 @@ impl Message for LineOf<'_> {
             revision: self.revision,
         };
         let out = submessage(out.begin()?, Field::Result, &change)?.end()?;
+        Ok(out)
+    }
+}
+
+/// The `result` of a line that cancels a watch.
+#[derive(Drop)]
+struct Cancel {
+    compacted: i64,
+    revision: i64,
+}
+
+impl Message for Cancel {
+    ghost shape = { λ c. cancel_data c.compacted c.revision };
+
+    fn room(&self) -> usize {
+        100
+    }
+
+    #[tactic(auto, unfolding(crate::specs::Messages::cancel_data))]
+    fn write(&self, out: Text) -> Result<Text, AllocError> {
+        let header = Header {
+            revision: self.revision,
+        };
+        let out = out.begin()?.true_if(Field::Canceled, true)?;
+        let out = out.number(Field::CompactRevision, self.compacted)?;
+        let out = submessage(out, Field::Header, &header)?.end()?;
+        Ok(out)
+    }
+}
+
+/// The line that cancels a watch.
+#[derive(Drop)]
+pub struct Canceled {
+    pub compacted: i64,
+    pub revision: i64,
+}
+
+impl Message for Canceled {
+    ghost shape = { λ l. canceled_data l.compacted l.revision };
+
+    fn room(&self) -> usize {
+        120
+    }
+
+    #[tactic(auto, unfolding(crate::specs::Messages::canceled_data))]
+    fn write(&self, out: Text) -> Result<Text, AllocError> {
+        let cancel = Cancel {
+            compacted: self.compacted,
+            revision: self.revision,
+        };
+        let out = submessage(out.begin()?, Field::Result, &cancel)?.end()?;
         Ok(out)
     }
 }

@@ -5,12 +5,13 @@ ghost use Rattle.std.specs.List.{AllByRecursion};
 ghost use Rattle.serde_json.specs.Written.{compact_text};
 ghost use Rattle.ev_types.specs.declared.ask.Ask.{Ask};
 ghost use Rattle.ev_json.specs.Bodies.{IsOneLine, reads, reads_ask, reads_line, reads_watch};
-ghost use Rattle.ev_json.specs.Messages.{ask_text, answer_text, watch_text, line_text, route_of};
+ghost use Rattle.ev_json.specs.Messages.{ask_text, answer_text, watch_text, line_text, canceled_text, route_of};
+ghost use Rattle.ev_json.specs.declared.line.Line.TheVariants as lines;
 ghost use Rattle.ev_fields.specs.Ranges.{IsCount, IsKey, IsPositiveCount};
 ghost use Rattle.ev_json.specs.Ranges.{KvFits, AskFits, AnswerFits, line_of};
 
 use crate::ask_text::Watch;
-use crate::line_text::LineOf;
+use crate::line_text::{Canceled, LineOf};
 use crate::message::Message;
 use ev_fields::text::Text;
 use ev_types::{Answer, Ask, Kv, Route};
@@ -80,6 +81,22 @@ pub fn write_line(alloc: Global, events: &[Kv], revision: i64) -> Result<Vec<u8>
 {
     let line = LineOf {
         kvs: events,
+        revision,
+    };
+    let text = text_of(alloc, &line)?;
+    Ok(text)
+}
+
+/// The line that cancels a watch, without its line feed: the revisions below `compacted` were compacted, and the store stands at
+/// `revision`.
+#[tactic(auto, using(crate::proofs::Returns::returned), unfolding(crate::specs::Messages::canceled_text))]
+pub fn write_canceled(alloc: Global, compacted: i64, revision: i64) -> Result<Vec<u8>, Memory>
+    ensures text { IfOk result (λ v. v.items ≡ canceled_text compacted revision) }
+    ensures one_line { IfOk result (λ v. IsOneLine v.items) }
+    ensures reads_back { IfOk result (λ v. IsPositiveCount compacted → reads_line v.items (lines.Compacted compacted)) }
+{
+    let line = Canceled {
+        compacted,
         revision,
     };
     let text = text_of(alloc, &line)?;

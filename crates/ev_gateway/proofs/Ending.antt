@@ -1,0 +1,78 @@
+-- How faults of messages end a connection.
+use Rattle.std.proofs.Common.{◌≡◌, ◌≢◌, inl, inr, ℕ, ◌+◌, ◌<◌, List, add-one, refl, sym, subst}
+use Rattle.std.specs.Prelude.{ℤ, Result, Ok, Err}
+use Rattle.std.specs.Global.{Vec}
+use Rattle.ev_types.specs.declared.route.Route.{Route}
+use Rattle.ev_types.specs.declared.route.Route.TheVariants as route
+use Rattle.ev_fields.specs.declared.fault.JsonFault.{JsonFault}
+use Rattle.ev_fields.specs.declared.fault.JsonFault.TheVariants as json
+use Rattle.ev_json.specs.Asks.{watch_in}
+use Rattle.ev_json.specs.Bodies.{FaultOf, reads_watch}
+use Rattle.ev_http.specs.declared.fault.HttpFault.{HttpFault}
+use Rattle.ev_http.specs.declared.fault.HttpFault.TheVariants as http
+use Rattle.ev_http.specs.Taking.{Told}
+use Rattle.ev_gateway.specs.declared.connection.GatewayEnd.{GatewayEnd}
+use Rattle.ev_gateway.specs.declared.connection.GatewayEnd.TheVariants as ends
+use Rattle.ev_gateway.specs.Serving.{AnswersOr, Counted, EndsBy, Receives, Replies, Responds, RespondsOr, Serves, SinkTold, Turns, end_of, unreadable_text}
+
+response : (sent : Result (Unit {0}) HttpFault) (status : ℕ) (text : List ℕ) (k k' : SinkTold) → Responds sent status text k k' → RespondsOr (end_of sent) status text k k'
+response (Ok u) status text k k' h = h
+response (Err http.Memory) status text k k' h = tt
+response (Err http.WriteFault) status text k k' h = (refl, h)
+response (Err http.Head) status text k k' h = absurd h
+response (Err (http.Status n)) status text k k' h = absurd h
+response (Err http.Route) status text k k' h = absurd h
+response (Err (http.Body place)) status text k k' h = absurd h
+response (Err (http.TooLong n)) status text k k' h = absurd h
+response (Err (http.Ended n)) status text k k' h = absurd h
+response (Err http.Idle) status text k k' h = absurd h
+response (Err http.ReadFault) status text k k' h = absurd h
+
+pub responds : (r : Result (Unit {0}) GatewayEnd) (sent : Result (Unit {0}) HttpFault) (status : ℕ) (text : List ℕ) (k k' : SinkTold) → r ≡ end_of sent → Responds sent status text k k' → RespondsOr r status text k k'
+responds r sent status text k k' e h = subst (λ (x : Result (Unit {0}) GatewayEnd). RespondsOr x status text k k') (sym e) (response sent status text k k' h)
+
+stream : (sent : Result (Unit {0}) HttpFault) (to : Route) (body : List ℕ) (from : ℤ) (key : List ℕ) (k k' : SinkTold) → to ≡ route.Watch → reads_watch body from key → Counted sent k k' → AnswersOr (end_of sent) to body k k'
+stream (Ok u) to body from key k k' is reading h = inr (is, inr (from, key, reading, h))
+stream (Err http.Memory) to body from key k k' is reading h = tt
+stream (Err http.WriteFault) to body from key k k' is reading h = (refl, inr (is, inr (from, key, reading, h)))
+stream (Err http.Head) to body from key k k' is reading h = absurd h
+stream (Err (http.Status n)) to body from key k k' is reading h = absurd h
+stream (Err http.Route) to body from key k k' is reading h = absurd h
+stream (Err (http.Body place)) to body from key k k' is reading h = absurd h
+stream (Err (http.TooLong n)) to body from key k k' is reading h = absurd h
+stream (Err (http.Ended n)) to body from key k k' is reading h = absurd h
+stream (Err http.Idle) to body from key k k' is reading h = absurd h
+stream (Err http.ReadFault) to body from key k k' is reading h = absurd h
+
+pub watched : (r : Result (Unit {0}) GatewayEnd) (sent : Result (Unit {0}) HttpFault) (to : Route) (body : List ℕ) (from : ℤ) (key : List ℕ) (k k' : SinkTold) → r ≡ end_of sent → to ≡ route.Watch → reads_watch body from key → Counted sent k k' → AnswersOr r to body k k'
+watched r sent to body from key k k' e is reading h = subst (λ (x : Result (Unit {0}) GatewayEnd). AnswersOr x to body k k') (sym e) (stream sent to body from key k k' is reading h)
+
+pub refused : (r : Result (Unit {0}) GatewayEnd) (to : Route) (body : List ℕ) (f : JsonFault) (k k' : SinkTold) → to ≡ route.Watch → FaultOf watch_in body f → f ≢ json.Memory → RespondsOr r 400 unreadable_text k k' → AnswersOr r to body k k'
+refused (Ok u) to body f k k' is fault other h = inr (is, inl (400, unreadable_text, (f, fault, other, refl, refl), h))
+refused (Err (ends.Http g)) to body f k k' is fault other h = (h.0, inr (is, inl (400, unreadable_text, (f, fault, other, refl, refl), h.1)))
+refused (Err ends.Memory) to body f k k' is fault other h = tt
+refused (Err ends.Ended) to body f k k' is fault other h = absurd h
+refused (Err ends.Limit) to body f k k' is fault other h = absurd h
+
+pub asked : (r : Result (Unit {0}) GatewayEnd) (to : Route) (body : List ℕ) (status : ℕ) (text : List ℕ) (k k' : SinkTold) → to ≢ route.Watch → Replies to body status text → RespondsOr r status text k k' → AnswersOr r to body k k'
+asked (Ok u) to body status text k k' other reply h = inl (other, status, text, reply, h)
+asked (Err (ends.Http g)) to body status text k k' other reply h = (h.0, inl (other, status, text, reply, h.1))
+asked (Err ends.Memory) to body status text k k' other reply h = tt
+asked (Err ends.Ended) to body status text k k' other reply h = absurd h
+asked (Err ends.Limit) to body status text k k' other reply h = absurd h
+
+pub turned : (r : Result (Unit {0}) GatewayEnd) (to : Route) (body : Vec ℕ) (s s' : Told) (k k' : SinkTold) → Receives (Ok (to, body)) s s' → AnswersOr r to body.items k k' → Turns r s s' k k'
+turned (Ok u) to body s s' k k' came h = (to, body, came, h)
+turned (Err (ends.Http g)) to body s s' k k' came h = inr (h.0, to, body, came, h.1)
+turned (Err ends.Memory) to body s s' k k' came h = tt
+turned (Err ends.Ended) to body s s' k k' came h = absurd h
+turned (Err ends.Limit) to body s s' k k' came h = absurd h
+
+pub ended : (end : GatewayEnd) (limit n : ℕ) (s here s' : Told) (k there k' : SinkTold) → n < limit → Serves n s here k there → Turns (Err end) here s' there k' → EndsBy end limit s s' k k'
+ended ends.Limit limit n s here s' k there k' lt so_far h = absurd h
+ended ends.Ended limit n s here s' k there k' lt so_far h = (n, lt, here, there, so_far, h)
+ended (ends.Http f) limit n s here s' k there k' lt so_far h = (n, lt, here, there, so_far, h)
+ended ends.Memory limit n s here s' k there k' lt so_far h = (n, lt, here, there, so_far, h)
+
+pub served_more : (n : ℕ) (s here s' : Told) (k there k' : SinkTold) → Serves n s here k there → Turns (Ok tt) here s' there k' → Serves (n + 1) s s' k k'
+served_more n s here s' k there k' so_far h = rw add-one (here, there, so_far, h)

@@ -1,0 +1,146 @@
+-- How a gateway serves one connection: each request is read, and answered before the next one is read.
+use Rattle.std.specs.Prelude.{◌≡◌, ◌≢◌, ◌⊎◌, ℕ, zero, suc, ◌<◌, ◌≤◌, ℤ, List, ◌++◌, length, codes, Option, Some, Result, Ok, Err}
+use Rattle.std.specs.Global.{Vec}
+use Rattle.ev_types.specs.declared.answer.Answer.{Answer}
+use Rattle.ev_types.specs.declared.ask.Ask.{Ask}
+use Rattle.ev_types.specs.declared.route.Route.{Route}
+use Rattle.ev_types.specs.declared.route.Route.TheVariants as route
+use Rattle.zx_outside.specs.Counts.{OutputCounts, one_more}
+use Rattle.ev_call.specs.Fitting.{Fits}
+use Rattle.ev_fields.specs.declared.fault.JsonFault.{JsonFault}
+use Rattle.ev_fields.specs.declared.fault.JsonFault.TheVariants as json
+use Rattle.ev_json.specs.Asks.{ask_in, watch_in}
+use Rattle.ev_json.specs.Bodies.{FaultOf, reads_ask, reads_watch}
+use Rattle.ev_json.specs.Messages.{answer_text}
+use Rattle.ev_http.specs.declared.fault.HttpFault.{HttpFault}
+use Rattle.ev_http.specs.declared.fault.HttpFault.TheVariants as http
+use Rattle.ev_http.specs.declared.taking.Tally.{Tally}
+use Rattle.ev_http.specs.Messages.{HoldsRequest, ReadsRequestBody, RequestAnswer}
+use Rattle.ev_http.specs.Sending.{Sends, response_head}
+use Rattle.ev_http.specs.Taking.{Told, Took, failed, fresh}
+use Rattle.ev_gateway.specs.declared.connection.GatewayEnd.{GatewayEnd}
+use Rattle.ev_gateway.specs.declared.connection.GatewayEnd.TheVariants as ends
+
+-- ---- what is answered
+
+-- what a denied ask is answered, and a body that cannot be read
+unfoldable pub denied_text : List ℕ
+denied_text = codes "{\"error\":\"denied\"}"
+
+unfoldable pub unreadable_text : List ℕ
+unreadable_text = codes "{\"error\":\"unreadable\"}"
+
+-- an ask has an answer of its own kind, or is denied
+abbrev pub Settles : Ask → ℕ → List ℕ → Type 0
+Settles q status text = ((a : Answer) × Fits q a × (status ≡ 200) × (text ≡ answer_text a)) ⊎ ((status ≡ 400) × (text ≡ denied_text))
+
+abbrev pub AnswersAsk : Route → List ℕ → ℕ → List ℕ → Type 0
+AnswersAsk to body status text = (q : Ask) × reads_ask to body q × Settles q status text
+
+-- the body is no ask
+abbrev pub RefusesAsk : Route → List ℕ → ℕ → List ℕ → Type 0
+RefusesAsk to body status text = (f : JsonFault) × FaultOf (ask_in to) body f × (f ≢ json.Memory) × (status ≡ 400) × (text ≡ unreadable_text)
+
+-- the body is no request to watch a key
+abbrev pub RefusesWatch : List ℕ → ℕ → List ℕ → Type 0
+RefusesWatch body status text = (f : JsonFault) × FaultOf watch_in body f × (f ≢ json.Memory) × (status ≡ 400) × (text ≡ unreadable_text)
+
+abbrev pub Replies : Route → List ℕ → ℕ → List ℕ → Type 0
+Replies to body status text = AnswersAsk to body status text ⊎ RefusesAsk to body status text
+
+-- ---- one message
+
+-- What a sink tells of itself.
+pub record SinkTold : Type 0 where
+  pub taken : Option (List ℕ)
+  pub counts : OutputCounts
+  pub name : ℕ
+
+abbrev pub sink_told : {K : Type 0} → (K → Option (List ℕ)) → (K → OutputCounts) → (K → ℕ) → K → SinkTold
+sink_told taken counts name sink = record { taken = taken sink; counts = counts sink; name = name sink }
+
+-- The next request was read, or there is a fault. Where the source holds a whole request, it is that one.
+pub record Receives (result : Result (Route × Vec ℕ) HttpFault) (source source' : Told) : Type 0 where
+  pub bytes : List ℕ
+  pub tally : Tally
+  pub took : Took bytes (failed result) fresh tally source source'
+  pub answer : RequestAnswer result bytes source' tally
+  pub whole : (all body rest : List ℕ) (goes : Route) → source.left ≡ Some all → HoldsRequest goes body rest all → length body ≤ 8388608 → ReadsRequestBody result goes body rest source'.left
+
+-- These bytes were written, or a front of them up to a fault of the sink, or nothing for want of memory.
+abbrev pub Writes : Result (Unit {0}) HttpFault → List ℕ → SinkTold → SinkTold → Type 0
+Writes result bytes sink sink' = Sends result bytes sink.taken sink'.taken sink.counts sink'.counts sink.name sink'.name
+
+-- what the sink's counts say of a stream: a write fault counts as one, and nothing else is counted
+abbrev pub Counted : Result (Unit {0}) HttpFault → SinkTold → SinkTold → Type 0
+Counted (Ok _) sink sink' = (sink'.counts ≡ sink.counts) × (sink'.name ≡ sink.name)
+Counted (Err http.WriteFault) sink sink' = (sink'.counts.faults ≡ one_more sink.counts.faults) × (sink'.name ≡ sink.name)
+Counted (Err http.Memory) sink sink' = (sink'.counts ≡ sink.counts) × (sink'.name ≡ sink.name)
+Counted (Err http.Head) sink sink' = ⊥
+Counted (Err (http.Status n)) sink sink' = ⊥
+Counted (Err http.Route) sink sink' = ⊥
+Counted (Err (http.Body place)) sink sink' = ⊥
+Counted (Err (http.TooLong n)) sink sink' = ⊥
+Counted (Err (http.Ended n)) sink sink' = ⊥
+Counted (Err http.Idle) sink sink' = ⊥
+Counted (Err http.ReadFault) sink sink' = ⊥
+
+-- one response was sent
+abbrev pub Responds : Result (Unit {0}) HttpFault → ℕ → List ℕ → SinkTold → SinkTold → Type 0
+Responds result status text sink sink' = Writes result (response_head status (length text) ++ text) sink sink'
+
+-- an ask is answered by one response
+abbrev pub AnswersOnce : Result (Unit {0}) HttpFault → Route → List ℕ → SinkTold → SinkTold → Type 0
+AnswersOnce result to body sink sink' = (to ≢ route.Watch) × (status : ℕ) × (text : List ℕ) × Replies to body status text × Responds result status text sink sink'
+
+-- a request to watch a key is answered by a stream, or by one response where it cannot be read
+abbrev pub AnswersWatch : Result (Unit {0}) HttpFault → Route → List ℕ → SinkTold → SinkTold → Type 0
+AnswersWatch result to body sink sink' =
+    (to ≡ route.Watch) × (((status : ℕ) × (text : List ℕ) × RefusesWatch body status text × Responds result status text sink sink')
+    ⊎ ((from : ℤ) × (key : List ℕ) × reads_watch body from key × Counted result sink sink'))
+
+abbrev pub Answers : Result (Unit {0}) HttpFault → Route → List ℕ → SinkTold → SinkTold → Type 0
+Answers result to body sink sink' = AnswersOnce result to body sink sink' ⊎ AnswersWatch result to body sink sink'
+
+-- the request is answered, or the answer was not sent
+abbrev pub AnswersOr : Result (Unit {0}) GatewayEnd → Route → List ℕ → SinkTold → SinkTold → Type 0
+AnswersOr (Ok _) to body sink sink' = Answers (Ok tt) to body sink sink'
+AnswersOr (Err (ends.Http f)) to body sink sink' = (f ≡ http.WriteFault) × Answers (Err http.WriteFault) to body sink sink'
+AnswersOr (Err ends.Memory) to body sink sink' = Unit {0}
+AnswersOr (Err ends.Ended) to body sink sink' = ⊥
+AnswersOr (Err ends.Limit) to body sink sink' = ⊥
+
+-- What one turn came to: a request was read and answered; or the source ended between two messages; or there is a fault of the
+-- message that came, or of the sink.
+abbrev pub Turns : Result (Unit {0}) GatewayEnd → Told → Told → SinkTold → SinkTold → Type 0
+Turns (Ok _) source source' sink sink' = (to : Route) × (body : Vec ℕ) × Receives (Ok (to, body)) source source' × Answers (Ok tt) to body.items sink sink'
+Turns (Err ends.Ended) source source' sink sink' = Receives (Err (http.Ended 0)) source source' × (sink' ≡ sink)
+Turns (Err (ends.Http f)) source source' sink sink' =
+    (Receives (Err f) source source' × (sink' ≡ sink))
+    ⊎ ((f ≡ http.WriteFault) × (to : Route) × (body : Vec ℕ) × Receives (Ok (to, body)) source source' × Answers (Err http.WriteFault) to body.items sink sink')
+Turns (Err ends.Memory) source source' sink sink' = Unit {0}
+Turns (Err ends.Limit) source source' sink sink' = ⊥
+
+-- So many requests were read and answered, one after the other.
+abbrev pub Serves : ℕ → Told → Told → SinkTold → SinkTold → Type 0
+Serves zero source source' sink sink' = (source' ≡ source) × (sink' ≡ sink)
+Serves (suc n) source source' sink sink' = (here : Told) × (there : SinkTold) × Serves n source here sink there × Turns (Ok tt) here source' there sink'
+
+-- How a connection ended: after as many messages as the limit allows; or by a turn that ended it.
+abbrev pub EndsBy : GatewayEnd → ℕ → Told → Told → SinkTold → SinkTold → Type 0
+EndsBy ends.Limit limit source source' sink sink' = Serves limit source source' sink sink'
+EndsBy end limit source source' sink sink' = (n : ℕ) × (n < limit) × (here : Told) × (there : SinkTold) × Serves n source here sink there × Turns (Err end) here source' there sink'
+
+-- what a fault of a response ends the connection with
+abbrev pub end_of : Result (Unit {0}) HttpFault → Result (Unit {0}) GatewayEnd
+end_of (Ok _) = Ok tt
+end_of (Err http.Memory) = Err ends.Memory
+end_of (Err f) = Err (ends.Http f)
+
+-- a response was sent, or a front of it up to a fault of the sink
+abbrev pub RespondsOr : Result (Unit {0}) GatewayEnd → ℕ → List ℕ → SinkTold → SinkTold → Type 0
+RespondsOr (Ok _) status text sink sink' = Responds (Ok tt) status text sink sink'
+RespondsOr (Err (ends.Http f)) status text sink sink' = (f ≡ http.WriteFault) × Responds (Err http.WriteFault) status text sink sink'
+RespondsOr (Err ends.Memory) status text sink sink' = Unit {0}
+RespondsOr (Err ends.Ended) status text sink sink' = ⊥
+RespondsOr (Err ends.Limit) status text sink sink' = ⊥

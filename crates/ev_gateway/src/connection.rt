@@ -1,0 +1,181 @@
+//! One connection.
+
+ghost use Rattle.std.specs.Prelude.{◌≡◌, ◌≢◌, ◌≤◌, ◌^◌};
+ghost use Rattle.ev_http.specs.Taking.{told};
+ghost use Rattle.ev_gateway.specs.Serving.{AnswersOr, EndsBy, Receives, RespondsOr, Turns, end_of, sink_told, unreadable_text};
+ghost use Rattle.ev_types.specs.declared.route.Route.TheVariants as routes;
+
+use crate::reply::{Reply, refusal, reply_to};
+use crate::watching::watch;
+use ev_http::{HttpFault, read_request, send_response};
+use ev_json::{JsonFault, read_watch};
+use ev_shared::SharedStore;
+use ev_types::Route;
+use std::alloc::Global;
+use std::sync::Wait;
+use zx_net::Clock;
+use zx_outside::{Sink, Source};
+
+/// Why a gateway stopped.
+#[derive(Clone, Copy, Debug, PartialEq, Eq)]
+pub enum GatewayEnd {
+    /// The source ended between two messages.
+    Ended,
+    /// What came is no request, the source was idle or had a fault, or a write failed. Never want of memory.
+    Http(HttpFault),
+    /// As many messages were answered as the limit allows.
+    Limit,
+    /// The allocator refused memory.
+    Memory,
+}
+
+/// What a fault of a response ends the connection with.
+fn end_of(sent: Result<(), HttpFault>) -> Result<(), GatewayEnd>
+    ensures { result ≡ end_of sent }
+{
+    match sent {
+        Ok(()) => Ok(()),
+        Err(HttpFault::Memory) => Err(GatewayEnd::Memory),
+        Err(fault) => Err(GatewayEnd::Http(fault)),
+    }
+}
+
+/// Sends a reply.
+#[tactic(auto, using(crate::proofs::Ending::responds))]
+fn respond<K: Sink>(alloc: Global, sink: &mut K, reply: &Reply) -> Result<(), GatewayEnd>
+    ensures { RespondsOr result reply.now.status reply.now.text.items (sink_told K.taken K.counts K.name sink.old) (sink_told K.taken K.counts K.name sink.new) }
+{
+    end_of(send_response(alloc, sink, reply.status, reply.text.as_slice()))
+}
+
+/// Answers a body that cannot be read.
+fn refuse<K: Sink>(alloc: Global, sink: &mut K) -> Result<(), GatewayEnd>
+    ensures { RespondsOr result 400 unreadable_text (sink_told K.taken K.counts K.name sink.old) (sink_told K.taken K.counts K.name sink.new) }
+{
+    match refusal(alloc) {
+        Ok(reply) => respond(alloc, sink, &reply),
+        Err(_) => Err(GatewayEnd::Memory),
+    }
+}
+
+/// The revision to watch from, which is one that a store can have, or the next after its last.
+fn first_revision(from: i64) -> u64
+    ensures least { 1 ≤ result }
+    ensures most { result ≤ 2 ^ 62 }
+{
+    from.unsigned_abs().max(1).min(1 << 62)
+}
+
+/// Answers a request to watch a key.
+#[tactic(auto, using(crate::proofs::Ending::watched, crate::proofs::Ending::refused))]
+fn answer_watch<R: Wait, K: Sink>(
+    rt: &R,
+    alloc: Global,
+    store: &SharedStore,
+    sink: &mut K,
+    route: Route,
+    body: &[u8],
+) -> Result<(), GatewayEnd>
+    requires { route ≡ routes.Watch }
+    ensures { AnswersOr result route body.now (sink_told K.taken K.counts K.name sink.old) (sink_told K.taken K.counts K.name sink.new) }
+{
+    match read_watch(alloc, body) {
+        Ok((from, key)) => {
+            let first = first_revision(from);
+            end_of(watch(rt, alloc, store, sink, key.as_slice(), first))
+        }
+        Err(JsonFault::Memory) => Err(GatewayEnd::Memory),
+        Err(_) => refuse(alloc, sink),
+    }
+}
+
+/// Answers a request that is no watch.
+#[tactic(auto, using(crate::proofs::Ending::asked))]
+fn answer_ask<R: Wait, K: Sink>(
+    rt: &R,
+    alloc: Global,
+    store: &SharedStore,
+    sink: &mut K,
+    now: u64,
+    route: Route,
+    body: &[u8],
+) -> Result<(), GatewayEnd>
+    requires { route ≢ routes.Watch }
+    ensures { AnswersOr result route body.now (sink_told K.taken K.counts K.name sink.old) (sink_told K.taken K.counts K.name sink.new) }
+{
+    match reply_to(rt, alloc, store, now, route, body) {
+        Ok(reply) => respond(alloc, sink, &reply),
+        Err(_) => Err(GatewayEnd::Memory),
+    }
+}
+
+/// Reads the next request.
+fn receive<S: Source>(alloc: Global, source: &mut S) -> Result<(Route, Vec<u8>), HttpFault>
+    ensures { Receives result (told S.given S.left S.counts S.ended S.name source.old) (told S.given S.left S.counts S.ended S.name source.new) }
+{
+    let request = read_request(alloc, source);
+    request
+}
+
+/// Answers a request.
+fn answer<R: Wait, K: Sink, C: Clock>(
+    rt: &R,
+    alloc: Global,
+    store: &SharedStore,
+    sink: &mut K,
+    clock: &mut C,
+    route: Route,
+    body: &[u8],
+) -> Result<(), GatewayEnd>
+    ensures { AnswersOr result route body.now (sink_told K.taken K.counts K.name sink.old) (sink_told K.taken K.counts K.name sink.new) }
+{
+    match route {
+        Route::Watch => answer_watch(rt, alloc, store, sink, route, body),
+        _ => {
+            let now = clock.now();
+            answer_ask(rt, alloc, store, sink, now, route, body)
+        }
+    }
+}
+
+/// Reads the next request and answers it.
+#[tactic(auto, using(crate::proofs::Ending::turned))]
+fn turn<R: Wait, S: Source, K: Sink, C: Clock>(
+    rt: &R,
+    alloc: Global,
+    store: &SharedStore,
+    source: &mut S,
+    sink: &mut K,
+    clock: &mut C,
+) -> Result<(), GatewayEnd>
+    ensures { Turns result (told S.given S.left S.counts S.ended S.name source.old) (told S.given S.left S.counts S.ended S.name source.new) (sink_told K.taken K.counts K.name sink.old) (sink_told K.taken K.counts K.name sink.new) }
+{
+    match receive(alloc, source) {
+        Ok((route, body)) => answer(rt, alloc, store, sink, clock, route, body.as_slice()),
+        Err(HttpFault::Ended { taken: 0 }) => Err(GatewayEnd::Ended),
+        Err(HttpFault::Memory) => Err(GatewayEnd::Memory),
+        Err(fault) => Err(GatewayEnd::Http(fault)),
+    }
+}
+
+/// Serves one connection to the etcd in memory, until it ends: reads a request, answers it, and so on, at most `limit` times. The
+/// store stays open. Its leases lapse by this clock.
+#[tactic(auto, using(crate::proofs::Ending::ended, crate::proofs::Ending::served_more))]
+pub fn gateway<R: Wait, S: Source, K: Sink, C: Clock>(
+    rt: &R,
+    alloc: Global,
+    store: &SharedStore,
+    source: &mut S,
+    sink: &mut K,
+    clock: &mut C,
+    limit: u64,
+) -> GatewayEnd
+    ensures { EndsBy result limit (told S.given S.left S.counts S.ended S.name source.old) (told S.given S.left S.counts S.ended S.name source.new) (sink_told K.taken K.counts K.name sink.old) (sink_told K.taken K.counts K.name sink.new) }
+{
+    'turns: for served in 0..limit {
+        if let Err(end) = turn(rt, alloc, store, source, sink, clock) {
+            return end;
+        }
+    }
+    GatewayEnd::Limit
+}

@@ -1,0 +1,17 @@
+//! The JSON gateway of an etcd in memory, for one HTTP connection (etcd API reference, "gRPC gateway").
+//!
+//! [`gateway`] reads requests one after the other and answers each before it reads the next: an ask by the store's answer, with
+//! status 200; an ask that the store denies, and a body that cannot be read, with status 400. A request to watch a key is answered by
+//! a stream: a line that says that the watch was created, and a line for each revision that puts the key. `specs/Serving` says so.
+//!
+//! # Limits
+//!
+//! What is no HTTP request ends the connection, as does want of memory. A watch holds its connection until the store is closed, a
+//! write fails, or its revision was compacted; it notices a peer that went away when it writes the next line.
+#![tactic(auto)]
+
+mod connection;
+mod reply;
+mod watching;
+
+pub use connection::{GatewayEnd, gateway};

@@ -1,0 +1,6 @@
+pub mod Carried
+pub mod Replaying
+pub mod Lapsing
+pub mod Renewing
+pub mod Sweeping
+pub mod Shown

@@ -1,0 +1,21 @@
+-- One more lease whose seconds are looked at.
+use Rattle.std.proofs.Common.{◌≡◌, ℕ, ◌+◌, ◌<◌, ◌≤◌, List, [], ◌∷◌, length, take, get_or, sym, subst}
+use Rattle.std.specs.Prelude.{ℤ, All}
+use Rattle.std.proofs.lemmas.List.{take_more, take_all}
+use Rattle.std.proofs.lemmas.List.Elements.{All-append, All-cons, All-nil}
+use Rattle.ev_types.specs.Store.{Store}
+use Rattle.ev_shared.specs.History.{IsSettled}
+use Rattle.ev_shared.specs.Terms.{LapsesBy}
+use Rattle.ev_shared.specs.declared.term.Term.{Term}
+
+pub none_yet : (now : ℕ) (s : Store) (xs : List Term) → All (LapsesBy now s) (take 0 xs)
+none_yet now s xs = All-nil (LapsesBy now s)
+
+pub one_more : (now : ℕ) (s t : Store) (xs : List Term) (i : ℕ) (x : Term) → i < length xs → x ≡ get_or xs i x → All (LapsesBy now s) (take i xs) → ((id : ℤ) → IsSettled s id → IsSettled t id) → LapsesBy now t x
+    → All (LapsesBy now t) (take (i + 1) xs)
+one_more now s t xs i x lt is before keeps here =
+    let so_far : All (LapsesBy now t) (take i xs) = λ k d below over. keeps (get_or (take i xs) k d).id (before k d below over) in
+    subst (All (LapsesBy now t)) (sym (take_more xs i x lt)) (All-append (LapsesBy now t) (take i xs) (get_or xs i x ∷ []) so_far (All-cons (LapsesBy now t) _ [] (subst (LapsesBy now t) is here) (All-nil (LapsesBy now t))))
+
+pub all_done : (now : ℕ) (s : Store) (xs : List Term) (i : ℕ) → length xs ≤ i → All (LapsesBy now s) (take i xs) → All (LapsesBy now s) xs
+all_done now s xs i le h = subst (All (LapsesBy now s)) (take_all i xs le) h

@@ -1,0 +1,4 @@
+pub mod Links
+pub mod History
+pub mod Terms
+pub mod Watching

@@ -1,0 +1,99 @@
+//! An etcd in memory that many threads share.
+
+ghost use Rattle.std.specs.Prelude.{◌≡◌, ◌≤◌, ◌<◌, ◌^◌, IfOk};
+ghost use Rattle.ev_call.specs.Asks.{IsGrantable};
+ghost use Rattle.ev_call.specs.Fitting.{Fits};
+ghost use Rattle.ev_shared.specs.Watching.{IsNext};
+
+use crate::kept::Kept;
+use crate::watch::Look;
+use ev_store::{Store, StoreFault};
+use ev_types::{Answer, Ask, Kv};
+use std::alloc::Global;
+use std::sync::{Condvar, Mutex, Wait};
+
+/// An etcd in memory under one lock, for many threads. The locked value has in its type that its state is what the history of its
+/// asks and lapses leads to.
+#[derive(Drop)]
+pub struct SharedStore {
+    kept: Mutex<Kept>,
+    /// Wakes those that wait for a revision, or for the end.
+    changed: Condvar,
+}
+
+/// What a watch of one key is told next.
+#[derive(Drop)]
+pub enum Watched {
+    /// The key as its next put left it; the revision is the key's `mod_revision`.
+    Put(Kv),
+    /// The revision to go on from was compacted; the least one that can be named.
+    Compacted(i64),
+    /// The store was closed.
+    Closed,
+    /// The allocator refused memory.
+    Memory,
+}
+
+impl SharedStore {
+    /// Shares a store. The seconds of a lease that it has already begin with the lease's next keepalive.
+    pub fn new(alloc: Global, store: Store) -> SharedStore {
+        SharedStore {
+            kept: Mutex::new(Kept::new(alloc, store)),
+            changed: Condvar::new(),
+        }
+    }
+
+    /// Carries out one ask at this moment, in milliseconds, after each lease lapsed whose seconds have passed: they have where `now`
+    /// is at least so many seconds above the moment of its grant or last keepalive. A lapse that is denied as `Full` is left undone.
+    /// The denials are those of [`Store::carry_out`]. Where memory runs out, leases may have lapsed, and nothing else has changed.
+    pub fn call_at<R: Wait>(&self, rt: &R, now: u64, ask: &Ask) -> Result<Answer, StoreFault>
+        requires { IsGrantable ask.now }
+        ensures { IfOk result (Fits ask.now) }
+    {
+        let mut guard = self.kept.lock(rt);
+        let kept = &mut *guard;
+        let before = kept.revision();
+        let answer = kept.call_at(now, ask);
+        let is_changed = kept.revision() != before;
+        drop(guard);
+        if is_changed {
+            self.changed.notify_all();
+        }
+        answer
+    }
+
+    /// The present revision, at least 1.
+    pub fn revision<R: Wait>(&self, rt: &R) -> i64 {
+        self.kept.lock(rt).revision()
+    }
+
+    /// Waits for the first revision from `from` on that puts the key, from 1 to 2^62. A removal is no put.
+    #[tactic(auto, using(crate::proofs::Shown::looks_next))]
+    pub fn next_put<R: Wait>(&self, rt: &R, alloc: Global, key: &[u8], from: u64) -> Watched
+        requires first { 1 ≤ from }
+        requires small { from ≤ 2 ^ 62 }
+        ensures { IsNext from result }
+    {
+        let mut guard = self.kept.lock(rt);
+        let mut next = from;
+        'looks: for _ in rt.forever() {
+            match guard.look(alloc, key, next) {
+                Ok(Look::Put(kv)) => return Watched::Put(kv),
+                Ok(Look::Compacted(floor)) => return Watched::Compacted(floor),
+                Ok(Look::Waits(revision)) => next = revision,
+                Err(_) => return Watched::Memory,
+            }
+            if guard.is_closed() {
+                return Watched::Closed;
+            }
+            guard = self.changed.wait(rt, guard);
+        }
+        unreachable!()
+    }
+
+    /// Ends the waiting of all watches, for good.
+    pub fn close<R: Wait>(&self, rt: &R) {
+        self.kept.lock(rt).close();
+        self.changed.notify_all();
+    }
+}
