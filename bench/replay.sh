@@ -1,8 +1,8 @@
 #!/usr/bin/env bash
 # How long a replay takes, and how much memory: N settled requests (half of them creates, half of them reads) on 1 and on 16
-# connections, N setDatas of one path, each planned on a kept view, and scripts of tick lines, which show that reading a script is linear and keeps one line. Prints seconds and peak
-# kilobytes, and fails where a peak is above its bound or a status is another one. Of time it asserts nothing. A peak is never below
-# that of the Python that starts the program, some 14,000 kB.
+# connections, N setDatas of one path, each planned on a kept view, and scripts of tick lines, which show that reading a script is
+# linear and keeps one line. Prints seconds and peak kilobytes, and fails where a peak is above its bound or a status is another
+# one. Of time it asserts nothing. A peak is never below that of the Python that starts the program, some 14,000 kB.
 set -eu
 here=$(cd "$(dirname "$0")/.." && pwd)
 program=$here/crates/zetcd/out/zetcd
