@@ -6,9 +6,7 @@ use zetcd_cmd::Status;
 pub fn meaning(status: Status) -> Option<&'static str> {
     match status {
         Status::Done | Status::Usage | Status::Unlawful => None,
-        Status::Script { .. } => Some(
-            "stopped: the last line of the output says where and why (a line ends in a line feed alone, and there are no comments)",
-        ),
+        Status::Script { .. } => Some("stopped: the last line of the output says where and why"),
         Status::ReadFault => Some(
             "standard input could not be read, or gave nothing at 1,000 reads",
         ),
