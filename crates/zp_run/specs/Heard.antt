@@ -1,0 +1,98 @@
+-- What a connection has heard: its client's frames and etcd's answers. What its stage holds comes from there.
+use Rattle.std.specs.Prelude.{◌≡◌, ℕ, ℤ, List, [], ◌∷◌, ◌++◌, Bool, false, Option, Some, None, All, Contains}
+use Rattle.std.specs.Ordering.{int_eq}
+use Rattle.ev_types.specs.declared.answer.ActAns.{ActAns}
+use Rattle.ev_types.specs.declared.answer.Answer.{Answer}
+use Rattle.ev_types.specs.declared.answer.Answer.TheVariants as answer
+use Rattle.ev_types.specs.declared.answer.Kv.{Kv}
+use Rattle.zk_jute.specs.Connects.{read_connect}
+use Rattle.zk_jute.specs.Requests.{Asks, read_request}
+use Rattle.zk_model.specs.Codes.{session_expired, session_moved}
+use Rattle.zk_model.specs.declared.reply.Reply.{Reply}
+use Rattle.zk_model.specs.declared.reply.Reply.TheVariants as reply
+use Rattle.zk_model.specs.declared.request.Request.{Request}
+use Rattle.zk_model.specs.declared.request.Request.TheVariants as req
+use Rattle.zk_transcript.specs.declared.transcript.Cause.{Cause}
+use Rattle.zk_transcript.specs.declared.transcript.Cause.TheVariants as cause
+use Rattle.zn_view.specs.Adding.{at_revision}
+use Rattle.zn_view.specs.Asks.{with_parts}
+use Rattle.zn_view.specs.Lookups.{found_at}
+use Rattle.zn_view.specs.Seen.{View, empty_view}
+use Rattle.zn_view.specs.declared.plan.Who.{Who}
+use Rattle.zn_view.specs.declared.want.Want.{Want}
+use Rattle.zs_session.specs.Sessions.{life_key}
+use Rattle.zp_step.specs.declared.input.Input.{Input}
+use Rattle.zp_step.specs.declared.input.Input.TheVariants as input
+use Rattle.zp_step.specs.Stages.{Core, Pending, Stage, Unconnected, Connecting, Ready, KeepingAlive, Checking, Reading, Committing, Waiting, Shut}
+use Rattle.zp_laws.specs.Standing.{IsForTree}
+
+-- the frames that came, the connect first, and the answers, each in order
+pub record Heard : Type 0 where
+  pub frames : List (List ℕ)
+  pub answers : List Answer
+
+abbrev pub nothing_heard : Heard
+nothing_heard = record { frames = []; answers = [] }
+
+abbrev pub hears : Heard → Input → Heard
+hears k (input.Frame bytes) = record k { frames = k.frames ++ bytes ∷ [] }
+hears k (input.Answer a) = record k { answers = k.answers ++ a ∷ [] }
+hears k _ = k
+
+-- ---- a view that was read from answers: it is empty, or it is another such view with what the parts of an answer show
+
+pub data IsGathered (answers : List Answer) : View → Type 0 where
+  nothing : {v : View} → v ≡ empty_view → IsGathered answers v
+  round : {v : View} (old : View) (ws : List Want) (revision : ℤ) (succeeded : Bool) (parts : List ActAns) → IsGathered answers old → Contains answers (answer.Txn revision succeeded parts) → v ≡ with_parts (at_revision old revision) ws parts → IsGathered answers v
+
+-- ---- what a reply rests on after which the connection ends
+
+-- an answer shows no record of the session's life
+pub record IsSeenGone (k : Heard) (who : Who) (revision : ℤ) : Type 0 where
+  pub view : View
+  pub gathered : IsGathered k.answers view
+  pub at : view.revision ≡ revision
+  pub gone : found_at view (life_key who.session) ≡ None
+
+-- an answer shows that the record was put by the update `found`, and not by this connection's own
+pub record IsSeenMoved (k : Heard) (who : Who) (mine found : ℤ) : Type 0 where
+  pub view : View
+  pub gathered : IsGathered k.answers view
+  pub own : mine ≡ who.mine
+  pub kv : Kv
+  pub there : found_at view (life_key who.session) ≡ Some kv
+  pub put : kv.mod_revision ≡ found
+  pub other : int_eq found mine ≡ false
+
+-- frame with this xid asks this
+pub record IsFrameAsking (k : Heard) (xid : ℤ) (r : Request) : Type 0 where
+  pub frame : List ℕ
+  pub came : Contains k.frames frame
+  pub reads : read_request frame ≡ Asks xid r
+
+abbrev pub EndsFor : Heard → Who → ℤ → Reply → Cause → Type 0
+EndsFor k who xid answer cause.Closed = IsFrameAsking k xid req.Close
+EndsFor k who xid answer (cause.Expired revision) = (answer ≡ reply.Refused session_expired) × IsSeenGone k who revision
+EndsFor k who xid answer (cause.Moved mine found) = (answer ≡ reply.Refused session_moved) × IsSeenMoved k who mine found
+EndsFor k who xid answer _ = ⊥
+
+abbrev pub MayEndFor : Heard → Who → Pending → Option Cause → Type 0
+MayEndFor k who p None = Unit {0}
+MayEndFor k who p (Some why) = EndsFor k who p.xid p.answer why
+
+-- ---- what a stage holds comes from what was heard
+
+abbrev pub HoldsHeard : Heard → Who → Stage → Type 0
+HoldsHeard k who (Unconnected fresh) = Unit {0}
+HoldsHeard k who (Connecting connect) = (f : List ℕ) × Contains k.frames f × (read_connect f ≡ Some connect.request)
+HoldsHeard k who Ready = Unit {0}
+HoldsHeard k who (KeepingAlive frame) = Contains k.frames frame
+HoldsHeard k who (Checking frame) = Contains k.frames frame
+HoldsHeard k who (Reading xid r v ws) = IsFrameAsking k xid r × IsForTree r × IsGathered k.answers v
+HoldsHeard k who (Committing xid r v p time) = IsFrameAsking k xid r × IsForTree r
+HoldsHeard k who (Waiting p) = MayEndFor k who p p.ends
+HoldsHeard k who Shut = Unit {0}
+
+pub record Rests (k : Heard) (c : Core) : Type 0 where
+  pub waiting : All (Contains k.frames) c.waiting
+  pub stage : HoldsHeard k c.who c.stage
