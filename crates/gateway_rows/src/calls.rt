@@ -1,0 +1,82 @@
+//! Rows of a link over HTTP.
+
+use crate::marks::{push_escaped, unescaped};
+use crate::serving::fault_of;
+use ev_http::HttpFault;
+use ev_json::write_answer;
+use ev_link::{CallFault, Etcd, HttpLink, LinkFailure};
+use ev_types::{Act, Answer, Ask, RangeReq, TxnReq};
+use row_files::{Words, push, push_number};
+use std::alloc::Global;
+use zx_base::{Bytes, Memory, Seq};
+use zx_outside::{MemSink, MemSource};
+
+/// What so many calls came to.
+pub fn made(alloc: Global, given: &str) -> Result<Option<String>, Memory> {
+    let Some((count, bytes)) = given.split_once(' ') else {
+        return Ok(None);
+    };
+    let Some(count) = Words::new(count).number() else {
+        return Ok(None);
+    };
+    let bytes = unescaped(alloc, bytes)?;
+    Ok(Some(make(alloc, count, bytes)?))
+}
+
+/// The ask for the key `zk/head`.
+fn head_ask(alloc: Global) -> Result<Ask, Memory> {
+    let mut success = Seq::new(alloc);
+    success.push(Act::Range(RangeReq {
+        key: Bytes::copy_of(alloc, b"zk/head".as_slice())?,
+        end: Bytes::new(alloc),
+        revision: 0,
+        limit: 0,
+        keys_only: false,
+    }))?;
+    Ok(Ask::Txn(TxnReq {
+        guards: Seq::new(alloc),
+        success,
+        failure: Seq::new(alloc),
+    }))
+}
+
+fn make(alloc: Global, count: u32, bytes: Vec<u8>) -> Result<String, Memory> {
+    let source = MemSource::new(bytes, Vec::new(alloc), Vec::new(alloc));
+    let sink = MemSink::new(alloc, Vec::new(alloc));
+    let ask = head_ask(alloc)?;
+    let mut link = HttpLink::new(alloc, source, sink, "etcd:2379")?;
+    let mut found = String::new(alloc);
+    for _ in 0..count {
+        push_result(alloc, &mut found, link.call(&ask))?;
+    }
+    push_failure(alloc, &mut found, link.last_failure())?;
+    Ok(found)
+}
+
+fn push_failure(
+    alloc: Global,
+    found: &mut String,
+    failure: Option<&LinkFailure>,
+) -> Result<(), Memory> {
+    match failure {
+        None => push(found, "open"),
+        Some(LinkFailure::Json(_)) => push(found, "json"),
+        Some(LinkFailure::Http(HttpFault::Status(status))) => {
+            push_number(alloc, found, "status ", i64::from(*status))
+        }
+        Some(LinkFailure::Http(fault)) => push(found, fault_of(*fault)),
+    }
+}
+
+fn push_result(
+    alloc: Global,
+    found: &mut String,
+    answered: Result<Answer, CallFault>,
+) -> Result<(), Memory> {
+    match answered {
+        Ok(answer) => push_escaped(found, write_answer(alloc, &answer)?.as_slice())?,
+        Err(CallFault::Failed) => push(found, "failed")?,
+        Err(CallFault::Memory) => push(found, "memory")?,
+    }
+    push(found, " ")
+}

@@ -1,0 +1,50 @@
+//! Tries the rows of the file `rows` on the gateway of an etcd in memory and on a link over HTTP, and says on standard error where a
+//! row differs.
+//!
+//! A row is LEFT = RIGHT; in both, `\r` and `\n` stand for those bytes. Texts are by hand from etcd's API reference, RFC 9112 and
+//! RFC 4648.
+//!
+//! | Left side | Right side |
+//! |---|---|
+//! | `gateway LIMIT STEP BYTES` | how the gateway ended, and what it sent, where these bytes came to it; its store is new and closed, so that no watch waits, and its clock goes STEP milliseconds further at each reading |
+//! | `link CALLS BYTES` | what so many calls of a link came to that asked for the key `zk/head`, where these bytes came to it; then why it failed, with the status where it was one, or `open` |
+#![tactic(auto)]
+
+mod calls;
+mod marks;
+mod serving;
+mod ticking;
+
+use anyhow::Result;
+use row_files::{Rows, status_of, try_file};
+use std::alloc::Global;
+use std::process::ExitCode;
+use std::sync::Wait;
+use zx_base::Memory;
+
+/// The rows of the file.
+#[derive(Drop)]
+struct Messages<'a, R> {
+    rt: &'a R,
+}
+
+impl<R: Wait> Rows for Messages<'_, R> {
+    fn found(&mut self, alloc: Global, left: &str) -> Result<Option<String>, Memory> {
+        let Some((call, given)) = left.split_once(' ') else {
+            return Ok(None);
+        };
+        if call == "gateway" {
+            return serving::served(self.rt, alloc, given);
+        }
+        if call == "link" {
+            return calls::made(alloc, given);
+        }
+        Ok(None)
+    }
+}
+
+fn main(rt: HostRuntime) -> Result<ExitCode> {
+    let mut messages = Messages { rt: &rt };
+    let failed = try_file(&rt, "rows", &mut messages)?;
+    Ok(status_of(failed))
+}
