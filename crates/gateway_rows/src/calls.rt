@@ -1,5 +1,9 @@
 //! Rows of a link over HTTP.
 
+ghost use Rattle.std.specs.Prelude.{IfOk};
+ghost use Rattle.ev_call.specs.Addresses.{IsAddress};
+ghost use Rattle.ev_call.specs.Asks.{IsGrantable};
+
 use crate::marks::{push_escaped, unescaped};
 use crate::serving::fault_of;
 use ev_http::HttpFault;
@@ -23,8 +27,18 @@ pub fn made(alloc: Global, given: &str) -> Result<Option<String>, Memory> {
     Ok(Some(make(alloc, count, bytes)?))
 }
 
+/// What each request names as its host.
+#[tactic(auto, using(ev_link::proofs::Local::local))]
+fn host() -> &'static str
+    ensures { IsAddress result.now }
+{
+    "localhost"
+}
+
 /// The ask for the key `zk/head`.
-fn head_ask(alloc: Global) -> Result<Ask, Memory> {
+fn head_ask(alloc: Global) -> Result<Ask, Memory>
+    ensures { IfOk result (λ ask. IsGrantable ask) }
+{
     let mut success = Seq::new(alloc);
     success.push(Act::Range(RangeReq {
         key: Bytes::copy_of(alloc, b"zk/head".as_slice())?,
@@ -44,7 +58,7 @@ fn make(alloc: Global, count: u32, bytes: Vec<u8>) -> Result<String, Memory> {
     let source = MemSource::new(bytes, Vec::new(alloc), Vec::new(alloc));
     let sink = MemSink::new(alloc, Vec::new(alloc));
     let ask = head_ask(alloc)?;
-    let mut link = HttpLink::new(alloc, source, sink, "etcd:2379")?;
+    let mut link = HttpLink::new(alloc, source, sink, host())?;
     let mut found = String::new(alloc);
     for _ in 0..count {
         push_result(alloc, &mut found, link.call(&ask))?;
