@@ -24,3 +24,8 @@ pub mod Begun
 pub mod Ongoing
 pub mod Undisturbed
 pub mod Replied
+pub mod Causes
+pub mod Replays
+pub mod Outside
+pub mod Undamaged
+pub mod Possible

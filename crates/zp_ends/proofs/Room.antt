@@ -61,7 +61,7 @@ new-none (suc zero) k h = get-empty (slice_cmp nat_cmp) k
 new-none (suc (suc n)) k h = absurd (omega (arith, h))
 
 -- what is there was there at the second revision at the earliest
-later-there : (s : Store) (n : ℕ) (k : Bytes) (kv : Kv) → IsOfScript s → get (store_at s n) k ≡ Some kv → 2 ≤ n
+pub later-there : (s : Store) (n : ℕ) (k : Bytes) (kv : Kv) → IsOfScript s → get (store_at s n) k ≡ Some kv → 2 ≤ n
 later-there s n k kv o e = elim (nat-either n 2) [
   | inl less ↦ let le : n ≤ 1 = omega (arith, less) in absurd (none_some (sym (new-none n k le) ∙ sym (ap (λ (m : Keys). get m k) ((o.begun).same n le)) ∙ e))
   | inr le ↦ le
@@ -85,7 +85,7 @@ unfolding after
 front-nothing lines m b n = quiet-front [] nothing_yet lines m b n
 
 -- so the state of each revision is sound
-sound-at : (s : Store) (lines : List TranscriptLine) (n : ℕ) → Serves s lines → 2 ≤ n → n ≤ length s.revisions → IsSound (state_at lines (moment_of lines (pos n)))
+pub sound-at : (s : Store) (lines : List TranscriptLine) (n : ℕ) → Serves s lines → 2 ≤ n → n ≤ length s.revisions → IsSound (state_at lines (moment_of lines (pos n)))
 sound-at s lines n w lo hi = go (begins (take (moment_of lines (pos n)) lines)) refl
   where
     by-head : (o : Option Kv) → at (store_at s n) HeadKey ≡ o → HeadMeans o (state_at lines (moment_of lines (pos n))) → state_at lines (moment_of lines (pos n)) ≡ nothing_yet → ⊥

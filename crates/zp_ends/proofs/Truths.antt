@@ -36,7 +36,7 @@ use Rattle.zp_ends.proofs.Coming.{IsTruthful, TruthIn}
 
 -- ---- a session's nodes
 
-few-of : (v : View) (id : ℤ) (m : Keys) (s : State) → pos 1 ≤ℤ id → IsSound s → StandsFor m s → Agrees v m → AreFew id v
+pub few-of : (v : View) (id : ℤ) (m : Keys) (s : State) → pos 1 ≤ℤ id → IsSound s → StandsFor m s → Agrees v m → AreFew id v
 few-of v id m s real sound stands agrees = λ kv ps saw nodes. nodes-few v id real m s stands ps (agrees-for v id ps m agrees) kv saw nodes sound
 
 unseen-few : (v : View) (id : ℤ) → IsNoView v → AreFew id v

@@ -5,3 +5,5 @@ pub mod Settling
 pub mod Staying
 pub mod Undisturbed
 pub mod Answering
+pub mod Causes
+pub mod Possible

@@ -1,6 +1,8 @@
 //! The laws of settles and of connections that stay open. Each function does nothing, and its contract is the law.
 
 ghost use Rattle.zp_ends.specs.Answering.{EverySettleAnswers};
+ghost use Rattle.zp_ends.specs.Causes.{ReplaysNeverEndBy, ReplaysShowNoDamage};
+ghost use Rattle.zp_ends.specs.Possible.{PossibleLinesHappen};
 ghost use Rattle.zp_ends.specs.Staying.{FramesLeaveOpen, SettlesOpen};
 ghost use Rattle.zp_ends.specs.Settling.{EndsByItsBound, EverySettleEnds, FirstCounts, KeepsCounts, SettlesToItsEnd};
 ghost use Rattle.zp_ends.specs.Undisturbed.{UndisturbedStayOpen};
@@ -46,4 +48,16 @@ pub fn attached_connections_stay_open()
 /// authentication that is refused, and where the store has room for a further revision.
 pub fn undisturbed_connections_stay_open()
     ensures { UndisturbedStayOpen }
+{}
+
+/// In no run of a script does a `close` line say that a client's stream could not be read or written, that no more updates are
+/// told, or that memory was refused; nor that a value is no record.
+pub fn replays_never_end_by_faults()
+    ensures outside { ReplaysNeverEndBy }
+    ensures damaged { ReplaysShowNoDamage }
+{}
+
+/// In a world of which all is accounted for, a line that is possible leads to a world, if it hands a connection nothing to take up.
+pub fn possible_lines_happen()
+    ensures { PossibleLinesHappen }
 {}
