@@ -57,10 +57,10 @@ fn head_ask(alloc: Global) -> Result<Ask, Memory>
 fn make(alloc: Global, count: u32, bytes: Vec<u8>) -> Result<String, Memory> {
     let source = MemSource::new(bytes, Vec::new(alloc), Vec::new(alloc));
     let sink = MemSink::new(alloc, Vec::new(alloc));
-    let ask = head_ask(alloc)?;
     let mut link = HttpLink::new(alloc, source, sink, host())?;
     let mut found = String::new(alloc);
     for _ in 0..count {
+        let ask = head_ask(alloc)?;
         push_result(alloc, &mut found, link.call(&ask))?;
     }
     push_failure(alloc, &mut found, link.last_failure())?;
