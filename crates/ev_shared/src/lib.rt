@@ -7,9 +7,12 @@
 //!
 //! A [`SharedLink`] is a link to such a store. A [`StoreLink`] owns its store, which nobody else uses.
 //!
+//! The store counts those who use it, so that who ends it can wait for the others ([`SharedStore::wait_for_watches`]).
+//!
 //! No contract says what a call did to the shared store, nor that a waiting watch is woken: that is left to tests.
 #![tactic(auto)]
 
+mod crowd;
 mod event;
 mod kept;
 mod shared_link;

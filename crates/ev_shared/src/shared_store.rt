@@ -5,6 +5,7 @@ ghost use Rattle.ev_call.specs.Asks.{IsGrantable};
 ghost use Rattle.ev_call.specs.Fitting.{Fits};
 ghost use Rattle.ev_shared.specs.Watching.{IsNext};
 
+use crate::crowd::Crowd;
 use crate::kept::Kept;
 use crate::watch::Look;
 use ev_store::{Store, StoreFault};
@@ -19,6 +20,7 @@ pub struct SharedStore {
     kept: Mutex<Kept>,
     /// Wakes those that wait for a revision, or for the end.
     changed: Condvar,
+    crowd: Crowd,
 }
 
 /// What a watch of one key is told next.
@@ -40,6 +42,7 @@ impl SharedStore {
         SharedStore {
             kept: Mutex::new(Kept::new(alloc, store)),
             changed: Condvar::new(),
+            crowd: Crowd::new(),
         }
     }
 
@@ -86,7 +89,9 @@ impl SharedStore {
             if guard.is_closed() {
                 return Watched::Closed;
             }
+            self.crowd.begin_watch(rt);
             guard = self.changed.wait(rt, guard);
+            self.crowd.end_watch(rt);
         }
         unreachable!()
     }
@@ -95,5 +100,26 @@ impl SharedStore {
     pub fn close<R: Wait>(&self, rt: &R) {
         self.kept.lock(rt).close();
         self.changed.notify_all();
+    }
+
+    /// Counts one more who uses the store, until it [leaves](SharedStore::leave). Who calls [`SharedStore::next_put`] is to be
+    /// counted, where [`SharedStore::wait_for_watches`] is called.
+    pub fn enter<R: Wait>(&self, rt: &R) {
+        self.crowd.enter(rt);
+    }
+
+    /// Counts one less who uses the store.
+    pub fn leave<R: Wait>(&self, rt: &R) {
+        self.crowd.leave(rt);
+    }
+
+    /// Waits until each one who entered has left, or waits for a put in [`SharedStore::next_put`].
+    pub fn wait_for_watches<R: Wait>(&self, rt: &R) {
+        self.crowd.wait_for_watches(rt);
+    }
+
+    /// Waits until each one who entered has left.
+    pub fn wait_for_all<R: Wait>(&self, rt: &R) {
+        self.crowd.wait_for_all(rt);
     }
 }
