@@ -40,15 +40,15 @@ pub record IsLag (c : Core) (cursor floor : ℤ) : Type 0 where
   pub behind : cursor ≡ c.cursor
   pub above : cursor <ℤ floor
 
--- A frame is within the limit; an answer fits the ask that is out, and a failure needs one; an entry, a lag or a closed feed comes
--- where an entry is awaited. A bad length and the client's end may come at any time.
+-- A frame is within the limit; an answer fits the ask that is out, and a failure needs one; an entry or a lag comes where an entry
+-- is awaited, and the feed's end while no ask is out. A bad length and the client's end may come at any time.
 abbrev pub IsFit : Core → Input → Type 0
 IsFit c (input.Frame bytes) = length bytes ≤ max_frame
 IsFit c (input.Answer a) = IsAwaited (asked_of c.who c.stage) (Some a)
 IsFit c input.Failed = asked_of c.who c.stage ≢ None
 IsFit c (input.Entry e) = IsNextEntry c (arc_value e)
 IsFit c (input.Lagged cursor floor) = IsLag c cursor floor
-IsFit c input.FeedClosed = awaits_entry (wants_of c) ≡ true
+IsFit c input.FeedClosed = asked_of c.who c.stage ≡ None
 IsFit c (input.BadLength place length) = Unit {0}
 IsFit c (input.ClientEnd place) = Unit {0}
 
