@@ -1,18 +1,24 @@
 -- Bytes of a client arrive: each whole frame has its line, and is handed in.
 use Rattle.std.proofs.Common.{◌≡◌, ◌≤◌, ℕ, ℤ, ◌+◌, List, [], ◌∷◌, length, refl, sym, ap, ◌∙◌, subst, arith, Bool, true, false}
 use Rattle.std.proofs.lemmas.Bool.Decides.{nat_tests}
-use Rattle.std.proofs.lemmas.List.Elements.{All-head, All-tail}
+use Rattle.std.proofs.lemmas.List.Elements.{All-cons, All-head, All-tail}
 use Rattle.std.specs.List.{list_all}
 use Rattle.std.specs.Prelude.{All, MatchBool, Option, Some, None, if◌then◌else◌, nat_le, ◌==◌}
+use Rattle.ev_types.specs.Store.{Store, mod_of, present}
+use Rattle.ev_types.specs.declared.answer.Kv.{Kv}
 use Rattle.zk_legal.specs.Formed.{frames_of}
 use Rattle.zk_model.specs.Limits.{max_frame}
 use Rattle.zk_transcript.specs.declared.transcript.TranscriptLine.TheVariants.{Frame as FrameLine}
+use Rattle.zn_layout.specs.Keys.{HeadKey, key_bytes}
+use Rattle.zn_layout.specs.StandsFor.{at}
 use Rattle.zp_happen.specs.Arriving.{Arrives, EndsBadly, FramesArrive, frame_lines, shown_frame}
 use Rattle.zp_happen.specs.Handing.{Handed}
 use Rattle.zp_happen.specs.Worlds.{Conn, Connection, World, conn_at, is_open_conn, with_conn, zxid_at}
 use Rattle.zp_lawful.proofs.Handing.{AreIndexed, handed-proceeds, none-indexed}
+use Rattle.zp_lawful.proofs.Naturals.{AreNaturalLines, IsNaturalLine, no-lines, one-line}
 use Rattle.zp_lawful.proofs.Progress.{Broken, Opened, frames_of-append, progress-append, progress_from, takes, unnamed-aside}
-use Rattle.zp_lawful.proofs.Tidy.{ChangesOne, IsInStep, Proceeds, alike-proceeds, one-proceeds, proceeds-same, proceeds-then, in_step-count}
+use Rattle.zp_lawful.proofs.Stored.{IsNatural, natural, store-natural}
+use Rattle.zp_lawful.proofs.Tidy.{ChangesOne, Free, IsInStep, Proceeds, alike-proceeds, one-proceeds, proceeds-same, proceeds-then, in_step-count}
 use Rattle.zp_lawful.specs.Lawful.{AreCounted}
 use Rattle.zp_laws.proofs.Counting.{counted-small}
 use Rattle.zp_step.specs.Stages.{Core, counted_up}
@@ -52,12 +58,25 @@ frames-indexed c n z (f ∷ fs) small less =
           ∙ later.1,
     )
 
+-- each shows a zxid
+zxid-natural : (s : Store) → IsNatural (zxid_at s)
+zxid-natural s = go (at (present s) HeadKey) refl
+  where
+    go : (o : Option Kv) → at (present s) HeadKey ≡ o → IsNatural (mod_of o)
+    go None e = natural 0
+    go (Some kv) e = (store-natural s (length s.revisions) (key_bytes HeadKey) kv e).revision
+
+frames-natural : (c i : ℕ) (s : Store) (fs : List (List ℕ)) → AreNaturalLines (frame_lines c i (zxid_at s) fs)
+frames-natural c i s [] = no-lines
+frames-natural c i s (f ∷ fs) = All-cons IsNaturalLine (FrameLine c i (zxid_at s) f) (frame_lines c (counted_up (i + 1)) (zxid_at s) fs) (zxid-natural s) (frames-natural c (counted_up (i + 1)) s fs)
+
 -- ---- a frame's line stands before it is handed in
 
 shown-changes : (w : World) (c : ℕ) (x : Conn) (bytes : List ℕ) → ChangesOne w (shown_frame c w x bytes) c (record x { frames = counted_up (x.frames + 1) }) (FrameLine c x.frames (zxid_at w.store) bytes ∷ [])
 shown-changes w c x bytes = record {
   lines = refl;
   clock = refl;
+  entries = refl;
   there = conn-here w c (record x { frames = counted_up (x.frames + 1) });
   others = λ d apart. conn-there w c d (record x { frames = counted_up (x.frames + 1) }) apart;
   aside = λ d apart. unnamed-aside d (FrameLine c x.frames (zxid_at w.store) bytes ∷ []) (own-unnamed d c (FrameLine c x.frames (zxid_at w.store) bytes ∷ []) apart (one-own c));
@@ -77,15 +96,16 @@ shown-in_step w c x core bytes small in_step n =
           ∙ ap Opened (sym up),
     )
 
-shown-proceeds : (w : World) (c : ℕ) (x : Conn) (core : Core) (bytes : List ℕ) → conn_at c w ≡ Some x → x.actor ≡ Connection core → length bytes ≤ max_frame → Proceeds w (shown_frame c w x bytes)
+shown-proceeds : (w : World) (c : ℕ) (x : Conn) (core : Core) (bytes : List ℕ) → conn_at c w ≡ Some x → x.actor ≡ Connection core → length bytes ≤ max_frame → Proceeds Free w (shown_frame c w x bytes)
 shown-proceeds w c x core bytes there actor small =
-    one-proceeds w (shown_frame c w x bytes) c (record x { frames = counted_up (x.frames + 1) }) (FrameLine c x.frames (zxid_at w.store) bytes ∷ []) (shown-changes w c x bytes)
+    one-proceeds Free w (shown_frame c w x bytes) c (record x { frames = counted_up (x.frames + 1) }) (FrameLine c x.frames (zxid_at w.store) bytes ∷ []) (shown-changes w c x bytes)
+    (λ p k. record { lines = one-line (FrameLine c x.frames (zxid_at w.store) bytes) (zxid-natural w.store); conn = record { actor = (k.conns c x there).actor; flight = (k.conns c x there).flight } })
     (λ t n. subst (IsInStep (shown_frame c w x bytes).lines c (counted_up (x.frames + 1))) (sym actor)
     (shown-in_step w c x core bytes small (subst (IsInStep w.lines c x.frames) actor (t.used c x there)) n))
 
 -- ---- all of them
 
-frames-proceed : (c : ℕ) (w w' : World) (fs : List (List ℕ)) → All (λ f. length f ≤ max_frame) fs → FramesArrive c w fs w' → Proceeds w w'
+frames-proceed : (c : ℕ) (w w' : World) (fs : List (List ℕ)) → All (λ f. length f ≤ max_frame) fs → FramesArrive c w fs w' → Proceeds Free w w'
 frames-proceed c w w' [] small h = proceeds-same w w' h
 frames-proceed c w w' (f ∷ fs) small (x, mid, found, hd, rest) = go (is_open_conn (conn_at c mid)) (frames-proceed c mid w' fs (All-tail (λ g. length g ≤ max_frame) f fs small)) rest
   where
@@ -98,27 +118,27 @@ frames-proceed c w w' (f ∷ fs) small (x, mid, found, hd, rest) = go (is_open_c
     indexed : AreIndexed c hd.conn.frames (frame_lines c (counted_up (x.frames + 1)) (zxid_at w.store) fs)
     indexed = subst (λ (u : Conn). AreIndexed c u.frames (frame_lines c (counted_up (x.frames + 1)) (zxid_at w.store) fs)) is-conn (frames-indexed c (counted_up (x.frames + 1)) (zxid_at w.store) fs (All-tail (λ g. length g ≤ max_frame) f fs small))
 
-    one_more : Proceeds w mid
+    one_more : Proceeds Free w mid
     one_more =
         proceeds-then w (shown_frame c w x f) mid (shown-proceeds w c x hd.core f found actor (All-head (λ g. length g ≤ max_frame) f fs small))
-        (handed-proceeds (shown_frame c w x f) mid c (frame_lines c (counted_up (x.frames + 1)) (zxid_at w.store) fs) (input.Frame f) hd (own-frames c (counted_up (x.frames + 1)) (zxid_at w.store) fs) indexed)
+        (handed-proceeds Free (shown_frame c w x f) mid c (frame_lines c (counted_up (x.frames + 1)) (zxid_at w.store) fs) (input.Frame f) hd (own-frames c (counted_up (x.frames + 1)) (zxid_at w.store) fs) (frames-natural c (counted_up (x.frames + 1)) w.store fs) (λ p k. tt) indexed)
 
-    go : (b : Bool) → (FramesArrive c mid fs w' → Proceeds mid w') → MatchBool b (FramesArrive c mid fs w') (w' ≡ mid) → Proceeds w w'
+    go : (b : Bool) → (FramesArrive c mid fs w' → Proceeds Free mid w') → MatchBool b (FramesArrive c mid fs w') (w' ≡ mid) → Proceeds Free w w'
     go true later r = proceeds-then w mid w' one_more (later r)
     go false later r = proceeds-then w mid w' one_more (proceeds-same mid w' r)
 
 -- a length out of range
-badly-proceeds : (c : ℕ) (w w' : World) (place : ℕ) (bad : Option ℤ) → EndsBadly c w place bad w' → Proceeds w w'
+badly-proceeds : (c : ℕ) (w w' : World) (place : ℕ) (bad : Option ℤ) → EndsBadly c w place bad w' → Proceeds Free w w'
 badly-proceeds c w w' place None h = proceeds-same w w' h
 badly-proceeds c w w' place (Some n) h = go (is_open_conn (conn_at c w)) h
   where
-    go : (b : Bool) → MatchBool b (Handed c [] w (input.BadLength place n) w') (w' ≡ w) → Proceeds w w'
-    go true hd = handed-proceeds w w' c [] (input.BadLength place n) hd refl (none-indexed c hd.conn.frames)
+    go : (b : Bool) → MatchBool b (Handed c [] w (input.BadLength place n) w') (w' ≡ w) → Proceeds Free w w'
+    go true hd = handed-proceeds Free w w' c [] (input.BadLength place n) hd refl no-lines (λ p k. tt) (none-indexed c hd.conn.frames)
     go false e = proceeds-same w w' e
 
-pub arrives-proceeds : (c : ℕ) (w w' : World) (bytes : List ℕ) → Arrives c w bytes w' → Proceeds w w'
+pub arrives-proceeds : (c : ℕ) (w w' : World) (bytes : List ℕ) → Arrives c w bytes w' → Proceeds Free w w'
 arrives-proceeds c w w' bytes a =
     let v : Conn = record (a.conn) { stream = a.stream } in
     let w1 : World = with_conn w c v in
-    proceeds-then w w1 w' (alike-proceeds w c a.conn v a.found refl refl)
+    proceeds-then w w1 w' (alike-proceeds w c a.conn v a.found refl refl (λ f. f))
     (proceeds-then w1 a.mid w' (frames-proceed c w1 a.mid a.frames (framed-small _ a.frames (a.cuts).rest (a.cuts).framed) a.arrive) (badly-proceeds c a.mid w' (a.stream).place a.bad a.ends))

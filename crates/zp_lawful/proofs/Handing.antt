@@ -1,5 +1,5 @@
 -- What a step leaves of a connection: packets, and its end, or neither.
-use Rattle.std.proofs.Common.{◌≡◌, ◌≤◌, ◌<◌, ℕ, ◌+◌, List, [], ◌∷◌, ◌++◌, refl, sym, ap, ◌∙◌, subst, append_assoc, arith, true}
+use Rattle.std.proofs.Common.{◌≡◌, ◌≤◌, ◌<◌, ℕ, ◌+◌, List, [], ◌∷◌, ◌++◌, refl, sym, ap, ◌∙◌, subst, append_assoc, arith, Bool, true, false}
 use Rattle.std.specs.List.{list_all}
 use Rattle.std.specs.Prelude.{Option, Some, if◌then◌else◌, ◌==◌}
 use Rattle.zk_legal.specs.Formed.{frames_of}
@@ -14,7 +14,9 @@ use Rattle.zp_happen.specs.StepOutcomes.{StepOutcome, acts_all, ends, leaves, qu
 use Rattle.zp_happen.specs.Worlds.{Actor, Closed, Conn, Connection, Reaper, World, behind_step, conn_at}
 use Rattle.zp_happen.specs.declared.flight.Flight.{Flight}
 use Rattle.zp_lawful.proofs.Progress.{Broken, Ended, Opened, Progress, closes, either-same, frames_of-append, progress, progress-append, progress_from, unnamed-aside}
-use Rattle.zp_lawful.proofs.Tidy.{ChangesOne, IsTidy, IsInStep, Proceeds, one-proceeds, proceeds-to, in_step-count}
+use Rattle.zp_lawful.proofs.Naturals.{AreNaturalLines, IsNaturalActor, IsNaturalEnd, IsNaturalWorld, LeavesNatural, acts-natural, no-lines, one-line}
+use Rattle.zp_lawful.proofs.Stepping.{IsNaturalCore, IsNaturalInput, natural-steps}
+use Rattle.zp_lawful.proofs.Tidy.{ChangesOne, Free, IsTidy, IsInStep, Proceeds, one-proceeds, proceeds-to, in_step-count}
 use Rattle.zp_lawful.specs.Lawful.{AreCounted}
 use Rattle.zp_laws.proofs.Ending.{steps_end_well}
 use Rattle.zp_step.specs.Stages.{Core, is_shut, max_count}
@@ -30,13 +32,21 @@ leaves-changes : (w : World) (c : ℕ) (x : Conn) (actor : Actor) (o : StepOutco
 leaves-changes w c x actor o own = record {
   lines = refl;
   clock = refl;
+  entries = refl;
   there = conn-here w c (record x { actor = actor; flight = o.flight });
   others = λ d apart. conn-there w c d (record x { actor = actor; flight = o.flight }) apart;
   aside = λ d apart. unnamed-aside d o.lines (own-unnamed d c o.lines apart own);
 }
 
-pub leaves-proceeds : (w : World) (c : ℕ) (x : Conn) (actor : Actor) (o : StepOutcome) → list_all (is_own c) o.lines ≡ true → (IsTidy w → AreCounted (w.lines ++ o.lines) → IsInStep (w.lines ++ o.lines) c x.frames actor) → Proceeds w (leaves c w x actor o)
-leaves-proceeds w c x actor o own now = one-proceeds w (leaves c w x actor o) c (record x { actor = actor; flight = o.flight }) o.lines (leaves-changes w c x actor o own) now
+-- no number in what is left is below 0
+pub record Leaves (actor : Actor) (o : StepOutcome) : Type 0 where
+  pub actor_is : IsNaturalActor actor
+  pub outcome : LeavesNatural o
+
+pub leaves-proceeds : (P : Type 0) (w : World) (c : ℕ) (x : Conn) (actor : Actor) (o : StepOutcome) → list_all (is_own c) o.lines ≡ true → (P → IsNaturalWorld w → Leaves actor o) → (IsTidy w → AreCounted (w.lines ++ o.lines) → IsInStep (w.lines ++ o.lines) c x.frames actor) → Proceeds P w (leaves c w x actor o)
+leaves-proceeds P w c x actor o own natural now =
+    one-proceeds P w (leaves c w x actor o) c (record x { actor = actor; flight = o.flight }) o.lines (leaves-changes w c x actor o own)
+    (λ p k. (let n = natural p k in record { lines = (n.outcome).lines; conn = record { actor = n.actor_is; flight = (n.outcome).flight } })) now
 
 -- ---- its end
 
@@ -62,9 +72,13 @@ in_step-ends w c frames (Connection core) end unclosed t = ends-in_step w.lines 
 in_step-ends w c frames (Reaper reap) end unclosed t = ends-in_step w.lines c frames end (ap closes t.0) (let none = t.1 in omega (arith, none))
 in_step-ends w c frames Closed end unclosed t = absurd (unclosed refl)
 
+-- its end is all that is left
+pub ends-leave : (c : ℕ) (end : SomeEnd) (f : Option Flight) → IsNaturalEnd end → Leaves Closed (ends c [] end (quiet f))
+ends-leave c end f n = record { actor_is = tt; outcome = record { lines = one-line (Close c end) n; flight = tt } }
+
 -- something ends it that is no step of its own
-pub ended-proceeds : (w : World) (c : ℕ) (x : Conn) (end : SomeEnd) (f : Option Flight) → (x.actor ≡ Closed → ⊥) → conn_at c w ≡ Some x → Proceeds w (leaves c w x Closed (ends c [] end (quiet f)))
-ended-proceeds w c x end f unclosed there = leaves-proceeds w c x Closed (ends c [] end (quiet f)) (ends-own c [] end (quiet f) refl refl) (λ t n. in_step-ends w c x.frames x.actor end unclosed (t.used c x there))
+pub ended-proceeds : (w : World) (c : ℕ) (x : Conn) (end : SomeEnd) (f : Option Flight) → IsNaturalEnd end → (x.actor ≡ Closed → ⊥) → conn_at c w ≡ Some x → Proceeds Free w (leaves c w x Closed (ends c [] end (quiet f)))
+ended-proceeds w c x end f n unclosed there = leaves-proceeds Free w c x Closed (ends c [] end (quiet f)) (ends-own c [] end (quiet f) refl refl) (λ p k. ends-leave c end f n) (λ t m. in_step-ends w c x.frames x.actor end unclosed (t.used c x there))
 
 -- ---- a step's actions
 
@@ -103,12 +117,28 @@ module _ (lines : List TranscriptLine) (c frames : ℕ) (behind : List Transcrip
   tail-in_step kind f (Asks a) next e less = subst (λ b. IsInStep (lines ++ said c ps) c frames (if b then Closed else Connection next)) e (sym e, said-in_step)
   tail-in_step kind f (Closes why) next e less = subst (λ b. IsInStep (lines ++ ((said c ps ++ behind) ++ Close c (ended.Cause why) ∷ [])) c frames (if b then Closed else Connection next)) e (closed-in_step (ended.Cause why) less)
 
--- it is handed something
-pub handed-proceeds : (w w' : World) (c : ℕ) (behind : List TranscriptLine) (i : Input) → (hd : Handed c behind w i w') → list_all (is_own c) behind ≡ true → AreIndexed c hd.conn.frames behind → Proceeds w w'
-handed-proceeds w w' c behind i hd own indexed =
-    proceeds-to w (leaves c w hd.conn (behind_step hd.next) o) w' hd.result
-    (leaves-proceeds w c hd.conn (behind_step hd.next) o (acts-own c kind behind hd.out (quiet hd.conn.flight) own refl) now)
+step-actor : (next : Core) → IsNaturalCore next → IsNaturalActor (behind_step next)
+step-actor next n = go (is_shut next.stage)
   where
+    go : (b : Bool) → IsNaturalActor (if b then Closed else Connection next)
+    go true = tt
+    go false = n
+
+-- it is handed something
+pub handed-proceeds : (P : Type 0) (w w' : World) (c : ℕ) (behind : List TranscriptLine) (i : Input) → (hd : Handed c behind w i w') → list_all (is_own c) behind ≡ true → AreNaturalLines behind → (P → IsNaturalWorld w → IsNaturalInput i) → AreIndexed c hd.conn.frames behind → Proceeds P w w'
+handed-proceeds P w w' c behind i hd own lines fits indexed =
+    proceeds-to P w (leaves c w hd.conn (behind_step hd.next) o) w' hd.result
+    (leaves-proceeds P w c hd.conn (behind_step hd.next) o (acts-own c kind behind hd.out (quiet hd.conn.flight) own refl) natural now)
+  where
+    natural : P → IsNaturalWorld w → Leaves (behind_step hd.next) (acts_all c (kind_asked c (Connection hd.next)) behind hd.conn.flight hd.out)
+    natural p k =
+        let was : IsNaturalCore hd.core = subst IsNaturalActor hd.serving (k.conns c hd.conn hd.found).actor in
+        let s = natural-steps hd.core hd.next i w.clock hd.out (fits p k) was hd.stepped in
+        record {
+          actor_is = step-actor hd.next s.core;
+          outcome = acts-natural c (kind_asked c (Connection hd.next)) behind hd.out (quiet hd.conn.flight) lines s.acts (record { lines = no-lines; flight = (k.conns c hd.conn hd.found).flight });
+        }
+
     kind : Option UpdateKind
     kind = kind_asked c (Connection hd.next)
 

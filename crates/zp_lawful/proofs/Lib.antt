@@ -1,5 +1,11 @@
 pub mod Progress
 pub mod Meaning
+pub mod Stored
+pub mod Shown
+pub mod Connecting
+pub mod Reaping
+pub mod Stepping
+pub mod Naturals
 pub mod Tidy
 pub mod Handing
 pub mod Arriving
@@ -8,3 +14,4 @@ pub mod Restarting
 pub mod Running
 pub mod Formed
 pub mod Verdict
+pub mod Fitting

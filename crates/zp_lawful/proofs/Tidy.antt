@@ -1,12 +1,13 @@
 -- Worlds whose lines agree with what they know of each number, and what happens so that they do again.
 use Rattle.std.proofs.Common.{◌≡◌, ◌≢◌, ◌≤◌, ℕ, List, [], ◌++◌, refl, sym, ap, ◌∙◌, subst, append_assoc, append-nil, arith, false, inl, inr}
-use Rattle.std.specs.Prelude.{Some, None, ◌⊎◌}
+use Rattle.std.specs.Prelude.{All, Some, None, ◌⊎◌}
 use Rattle.std.specs.FinMap.{get}
 use Rattle.zk_legal.specs.Formed.{frames_of}
 use Rattle.zk_model.specs.Limits.{max_time}
 use Rattle.zk_transcript.specs.declared.transcript.TranscriptLine.{TranscriptLine}
 use Rattle.zp_happen.specs.Worlds.{Actor, Closed, Conn, Connection, Reaper, World, conn_at, with_conn}
 use Rattle.zp_lawful.proofs.Meaning.{found-as}
+use Rattle.zp_lawful.proofs.Naturals.{AreNaturalLines, IsNaturalActor, IsNaturalConn, IsNaturalEntry, IsNaturalFlight, IsNaturalWorld, no-lines, one-natural, others-natural}
 use Rattle.zp_lawful.proofs.Progress.{LeaveAlone, Broken, Opened, Unused, frames_of-append, progress, progress-aside}
 use Rattle.zp_lawful.specs.Lawful.{AreCounted}
 use Rattle.zp_step.specs.Stages.{is_shut}
@@ -23,38 +24,54 @@ pub record IsTidy (w : World) : Type 0 where
   pub used : (c : ℕ) (x : Conn) → conn_at c w ≡ Some x → IsInStep w.lines c x.frames x.actor
   pub unused : (c : ℕ) → conn_at c w ≡ None → progress c w.lines ≡ Unused
 
--- ---- on from a world: lines are added, and the clock stays within its limit
+-- ---- on from a world, where P: lines are added, and the clock stays within its limit
 
-pub record Proceeds (w w' : World) : Type 0 where
+-- nothing is asked for
+abbrev pub Free : Type 0
+Free = Unit {0}
+
+pub record Proceeds (P : Type 0) (w w' : World) : Type 0 where
   pub more : List TranscriptLine
   pub lines : w'.lines ≡ w.lines ++ more
   pub clock : w.clock ≤ max_time → w'.clock ≤ max_time
   pub tidy : IsTidy w → AreCounted w'.lines → IsTidy w'
+  -- no number falls below 0
+  pub natural : P → IsNaturalWorld w → IsNaturalWorld w'
 
 counted-front : (xs ys : List TranscriptLine) → AreCounted (xs ++ ys) → AreCounted xs
 counted-front xs ys n = record { frames = λ c. let b = n.frames c in omega (arith, b, frames_of-append c xs ys) }
 
-counted-before : (w w' : World) → Proceeds w w' → AreCounted w'.lines → AreCounted w.lines
-counted-before w w' p n = counted-front w.lines p.more (subst AreCounted p.lines n)
+counted-before : (Q : Type 0) (w w' : World) → Proceeds Q w w' → AreCounted w'.lines → AreCounted w.lines
+counted-before Q w w' p n = counted-front w.lines p.more (subst AreCounted p.lines n)
 
-pub proceeds-then : (u v w : World) → Proceeds u v → Proceeds v w → Proceeds u w
-proceeds-then u v w a b = record {
+-- twice, the second time where what the first world gives holds too
+pub proceeds-on : (P Q : Type 0) (u v w : World) → (P → IsNaturalWorld u → Q) → Proceeds P u v → Proceeds Q v w → Proceeds P u w
+proceeds-on P Q u v w gives a b = record {
   more = a.more ++ b.more;
   lines = b.lines ∙ ap (λ l. l ++ b.more) a.lines ∙ append_assoc u.lines a.more b.more;
   clock = λ le. b.clock (a.clock le);
-  tidy = λ t n. b.tidy (a.tidy t (counted-before v w b n)) n;
+  tidy = λ t n. b.tidy (a.tidy t (counted-before Q v w b n)) n;
+  natural = λ p k. b.natural (gives p k) (a.natural p k);
 }
 
-pub proceeds-same : (w w' : World) → w' ≡ w → Proceeds w w'
+pub proceeds-then : (u v w : World) → Proceeds Free u v → Proceeds Free v w → Proceeds Free u w
+proceeds-then u v w a b = proceeds-on Free Free u v w (λ p k. p) a b
+
+-- where less is asked for
+pub proceeds-where : (P Q : Type 0) (u w : World) → (P → Q) → Proceeds Q u w → Proceeds P u w
+proceeds-where P Q u w gives a = record { more = a.more; lines = a.lines; clock = a.clock; tidy = a.tidy; natural = λ p k. a.natural (gives p) k }
+
+pub proceeds-same : (w w' : World) → w' ≡ w → Proceeds Free w w'
 proceeds-same w w' e = record {
   more = [];
   lines = ap (λ (v : World). v.lines) e ∙ sym (append-nil w.lines);
   clock = λ le. subst (λ (v : World). v.clock ≤ max_time) (sym e) le;
   tidy = λ t n. subst IsTidy (sym e) t;
+  natural = λ p k. subst IsNaturalWorld (sym e) k;
 }
 
-pub proceeds-to : (w v w' : World) → w' ≡ v → Proceeds w v → Proceeds w w'
-proceeds-to w v w' e p = subst (Proceeds w) (sym e) p
+pub proceeds-to : (P : Type 0) (w v w' : World) → w' ≡ v → Proceeds P w v → Proceeds P w w'
+proceeds-to P w v w' e p = subst (Proceeds P w) (sym e) p
 
 -- ---- lines that are aside
 
@@ -72,6 +89,7 @@ in_step-count lines c frames e = (found-as c lines (Opened frames) e).count
 pub record ChangesOne (w w' : World) (c : ℕ) (v : Conn) (more : List TranscriptLine) : Type 0 where
   pub lines : w'.lines ≡ w.lines ++ more
   pub clock : w'.clock ≡ w.clock
+  pub entries : w'.entries ≡ w.entries
   pub there : conn_at c w' ≡ Some v
   pub others : (d : ℕ) → d ≢ c → conn_at d w' ≡ conn_at d w
   pub aside : (d : ℕ) → d ≢ c → LeaveAlone d more
@@ -92,28 +110,35 @@ module _ (w w' : World) (c : ℕ) (v : Conn) (more : List TranscriptLine) (s : C
   one-tidy : IsTidy w'
   one-tidy = record { used = λ d x e. one-used d x e (either-number d c); unused = λ d e. one-unused d e (either-number d c) }
 
-pub one-proceeds : (w w' : World) (c : ℕ) (v : Conn) (more : List TranscriptLine) → ChangesOne w w' c v more → (IsTidy w → AreCounted w'.lines → IsInStep w'.lines c v.frames v.actor) → Proceeds w w'
-one-proceeds w w' c v more s now = record {
+-- what is added, and what the number is then
+pub record Adds (more : List TranscriptLine) (v : Conn) : Type 0 where
+  pub lines : AreNaturalLines more
+  pub conn : IsNaturalConn v
+
+pub one-proceeds : (P : Type 0) (w w' : World) (c : ℕ) (v : Conn) (more : List TranscriptLine) → ChangesOne w w' c v more → (P → IsNaturalWorld w → Adds more v) → (IsTidy w → AreCounted w'.lines → IsInStep w'.lines c v.frames v.actor) → Proceeds P w w'
+one-proceeds P w w' c v more s adds now = record {
   more = more;
   lines = s.lines;
   clock = λ le. (let same = s.clock in omega (arith, same, le));
   tidy = λ t n. one-tidy w w' c v more s t (now t n);
+  natural = λ p k. (let a = adds p k in one-natural w w' c v more s.lines s.there s.others s.entries a.lines a.conn k);
 }
 
 -- a connection is put into the world, and nothing is shown
 with-changes : (w : World) (c : ℕ) (v : Conn) → ChangesOne w (with_conn w c v) c v []
-with-changes w c v = record { lines = sym (append-nil w.lines); clock = refl; there = conn-here w c v; others = λ d apart. conn-there w c d v apart; aside = λ d apart p. refl }
+with-changes w c v = record { lines = sym (append-nil w.lines); clock = refl; entries = refl; there = conn-here w c v; others = λ d apart. conn-there w c d v apart; aside = λ d apart p. refl }
 
 -- in its place comes the same actor with as many frames
-pub alike-proceeds : (w : World) (c : ℕ) (x v : Conn) → conn_at c w ≡ Some x → v.frames ≡ x.frames → v.actor ≡ x.actor → Proceeds w (with_conn w c v)
-alike-proceeds w c x v there frames actor =
-    one-proceeds w (with_conn w c v) c v [] (with-changes w c v)
+pub alike-proceeds : (w : World) (c : ℕ) (x v : Conn) → conn_at c w ≡ Some x → v.frames ≡ x.frames → v.actor ≡ x.actor → (IsNaturalFlight x.flight → IsNaturalFlight v.flight) → Proceeds Free w (with_conn w c v)
+alike-proceeds w c x v there frames actor flight =
+    one-proceeds Free w (with_conn w c v) c v [] (with-changes w c v)
+    (λ p k. record { lines = no-lines; conn = record { actor = subst IsNaturalActor (sym actor) (k.conns c x there).actor; flight = flight (k.conns c x there).flight } })
     (λ t n. subst (λ a. IsInStep w.lines c v.frames a) (sym actor) (subst (λ m. IsInStep w.lines c m x.actor) (sym frames) (t.used c x there)))
 
 -- ---- no number changes
 
-pub others-proceed : (w w' : World) (more : List TranscriptLine) → w'.conns ≡ w.conns → w'.clock ≡ w.clock → w'.lines ≡ w.lines ++ more → ((c : ℕ) → LeaveAlone c more) → Proceeds w w'
-others-proceed w w' more conns clock lines aside = record {
+pub others-proceed : (P : Type 0) (w w' : World) (more : List TranscriptLine) → w'.conns ≡ w.conns → w'.clock ≡ w.clock → w'.lines ≡ w.lines ++ more → (P → AreNaturalLines more) → (IsNaturalWorld w → All IsNaturalEntry w'.entries) → ((c : ℕ) → LeaveAlone c more) → Proceeds P w w'
+others-proceed P w w' more conns clock lines new entries aside = record {
   more = more;
   lines = lines;
   clock = λ le. omega (arith, clock, le);
@@ -121,6 +146,7 @@ others-proceed w w' more conns clock lines aside = record {
     used = λ c x e. subst (λ l. IsInStep l c x.frames x.actor) (sym lines) (in_step-aside w.lines more c x.frames x.actor (aside c) (t.used c x (sym (same c) ∙ e)));
     unused = λ c e. ap (progress c) lines ∙ progress-aside c w.lines more (aside c) ∙ t.unused c (sym (same c) ∙ e);
   };
+  natural = λ p k. others-natural w w' more lines conns (new p) (entries k) k;
 }
   where
     same : (c : ℕ) → conn_at c w' ≡ conn_at c w
