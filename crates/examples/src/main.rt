@@ -27,7 +27,10 @@ use std::alloc::Global;
 use std::env;
 use std::process::ExitCode;
 use std::rt::Files;
-use zetcd_cmd::zetcd;
+use std::sync::Wait;
+use std::thread::Threads;
+use zetcd_cmd::{plain, zetcd};
+use zx_net::{InlineSpawner, MemClock, MemNet};
 use zx_outside::{MemSink, MemSource};
 
 /// The sizes of the pieces in which an input is handed over, in bytes: the least, a prime, and the most that one read takes.
@@ -42,9 +45,9 @@ struct Tally {
 
 impl Tally {
     /// Counts a comparison, and says on standard error what was found where it does not pass.
-    fn add(
+    fn add<R: Eprint>(
         &mut self,
-        rt: &HostRuntime,
+        rt: &R,
         word: &str,
         name: &str,
         verb: &str,
@@ -173,7 +176,7 @@ fn problem_in_pieces(
 ) -> Result<Option<String>> {
     let mut source = source_of(alloc, input, size)?;
     let mut out = MemSink::new(alloc, Vec::new(alloc));
-    let status = zetcd(alloc, &[word], &mut source, &mut out).number();
+    let status = plain_status(alloc, word, &mut source, &mut out)?;
     if let Some(at) = first_difference(out.bytes(), wanted) {
         return other_bytes(alloc, at, size);
     }
@@ -181,6 +184,19 @@ fn problem_in_pieces(
         Ok(None)
     } else {
         other_status(alloc, u64::from(status), wanted_status)
+    }
+}
+
+/// The number of the status of a command that does not listen.
+fn plain_status(
+    alloc: Global,
+    word: &str,
+    source: &mut MemSource,
+    out: &mut MemSink,
+) -> Result<u8> {
+    match plain(alloc, &[word], source, out) {
+        Some(status) => Ok(status.number()),
+        None => bail!("{word} listens"),
     }
 }
 
@@ -224,7 +240,7 @@ fn verdict_in<R: Files + AllocGlobal>(rt: &R, path: &str) -> Result<Option<Strin
 fn verdict_on(alloc: Global, text: Vec<u8>) -> Result<Option<String>> {
     let mut source = MemSource::new(text, Vec::new(alloc), Vec::new(alloc));
     let mut out = MemSink::new(alloc, Vec::new(alloc));
-    let status = zetcd(alloc, &["judge"], &mut source, &mut out).number();
+    let status = plain_status(alloc, "judge", &mut source, &mut out)?;
     verdict_of(alloc, status, out.bytes())
 }
 
@@ -240,7 +256,11 @@ fn verdict_of(alloc: Global, status: u8, written: &[u8]) -> Result<Option<String
 }
 
 /// Carries out each run of the folder `runs`.
-fn runs_of(rt: &HostRuntime, root: &str, tally: &mut Tally) -> Result<()> {
+fn runs_of<R: Files + Eprint + AllocGlobal + Threads + Wait + Copy + Send + Drop + 'static>(
+    rt: &R,
+    root: &str,
+    tally: &mut Tally,
+) -> Result<()> {
     let folder = format!(in rt.alloc(); "{root}/runs")?;
     for name in &names_in(rt, folder.as_str())? {
         let path = format!(in rt.alloc(); "{folder}/{name}.run")?;
@@ -251,7 +271,10 @@ fn runs_of(rt: &HostRuntime, root: &str, tally: &mut Tally) -> Result<()> {
 }
 
 /// Carries out one run, and says where its outcome differs.
-fn outcome_of<R: Files + AllocGlobal>(rt: &R, path: &str) -> Result<Option<String>> {
+fn outcome_of<R: Files + AllocGlobal + Threads + Wait + Copy + Send + Drop + 'static>(
+    rt: &R,
+    path: &str,
+) -> Result<Option<String>> {
     let alloc = rt.alloc();
     let text = bytes_of(rt, path)?;
     let Run {
@@ -260,6 +283,8 @@ fn outcome_of<R: Files + AllocGlobal>(rt: &R, path: &str) -> Result<Option<Strin
         pieces,
         failing,
         sink_failing,
+        net_failing,
+        start_failing,
         status: wanted,
         output,
     } = Run::read(alloc, text.as_slice())?;
@@ -269,7 +294,19 @@ fn outcome_of<R: Files + AllocGlobal>(rt: &R, path: &str) -> Result<Option<Strin
     }
     let mut source = MemSource::new(input, pieces, failing);
     let mut out = MemSink::new(alloc, sink_failing);
-    let status = zetcd(alloc, words.as_slice(), &mut source, &mut out).number();
+    let mut net = MemNet::new(alloc, net_failing, Vec::new(alloc));
+    let mut spawner = InlineSpawner::<R>::new(start_failing);
+    let status = zetcd(
+        rt,
+        alloc,
+        words.as_slice(),
+        &mut source,
+        &mut out,
+        &mut net,
+        &mut spawner,
+        &mut MemClock::new(0),
+    )
+    .number();
     if let Some(at) = first_difference(out.bytes(), output.as_slice()) {
         return Ok(Some(format!(in alloc; "at byte {at}")?));
     }

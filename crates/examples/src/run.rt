@@ -13,6 +13,8 @@ use std::alloc::Global;
 ///   it has `<M>`, and where it has `<Mx>` this as 16 hex digits.
 /// - `pieces N SIZE`: N more reads give SIZE bytes each, or are idle turns where SIZE is 0.
 /// - `fails N`: read number N, from 1, fails. `sink-fails N`: so does write number N.
+/// - `net-fails N`: so does bind or accept number N; `start-fails N`: the start of job number N is refused. The streams that are
+///   accepted end at once, and jobs run in place.
 /// - `status N`: the status that is wanted.
 /// - `output TEXT`, `output- TEXT`, `output-repeat N TEXT`, `output-each N TEXT`: what has to be written, as for the input.
 #[derive(Drop)]
@@ -22,6 +24,8 @@ pub struct Run {
     pub pieces: Vec<u32>,
     pub failing: Vec<u64>,
     pub sink_failing: Vec<u64>,
+    pub net_failing: Vec<u64>,
+    pub start_failing: Vec<u64>,
     pub status: u64,
     pub output: Vec<u8>,
 }
@@ -35,6 +39,8 @@ impl Run {
             pieces: Vec::new(alloc),
             failing: Vec::new(alloc),
             sink_failing: Vec::new(alloc),
+            net_failing: Vec::new(alloc),
+            start_failing: Vec::new(alloc),
             status: 0,
             output: Vec::new(alloc),
         };
@@ -70,6 +76,14 @@ impl Run {
             }
             "sink-fails" => {
                 self.sink_failing.push(number(rest)?)?;
+                Ok(())
+            }
+            "net-fails" => {
+                self.net_failing.push(number(rest)?)?;
+                Ok(())
+            }
+            "start-fails" => {
+                self.start_failing.push(number(rest)?)?;
                 Ok(())
             }
             "pieces" => self.take_pieces(rest),

@@ -1,10 +1,12 @@
 -- Borrowed words are the words themselves.
-use Rattle.std.proofs.Common.{◌≡◌, List, ℕ, suc, [], ◌∷◌, length, min, ◌-◌, map, take, drop, string_bytes, refl, ap, ◌∙◌, arith}
+use Rattle.std.proofs.Common.{◌≡◌, List, ℕ, suc, [], ◌∷◌, length, min, ◌-◌, map, take, drop, codes, string_bytes, refl, sym, ap, subst, ◌∙◌, arith}
 use Rattle.std.proofs.Math.Seq.{take-length}
 use Rattle.std.specs.declared.string.String.{String}
 use denote.Ref.{Bor}
 use Rattle.zetcd_cmd.specs.Outcomes.{IsWord}
-use Rattle.zetcd.specs.Arguments.{arguments}
+use Rattle.zetcd_cmd.specs.Serving.{IsEtcd, is_address, limit_in}
+use Rattle.std.specs.Prelude.{true, Some}
+use Rattle.zetcd.specs.Arguments.{IsServing, arguments}
 
 abbrev pub texts : List (Bor (List ℕ)) → List (List ℕ)
 texts words = map (λ (w : Bor (List ℕ)). w.now) words
@@ -29,3 +31,21 @@ arguments-behind (w ∷ words) n h = rw (h ∙ one) (ap (map string_bytes) (whol
 
     whole : take (suc (length words) - 1) words ≡ take (length words) words
     whole = ap (λ n. take n words) (omega arith)
+
+pub serving-etcd : (words : List (Bor (List ℕ))) (listen : List ℕ) (limit : ℕ) → IsServing (texts words) listen limit → IsEtcd words listen limit
+serving-etcd [] listen limit is = absurd cc
+serving-etcd (w ∷ []) listen limit is = absurd cc
+serving-etcd (w ∷ v ∷ []) listen limit is = absurd cc
+serving-etcd (w ∷ v ∷ u ∷ []) listen limit is =
+    let same : w.now ∷ (v.now ∷ (u.now ∷ [])) ≡ codes "etcd" ∷ (listen ∷ (is.0 ∷ [])) = is.1 in
+    let third : u.now ≡ is.0 = cc in
+    (cc, cc, is.2, ap limit_in third ∙ is.3)
+serving-etcd (w ∷ v ∷ u ∷ t ∷ words) listen limit is = absurd cc
+
+pub etcd-serving : (words : List (Bor (List ℕ))) (listen : List ℕ) (limit : ℕ) → IsEtcd words listen limit → IsServing (texts words) listen limit
+etcd-serving [] listen limit is = absurd is
+etcd-serving (w ∷ []) listen limit is = absurd is
+etcd-serving (w ∷ v ∷ []) listen limit is = absurd is
+etcd-serving (w ∷ v ∷ u ∷ []) listen limit is =
+    (u.now, ap (λ (t : List ℕ). t ∷ (v.now ∷ (u.now ∷ []))) is.0 ∙ ap (λ (t : List ℕ). codes "etcd" ∷ (t ∷ (u.now ∷ []))) is.1, is.2, is.3)
+etcd-serving (w ∷ v ∷ u ∷ t ∷ words) listen limit is = absurd is

@@ -1,7 +1,13 @@
 -- The words of a command.
-use Rattle.std.specs.Prelude.{List, ℕ, map, drop, string_bytes}
+use Rattle.std.specs.Prelude.{◌≡◌, ℕ, List, [], ◌∷◌, map, drop, true, string_bytes, codes, Some}
 use Rattle.std.specs.declared.string.String.{String}
+use Rattle.zetcd_cmd.specs.Serving.{is_address, limit_in}
 
 -- the words after the program's name
 abbrev pub arguments : {Z : Type 0} → List (String Z) → List (List ℕ)
 arguments words = drop 1 (map string_bytes words)
+
+-- the words after the program's name are `etcd`, this address, and the text of this limit
+abbrev pub IsServing : List (List ℕ) → List ℕ → ℕ → Type 0
+IsServing words listen limit =
+    (text : List ℕ) × (words ≡ codes "etcd" ∷ (listen ∷ (text ∷ []))) × (is_address listen ≡ true) × (limit_in text ≡ Some limit)

@@ -11,6 +11,7 @@ pub fn meaning(status: Status) -> Option<&'static str> {
             "standard input could not be read, or gave nothing at 1,000 reads",
         ),
         Status::WriteFault => Some("standard output could not be written"),
+        Status::Net => Some("the address could not be listened on, or the listening socket broke"),
         Status::Memory => Some("out of memory: the output is not complete"),
     }
 }

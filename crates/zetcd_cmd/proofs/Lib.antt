@@ -7,5 +7,6 @@ pub mod Progress
 pub mod Reaching
 pub mod Reports
 pub mod ScriptLaws
+pub mod Servings
 pub mod Showings
 pub mod Waits

@@ -10,3 +10,4 @@ pub mod Reached
 pub mod Replayed
 pub mod Judged
 pub mod Judging
+pub mod Serving

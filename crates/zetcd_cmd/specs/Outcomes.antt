@@ -201,5 +201,6 @@ number_of status.Usage = 2
 number_of (status.Script line) = 3
 number_of status.ReadFault = 4
 number_of status.WriteFault = 5
+number_of status.Net = 6
 number_of status.Memory = 7
 number_of status.Unlawful = 8

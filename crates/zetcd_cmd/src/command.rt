@@ -1,65 +1,87 @@
-//! The top call.
+//! The commands that neither wait nor listen.
 
-ghost use Rattle.std.specs.Prelude.{◌≡◌, ◌≢◌, ◌⊎◌};
+ghost use Rattle.std.specs.Prelude.{◌≡◌, ◌≢◌, ◌⊎◌, IfSome, IsNone};
 ghost use Rattle.zx_outside.specs.Writing.{counts_after_write};
 ghost use Rattle.zx_outside.specs.declared.sink.Took.TheVariants.{Failed as TookFailed};
 ghost use Rattle.zetcd_cmd.specs.Outcomes.{IsJudge, IsReplay, IsShow, Did, Judges, Replays, Shows, Refuses, Failed, IsUnharmed};
 ghost use Rattle.zetcd_cmd.specs.Commands.{IsCommand};
+ghost use Rattle.zetcd_cmd.specs.Serving.{NamesEtcd};
 
 use crate::judge::judge;
 use crate::replay::replay;
 use crate::show::show;
 use crate::status::Status;
 use crate::streams::write_all;
+use crate::words::etcd_words;
 use std::alloc::Global;
 use zx_outside::{Sink, Source};
 
 const USAGE: &[u8] =
     b"usage: zetcd replay | show | stress NUMBER CONNECTIONS STEPS | serve LISTEN ENDPOINT LIMIT | etcd LISTEN LIMIT | judge\n";
 
-/// Runs the command that `words`, the command line without the program's name, are. It reads `input` and writes `out`; for words
-/// that are no command it writes the usage line.
-pub fn zetcd<I: Source, O: Sink>(
+/// Writes the usage line.
+fn refuse<O: Sink>(out: &mut O) -> Status
+    ensures refuses { Refuses result (O.taken out.old) (O.taken out.new) }
+    ensures write { result ≡ Status.WriteFault → O.counts out.new ≡ counts_after_write TookFailed (O.counts out.old) }
+    ensures unless_write_fault { result ≢ Status.WriteFault → O.counts out.new ≡ O.counts out.old }
+{
+    if write_all(out, USAGE) {
+        Status::Usage
+    } else {
+        Status::WriteFault
+    }
+}
+
+/// Runs the command that `words`, the command line without the program's name, are, if it is one that neither waits nor listens:
+/// `replay`, `show` or `judge`. It reads `input` and writes `out`. For words that are no command it writes the usage line. `None`
+/// for the words of a command that listens: nothing was read or written.
+#[tactic(auto, using(crate::proofs::Servings::one_word))]
+pub fn plain<I: Source, O: Sink>(
     alloc: Global,
     words: &[&str],
     input: &mut I,
     out: &mut O,
-) -> Status
+) -> Option<Status>
     // Of `replay`, by the status: the transcript of a run to which exactly the lines that were read were applied. The run is one
     // run of the service, each conversation in it is lawful and fresh, and the verdict on its lines is lawful.
-    ensures replay { IsReplay words.now → Did (Replays result (I.ended input.new) (I.left input.new)) (I.given input.old) (I.given input.new) (I.left input.old) (I.left input.new) (O.taken out.old) (O.taken out.new) }
+    ensures replay { IsReplay words.now → IfSome result (λ s. Did (Replays s (I.ended input.new) (I.left input.new)) (I.given input.old) (I.given input.new) (I.left input.old) (I.left input.new) (O.taken out.old) (O.taken out.new)) }
     // Of `show`, by the status: what is shown of the stream that was read.
-    ensures show { IsShow words.now → Did (Shows result (I.ended input.new) (I.left input.new)) (I.given input.old) (I.given input.new) (I.left input.old) (I.left input.new) (O.taken out.old) (O.taken out.new) }
+    ensures show { IsShow words.now → IfSome result (λ s. Did (Shows s (I.ended input.new) (I.left input.new)) (I.given input.old) (I.given input.new) (I.left input.old) (I.left input.new) (O.taken out.old) (O.taken out.new)) }
     // Of `judge`, by the status: the verdict on the transcript that was read, or its first line that cannot be read.
-    ensures judge { IsJudge words.now → Did (Judges result (I.ended input.new) (I.left input.new)) (I.given input.old) (I.given input.new) (I.left input.old) (I.left input.new) (O.taken out.old) (O.taken out.new) }
-    // Of other words: the usage line was written, or a front of it where the output has a fault.
-    ensures usage { ¬ IsReplay words.now → ¬ IsShow words.now → ¬ IsJudge words.now → Refuses result (O.taken out.old) (O.taken out.new) }
-    // Of other words: nothing was read.
+    ensures judge { IsJudge words.now → IfSome result (λ s. Did (Judges s (I.ended input.new) (I.left input.new)) (I.given input.old) (I.given input.new) (I.left input.old) (I.left input.new) (O.taken out.old) (O.taken out.new)) }
+    // Of `etcd`: no status, nothing was read, and nothing written.
+    ensures none { IsNone result → NamesEtcd words.now }
+    ensures etcd { NamesEtcd words.now → IsNone result }
+    ensures untouched { IsNone result → (input.new ≡ input.old) × (out.new ≡ out.old) }
+    // The status of `etcd` for its net never comes.
+    ensures never_net { IfSome result (λ s. s ≢ Status.Net) }
+    // Of words that are in no row: the usage line was written, or a front of it where the output has a fault.
+    ensures usage { ¬ IsReplay words.now → ¬ IsShow words.now → ¬ IsJudge words.now → ¬ NamesEtcd words.now → IfSome result (λ s. Refuses s (O.taken out.old) (O.taken out.new)) }
+    // Of words other than these three: nothing was read.
     ensures unread { ¬ IsReplay words.now → ¬ IsShow words.now → ¬ IsJudge words.now → input.new ≡ input.old }
     // Status 4 has its cause in the input: one fault, or 1,000 idle turns.
-    ensures read { result ≡ Status.ReadFault → Failed (I.counts input.old) (I.counts input.new) }
-    // Statuses 0, 2, 3 and 8 pass over no fault, and there were fewer than 1,000 idle turns.
-    ensures unless_fault { result ≢ Status.ReadFault → result ≢ Status.WriteFault → result ≢ Status.Memory → IsUnharmed (I.counts input.old) (I.counts input.new) }
+    ensures read { IfSome result (λ s. s ≡ Status.ReadFault → Failed (I.counts input.old) (I.counts input.new)) }
+    // Statuses 0, 2, 3, 6 and 8 pass over no fault, and there were fewer than 1,000 idle turns.
+    ensures unless_fault { IfSome result (λ s. s ≢ Status.ReadFault → s ≢ Status.WriteFault → s ≢ Status.Memory → IsUnharmed (I.counts input.old) (I.counts input.new)) }
     // The same holds of status 7 of `show` and `judge`. A `replay` may be refused memory while it writes the lines before a fault.
-    ensures show_memory { IsShow words.now → result ≡ Status.Memory → IsUnharmed (I.counts input.old) (I.counts input.new) }
-    ensures judge_memory { IsJudge words.now → result ≡ Status.Memory → IsUnharmed (I.counts input.old) (I.counts input.new) }
+    ensures show_memory { IsShow words.now → IfSome result (λ s. s ≡ Status.Memory → IsUnharmed (I.counts input.old) (I.counts input.new)) }
+    ensures judge_memory { IsJudge words.now → IfSome result (λ s. s ≡ Status.Memory → IsUnharmed (I.counts input.old) (I.counts input.new)) }
     // With every status the input had at most one fault, and at most 1,000 idle turns.
     ensures once { IsUnharmed (I.counts input.old) (I.counts input.new) ⊎ Failed (I.counts input.old) (I.counts input.new) }
     // Status 5 has its cause in the output: one fault, and no second one.
-    ensures write { result ≡ Status.WriteFault → O.counts out.new ≡ counts_after_write TookFailed (O.counts out.old) }
+    ensures write { IfSome result (λ s. s ≡ Status.WriteFault → O.counts out.new ≡ counts_after_write TookFailed (O.counts out.old)) }
     // With any other status the output had no fault.
-    ensures unless_write_fault { result ≢ Status.WriteFault → O.counts out.new ≡ O.counts out.old }
+    ensures unless_write_fault { IfSome result (λ s. s ≢ Status.WriteFault → O.counts out.new ≡ O.counts out.old) }
 {
     match command_of(words) {
-        Some(Command::Replay) => replay(alloc, input, out),
-        Some(Command::Show) => show(alloc, input, out),
-        Some(Command::Judge) => judge(alloc, input, out),
+        Some(Command::Replay) => Some(replay(alloc, input, out)),
+        Some(Command::Show) => Some(show(alloc, input, out)),
+        Some(Command::Judge) => Some(judge(alloc, input, out)),
         None => {
-            if write_all(out, USAGE) {
-                Status::Usage
-            } else {
-                Status::WriteFault
+            if etcd_words(words).is_some() {
+                return None;
             }
+            Some(refuse(out))
         }
     }
 }

@@ -1,5 +1,5 @@
 //! The top call: [`zetcd`] is the whole program as a function. It is given the words of the command line, a source and a sink,
-//! and returns a [`Status`].
+//! and returns a [`Status`]. `etcd` listens by the net that it is given; [`plain`] is the part for all other commands.
 //!
 //! The program `zetcd` hands it the real ones, and ends the process with the status's number. Nothing is written to standard
 //! error. `specs/Outcomes.antt` says what each status means; it cites `Replayed` and `Claims` for a replay and `Judged` for a
@@ -14,6 +14,9 @@ mod script;
 mod show;
 mod status;
 mod streams;
+mod top;
+mod words;
 
-pub use command::zetcd;
+pub use command::plain;
 pub use status::Status;
+pub use top::zetcd;

@@ -6,7 +6,8 @@ ghost use Rattle.zetcd_cmd.specs.Outcomes.{number_of};
 /// How a command ended. What was read and written then is said by `specs/Outcomes.antt`.
 #[derive(Clone, Copy, PartialEq, Eq)]
 pub enum Status {
-    /// The input was read to its end. Of `show`: that is a frame's end. Of `judge`: the verdict is `lawful`.
+    /// The input was read to its end. Of `show`: that is a frame's end. Of `judge`: the verdict is `lawful`. Of `etcd`, which reads
+    /// nothing: as many connections as its limit allows were accepted, and have ended.
     Done,
     /// The words name no command that is built.
     Usage,
@@ -17,6 +18,8 @@ pub enum Status {
     ReadFault,
     /// The output had a fault.
     WriteFault,
+    /// Of `etcd`: the address could not be listened on, or the door had a fault.
+    Net,
     /// Memory was refused.
     Memory,
     /// Of `judge`: the verdict is not `lawful`.
@@ -34,6 +37,7 @@ impl Status {
             Status::Script { .. } => 3,
             Status::ReadFault => 4,
             Status::WriteFault => 5,
+            Status::Net => 6,
             Status::Memory => 7,
             Status::Unlawful => 8,
         }

@@ -1,0 +1,168 @@
+//! The client.
+
+ghost use Rattle.std.specs.Prelude.{IfOk};
+ghost use Rattle.ev_call.specs.Addresses.{IsAddress};
+ghost use Rattle.ev_call.specs.Asks.{IsGrantable};
+
+use ev_http::{Lines, send_request};
+use ev_json::{Line, read_line, write_watch};
+use ev_link::{Etcd, HttpLink};
+use ev_types::{Act, Answer, Ask, Route, TxnReq};
+use std::alloc::Global;
+use std::thread;
+use std::time::{Clock, Duration};
+use zx_base::{Bytes, Memory, Seq};
+use zx_net::Net;
+use zx_outside::Source;
+
+/// What came of it.
+#[derive(Clone, Copy, PartialEq, Eq)]
+pub enum Tried {
+    Well,
+    NoConnection,
+    NoMemory,
+    NoWatch,
+    NoTransaction,
+    NotTold,
+    NotEnded,
+}
+
+impl Tried {
+    /// What went wrong, in words.
+    pub fn words(self) -> &'static str {
+        match self {
+            Tried::Well => "all went well",
+            Tried::NoConnection => "the server could not be dialled",
+            Tried::NoMemory => "memory was refused",
+            Tried::NoWatch => "the watch was not created",
+            Tried::NoTransaction => "the transaction was not carried out",
+            Tried::NotTold => "the watch was not told of the transaction",
+            Tried::NotEnded => "the watch was not ended",
+        }
+    }
+}
+
+impl From<Memory> for Tried {
+    fn from(_refused: Memory) -> Tried {
+        Tried::NoMemory
+    }
+}
+
+/// The key that is put and watched.
+const KEY: &[u8] = b"a";
+
+/// How often the server is dialled until it listens, and the pause before the next time, in milliseconds.
+const DIALS: u32 = 500;
+
+const PAUSE: u64 = 10;
+
+/// What each request names as its host.
+#[tactic(auto, using(ev_link::proofs::Local::local))]
+pub fn host() -> &'static str
+    ensures { IsAddress result.now }
+{
+    "localhost"
+}
+
+/// Dials the server once it listens.
+fn connect<R: Clock, N: Net>(rt: &R, net: &mut N, address: &str) -> Result<(N::In, N::Out), Tried> {
+    for _ in 0..DIALS {
+        if let Ok(ends) = net.dial(address) {
+            return Ok(ends);
+        }
+        thread::sleep(rt, Duration::from_millis(PAUSE));
+    }
+    Err(Tried::NoConnection)
+}
+
+/// The transaction that puts the key.
+fn put(alloc: Global) -> Result<Ask, Memory>
+    ensures { IfOk result (λ ask. IsGrantable ask) }
+{
+    let mut success = Seq::new(alloc);
+    success.push(Act::Put {
+        key: Bytes::copy_of(alloc, KEY)?,
+        value: Bytes::copy_of(alloc, b"x".as_slice())?,
+        lease: 0,
+    })?;
+    Ok(Ask::Txn(TxnReq {
+        guards: Seq::new(alloc),
+        success,
+        failure: Seq::new(alloc),
+    }))
+}
+
+/// Whether the next line says that the watch was created.
+fn is_created<S: Source>(alloc: Global, lines: &mut Lines<S>) -> bool {
+    match lines.next() {
+        Ok(line) => matches!(read_line(alloc, line.as_slice()), Ok(Line::Created)),
+        Err(_) => false,
+    }
+}
+
+/// Whether the next line tells of one put at this revision.
+fn is_told<S: Source>(alloc: Global, lines: &mut Lines<S>, at: i64) -> bool {
+    let Ok(line) = lines.next() else {
+        return false;
+    };
+    match read_line(alloc, line.as_slice()) {
+        Ok(Line::Events { revision, kvs }) => revision == at && kvs.len() == 1,
+        _ => false,
+    }
+}
+
+/// Carries out a transaction that puts the key, on a connection of its own, and gives its revision.
+fn put_it<R: Clock, N: Net>(
+    rt: &R,
+    alloc: Global,
+    net: &mut N,
+    address: &str,
+) -> Result<i64, Tried> {
+    let (source, sink) = connect(rt, net, address)?;
+    let mut link = HttpLink::new(alloc, source, sink, host())?;
+    let ask = put(alloc)?;
+    match link.call(&ask) {
+        Ok(
+            Answer::Txn {
+                revision,
+                succeeded: true,
+                ..
+            },
+        ) => Ok(revision),
+        _ => Err(Tried::NoTransaction),
+    }
+}
+
+/// Watches the key, puts it, and sees that the watch is told and then ended.
+fn watch_and_put<R: Clock, N: Net>(
+    rt: &R,
+    alloc: Global,
+    net: &mut N,
+    address: &str,
+) -> Result<(), Tried> {
+    let (source, mut sink) = connect(rt, net, address)?;
+    let body = write_watch(alloc, 1, KEY)?;
+    if send_request(alloc, &mut sink, host(), Route::Watch, body.as_slice()).is_err() {
+        return Err(Tried::NoWatch);
+    }
+    let mut lines = Lines::new(alloc, source);
+    if !is_created(alloc, &mut lines) {
+        return Err(Tried::NoWatch);
+    }
+    let revision = put_it(rt, alloc, net, address)?;
+    if !is_told(alloc, &mut lines, revision) {
+        return Err(Tried::NotTold);
+    }
+    if lines.next().is_ok() {
+        return Err(Tried::NotEnded);
+    }
+    Ok(())
+}
+
+/// Tries the server at this address with two connections.
+pub fn try_it<R: Clock, N: Net>(rt: &R, alloc: Global, net: &mut N, address: &str) -> Tried {
+    match watch_and_put(rt, alloc, net, address) {
+        Ok(()) => Tried::Well,
+        Err(why) => why,
+    }
+}

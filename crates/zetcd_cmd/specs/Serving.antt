@@ -1,0 +1,58 @@
+-- The words `etcd LISTEN LIMIT`, and what the command came to.
+use Rattle.std.specs.Prelude.{◌≡◌, ℕ, ◌&&◌, ◌==◌, Bool, true, false, List, [], ◌∷◌, length, codes, if◌then◌else◌, nat_le, Option, Some, None}
+use Rattle.std.specs.List.{list_all}
+use denote.Ref.{Bor}
+use Rattle.zt_text.specs.Scripts.{◌>>=◌, decimal_digit, digits_value, max_number, not_above}
+use Rattle.zx_net.specs.Nets.{NetCounts}
+use Rattle.zd_etcd.specs.declared.serving.EtcdEnd.{EtcdEnd}
+use Rattle.zd_etcd.specs.declared.serving.EtcdEnd.TheVariants as ends
+use Rattle.zd_etcd.specs.Serving.{Ends}
+use Rattle.zetcd_cmd.specs.declared.status.Status.{Status}
+use Rattle.zetcd_cmd.specs.declared.status.Status.TheVariants as status
+
+-- ---- the words
+
+-- `!` to `~`
+abbrev pub is_visible : ℕ → Bool
+is_visible b = nat_le 33 b && nat_le b 126
+
+-- one or more of these, of which the first is no `-`
+abbrev pub is_address : List ℕ → Bool
+is_address [] = false
+is_address (b ∷ bs) = if b == 45 then false else list_all is_visible (b ∷ bs)
+
+-- the number of these digits, up to 4294967295
+abbrev pub digits_number : List ℕ → Option ℕ
+digits_number digits = digits_value 10 decimal_digit 0 digits >>= not_above max_number
+
+abbrev pub not_zero : ℕ → Option ℕ
+not_zero n = if nat_le 1 n then Some n else None
+
+-- a number from 1 to 4294967295 in one to ten digits, without a sign
+abbrev pub limit_in : List ℕ → Option ℕ
+limit_in [] = None
+limit_in (b ∷ bs) = if nat_le (length (b ∷ bs)) 10 then (digits_number (b ∷ bs) >>= not_zero) else None
+
+-- the words are `etcd`, this address and this limit
+abbrev pub IsEtcd : List (Bor (List ℕ)) → List ℕ → ℕ → Type 0
+IsEtcd [] listen limit = ⊥
+IsEtcd (word ∷ []) listen limit = ⊥
+IsEtcd (word ∷ first ∷ []) listen limit = ⊥
+IsEtcd (word ∷ first ∷ second ∷ []) listen limit =
+    (word.now ≡ codes "etcd") × (first.now ≡ listen) × (is_address listen ≡ true) × (limit_in second.now ≡ Some limit)
+IsEtcd (word ∷ first ∷ second ∷ third ∷ words) listen limit = ⊥
+
+abbrev pub NamesEtcd : List (Bor (List ℕ)) → Type 0
+NamesEtcd words = (listen : List ℕ) × (limit : ℕ) × IsEtcd words listen limit
+
+-- ---- the outcome
+
+abbrev pub status_of : EtcdEnd → Status
+status_of ends.Done = status.Done
+status_of ends.Net = status.Net
+status_of ends.WriteFault = status.WriteFault
+status_of ends.Memory = status.Memory
+
+-- a server ended with this status: by the counts of its net, and by what was written
+abbrev pub Serves : Status → List ℕ → ℕ → NetCounts → NetCounts → Option (List ℕ) → Option (List ℕ) → Type 0
+Serves s listen limit counts counts' taken taken' = (end : EtcdEnd) × (s ≡ status_of end) × Ends end listen limit counts counts' taken taken'

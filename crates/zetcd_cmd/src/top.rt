@@ -1,0 +1,120 @@
+//! The top call.
+
+ghost use Rattle.std.specs.Prelude.{◌≡◌, ◌≢◌, ◌⊎◌, List, ℕ};
+ghost use Rattle.zx_outside.specs.Counts.{one_more};
+ghost use Rattle.zx_outside.specs.Writing.{counts_after_write};
+ghost use Rattle.zx_outside.specs.declared.sink.Took.TheVariants.{Failed as TookFailed};
+ghost use Rattle.zetcd_cmd.specs.Outcomes.{IsJudge, IsReplay, IsShow, Did, Judges, Replays, Shows, Refuses, Failed, IsUnharmed};
+ghost use Rattle.zetcd_cmd.specs.Serving.{IsEtcd, NamesEtcd, Serves, status_of};
+
+use crate::command::plain;
+use crate::status::Status;
+use crate::words::etcd_words;
+use std::alloc::Global;
+use std::sync::Wait;
+use zd_etcd::{EtcdEnd, etcd};
+use zx_net::{Clock, Net, Spawner};
+use zx_outside::{Sink, Source};
+
+/// The status of a server that ended so.
+fn status_of(end: EtcdEnd) -> Status
+    ensures { result ≡ status_of end }
+{
+    match end {
+        EtcdEnd::Done => Status::Done,
+        EtcdEnd::Net => Status::Net,
+        EtcdEnd::WriteFault => Status::WriteFault,
+        EtcdEnd::Memory => Status::Memory,
+    }
+}
+
+/// Runs the command that `words`, the command line without the program's name, are. It reads `input` and writes `out`; for words
+/// that are no command it writes the usage line. `etcd` listens by `net`, has each connection served by a job that `spawner` starts,
+/// and its leases lapse by `clock`; no other command uses these.
+#[tactic(auto, using(crate::proofs::Servings::one_word))]
+pub fn zetcd<
+    W: Wait + Copy + Send + Drop + 'static,
+    I: Source,
+    O: Sink,
+    N: Net,
+    P: Spawner,
+    C: Clock + Send + Drop + 'static,
+>(
+    rt: &W,
+    alloc: Global,
+    words: &[&str],
+    input: &mut I,
+    out: &mut O,
+    net: &mut N,
+    spawner: &mut P,
+    clock: &mut C,
+) -> Status
+    // Of `replay`, by the status: the transcript of a run to which exactly the lines that were read were applied. The run is one
+    // run of the service, each conversation in it is lawful and fresh, and the verdict on its lines is lawful.
+    ensures replay { IsReplay words.now → Did (Replays result (I.ended input.new) (I.left input.new)) (I.given input.old) (I.given input.new) (I.left input.old) (I.left input.new) (O.taken out.old) (O.taken out.new) }
+    // Of `show`, by the status: what is shown of the stream that was read.
+    ensures show { IsShow words.now → Did (Shows result (I.ended input.new) (I.left input.new)) (I.given input.old) (I.given input.new) (I.left input.old) (I.left input.new) (O.taken out.old) (O.taken out.new) }
+    // Of `judge`, by the status: the verdict on the transcript that was read, or its first line that cannot be read.
+    ensures judge { IsJudge words.now → Did (Judges result (I.ended input.new) (I.left input.new)) (I.given input.old) (I.given input.new) (I.left input.old) (I.left input.new) (O.taken out.old) (O.taken out.new) }
+    // Of `etcd`, by the status: how many connections were accepted, and what was written.
+    ensures etcd { (listen : List ℕ) → (limit : ℕ) → IsEtcd words.now listen limit → Serves result listen limit (N.counts net.old) (N.counts net.new) (O.taken out.old) (O.taken out.new) }
+    // Status 6 has its cause in the net: one fault of a door.
+    ensures net { result ≡ Status.Net → (N.counts net.new).door_faults ≡ one_more (N.counts net.old).door_faults }
+    // With any other status but 5 the doors had no fault.
+    ensures unless_net { result ≢ Status.Net → result ≢ Status.WriteFault → (N.counts net.new).door_faults ≡ (N.counts net.old).door_faults }
+    // Of other words: the net was left alone.
+    ensures offline { ¬ NamesEtcd words.now → net.new ≡ net.old }
+    // Of words that are in no row: the usage line was written, or a front of it where the output has a fault.
+    ensures usage { ¬ IsReplay words.now → ¬ IsShow words.now → ¬ IsJudge words.now → ¬ NamesEtcd words.now → Refuses result (O.taken out.old) (O.taken out.new) }
+    // Of words other than these three: nothing was read.
+    ensures unread { ¬ IsReplay words.now → ¬ IsShow words.now → ¬ IsJudge words.now → input.new ≡ input.old }
+    // Status 4 has its cause in the input: one fault, or 1,000 idle turns.
+    ensures read { result ≡ Status.ReadFault → Failed (I.counts input.old) (I.counts input.new) }
+    // Statuses 0, 2, 3, 6 and 8 pass over no fault, and there were fewer than 1,000 idle turns.
+    ensures unless_fault { result ≢ Status.ReadFault → result ≢ Status.WriteFault → result ≢ Status.Memory → IsUnharmed (I.counts input.old) (I.counts input.new) }
+    // The same holds of status 7 of `show` and `judge`. A `replay` may be refused memory while it writes the lines before a fault.
+    ensures show_memory { IsShow words.now → result ≡ Status.Memory → IsUnharmed (I.counts input.old) (I.counts input.new) }
+    ensures judge_memory { IsJudge words.now → result ≡ Status.Memory → IsUnharmed (I.counts input.old) (I.counts input.new) }
+    // With every status the input had at most one fault, and at most 1,000 idle turns.
+    ensures once { IsUnharmed (I.counts input.old) (I.counts input.new) ⊎ Failed (I.counts input.old) (I.counts input.new) }
+    // Status 5 has its cause in the output: one fault, and no second one.
+    ensures write { result ≡ Status.WriteFault → O.counts out.new ≡ counts_after_write TookFailed (O.counts out.old) }
+    // With any other status the output had no fault.
+    ensures unless_write_fault { result ≢ Status.WriteFault → O.counts out.new ≡ O.counts out.old }
+{
+    match plain(alloc, words, input, out) {
+        Some(status) => status,
+        None => serve(rt, alloc, words, out, net, spawner, clock),
+    }
+}
+
+/// Runs `etcd`.
+#[tactic(auto, using(crate::proofs::Servings::names_one, crate::proofs::Servings::never_read, crate::proofs::Servings::net_fault, crate::proofs::Servings::no_fault, crate::proofs::Servings::write_counts, crate::proofs::Servings::other_counts))]
+fn serve<
+    W: Wait + Copy + Send + Drop + 'static,
+    O: Sink,
+    N: Net,
+    P: Spawner,
+    C: Clock + Send + Drop + 'static,
+>(
+    rt: &W,
+    alloc: Global,
+    words: &[&str],
+    out: &mut O,
+    net: &mut N,
+    spawner: &mut P,
+    clock: &mut C,
+) -> Status
+    requires { NamesEtcd words.now }
+    ensures told { (listen : List ℕ) → (limit : ℕ) → IsEtcd words.now listen limit → Serves result listen limit (N.counts net.old) (N.counts net.new) (O.taken out.old) (O.taken out.new) }
+    ensures read { result ≢ Status.ReadFault }
+    ensures net { result ≡ Status.Net → (N.counts net.new).door_faults ≡ one_more (N.counts net.old).door_faults }
+    ensures unless_net { result ≢ Status.Net → result ≢ Status.WriteFault → (N.counts net.new).door_faults ≡ (N.counts net.old).door_faults }
+    ensures write { result ≡ Status.WriteFault → O.counts out.new ≡ counts_after_write TookFailed (O.counts out.old) }
+    ensures unless_write_fault { result ≢ Status.WriteFault → O.counts out.new ≡ O.counts out.old }
+{
+    let Some((listen, limit)) = etcd_words(words) else {
+        unreachable!()
+    };
+    status_of(etcd(rt, alloc, listen, limit, out, net, spawner, &*clock))
+}

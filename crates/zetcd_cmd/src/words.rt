@@ -1,0 +1,72 @@
+//! The words of `etcd LISTEN LIMIT`.
+
+ghost use Rattle.std.specs.Prelude.{◌≡◌, IfSome, IsNone};
+ghost use Rattle.std.specs.List.{list_all};
+ghost use Rattle.zetcd_cmd.specs.Serving.{IsEtcd, NamesEtcd, digits_number, is_address as is_address_of, is_visible, limit_in};
+
+use zt_text::decimal_digit;
+
+/// The longest number has this many digits.
+const MAX_DIGITS: usize = 10;
+
+/// Whether all of these are visible characters of ASCII.
+fn are_visible(text: &[u8]) -> bool
+    ensures { result ≡ list_all is_visible text.now }
+{
+    text.iter().all(|byte| *byte >= 33 && *byte <= 126)
+}
+
+/// Whether this is the text of an address: one or more visible characters of ASCII, of which the first is no `-`.
+fn is_address(text: &[u8]) -> bool
+    ensures { result ≡ is_address_of text.now }
+{
+    if text.is_empty() || text[0] == b'-' {
+        return false;
+    }
+    are_visible(text)
+}
+
+/// The number of these digits, up to 4294967295; `None` where one is no digit, or the number is greater.
+fn digits(text: &[u8]) -> Option<u64>
+    ensures { result ≡ digits_number text.now }
+{
+    let mut value: u64 = 0;
+    for byte in text {
+        let digit = decimal_digit(*byte)?;
+        value = value * 10 + u64::from(digit);
+        if value > u64::from(u32::MAX) {
+            return None;
+        }
+    }
+    Some(value)
+}
+
+/// A number from 1 to 4294967295 in one to ten digits, without a sign.
+fn limit_of(text: &[u8]) -> Option<u64>
+    ensures { result ≡ limit_in text.now }
+{
+    if text.is_empty() || text.len() > MAX_DIGITS {
+        return None;
+    }
+    match digits(text) {
+        Some(0) | None => None,
+        Some(limit) => Some(limit),
+    }
+}
+
+/// The address and the limit of these words; `None` where they are not those of `etcd`.
+pub fn etcd_words<'a>(words: &[&'a str]) -> Option<(&'a str, u64)>
+    ensures some { IfSome result (λ found. IsEtcd words.now found.0.now found.1) }
+    ensures none { IsNone result → ¬ NamesEtcd words.now }
+{
+    let [word, listen, limit] = words else {
+        return None;
+    };
+    if word.as_bytes() != b"etcd".as_slice() || !is_address(listen.as_bytes()) {
+        return None;
+    }
+    match limit_of(limit.as_bytes()) {
+        Some(limit) => Some((listen, limit)),
+        None => None,
+    }
+}
