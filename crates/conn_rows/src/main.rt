@@ -1,0 +1,87 @@
+//! Tries the rows of the file `rows` on one connection over streams in memory, and says on standard error where a row differs.
+//!
+//! The link is to a store of its own, on which the tree was begun at moment 0; the feed is a reader of an open hub without entries;
+//! the clock stands at 1,000; a new session gets the number 17 and a password of 16 bytes aa. Bytes are in hex. A row is
+//! LEFT = RIGHT:
+//!
+//! | Left side | Right side |
+//! |---|---|
+//! | `serve PIECE BYTES` | why the connection ended, as in a transcript's `close` line, and all that it wrote, where these bytes came in pieces of PIECE bytes, or as many as fit where PIECE is 0 |
+//! | `fail WHAT PIECE BYTES` | the same stream is served again and again; each time the next call of WHAT fails, `reads` of the source, `writes` of the sink or `calls` of the link, until one run ends as without a failure. The cause of the runs before and their number; and how many whole packets were written, from which run on. Each wrote a front of what is written without a failure |
+//! | `cut PIECE BYTES` | the same, where the stream is cut before each of its bytes, and at its end |
+//! | `follow NUMBER VERSION ..` | what a follower from this number answers to lines with one head each, of these versions |
+//!
+//! `conn_rows time COUNT` serves COUNT pings and then COUNT getDatas that come together, and prints the microseconds of each.
+//! `bench/conn.sh` makes a table of it.
+#![tactic(auto)]
+
+mod failing;
+mod following;
+mod serving;
+mod timing;
+
+use crate::timing::print_times;
+use anyhow::Result;
+use row_files::{Rows, Words, bytes_of, status_of, try_file};
+use std::alloc::Global;
+use std::env;
+use std::process::ExitCode;
+use std::sync::Wait;
+use zx_base::Memory;
+
+/// The rows of the file.
+#[derive(Drop)]
+struct Connections<'a, R> {
+    rt: &'a R,
+}
+
+impl<R: Wait> Rows for Connections<'_, R> {
+    fn found(&mut self, alloc: Global, left: &str) -> Result<Option<String>, Memory> {
+        let mut words = Words::new(left);
+        let Some(word) = words.word() else {
+            return Ok(None);
+        };
+        match word {
+            "follow" => following::followed(alloc, words),
+            "fail" => {
+                let Some(what) = words.word() else {
+                    return Ok(None);
+                };
+                found_of(self.rt, alloc, what, words)
+            }
+            _ => found_of(self.rt, alloc, word, words),
+        }
+    }
+}
+
+/// What comes of a stream that is served in this way.
+fn found_of<R: Wait>(
+    rt: &R,
+    alloc: Global,
+    what: &str,
+    mut words: Words<'_>,
+) -> Result<Option<String>, Memory> {
+    let (Some(piece), Some(digits)) = (words.number(), words.word()) else {
+        return Ok(None);
+    };
+    let Some(bytes) = bytes_of(alloc, digits)? else {
+        return Ok(None);
+    };
+    if what == "serve" {
+        return Ok(Some(serving::shown(rt, alloc, bytes.as_slice(), piece)?));
+    }
+    failing::told(rt, alloc, what, bytes.as_slice(), piece)
+}
+
+fn main(rt: HostRuntime) -> Result<ExitCode> {
+    let mut words = env::args(&rt)?;
+    let _program = words.next();
+    if let (Some(word), Some(count)) = (words.next(), words.next()) {
+        if word.as_str() == "time" {
+            return print_times(&rt, rt.alloc(), count.as_str());
+        }
+    }
+    let mut connections = Connections { rt: &rt };
+    let failed = try_file(&rt, "rows", &mut connections)?;
+    Ok(status_of(failed))
+}

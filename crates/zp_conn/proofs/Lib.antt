@@ -1,0 +1,13 @@
+pub mod Fronts
+pub mod Packets
+pub mod Firsts
+pub mod Coming
+pub mod Grants
+pub mod Allowed
+pub mod After
+pub mod Turning
+pub mod Goings
+pub mod Ends
+pub mod Closings
+pub mod Cuttings
+pub mod Loops

@@ -1,0 +1,9 @@
+pub mod Driving
+pub mod Serving
+pub mod Inboxes
+pub mod Writing
+pub mod Speaking
+pub mod Handing
+pub mod Inputs
+pub mod After
+pub mod Turning

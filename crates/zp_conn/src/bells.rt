@@ -1,0 +1,47 @@
+//! A feed whose reader can be woken.
+
+ghost use Rattle.std.specs.Prelude.{◌≡◌};
+
+use std::alloc::Global;
+use std::sync::Arc;
+use zw_hub::{Fed, Feed};
+use zx_net::Bell;
+
+/// A feed that arms a bell before each look, so that whoever publishes after the look and then rings wakes the one who waits for the
+/// bell's source.
+#[derive(Drop)]
+pub struct Belled<F: Feed + Drop, B: Bell + Drop> {
+    feed: F,
+    bell: Arc<B, Global>,
+}
+
+impl<F: Feed + Drop, B: Bell + Drop> Belled<F, B> {
+    /// The feed, with the bell of the source that its reader waits for.
+    pub fn new(feed: F, bell: Arc<B, Global>) -> Belled<F, B>
+        ensures { result.feed ≡ feed }
+    {
+        Belled { feed, bell }
+    }
+
+    /// The feed itself.
+    pub fn into_feed(self) -> F
+        ensures { result ≡ self.feed }
+    {
+        self.feed
+    }
+}
+
+impl<F: Feed + Drop, B: Bell + Drop> Feed for Belled<F, B> {
+    ghost list = { λ b. F.list b.feed };
+
+    ghost reads = { λ b. F.reads b.feed };
+
+    ghost lags = { λ b. F.lags b.feed };
+
+    ghost closings = { λ b. F.closings b.feed };
+
+    fn next(&mut self, cursor: i64) -> Fed {
+        self.bell.arm();
+        self.feed.next(cursor)
+    }
+}

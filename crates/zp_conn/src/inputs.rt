@@ -1,0 +1,103 @@
+//! Where the next input comes from.
+
+ghost use Rattle.std.specs.Prelude.{◌≡◌, ◌<◌, length};
+ghost use Rattle.ev_call.specs.Asks.{IsGrantable};
+ghost use Rattle.std.specs.Prelude.{IfSome};
+ghost use Rattle.zp_conn.specs.Inputs.{IsAnswered, IsFedIn};
+ghost use Rattle.zp_conn.specs.Turning.{Asks, Feeds, Fetches, come_by};
+
+use crate::inbox::{Came, Inbox};
+use ev_call::{CallFault, Etcd};
+use ev_types::Ask;
+use zk_transcript::Cause;
+use zp_core::{Core, Input, Wants};
+use zw_hub::{Fed, Feed};
+use zx_outside::Source;
+
+/// What the driver does next.
+#[derive(Drop)]
+pub(crate) enum Next {
+    /// This is handed in.
+    Input(Input),
+    /// Nothing came.
+    Idle,
+    /// The connection ends.
+    Ended(Cause),
+}
+
+/// Asks etcd.
+fn answer<L: Etcd>(link: &mut L, ask: &Ask) -> Next
+    requires { IsGrantable ask.now }
+    ensures answered { IsAnswered ask.now result }
+    ensures asks { Asks ask.now result (record { calls = L.told link.old; failures = L.failures link.old }) (record { calls = L.told link.new; failures = L.failures link.new }) }
+{
+    match link.call(ask) {
+        Ok(answer) => Next::Input(Input::Answer(answer)),
+        Err(CallFault::Failed) => Next::Input(Input::Failed),
+        Err(CallFault::Memory) => Next::Ended(Cause::Memory),
+    }
+}
+
+/// The entry after the cursor.
+#[tactic(auto, using(crate::proofs::Allowed::lag_above))]
+fn entry<F: Feed>(feed: &mut F, cursor: i64) -> Next
+    ensures fed { IsFedIn cursor result }
+    ensures feeds { Feeds cursor result (record { list = F.list feed.old; reads = F.reads feed.old; lags = F.lags feed.old; closings = F.closings feed.old }) (record { list = F.list feed.new; reads = F.reads feed.new; lags = F.lags feed.new; closings = F.closings feed.new }) }
+{
+    match feed.next(cursor) {
+        Fed::Entry(entry) => Next::Input(Input::Entry(entry)),
+        Fed::None => Next::Idle,
+        Fed::Lagged { cursor, floor } => Next::Input(Input::Lagged { cursor, floor }),
+        Fed::Closed(_end) => Next::Input(Input::FeedClosed),
+        Fed::Memory => Next::Ended(Cause::Memory),
+    }
+}
+
+/// What a look at the stream comes to.
+fn looked(came: Came) -> Next
+    ensures { result ≡ come_by came }
+{
+    match came {
+        Came::Frame(bytes) => Next::Input(Input::Frame(bytes)),
+        Came::BadLength { place, length } => Next::Input(Input::BadLength { place, length }),
+        Came::End { place } => Next::Input(Input::ClientEnd { place }),
+        Came::Nothing => Next::Idle,
+        Came::Failed => Next::Ended(Cause::ReadFault),
+        Came::Memory => Next::Ended(Cause::Memory),
+    }
+}
+
+/// Calls the ask that is out; or reads the feed or the source, as the connection wants. Where both are wanted, the feed is first.
+#[tactic(auto, using(crate::proofs::Allowed::fetch_answer, crate::proofs::Allowed::fetch_entry, crate::proofs::Allowed::fetch_either, crate::proofs::Allowed::fetch_frame, crate::proofs::Allowed::fetch_after, crate::proofs::Allowed::fetch_ahead, crate::proofs::Allowed::fetch_quiet))]
+pub(crate) fn take_in<L: Etcd, F: Feed, S: Source>(
+    core: &Core,
+    asked: Option<Ask>,
+    link: &mut L,
+    feed: &mut F,
+    inbox: &mut Inbox,
+    source: &mut S,
+    room: &mut [u8],
+) -> Next
+    requires room { 0 < length room.old }
+    requires granted { IfSome asked IsGrantable }
+    ensures { Fetches core.now asked result inbox.old inbox.new (record { given = S.given source.old; left = S.left source.old; faults = (S.counts source.old).faults; ended = S.ended source.old }) (record { given = S.given source.new; left = S.left source.new; faults = (S.counts source.new).faults; ended = S.ended source.new })
+        (record { calls = L.told link.old; failures = L.failures link.old }) (record { calls = L.told link.new; failures = L.failures link.new })
+        (record { list = F.list feed.old; reads = F.reads feed.old; lags = F.lags feed.old; closings = F.closings feed.old }) (record { list = F.list feed.new; reads = F.reads feed.new; lags = F.lags feed.new; closings = F.closings feed.new }) }
+{
+    if let Some(ask) = asked {
+        return answer(link, &ask);
+    }
+    match core.wants() {
+        Wants::Frame => looked(inbox.next(source, room)),
+        Wants::FrameOrEntry { cursor } => match entry(feed, cursor) {
+            Next::Idle => looked(inbox.next(source, room)),
+            found => found,
+        },
+        Wants::Entry { cursor } => match entry(feed, cursor) {
+            Next::Idle => looked(inbox.read_ahead(source, room)),
+            found => found,
+        },
+        // Not while no ask is out.
+        Wants::Answer | Wants::Nothing => looked(inbox.read_ahead(source, room)),
+    }
+}

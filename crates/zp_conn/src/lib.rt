@@ -1,0 +1,38 @@
+//! One connection over streams: the client's bytes in, packets out.
+//!
+//! [`serve_connection`] drives a [`Core`](zp_core::Core) over a source and a sink of bytes, a link to etcd, a feed of entries and
+//! a clock, to the connection's end, and gives the cause.
+//!
+//! A frame is handed in only where the core wants one. Where it wants a frame or an entry, the feed is looked at first. A length out
+//! of range and the client's end are handed in behind all whole frames. While a reply waits for its entry, the client's stream is
+//! read on, up to [`MOST_AHEAD`](inbox::MOST_AHEAD) bytes, so that a read that waits can wait for the client or for a
+//! bell; past that, and after the client's end, the turn yields.
+//!
+//! Packets are held back while further whole frames are there, and go out in one write. They go out at once where no whole frame
+//! is left, where a reply waits for its entry, where they are [`MOST_HELD`](outbox::MOST_HELD) bytes, and
+//! [`LONGEST_HELD`](outbox::LONGEST_HELD) milliseconds after the first of them. So nothing waits for a frame that has not come.
+//!
+//! A publisher of entries that would wake the connection rings the bell of its source (`Wakes` of `zx_net`). A [`Belled`] feed arms
+//! that bell before each look.
+//!
+//! Want of memory, of the trace too, ends the connection. What was sent by then is still written.
+//!
+//! In `specs/`, in reading order: `Serving` (what a call did, and what shows why it ended), `Driving` (when the client's frames are
+//! handed in), and then what the parts do: `Inboxes`, `Writing`, `Speaking`, `Handing`, `Inputs`, and `Turning`, which has the loop's
+//! invariant.
+#![tactic(auto)]
+
+mod bells;
+mod handing;
+mod inbox;
+mod inputs;
+mod outbox;
+mod serving;
+mod speaking;
+mod writing;
+
+pub use bells::Belled;
+pub use serving::serve_connection;
+pub use zk_transcript::Cause;
+pub use zp_core::Fresh;
+pub use zp_run::{Event, ListTrace, NoTrace, Trace};

@@ -1,0 +1,23 @@
+//! Writes bytes.
+
+ghost use Rattle.zp_conn.specs.Writing.{Wrote};
+
+use zx_outside::{Sink, Took};
+
+/// The sink failed. It took a front of the bytes, and how much is not known.
+#[derive(Clone, Copy, Debug)]
+pub(crate) struct WriteFault;
+
+/// Writes all of the bytes, or up to the first fault of the sink.
+pub(crate) fn write_all<K: Sink>(sink: &mut K, bytes: &[u8]) -> Result<(), WriteFault>
+    ensures { Wrote result bytes.now (K.taken sink.old) (K.taken sink.new) (K.counts sink.old) (K.counts sink.new) }
+{
+    let mut at = 0;
+    'pieces: while at < bytes.len() {
+        match sink.write(&bytes[at..]) {
+            Took::Bytes(count) => at += count,
+            Took::Failed => return Err(WriteFault),
+        }
+    }
+    Ok(())
+}
