@@ -1,0 +1,5 @@
+pub mod Events
+pub mod Lives
+pub mod Feeding
+pub mod Showing
+pub mod Alone
