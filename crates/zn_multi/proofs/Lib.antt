@@ -1,6 +1,7 @@
 pub mod Runs
 pub mod Laid
 pub mod Loads
+pub mod Bounds
 pub mod ReadKeys
 pub mod MappedTrees
 pub mod Times

@@ -25,7 +25,7 @@ use Rattle.zn_view.proofs.Members.{In, contains_in, in_contains, in_either, in_l
 use Rattle.zn_view.proofs.Wanted.{are-needs, no-needs}
 use Rattle.zn_updates.specs.KeysRead.{start_keys}
 use Rattle.zn_multi.specs.Reading.{AreRead, each_new, with_new}
-use Rattle.zn_multi.proofs.ReadKeys.{follows_to, read_from, read_to, start_made}
+use Rattle.zn_multi.proofs.ReadKeys.{follows_to, read_from, read_to, start_left}
 
 -- ---- a multi of at most 24 parts is not answered by its form
 
@@ -50,13 +50,13 @@ module _ (parts : List Part) (who : Who) (v : View) (ks : List Key) (read : AreR
   multi_from k (inr (inr i)) = ⊎_elim
       (λ a. inr (inr (inl (k, in_contains k _ (subst (In k) (sym reads_are) a), refl))))
       (λ b. inr (inr (inr b)))
-      (read_from who.session v parts [] (Some []) (start_made who.session v) ks read k i)
+      (read_from who.session v parts [] (Some []) (start_left who.session v) ks read k i)
 
   pub multi_to : (w : Want) → IsRead (req.Multi parts) who v w → (k : Key) × In k (start_keys who.session ++ ks) × (w ≡ key_want k)
   multi_to w (inl e) = (HeadKey, inl refl, e)
   multi_to w (inr (inl e)) = (LeaseKey (nat_abs who.session), inr (inl refl), e)
-  multi_to w (inr (inr (inl h))) = (h.0, inr (inr (read_to who.session v parts [] (Some []) (start_made who.session v) ks read h.0 (subst (In h.0) reads_are (contains_in h.0 _ h.1)))), h.2)
-  multi_to w (inr (inr (inr h))) = let k = follows_to who.session v parts [] (Some []) (start_made who.session v) ks read w h in (k.0, inr (inr k.1), k.2)
+  multi_to w (inr (inr (inl h))) = (h.0, inr (inr (read_to who.session v parts [] (Some []) (start_left who.session v) ks read h.0 (subst (In h.0) reads_are (contains_in h.0 _ h.1)))), h.2)
+  multi_to w (inr (inr (inr h))) = let k = follows_to who.session v parts [] (Some []) (start_left who.session v) ks read w h in (k.0, inr (inr k.1), k.2)
 
   pub multi_needs : (ws : List Want) → length parts ≤ max_parts → ws ≡ lacking v (map key_bytes (start_keys who.session ++ ks)) → AreNeeds (req.Multi parts) who v ws
   multi_needs ws few is = are-needs (req.Multi parts) who v (start_keys who.session ++ ks) ws is (plain_few parts few) multi_from multi_to

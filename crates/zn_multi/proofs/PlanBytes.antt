@@ -16,14 +16,14 @@ use Rattle.zk_model.specs.declared.request.Part.TheVariants as part
 use Rattle.zk_model.specs.Limits.{max_load, max_parts}
 use Rattle.zk_model.specs.Multi.{data_len, distinct}
 use Rattle.zk_model.specs.PathFaults.{is_valid}
-use Rattle.zk_model.specs.Paths.{is_path, parent, root}
+use Rattle.zk_model.specs.Paths.{is_path, parent, root, sequence_path}
 use Rattle.zk_model.specs.Single.{form_refusal, is_ephemeral, is_sequential, named, path_refusal}
 use Rattle.zk_model.specs.Znodes.{owned}
 use Rattle.zk_model.proofs.SequencePaths.{sequence-valid}
 use Rattle.zk_model.proofs.ValidPaths.{parent-valid}
 use Rattle.zk_transcript.specs.History.{State, Session, IsSound, session_at}
 use Rattle.zx_base.specs.Maps.{Bytes, same}
-use Rattle.zx_base.proofs.Options.{some_is, some_none}
+use Rattle.zx_base.proofs.Options.{some_none}
 use Rattle.zn_layout.specs.Changes.{Change, Put, change_size, head_put, last, put_size, update_acts}
 use Rattle.zn_layout.specs.Fits.{KeyFits, left}
 use Rattle.zn_layout.specs.Keys.{Key, HeadKey, DataKey, CountsKey, SessionKey, LeaseKey, key_bytes}
@@ -56,7 +56,10 @@ use Rattle.zn_multi.specs.Carrying.{no_progress, Runs}
 use Rattle.zn_multi.specs.Deciding.{read_keys}
 use Rattle.zn_multi.specs.Laying.{written}
 use Rattle.zn_multi.specs.Leading.{LeadsTo}
-use Rattle.zn_multi.specs.Reading.{create_reads, delete_reads, numbered_path, sequence_data, AreRead, AreReadFrom, IsFormedRead, IsNodePath, IsReadBy, Made}
+use Rattle.zn_layout.specs.declared.record.CountRec.{CountRec}
+use Rattle.zn_view.specs.declared.leaving.TreeChange.{TreeChange}
+use Rattle.zn_view.specs.Leaving.{node_path}
+use Rattle.zn_multi.specs.Reading.{create_reads, delete_reads, sequence_data, AreRead, AreReadFrom, IsFormedRead, IsReadBy, Left}
 use Rattle.zn_multi.specs.declared.carrying.Carried.TheVariants.{Passed}
 use Rattle.zn_multi.specs.declared.carrying.Progress.{Progress}
 use Rattle.zn_multi.proofs.Needs.{once_few, once_only}
@@ -121,53 +124,48 @@ valid_of true h = refl
 valid_of false h = absurd (some_none h)
 
 module _ (id : ℤ) (v : View) where
-  sequence_short : (made : Made) (b : Bool) (path : Bytes) (above node : Option Bytes) → is_valid b path ≡ true → IsNodePath v made b path above node → All IsShortKey (sequence_data b node)
-  sequence_short made false path above _ valid h = All-nil IsShortKey
-  sequence_short made true path above None valid h = All-nil IsShortKey
-  sequence_short None true path above (Some p) valid h = absurd (some_none h)
-  sequence_short (Some m) true path None (Some p) valid h = absurd (some_none h)
-  sequence_short (Some m) true path (Some q) (Some p) valid h = All-cons IsShortKey (DataKey p) [] (data_short p (at _ h.2)) (All-nil IsShortKey)
-    where
-      at : (o : Option ℕ) → Some p ≡ numbered_path path o → is_path p ≡ true
-      at None e = absurd (some_none e)
-      at (Some n) e = ap is_path (some_is e) ∙ sequence-valid path n valid
+  sequence_short : (b : Bool) (path : Bytes) (counts : Option (Option CountRec)) → is_valid b path ≡ true → All IsShortKey (sequence_data b (node_path b path counts))
+  sequence_short false path counts valid = All-nil IsShortKey
+  sequence_short true path None valid = All-nil IsShortKey
+  sequence_short true path (Some None) valid = All-nil IsShortKey
+  sequence_short true path (Some (Some c)) valid = All-cons IsShortKey (DataKey (sequence_path path (nat_abs c.creates))) [] (data_short (sequence_path path (nat_abs c.creates)) (sequence-valid path (nat_abs c.creates) valid)) (All-nil IsShortKey)
 
-  formed_few : (made : Made) (p : Part) (own : List Key) (next : Made) → IsFormedRead id v made p own next → length own ≤ 4
-  formed_few made (part.Create path d a f) own next h = subst (λ (l : List Key). length l ≤ 4) (sym h.keys) (create_few id path (is_sequential f) (is_ephemeral f) (parent (named f path)) h.node)
-  formed_few made (part.Delete path x) own next h = subst (λ (l : List Key). length l ≤ 4) (sym h.keys) (delete_few path h.owner)
-  formed_few made (part.SetData path d x) own next h = subst (λ (l : List Key). length l ≤ 4) (sym h.0) (omega arith)
-  formed_few made (part.Check path x) own next h = subst (λ (l : List Key). length l ≤ 4) (sym h.0) (omega arith)
+  formed_few : (left : Left) (p : Part) (own : List Key) (next : Left) → IsFormedRead id v left p own next → length own ≤ 4
+  formed_few left (part.Create path d a f) own next h = subst (λ (l : List Key). length l ≤ 4) (sym h.keys) (create_few id path (is_sequential f) (is_ephemeral f) (parent (named f path)) (node_path (is_sequential f) path h.counts))
+  formed_few left (part.Delete path x) own next h = subst (λ (l : List Key). length l ≤ 4) (sym h.keys) (delete_few path h.owner)
+  formed_few left (part.SetData path d x) own next h = subst (λ (l : List Key). length l ≤ 4) (sym h.0) (omega arith)
+  formed_few left (part.Check path x) own next h = subst (λ (l : List Key). length l ≤ 4) (sym h.0) (omega arith)
 
-  formed_short : (made : Made) (p : Part) (own : List Key) (next : Made) → form_refusal p ≡ None → IsFormedRead id v made p own next → All IsShortKey own
-  formed_short made (part.Create path d a f) own next form h =
+  formed_short : (left : Left) (p : Part) (own : List Key) (next : Left) → form_refusal p ≡ None → IsFormedRead id v left p own next → All IsShortKey own
+  formed_short left (part.Create path d a f) own next form h =
       let valid = create_path_valid path d a f form in
       subst (All IsShortKey) (sym h.keys)
-      (All-append IsShortKey ((about_parent (parent (named f path)) ++ plain_data (is_sequential f) path) ++ session_nodes (is_ephemeral f) id) (sequence_data (is_sequential f) h.node)
+      (All-append IsShortKey ((about_parent (parent (named f path)) ++ plain_data (is_sequential f) path) ++ session_nodes (is_ephemeral f) id) (sequence_data (is_sequential f) (node_path (is_sequential f) path h.counts))
       (All-append IsShortKey (about_parent (parent (named f path)) ++ plain_data (is_sequential f) path) (session_nodes (is_ephemeral f) id)
       (All-append IsShortKey (about_parent (parent (named f path))) (plain_data (is_sequential f) path) (parent_short (parent (named f path)) (λ q up. parent_is_valid path d a f form valid q up)) (plain-short (is_sequential f) path valid))
       (own-short (is_ephemeral f) id))
-      (sequence_short made (is_sequential f) path (parent (named f path)) h.node valid h.path_is))
-  formed_short made (part.Delete path x) own next form h =
+      (sequence_short (is_sequential f) path h.counts valid))
+  formed_short left (part.Delete path x) own next form h =
       let valid = (and_parts (is_path path) (not (same path root)) (valid_of _ (sym (delete_refusal path x _ refl) ∙ form))).0 in
       subst (All IsShortKey) (sym h.keys)
       (All-append IsShortKey (about_path path ++ counts_of_parent (parent path)) (owner_nodes h.owner)
       (All-append IsShortKey (about_path path) (counts_of_parent (parent path)) (about_short path valid) (above_short (parent path) (λ q up. (parent-valid path q valid up).0)))
       (owner_short path (pos 0) h.owner))
-  formed_short made (part.SetData path d x) own next form h = subst (All IsShortKey) (sym h.0) (about_short path (valid_of _ (sym (set_refusal path d x _ refl) ∙ form)))
-  formed_short made (part.Check path x) own next form h =
+  formed_short left (part.SetData path d x) own next form h = subst (All IsShortKey) (sym h.0) (about_short path (valid_of _ (sym (set_refusal path d x _ refl) ∙ form)))
+  formed_short left (part.Check path x) own next form h =
       subst (All IsShortKey) (sym h.0) (All-cons IsShortKey (DataKey path) [] (data_short path (valid_of _ (sym (check_refusal path x _ refl) ∙ form))) (All-nil IsShortKey))
 
-  one_few : (made : Made) (p : Part) (own : List Key) (next : Made) → IsReadBy id v made p own next → (length own ≤ 4) × All IsShortKey own
-  one_few made p own next h =
-      (elim (form_refusal p) as (λ o. form_refusal p ≡ o → MatchOption o (IsFormedRead id v made p own next) (λ code. (own ≡ []) × (next ≡ None)) → (length own ≤ 4) × All IsShortKey own) [
-        | None ↦ λ e k. (formed_few made p own next k, formed_short made p own next e k)
+  one_few : (left : Left) (p : Part) (own : List Key) (next : Left) → IsReadBy id v left p own next → (length own ≤ 4) × All IsShortKey own
+  one_few left p own next h =
+      (elim (form_refusal p) as (λ o. form_refusal p ≡ o → MatchOption o (IsFormedRead id v left p own next) (λ code. (own ≡ []) × (next ≡ None)) → (length own ≤ 4) × All IsShortKey own) [
+        | None ↦ λ e k. (formed_few left p own next k, formed_short left p own next e k)
         | Some code ↦ λ e k. (subst (λ (l : List Key). length l ≤ 4) (sym k.0) (omega arith), subst (All IsShortKey) (sym k.0) (All-nil IsShortKey))
       ]) refl h
 
-  read_few : (ps : List Part) (made : Made) (ks : List Key) → AreReadFrom id v made ps ks → (length ks ≤ 4 * length ps) × All IsShortKey ks
-  read_few [] made ks h = (subst (λ (l : List Key). length l ≤ 0) (sym h) (omega arith), subst (All IsShortKey) (sym h) (All-nil IsShortKey))
-  read_few (p ∷ ps) made ks (own, next, rest, one, more, all) =
-      let here = one_few made p own next one in
+  read_few : (ps : List Part) (left : Left) (ks : List Key) → AreReadFrom id v left ps ks → (length ks ≤ 4 * length ps) × All IsShortKey ks
+  read_few [] left ks h = (subst (λ (l : List Key). length l ≤ 0) (sym h) (omega arith), subst (All IsShortKey) (sym h) (All-nil IsShortKey))
+  read_few (p ∷ ps) left ks (own, next, rest, one, more, all) =
+      let here = one_few left p own next one in
       let later = read_few ps _ rest more in
       let first = here.0 in
       let second = later.0 in
@@ -228,7 +226,7 @@ plus_each b f (o ∷ os) = let rest = plus_each b f os in omega (arith, rest, su
 -- ---- the plan
 
 module _ (parts : List Part) (who : Who) (v : View) (now : ℕ) (time : now < 2 ^ 62) (few : length parts ≤ max_parts) (near : View) (narrow : IsNarrower near v) (s : State) (z : ℤ) (sound : IsSound s) (shown : Shows z near s) (x : Session) (opened : session_at who.session s ≡ Some x)
-    (p : Progress) (run : Runs who now v no_progress 0 parts (Passed p)) (made : List Bytes) (st : Stays who now time v near narrow parts s z sound shown x opened made [] p) where
+    (p : Progress) (run : Runs who now v no_progress 0 parts (Passed p)) (made : List TreeChange) (st : Stays who now time v near narrow parts s z sound shown x opened made [] p) where
   abbrev id : ℤ
   id = who.session
 

@@ -33,6 +33,7 @@ use Rattle.zn_view.specs.declared.plan.Decision.{Decision}
 use Rattle.zn_view.specs.declared.plan.Decision.TheVariants.{Answered}
 use Rattle.zn_view.specs.declared.plan.Plan.{Plan}
 use Rattle.zn_view.specs.declared.plan.Who.{Who}
+use Rattle.zn_view.specs.declared.leaving.TreeChange.{TreeChange}
 use Rattle.zn_view.specs.Asks.{guards_of, narrowed, picked}
 use Rattle.zn_view.specs.Lookups.{HasSeen, sees}
 use Rattle.zn_view.specs.Laws.{LivesAs}
@@ -146,7 +147,7 @@ module _ (parts : List Part) (who : Who) (v : View) (now : ℕ) (time : now < 2 
         (run_seen who now time v near narrow parts s z sound shown x opened parts [] no_progress 0 (Stopped k code) run ks read all_near short (stays_start who now time v near narrow parts s z sound shown x opened)) short
 
     module _ (p : Progress) (run : Runs who now v no_progress 0 parts (Passed p)) where
-      pub ends : (n : List Bytes) × Stays who now time v near narrow parts s z sound shown x opened n [] p
+      pub ends : (n : List TreeChange) × Stays who now time v near narrow parts s z sound shown x opened n [] p
       ends = run_stays who now time v near narrow parts s z sound shown x opened parts [] no_progress p 0 run ks read all_near short (stays_start who now time v near narrow parts s z sound shown x opened)
 
       abbrev led : LeadsTo id now v parts [] p s z

@@ -11,7 +11,7 @@ use Rattle.std.proofs.lemmas.Int.{ints}
 use Rattle.std.proofs.lemmas.List.Elements.{All-head, All-nil, All-tail, All-weaker}
 use Rattle.std.proofs.lemmas.List.Sums.{sum_by-cons}
 use Rattle.ev_types.specs.declared.answer.Kv.{Kv}
-use Rattle.zx_base.specs.Maps.{Bytes, same}
+use Rattle.zx_base.specs.Maps.{same}
 use Rattle.zk_model.specs.declared.node.Node.{Node}
 use Rattle.zk_model.specs.declared.request.Part.{Part}
 use Rattle.zk_model.specs.declared.request.Part.TheVariants as part
@@ -24,6 +24,7 @@ use Rattle.zk_transcript.proofs.SoundEffects.{Leads}
 use Rattle.zn_layout.specs.Changes.{Change}
 use Rattle.zn_layout.specs.Keys.{Key, DataKey, SessionKey, key_bytes}
 use Rattle.zn_view.specs.declared.plan.Who.{Who}
+use Rattle.zn_view.specs.declared.leaving.TreeChange.{TreeChange}
 use Rattle.zn_view.specs.Lookups.{HasSeen, sees}
 use Rattle.zn_view.specs.Seen.{View}
 use Rattle.zn_view.specs.Views.{part_keys}
@@ -39,7 +40,7 @@ use Rattle.zn_updates.proofs.Showing.{data-shown}
 use Rattle.zn_multi.specs.Carrying.{no_progress, AreShort, IsStep, Runs, RunsSeen}
 use Rattle.zn_multi.specs.Laying.{all_laid, laid}
 use Rattle.zn_multi.specs.Leading.{LeadsTo}
-use Rattle.zn_multi.specs.Reading.{are_seen, if_seen, AreReadFrom, IsFormedRead, IsReadBy, Made}
+use Rattle.zn_multi.specs.Reading.{AreReadFrom, IsFormedRead, IsReadBy, Left}
 use Rattle.zn_multi.specs.declared.carrying.Carried.{Carried}
 use Rattle.zn_multi.specs.declared.carrying.Carried.TheVariants.{Stopped, Passed}
 use Rattle.zn_multi.specs.declared.carrying.Progress.{Progress}
@@ -47,7 +48,7 @@ use Rattle.zn_multi.proofs.Laid.{kept-all_laid}
 use Rattle.zn_multi.proofs.Leading.{leads_on, not_done, outcome, over_shown, start, touched_are}
 use Rattle.zn_multi.proofs.Looking.{Known, finds, layered_narrower, looks, touched_known}
 use Rattle.zn_multi.proofs.Owning.{Bears, bears_start, single_bears}
-use Rattle.zn_multi.proofs.ReadKeys.{formed_keys, seen_all}
+use Rattle.zn_multi.proofs.ReadKeys.{formed_keys}
 use Rattle.zn_multi.proofs.Walking.{Goes, Walks, single_goes, walks_start}
 
 -- ---- how many are laid, and their bytes
@@ -80,13 +81,6 @@ content-length (part.Delete path x) = refl
 content-length (part.SetData path d x) = refl
 content-length (part.Check path x) = refl
 
-near_v : (near v : View) → IsNarrower near v → (k : Key) → HasSeen near k → HasSeen v k
-near_v near v narrow k saw none = at (sees near k) refl
-  where
-    at : (o : Option (Option Kv)) → sees near k ≡ o → ⊥
-    at None e = saw e
-    at (Some o) e = let bad : None ≡ Some o = sym none ∙ narrow (key_bytes k) o e in cc
-
 -- The key has at most 1,033 bytes. If it is deleted, it was looked up. If it is that of a list of a session's nodes, the session
 -- was touched.
 pub record IsWritten (near : View) (touched : List ℤ) (c : Change) : Type 0 where
@@ -101,19 +95,22 @@ module _ (who : Who) (now : ℕ) (time : now < 2 ^ 62) (v near : View) (narrow :
   abbrev IsKnown : ℤ → Type 0
   IsKnown = Known z v near narrow s shown
 
-  pub record Stays (m : List Bytes) (rest : List Part) (old : Progress) : Type 0 where
+  least : pos 0 ≤ℤ id
+  least = let h = sound.numbered id x opened in omega (arith, ints, h)
+
+  pub record Stays (m : List TreeChange) (rest : List Part) (old : Progress) : Type 0 where
     pub leads : LeadsTo id now v parts rest old s z
-    pub walks : Walks s.tree IsKnown m leads.tree
+    pub walks : Walks s.tree IsKnown id m leads.tree
     pub touched : (o : ℤ) → In o old.touched → IsKnown o × ((y : Session) × (session_at o s ≡ Some y))
     pub written : All (IsWritten near old.touched) leads.changes
-    -- each part adds one path at most
+    -- each part makes one node at most
     pub steps : ℕ
     pub spent : steps + length rest ≤ length parts
     pub bears : Bears s.tree id steps leads.tree
     pub few : length leads.changes + 4 * length rest ≤ 4 * length parts
     pub light : sum_by plain_size leads.changes + (55 * length rest + sum_by data_len rest) ≤ 55 * length parts + sum_by data_len parts
 
-  module _ (m : List Bytes) (p : Part) (ps : List Part) (old : Progress) (h : Stays m (p ∷ ps) old) (own : List Key) (next : Made) (read : IsReadBy id v (Some m) p own next) (saw : (k : Key) → In k own → HasSeen near k) where
+  module _ (m : List TreeChange) (p : Part) (ps : List Part) (old : Progress) (h : Stays m (p ∷ ps) old) (own : List Key) (next : Left) (read : IsReadBy id v (Some m) p own next) (saw : (k : Key) → In k own → HasSeen near k) where
     formed : form_refusal p ≡ None → IsFormedRead id v (Some m) p own next
     formed e = subst (λ (o : Option ℤ). MatchOption o (IsFormedRead id v (Some m) p own next) (λ code. (own ≡ []) × (next ≡ None))) e read
 
@@ -124,7 +121,7 @@ module _ (who : Who) (now : ℕ) (time : now < 2 ^ 62) (v near : View) (narrow :
     left = over_shown who now time v near narrow parts s z sound shown x opened (p ∷ ps) old h.leads
 
     pub part_seen : IsPartSeen id (layered old.over near) p
-    part_seen form = looks z v near narrow s shown id m tree h.walks old.over left p own next (formed form) saw
+    part_seen form = looks z v near narrow s shown id x least opened m tree h.walks old.over left p own next (formed form) saw
 
     module _ (mid : Progress) (short : length (part_content p) ≤ max_frame) (one : IsStep p who now v old mid) where
       abbrev on : LeadsTo id now v parts ps mid s z
@@ -140,8 +137,8 @@ module _ (who : Who) (now : ℕ) (time : now < 2 ^ 62) (v near : View) (narrow :
           at None e = refl
           at (Some code) e = absurd (not_done tree id z now p code _ _ _ e made.done)
 
-      pub goes : Goes s.tree IsKnown next on.tree
-      goes = subst (Leads (Goes s.tree IsKnown next)) made.done (single_goes s.tree IsKnown m tree h.walks max_owned id z now p next (λ f. finds z v near narrow s shown id m tree h.walks old.over left now p own next (formed f) saw))
+      pub goes : Goes s.tree IsKnown id next on.tree
+      goes = subst (Leads (Goes s.tree IsKnown id next)) made.done (single_goes s.tree IsKnown id v m tree h.walks h.leads.sound.parents z now next p (λ f. finds z v near narrow s shown id x least opened m tree h.walks old.over left p own next f (formed f) saw))
 
       touched_is : mid.touched ≡ old.touched ++ touched_by tree id p
       touched_is = touched_are who now time v near narrow parts s z sound shown x opened p ps old mid h.leads part_seen short one
@@ -170,7 +167,7 @@ module _ (who : Who) (now : ℕ) (time : now < 2 ^ 62) (v near : View) (narrow :
       known_now : (o : ℤ) → In o mid.touched → IsKnown o × ((y : Session) × (session_at o s ≡ Some y))
       known_now o i = ⊎_elim
           (λ a. h.touched o a)
-          (λ b. (touched_known z v near narrow s shown id m tree h.walks old.over left p own next (formed form) saw o b, open_now p o b))
+          (λ b. (touched_known z v near narrow s shown id x least opened m tree h.walks old.over left p own next (formed form) saw o b, open_now p o b))
           (in_either o old.touched (touched_by tree id p) (subst (In o) touched_is i))
 
       -- ---- what is written
@@ -213,7 +210,7 @@ module _ (who : Who) (now : ℕ) (time : now < 2 ^ 62) (v near : View) (narrow :
       all_written = kept-all_laid (IsWritten near mid.touched) h.leads.changes one.changes (All-weaker (IsWritten near old.touched) (IsWritten near mid.touched) written_more h.leads.changes h.written)
           (All-weaker (IsOwnChange id (layered old.over v) p) (IsWritten near mid.touched) written_now one.changes one.own.each)
 
-      pub stays_on : Stays goes.made ps mid
+      pub stays_on : Stays goes.changes ps mid
       stays_on = record {
         leads = on;
         walks = goes.walks;
@@ -244,11 +241,7 @@ module _ (who : Who) (now : ℕ) (time : now < 2 ^ 62) (v near : View) (narrow :
   rest_seen : (own rest ks : List Key) → ks ≡ own ++ rest → AllSeen ks → AllSeen rest
   rest_seen own rest ks e all k i = all k (subst (In k) (sym e) (in_right k own rest i))
 
-  -- the paths are determined for the rest
-  next_is : (own : List Key) (next : Made) (m : List Bytes) → AllSeen own → next ≡ Some m → if_seen (are_seen v own) next ≡ Some m
-  next_is own next m all e = ap (λ b. if_seen b next) (seen_all v own (λ k i. near_v near v narrow k (all k i))) ∙ e
-
-  pub run_seen : (ps : List Part) (m : List Bytes) (old : Progress) (place : ℕ) (c : Carried) (run : Runs who now v old place ps c) (ks : List Key) → AreReadFrom id v (Some m) ps ks → AllSeen ks → AreShort ps → Stays m ps old → RunsSeen who now v near old place ps c run
+  pub run_seen : (ps : List Part) (m : List TreeChange) (old : Progress) (place : ℕ) (c : Carried) (run : Runs who now v old place ps c) (ks : List Key) → AreReadFrom id v (Some m) ps ks → AllSeen ks → AreShort ps → Stays m ps old → RunsSeen who now v near old place ps c run
   run_seen [] m old place c run ks read all short h = tt
   run_seen (p ∷ ps) m old place c (Stopped k code, one, rest) ks (own, next, more, first, later, is) all short h = part_seen m p ps old h own next first (own_seen own more ks is all)
   run_seen (p ∷ ps) m old place c (Passed mid, one, rest) ks (own, next, more, first, later, is) all short h =
@@ -256,7 +249,7 @@ module _ (who : Who) (now : ℕ) (time : now < 2 ^ 62) (v near : View) (narrow :
       let small : IsShortPart p = All-head IsShortPart p ps short in
       let on = goes m p ps old h own next first here mid small one in (
         part_seen m p ps old h own next first here,
-        run_seen ps on.made mid (place + 1) c rest more (subst (λ (n : Made). AreReadFrom id v n ps more) (next_is own next on.made here on.is) later) (rest_seen own more ks is all) (All-tail IsShortPart p ps short) (stays_on m p ps old h own next first here mid small one),
+        run_seen ps on.changes mid (place + 1) c rest more (subst (λ (n : Left). AreReadFrom id v n ps more) on.is later) (rest_seen own more ks is all) (All-tail IsShortPart p ps short) (stays_on m p ps old h own next first here mid small one),
       )
 
   passed_is : (a b : Progress) → Passed a ≡ Passed b → b ≡ a
@@ -265,19 +258,19 @@ module _ (who : Who) (now : ℕ) (time : now < 2 ^ 62) (v near : View) (narrow :
   not_stopped : (a : Progress) (k : ℕ) (code : ℤ) → Passed a ≡ Stopped k code → ⊥
   not_stopped a k code e = cc
 
-  pub run_stays : (ps : List Part) (m : List Bytes) (old new : Progress) (place : ℕ) → Runs who now v old place ps (Passed new) → (ks : List Key) → AreReadFrom id v (Some m) ps ks → AllSeen ks → AreShort ps → Stays m ps old → (n : List Bytes) × Stays n [] new
+  pub run_stays : (ps : List Part) (m : List TreeChange) (old new : Progress) (place : ℕ) → Runs who now v old place ps (Passed new) → (ks : List Key) → AreReadFrom id v (Some m) ps ks → AllSeen ks → AreShort ps → Stays m ps old → (n : List TreeChange) × Stays n [] new
   run_stays [] m old new place run ks read all short h = (m, subst (Stays m []) (passed_is new old run) h)
   run_stays (p ∷ ps) m old new place (Stopped k code, one, rest) ks read all short h = absurd (not_stopped new k code rest)
   run_stays (p ∷ ps) m old new place (Passed mid, one, rest) ks (own, next, more, first, later, is) all short h =
       let here = own_seen own more ks is all in
       let small : IsShortPart p = All-head IsShortPart p ps short in
       let on = goes m p ps old h own next first here mid small one in
-      run_stays ps on.made mid new (place + 1) rest more (subst (λ (n : Made). AreReadFrom id v n ps more) (next_is own next on.made here on.is) later) (rest_seen own more ks is all) (All-tail IsShortPart p ps short) (stays_on m p ps old h own next first here mid small one)
+      run_stays ps on.changes mid new (place + 1) rest more (subst (λ (n : Left). AreReadFrom id v n ps more) on.is later) (rest_seen own more ks is all) (All-tail IsShortPart p ps short) (stays_on m p ps old h own next first here mid small one)
 
   pub stays_start : Stays [] parts no_progress
   stays_start = record {
     leads = start who now time v near narrow parts s z sound shown x opened;
-    walks = walks_start s.tree IsKnown (λ p n is. let counted = sound.counted p n is in least_of n _ counted.counted);
+    walks = walks_start s.tree IsKnown id;
     touched = λ o bad. absurd bad;
     written = All-nil (IsWritten near []);
     steps = 0;
@@ -286,6 +279,3 @@ module _ (who : Who) (now : ℕ) (time : now < 2 ^ 62) (v near : View) (narrow :
     few = omega arith;
     light = omega arith;
   }
-    where
-      least_of : (n : Node) (children : ℕ) → pos children ≤ℤ n.creates → pos 0 ≤ℤ n.creates
-      least_of n children h = omega (arith, ints)

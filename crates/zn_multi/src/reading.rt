@@ -1,114 +1,58 @@
 //! The keys that the parts of a multi read, as far as the view determines them.
 
-ghost use Rattle.std.specs.Prelude.{◌≡◌, ◌≤◌, ◌<◌, ◌-◌, ◌^◌, ◌≤ℤ◌, ◌++◌, ◌∷◌, ℤ, [], List as ListOf, Some, None, pos, length, map, is_some, IfOk, IfSome, IsFalse, IsTrue, OnOk};
+ghost use Rattle.std.specs.Prelude.{◌≡◌, ◌≤◌, ◌<◌, ◌-◌, ◌^◌, ◌≤ℤ◌, ◌++◌, ◌∷◌, ℤ, [], List as ListOf, Some, None, pos, length, map, is_some, IfOk, IfSome, IsFalse, IsTrue, OnOk, true};
 ghost use Rattle.std.specs.List.{list_all, list_any};
 ghost use Rattle.zk_model.specs.declared.request.Part.TheVariants as parts;
 ghost use Rattle.zk_model.specs.Limits.{max_parts, max_path};
 ghost use Rattle.zk_model.specs.Paths.{is_path, is_sequence_prefix, parent as parent_of};
 ghost use Rattle.zx_base.specs.Maps.{Bytes as ByteList, same};
 ghost use Rattle.zn_layout.specs.Keys.{Key as AnyKey, DataKey, key_bytes};
-ghost use Rattle.zn_view.specs.Needs.{creates_after as creates_behind, with_made as creates_with};
-ghost use Rattle.zn_view.specs.Seen.{View as AnyView, seen};
+ghost use Rattle.zn_view.specs.Leaving.{node_path as path_of_node, CheckLeaves, SetLeaves};
 ghost use Rattle.zn_view.specs.Views.{about_parent, about_path, counts_of_parent};
 ghost use Rattle.zn_updates.specs.KeysRead.{start_keys as keys_of_each};
-ghost use Rattle.zn_multi.specs.Reading.{each_new, if_seen as made_if_seen, sequence_data, with_new, with_path as made_with, AreRead, IsCreateRead, IsDeleteRead, IsNodePath, IsNumberedPath, IsPartRead};
+ghost use Rattle.zn_multi.specs.Reading.{each_new, sequence_data, with_new, AreCountsAbove, AreRead, IfLeft, IsCreateLeft, IsCreateRead, IsDeleteRead, IsPartRead};
 
+use crate::leaving::{Left, check_leaves, counts_now, create_leaves, delete_leaves, set_leaves};
 use std::alloc::Global;
 use zk_model::{Acl, Part, Path};
-use zn_layout::{counts_key, data_key};
+use zn_layout::{CountRec, counts_key, data_key};
 use zn_updates::{
-    Form, create_form, creates_seen, inner_path, is_ephemeral, is_sequential, owner_seen,
-    push_data, push_node, push_owner, push_session, read_path, start_keys,
+    Form, create_form, inner_path, is_ephemeral, is_sequential, owner_seen, push_data, push_node,
+    push_owner, push_session, read_path, start_keys,
 };
 use zn_view::View;
 use zx_base::{Bytes, Memory, Seq};
 
-/// The paths of the nodes that the parts so far make, in turn: none where the view does not determine them.
-type Made = Option<Seq<Path>>;
-
-/// The creates that a node counts once one more node is made: one more where that is a child of it, 0 where it is the node itself.
-fn with_made(creates: Option<u32>, path: &Path, other: &Path) -> Option<u32>
-    requires { IfSome creates (λ n. n < 2 ^ 32 - 1) }
-    ensures { result ≡ creates_with path.now creates other.now }
-{
-    if other.bytes() == path.bytes() {
-        return Some(0);
-    }
-    if !other.is_child_of(path.bytes()) {
-        return creates;
-    }
-    match creates {
-        Some(creates) => Some(creates + 1),
-        None => None,
-    }
-}
-
-/// The creates that a node counts after these nodes were made.
-fn creates_after(creates: Option<u32>, path: &Path, made: &[Path]) -> Option<u32>
-    requires few { length made.now ≤ max_parts }
-    requires within { IfSome creates (λ n. n ≤ 1073741823) }
-    ensures { result ≡ creates_behind creates path.now made.now }
-{
-    let mut creates = creates;
-    for other in made {
-        creates = with_made(creates, path, other);
-    }
-    creates
-}
-
-/// The path of a sequence node, once its number is determined.
-fn numbered(
-    alloc: Global,
-    path: &[u8],
-    parent: &Path,
-    made: &Made,
-    view: &View,
-) -> Result<Option<Path>, Memory>
-    requires prefix { IsTrue (is_sequence_prefix path.now) }
-    requires parent { IsTrue (is_path parent.now) }
-    requires few { IfSome made.now (λ m. length m ≤ max_parts) }
-    ensures { IfOk result (IsNumberedPath view.now made.now path.now (Some parent.now)) }
-{
-    let Some(made) = made else {
-        return Ok(None);
-    };
-    let creates = creates_seen(alloc, view, parent)?;
-    match creates_after(creates, parent, made.as_slice()) {
-        Some(number) => Ok(Some(Path::numbered(alloc, path, number)?)),
-        None => Ok(None),
-    }
-}
-
-/// The paths that were made, and one more after them: none where either is not determined.
-fn with_path(made: Made, path: Option<Path>) -> Result<Made, Memory>
-    ensures { IfOk result (λ next. next ≡ made_with made path) }
-{
-    let Some(made) = made else {
-        return Ok(None);
-    };
-    let Some(path) = path else {
-        return Ok(None);
-    };
-    let mut made = made;
-    made.push(path)?;
-    Ok(Some(made))
-}
-
-/// What a part reads, and the paths of the nodes that the parts make up to this one.
+/// What a part reads, and what the parts up to this one leave.
 #[derive(Drop)]
 struct PartRead {
     keys: Seq<Bytes>,
-    made: Made,
+    left: Left,
 }
 
-/// What a part reads whose form is refused: nothing. No later part is chosen.
+/// What a part reads whose form is refused: nothing. It is not carried out.
 fn nothing_read(alloc: Global) -> PartRead
     ensures keys { result.keys ≡ [] }
-    ensures made { result.made ≡ None }
+    ensures left { result.left ≡ None }
 {
     PartRead {
         keys: Seq::new(alloc),
-        made: None,
+        left: None,
+    }
+}
+
+/// The path of a sequence node, once the creates of its parent are determined.
+fn numbered(
+    alloc: Global,
+    path: &[u8],
+    counts: Option<Option<CountRec>>,
+) -> Result<Option<Path>, Memory>
+    requires { IsTrue (is_sequence_prefix path.now) }
+    ensures { IfOk result (λ node. node ≡ path_of_node true path.now counts) }
+{
+    match counts {
+        Some(Some(counts)) => Ok(Some(Path::numbered(alloc, path, counts.creates.unsigned_abs())?)),
+        Some(None) | None => Ok(None),
     }
 }
 
@@ -117,24 +61,65 @@ fn node_path(
     alloc: Global,
     path: &[u8],
     named: Path,
-    parent: &Option<Path>,
+    counts: Option<Option<CountRec>>,
     sequential: bool,
-    made: &Made,
-    view: &View,
 ) -> Result<Option<Path>, Memory>
     requires prefix { IsTrue sequential → IsTrue (is_sequence_prefix path.now) }
-    requires parent { IfSome parent.now (λ q. IsTrue (is_path q)) }
     requires named { IsFalse sequential → named ≡ path.now }
-    requires few { IfSome made.now (λ m. length m ≤ max_parts) }
-    ensures { IfOk result (IsNodePath view.now made.now sequential path.now parent.now) }
+    ensures { IfOk result (λ node. node ≡ path_of_node sequential path.now counts) }
 {
     if !sequential {
         return Ok(Some(named));
     }
-    match parent {
-        Some(parent) => numbered(alloc, path, parent, made, view),
-        None => Ok(None),
-    }
+    numbered(alloc, path, counts)
+}
+
+/// The counts of a new node's parent on what the parts so far leave; none where that or a parent is not there.
+fn counts_above(
+    alloc: Global,
+    view: &View,
+    left: &Left,
+    parent: &Option<Path>,
+) -> Result<Option<Option<CountRec>>, Memory>
+    requires parent { IfSome parent.now (λ q. IsTrue (is_path q)) }
+    requires few { IfSome left.now (λ changes. length changes ≤ max_parts) }
+    ensures { IfOk result (AreCountsAbove view.now left.now parent.now) }
+{
+    let Some(changes) = left else {
+        return Ok(None);
+    };
+    let Some(parent) = parent else {
+        return Ok(None);
+    };
+    counts_now(alloc, view, changes.as_slice(), parent)
+}
+
+/// What a create leaves.
+fn create_left(
+    alloc: Global,
+    view: &View,
+    left: Left,
+    session: i64,
+    ephemeral: bool,
+    parent: &Option<Path>,
+    counts: Option<Option<CountRec>>,
+    node: Option<Path>,
+) -> Result<Left, Memory>
+    requires real { pos 1 ≤ℤ session }
+    requires parent { IfSome parent.now (λ q. IsTrue (is_path q)) }
+    requires valid { IfSome node (λ p. IsTrue (is_path p)) }
+    requires few { IfSome left (λ changes. length changes ≤ max_parts) }
+    ensures { IfOk result (IsCreateLeft view.now left ephemeral session parent.now counts node) }
+{
+    let Some(changes) = left else {
+        return Ok(None);
+    };
+    let Some(parent) = parent else {
+        return Ok(None);
+    };
+    create_leaves(
+        alloc, view, changes, session, ephemeral, parent, counts, node,
+    )
 }
 
 /// Adds the keys of a new node's parent. The root has none, and is there.
@@ -170,7 +155,7 @@ fn push_sequence(
 /// What a create reads.
 fn read_named(
     alloc: Global,
-    made: Made,
+    left: Left,
     path: &[u8],
     named: Path,
     sequential: bool,
@@ -181,25 +166,24 @@ fn read_named(
     requires real { pos 1 ≤ℤ session }
     requires prefix { IsTrue sequential → IsTrue (is_sequence_prefix path.now) }
     requires named { IsFalse sequential → named ≡ path.now }
-    requires few { IfSome made (λ m. length m ≤ max_parts) }
-    ensures { IfOk result (λ r. (own : ListOf AnyKey) × (r.keys ≡ map key_bytes own) × IsCreateRead session view.now made path.now sequential ephemeral (parent_of named) own r.made) }
+    requires few { IfSome left (λ changes. length changes ≤ max_parts) }
+    ensures { IfOk result (λ r. (own : ListOf AnyKey) × (r.keys ≡ map key_bytes own) × IsCreateRead session view.now left path.now sequential ephemeral (parent_of named) own r.left) }
 {
     let parent = named.parent(alloc)?;
     let mut keys = Seq::new(alloc);
     push_parent(alloc, &mut keys, &parent)?;
     push_data(alloc, &mut keys, path, sequential)?;
     push_session(alloc, &mut keys, session, ephemeral)?;
-    let node = node_path(alloc, path, named, &parent, sequential, &made, view)?;
+    let counts = counts_above(alloc, view, &left, &parent)?;
+    let node = node_path(alloc, path, named, counts, sequential)?;
     push_sequence(alloc, &mut keys, &node, sequential)?;
-    Ok(PartRead {
-        keys,
-        made: with_path(made, node)?,
-    })
+    let left = create_left(alloc, view, left, session, ephemeral, &parent, counts, node)?;
+    Ok(PartRead { keys, left })
 }
 
 fn read_create(
     alloc: Global,
-    made: Made,
+    left: Left,
     path: &[u8],
     acl: &[Acl],
     flags: i32,
@@ -207,13 +191,13 @@ fn read_create(
     view: &View,
 ) -> Result<PartRead, Memory>
     requires real { pos 1 ≤ℤ session }
-    requires few { IfSome made (λ m. length m ≤ max_parts) }
-    ensures { IfOk result (λ r. (content : ByteList) → IsPartRead session view.now made (parts.Create path.now content acl.now flags) r) }
+    requires few { IfSome left (λ changes. length changes ≤ max_parts) }
+    ensures { IfOk result (λ r. (content : ByteList) → IsPartRead session view.now left (parts.Create path.now content acl.now flags) r) }
 {
     match create_form(alloc, path, acl, flags)? {
         Form::Valid(named) => read_named(
             alloc,
-            made,
+            left,
             path,
             named,
             is_sequential(flags),
@@ -237,76 +221,123 @@ fn push_counts_above(alloc: Global, keys: &mut Seq<Bytes>, path: &Path) -> Resul
 }
 
 /// What a delete of a valid path reads.
-fn read_removal(alloc: Global, made: Made, path: &Path, view: &View) -> Result<PartRead, Memory>
-    requires valid { IsTrue (is_path path.now) }
-    requires short { length path.now ≤ max_path }
-    ensures { IfOk result (λ r. (own : ListOf AnyKey) × (r.keys ≡ map key_bytes own) × IsDeleteRead view.now made path.now own r.made) }
+fn read_removal(
+    alloc: Global,
+    left: Left,
+    path: Path,
+    version: i32,
+    view: &View,
+) -> Result<PartRead, Memory>
+    requires valid { IsTrue (is_path path) }
+    requires short { length path ≤ max_path }
+    requires few { IfSome left (λ changes. length changes ≤ max_parts) }
+    ensures { IfOk result (λ r. (own : ListOf AnyKey) × (r.keys ≡ map key_bytes own) × IsDeleteRead view.now left path version own r.left) }
 {
     let mut keys = Seq::new(alloc);
-    push_node(alloc, &mut keys, path)?;
-    push_counts_above(alloc, &mut keys, path)?;
-    push_owner(alloc, &mut keys, owner_seen(alloc, view, path)?)?;
-    Ok(PartRead { keys, made })
+    push_node(alloc, &mut keys, &path)?;
+    push_counts_above(alloc, &mut keys, &path)?;
+    push_owner(alloc, &mut keys, owner_seen(alloc, view, &path)?)?;
+    let left = delete_leaves(alloc, view, left, path, version)?;
+    Ok(PartRead { keys, left })
 }
 
-fn read_delete(alloc: Global, made: Made, path: &[u8], view: &View) -> Result<PartRead, Memory>
-    ensures { IfOk result (λ r. (id version : ℤ) → IsPartRead id view.now made (parts.Delete path.now version) r) }
+fn read_delete(
+    alloc: Global,
+    left: Left,
+    path: &[u8],
+    version: i32,
+    view: &View,
+) -> Result<PartRead, Memory>
+    requires few { IfSome left (λ changes. length changes ≤ max_parts) }
+    ensures { IfOk result (λ r. (id : ℤ) → IsPartRead id view.now left (parts.Delete path.now version) r) }
 {
     match inner_path(alloc, path)? {
-        Some(path) => read_removal(alloc, made, &path, view),
+        Some(path) => read_removal(alloc, left, path, version, view),
         None => Ok(nothing_read(alloc)),
     }
 }
 
 /// What a setData of a valid path reads: the node's record and counts.
-fn read_node(alloc: Global, made: Made, path: &Path) -> Result<PartRead, Memory>
-    requires { length path.now ≤ max_path }
-    ensures { IfOk result (λ r. (r.keys ≡ map key_bytes (about_path path.now)) × (r.made ≡ made)) }
+fn read_node(
+    alloc: Global,
+    left: Left,
+    path: Path,
+    version: i32,
+    view: &View,
+) -> Result<PartRead, Memory>
+    requires valid { IsTrue (is_path path) }
+    requires short { length path ≤ max_path }
+    requires few { IfSome left (λ changes. length changes ≤ max_parts) }
+    ensures { IfOk result (λ r. (r.keys ≡ map key_bytes (about_path path)) × IfLeft left (λ changes next. SetLeaves view.now changes path version next) r.left) }
 {
     let mut keys = Seq::new(alloc);
-    push_node(alloc, &mut keys, path)?;
-    Ok(PartRead { keys, made })
+    push_node(alloc, &mut keys, &path)?;
+    let left = set_leaves(alloc, view, left, path, version)?;
+    Ok(PartRead { keys, left })
 }
 
-fn read_set(alloc: Global, made: Made, path: &[u8]) -> Result<PartRead, Memory>
-    ensures { IfOk result (λ r. (id version : ℤ) (content : ByteList) (v : AnyView) → IsPartRead id v made (parts.SetData path.now content version) r) }
+fn read_set(
+    alloc: Global,
+    left: Left,
+    path: &[u8],
+    version: i32,
+    view: &View,
+) -> Result<PartRead, Memory>
+    requires few { IfSome left (λ changes. length changes ≤ max_parts) }
+    ensures { IfOk result (λ r. (id : ℤ) (content : ByteList) → IsPartRead id view.now left (parts.SetData path.now content version) r) }
 {
     match read_path(alloc, path, false)? {
-        Some(path) => read_node(alloc, made, &path),
+        Some(path) => read_node(alloc, left, path, version, view),
         None => Ok(nothing_read(alloc)),
     }
 }
 
 /// What a check of a valid path reads: the node's record.
-fn read_data(alloc: Global, made: Made, path: &Path) -> Result<PartRead, Memory>
-    requires { length path.now ≤ max_path }
-    ensures { IfOk result (λ r. (r.keys ≡ map key_bytes (DataKey path.now ∷ [])) × (r.made ≡ made)) }
+fn read_data(
+    alloc: Global,
+    left: Left,
+    path: &Path,
+    version: i32,
+    view: &View,
+) -> Result<PartRead, Memory>
+    requires valid { IsTrue (is_path path.now) }
+    requires short { length path.now ≤ max_path }
+    requires few { IfSome left (λ changes. length changes ≤ max_parts) }
+    ensures { IfOk result (λ r. (r.keys ≡ map key_bytes (DataKey path.now ∷ [])) × IfLeft left (λ changes next. CheckLeaves view.now changes path.now version next) r.left) }
 {
     let mut keys = Seq::new(alloc);
     keys.push(data_key(alloc, path.bytes())?)?;
-    Ok(PartRead { keys, made })
+    let left = check_leaves(alloc, view, left, path, version)?;
+    Ok(PartRead { keys, left })
 }
 
-fn read_check(alloc: Global, made: Made, path: &[u8]) -> Result<PartRead, Memory>
-    ensures { IfOk result (λ r. (id version : ℤ) (v : AnyView) → IsPartRead id v made (parts.Check path.now version) r) }
+fn read_check(
+    alloc: Global,
+    left: Left,
+    path: &[u8],
+    version: i32,
+    view: &View,
+) -> Result<PartRead, Memory>
+    requires few { IfSome left (λ changes. length changes ≤ max_parts) }
+    ensures { IfOk result (λ r. (id : ℤ) → IsPartRead id view.now left (parts.Check path.now version) r) }
 {
     match read_path(alloc, path, false)? {
-        Some(path) => read_data(alloc, made, &path),
+        Some(path) => read_data(alloc, left, &path, version, view),
         None => Ok(nothing_read(alloc)),
     }
 }
 
-/// What a part reads, after these nodes were made.
+/// What a part reads, and what it leaves of what the parts before it left.
 fn read_part(
     alloc: Global,
-    made: Made,
+    left: Left,
     part: &Part,
     session: i64,
     view: &View,
 ) -> Result<PartRead, Memory>
     requires real { pos 1 ≤ℤ session }
-    requires few { IfSome made (λ m. length m ≤ max_parts) }
-    ensures { IfOk result (IsPartRead session view.now made part.now) }
+    requires few { IfSome left (λ changes. length changes ≤ max_parts) }
+    ensures { IfOk result (IsPartRead session view.now left part.now) }
 {
     match part {
         Part::Create {
@@ -316,29 +347,23 @@ fn read_part(
             ..
         } => read_create(
             alloc,
-            made,
+            left,
             path.as_slice(),
             acl.as_slice(),
             *flags,
             session,
             view,
         ),
-        Part::Delete { path, .. } => read_delete(alloc, made, path.as_slice(), view),
-        Part::SetData { path, .. } => read_set(alloc, made, path.as_slice()),
-        Part::Check { path, .. } => read_check(alloc, made, path.as_slice()),
-    }
-}
-
-/// Whether all these keys were looked up.
-fn were_seen(view: &View, keys: &[Bytes]) -> bool
-    ensures { result ≡ list_all (λ k. is_some (seen view.now k)) keys.now }
-{
-    for key in keys {
-        if view.found(key.as_slice()).is_none() {
-            return false;
+        Part::Delete { path, version } => {
+            read_delete(alloc, left, path.as_slice(), *version, view)
+        }
+        Part::SetData { path, version, .. } => {
+            read_set(alloc, left, path.as_slice(), *version, view)
+        }
+        Part::Check { path, version } => {
+            read_check(alloc, left, path.as_slice(), *version, view)
         }
     }
-    true
 }
 
 /// Adds keys after others.
@@ -349,17 +374,6 @@ fn push_all(keys: &mut Seq<Bytes>, more: Seq<Bytes>) -> Result<(), Memory>
         keys.push(key)?;
     }
     Ok(())
-}
-
-/// Adds the keys that a part reads. Until the view shows all of them, the paths of the nodes made so far are not determined.
-fn push_part(keys: &mut Seq<Bytes>, part: PartRead, view: &View) -> Result<Made, Memory>
-    ensures keys { OnOk result (keys.new ≡ keys.old ++ part.keys) }
-    ensures made { IfOk result (λ next. next ≡ made_if_seen (list_all (λ k. is_some (seen view.now k)) part.keys) part.made) }
-{
-    let PartRead { keys: own, made } = part;
-    let seen = were_seen(view, own.as_slice());
-    push_all(keys, own)?;
-    if seen { Ok(made) } else { Ok(None) }
 }
 
 /// The keys that a multi reads: the head, the record of the session's life, and those that its parts read in turn.
@@ -374,10 +388,14 @@ pub(crate) fn keys_read(
     ensures { IfOk result (λ keys. (ks : ListOf AnyKey) × AreRead session view.now parts.now ks × (keys ≡ map key_bytes (keys_of_each session ++ ks))) }
 {
     let mut keys = start_keys(alloc, session)?;
-    let mut made = Some(Seq::new(alloc));
+    let mut left = Some(Seq::new(alloc));
     for part in parts {
-        let read = read_part(alloc, made, part, session, view)?;
-        made = push_part(&mut keys, read, view)?;
+        let PartRead {
+            keys: own,
+            left: next,
+        } = read_part(alloc, left, part, session, view)?;
+        push_all(&mut keys, own)?;
+        left = next;
     }
     Ok(keys)
 }

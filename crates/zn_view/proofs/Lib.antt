@@ -16,6 +16,7 @@ pub mod Members
 pub mod Named
 pub mod Narrowing
 pub mod Wanted
+pub mod LeftOnViews
 pub mod Sizes
 pub mod PlanSizes
 pub mod TakenPlans

@@ -3,6 +3,7 @@ pub mod Asks
 pub mod Adding
 pub mod Views
 pub mod Lookups
+pub mod Leaving
 pub mod Needs
 pub mod Lacking
 pub mod Indexing

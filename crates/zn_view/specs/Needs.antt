@@ -1,6 +1,5 @@
 -- What a request looks up before it can be decided, and what a finished draft is.
-use Rattle.std.specs.Prelude.{◌≡◌, ◌≢◌, ℕ, suc, ℤ, pos, nat_abs, ◌⊎◌, List, [], ◌∷◌, ◌++◌, map, fold, Option, Some, None, option_map, All, IsTrue, AllPairs, Contains, if◌then◌else◌, MatchBool}
-use Rattle.std.specs.List.{flat_map}
+use Rattle.std.specs.Prelude.{◌≡◌, ◌≢◌, ℕ, ℤ, pos, nat_abs, ◌⊎◌, List, [], ◌∷◌, map, Option, Some, None, IsTrue, AllPairs, Contains, if◌then◌else◌}
 use Rattle.std.specs.Ordering.{int_eq}
 use Rattle.ev_types.specs.declared.answer.Kv.{Kv}
 use Rattle.zk_model.specs.declared.node.Stat.{Stat}
@@ -14,11 +13,11 @@ use Rattle.zk_model.specs.declared.request.Part.{Part}
 use Rattle.zk_model.specs.declared.request.Part.TheVariants as part
 use Rattle.zk_model.specs.declared.request.Request.{Request}
 use Rattle.zk_model.specs.declared.request.Request.TheVariants as req
-use Rattle.zk_model.specs.Paths.{is_child, parent, sequence_path, with_one}
+use Rattle.zk_model.specs.Paths.{parent, sequence_path, with_one}
 use Rattle.zk_model.specs.Single.{form_refusal, is_sequential}
 use Rattle.zk_model.specs.Watches.{no_watches}
 use Rattle.zk_transcript.specs.Answers.{Told, plain_request}
-use Rattle.zx_base.specs.Maps.{Bytes, same}
+use Rattle.zx_base.specs.Maps.{Bytes}
 use Rattle.zn_layout.specs.declared.record.NodeRec.{NodeRec}
 use Rattle.zn_layout.specs.declared.record.CountRec.{CountRec}
 use Rattle.zn_layout.specs.Keys.{Key, DataKey, CountsKey, SessionKey, LeaseKey, key_bytes}
@@ -26,11 +25,13 @@ use Rattle.zn_layout.specs.Reading.{IsValueOf}
 use Rattle.zn_layout.specs.Records.{node_value, counts_value, session_value, IsNodeRec, IsCountRec, IsSessionRec}
 use Rattle.zn_view.specs.declared.want.Want.{Want}
 use Rattle.zn_view.specs.declared.want.Want.TheVariants as want
+use Rattle.zn_view.specs.declared.leaving.TreeChange.{TreeChange}
 use Rattle.zn_view.specs.declared.plan.Plan.{Plan}
 use Rattle.zn_view.specs.declared.plan.Who.{Who}
 use Rattle.zn_view.specs.Asks.{again_of, guards_of, head_want, picked}
+use Rattle.zn_view.specs.Leaving.{AreCountsNow, IsLeft}
 use Rattle.zn_view.specs.Seen.{View, seen, listed}
-use Rattle.zn_view.specs.Views.{part_reads, reads}
+use Rattle.zn_view.specs.Views.{reads}
 
 -- ---- the records that a view saw
 
@@ -66,54 +67,12 @@ IsCreatesSeen None creates = creates ≡ None
 IsCreatesSeen (Some None) creates = creates ≡ None
 IsCreatesSeen (Some (Some kv)) creates = (r : CountRec) × IsValueOf counts_value IsCountRec kv.value r × (creates ≡ Some (nat_abs r.creates))
 
--- The creates below q once one more node is made: one more where it is a child of q, and 0 where it is q itself.
-abbrev pub with_made : Bytes → Option ℕ → Bytes → Option ℕ
-with_made q creates p = if same p q then Some 0 else (if is_child q p then option_map suc creates else creates)
-
--- the creates below q once these nodes are made in turn
-abbrev pub creates_after : Option ℕ → Bytes → List Bytes → Option ℕ
-creates_after creates q made = fold (with_made q) creates made
-
--- a sequence node's path ends in the creates of its parent, where the view and the nodes made before determine them
-pub record IsNumbered (v : View) (made : List Bytes) (prefix p : Bytes) : Type 0 where
-  pub above : Bytes
-  pub below : parent (with_one prefix) ≡ Some above
-  pub first : Option ℕ
-  pub saw : IsCreatesSeen (seen v (key_bytes (CountsKey above))) first
-  pub number : ℕ
-  pub counted : creates_after first above made ≡ Some number
-  pub named : p ≡ sequence_path prefix number
-
--- the path of the node that a create makes: a numbered one where it is sequential, and otherwise its own
-abbrev pub IsPathMade : View → List Bytes → ℤ → Bytes → Bytes → Type 0
-IsPathMade v made flags path p = MatchBool (is_sequential flags) (IsNumbered v made path p) (p ≡ path)
-
--- the paths of the nodes that were made before, in turn, followed by that of the node that a part makes, if it makes one
-abbrev pub PartMakes : View → List Bytes → Part → List Bytes → Type 0
-PartMakes v before (part.Create path d a f) made = (p : Bytes) × IsPathMade v before f path p × (made ≡ before ++ p ∷ [])
-PartMakes v before _ made = made ≡ before
-
--- the paths of the nodes that parts make, of which the latest part comes first; the form of none is refused
-abbrev pub Makes : View → List Part → List Bytes → Type 0
-Makes v [] made = made ≡ []
-Makes v (p ∷ parts) made = (form_refusal p ≡ None) × (before : List Bytes) × Makes v parts before × PartMakes v before p made
-
--- where a part deletes a node, the nodes of its owner were looked up
-abbrev pub OwnerSeen : View → Part → Type 0
-OwnerSeen v (part.Delete p x) = (w : Want) → FollowsOwner v p w → IsLacking v w → ⊥
-OwnerSeen v _ = Unit {0}
-
--- all that these parts read was looked up, so that the view shows what they do
-pub record WereSeen (id : ℤ) (v : View) (parts : List Part) (made : List Bytes) : Type 0 where
-  pub keys : (k : Key) → Contains (flat_map (part_reads id) parts) k → seen v (key_bytes k) ≡ None → ⊥
-  pub nodes : (p : Bytes) → Contains made p → seen v (key_bytes (DataKey p)) ≡ None → ⊥
-  pub owners : All (OwnerSeen v) parts
-
 -- what follows for a part from the view and from the parts before it, the latest first: the nodes of the owner of a node that is
--- deleted; and the key of a sequence node, once the view shows all that the parts before read
+-- deleted; and the key of a sequence node, once all parts before it are carried out and its parent is there on what they leave
 abbrev pub FollowsPart : ℤ → View → List Part → Part → Want → Type 0
 FollowsPart id v before (part.Create path d a f) w =
-    IsTrue (is_sequential f) × (made : List Bytes) × Makes v before made × WereSeen id v before made × (p : Bytes) × IsNumbered v made path p × (w ≡ key_want (DataKey p))
+    IsTrue (is_sequential f) × (changes : List TreeChange) × IsLeft id v before (Some changes)
+    × (q : Bytes) × (parent (with_one path) ≡ Some q) × (counts : CountRec) × AreCountsNow v changes q (Some (Some counts)) × (w ≡ key_want (DataKey (sequence_path path (nat_abs counts.creates))))
 FollowsPart id v before (part.Delete p x) w = FollowsOwner v p w
 FollowsPart id v before _ w = ⊥
 

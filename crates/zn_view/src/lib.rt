@@ -12,10 +12,11 @@
 //!
 //! In `specs/`, in reading order: `Seen` (a view, and what it saw), `Asks` (the ranges that are read, and what their
 //! answers show), `Adding` (what a view takes), `Views` (which states a view is of, and what a decision and a plan are
-//! worth), `Needs` (what a request looks up), `Deciding` (what is asked of each decision), `Keeping` (what an update leaves,
-//! and which views are kept), `Lacking`, `Indexing`, `Laying`, `Lookups`, `Laws`. The laws are the functions of `laws`, and
-//! stand in `proofs/` by topic: `SeenAfter`, `Showing`, `AsSeen`, `Narrowing`, `Tested`, `Committing`, `Asked`, `After`,
-//! `Guarded`. A plan carries its update out if its changes are those of the update in each state whose keys have what the view
+//! worth), `Leaving` (what the parts of a multi leave), `Needs` (what a request looks up), `Deciding` (what is asked of each
+//! decision), `Keeping` (what an update leaves, and which views are kept), `Lacking`, `Indexing`, `Laying`, `Lookups`,
+//! `Laws`. The laws are the functions of `laws`, and stand in `proofs/` by topic: `SeenAfter`, `Showing`, `AsSeen`,
+//! `Narrowing`, `Tested`, `Committing`, `Asked`, `After`, `Guarded`, and `LeftOnViews` (a view determines what parts leave). A
+//! plan carries its update out if its changes are those of the update in each state whose keys have what the view
 //! saw ([`a_plan_commits`]); so that is what a request's crate shows.
 //!
 //! A look-up goes over the keys that were seen and copies no value; for many look-ups there is an index ([`View::index`]). Adding
@@ -31,6 +32,7 @@ mod keep;
 mod kind;
 mod lacking;
 mod laws;
+mod leaving;
 mod lookup;
 mod numbers;
 mod plan;
@@ -48,6 +50,7 @@ pub use laws::{
     children_are_listed, guarded_keys_are_as_seen, some_keys_are_enough, the_last_update_is_told,
     what_an_update_leaves, what_was_wanted_is_seen,
 };
+pub use leaving::{NodeNow, TreeChange};
 pub use numbers::{are_numbers, is_count};
 pub use plan::{Arm, Decision, Plan, Who};
 pub use round::{ranges, reading};

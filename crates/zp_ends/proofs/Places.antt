@@ -1,7 +1,7 @@
 -- What a request reads has so many places, of which each takes one key or one listing. A view that asks for something that is
 -- lacking fills one more of them, whatever the answers show: so a request asks only so often before nothing is lacking.
 use Rattle.std.proofs.Common.{◌≡◌, ℕ, zero, suc, ◌+◌, ◌*◌, ◌<◌, ◌≤◌, List, [], ◌∷◌, ◌++◌, length, refl, sym, ap, ◌∙◌, subst, arith, Bool, true, false, ℤ, inl, inr}
-use Rattle.std.specs.Prelude.{Option, Some, None, ◌⊎◌, ◌≢◌, MatchBool, filter, if◌then◌else◌, is_some, map, nat_abs, option_map, slice_get, take}
+use Rattle.std.specs.Prelude.{Option, Some, None, ◌⊎◌, ◌≢◌, filter, if◌then◌else◌, is_some, map, nat_abs, slice_get, take}
 use Rattle.std.specs.List.{flat_map}
 use Rattle.std.proofs.lemmas.List.{length-append, length-map}
 use Rattle.ev_types.specs.declared.answer.ActAns.{ActAns}
@@ -21,11 +21,14 @@ use Rattle.zn_layout.specs.Keys.{Key, CountsKey, DataKey, SessionKey, key_bytes}
 use Rattle.zn_layout.specs.Records.{counts_value, node_value, session_value}
 use Rattle.zn_layout.specs.declared.record.CountRec.{CountRec}
 use Rattle.zn_layout.specs.declared.record.NodeRec.{NodeRec}
+use Rattle.zn_view.proofs.LeftOnViews.{counts_still, left_still}
 use Rattle.zn_view.proofs.Members.{In, contains_in, in_left, in_mapped, in_right}
 use Rattle.zn_view.proofs.SeenAfter.{listed-with_parts, seen-with_parts, wanted-shown}
 use Rattle.zn_view.specs.Adding.{at_revision, is_new}
 use Rattle.zn_view.specs.Asks.{head_want, with_parts}
-use Rattle.zn_view.specs.Needs.{AreNeeds, Follows, FollowsFrom, FollowsOwner, FollowsPart, IsCreatesSeen, IsLacking, IsNumbered, IsPathMade, IsRead, Makes, PartMakes, SawCounts, SawNode, SawNodes, SawValue, creates_after, key_want, life_want, with_made}
+use Rattle.zn_view.specs.declared.leaving.TreeChange.{TreeChange}
+use Rattle.zn_view.specs.Leaving.{AreCountsNow}
+use Rattle.zn_view.specs.Needs.{AreNeeds, Follows, FollowsFrom, FollowsOwner, FollowsPart, IsLacking, IsRead, SawCounts, SawNode, SawNodes, SawValue, key_want, life_want}
 use Rattle.zn_view.specs.Seen.{View, listed, seen}
 use Rattle.zn_view.specs.Views.{about_parent, about_path, counts_of_parent, own_data, own_nodes, part_keys, part_reads, reads, valid}
 use Rattle.zn_view.specs.declared.plan.Who.{Who}
@@ -96,73 +99,15 @@ nodes-same v u id a b x h k = session_value-injective a b h.0 k.0 (saw-same v u 
 owner-same : (v u : View) (p : Bytes) (w t : Want) → Extends v u → FollowsOwner v p w → FollowsOwner u p t → w ≡ t
 owner-same v u p w t x (a, sa, na, wa) (b, sb, nb, wb) = wa ∙ ap (λ (r : NodeRec). key_want (SessionKey (nat_abs r.owner))) (node-same v u p a b x sa sb) ∙ sym wb
 
--- ---- the paths that a multi makes
-
--- known there, or not known yet
-abbrev Sooner : Option ℕ → Option ℕ → Type 0
-Sooner a b = (a ≡ None) ⊎ (a ≡ b)
-
-made-sooner : (q p : Bytes) (a b : Option ℕ) → Sooner a b → Sooner (with_made q a p) (with_made q b p)
-made-sooner q p a b (inr e) = inr (ap (λ o. with_made q o p) e)
-made-sooner q p a b (inl e) = go (same p q) (is_child q p)
-  where
-    go : (s t : Bool) → Sooner (if s then Some 0 else (if t then option_map suc a else a)) (if s then Some 0 else (if t then option_map suc b else b))
-    go true t = inr refl
-    go false true = inl (ap (option_map suc) e)
-    go false false = inl e
-
-after-sooner : (q : Bytes) (made : List Bytes) (a b : Option ℕ) → Sooner a b → Sooner (creates_after a q made) (creates_after b q made)
-after-sooner q [] a b h = h
-after-sooner q (p ∷ made) a b h = after-sooner q made (with_made q a p) (with_made q b p) (made-sooner q p a b h)
-
-seen-sooner : (v u : View) (k : Bytes) (a b : Option ℕ) → Extends v u → IsCreatesSeen (seen v k) a → IsCreatesSeen (seen u k) b → Sooner a b
-seen-sooner v u k a b x h g = go (seen v k) refl h
-  where
-    known : (kv : Kv) → IsCreatesSeen (Some (Some kv)) a → IsCreatesSeen (Some (Some kv)) b → a ≡ b
-    known kv (r, i, e) (t, j, f) = e ∙ ap (λ (y : CountRec). Some (nat_abs y.creates)) (counts_value-injective r t i.0 j.0 (sym i.1 ∙ j.1)) ∙ sym f
-
-    go : (o : Option (Option Kv)) → seen v k ≡ o → IsCreatesSeen o a → Sooner a b
-    go None e s = inl s
-    go (Some None) e s = inl s
-    go (Some (Some kv)) e s = inr (known kv s (subst (λ o. IsCreatesSeen o b) (x.keys k (Some kv) e) g))
-
-numbered-same : (v u : View) (made : List Bytes) (prefix p q : Bytes) → Extends v u → IsNumbered v made prefix p → IsNumbered u made prefix q → p ≡ q
-numbered-same v u made prefix p q x a b = a.named ∙ ap (sequence_path prefix) (go (after-sooner a.above made a.first b.first (seen-sooner v u (key_bytes (CountsKey a.above)) a.first b.first x a.saw saw))) ∙ sym b.named
-  where
-    above : b.above ≡ a.above
-    above = some_is (sym b.below ∙ a.below)
-
-    saw : IsCreatesSeen (seen u (key_bytes (CountsKey a.above))) b.first
-    saw = subst (λ y. IsCreatesSeen (seen u (key_bytes (CountsKey y))) b.first) above b.saw
-
-    counted : creates_after b.first a.above made ≡ Some b.number
-    counted = subst (λ y. creates_after b.first y made ≡ Some b.number) above b.counted
-
-    go : Sooner (creates_after a.first a.above made) (creates_after b.first a.above made) → a.number ≡ b.number
-    go (inl none) = absurd (none_some (sym none ∙ a.counted))
-    go (inr e) = some_is (sym a.counted ∙ e ∙ counted)
-
-path-same : (v u : View) (made : List Bytes) (flags : ℤ) (path p q : Bytes) → Extends v u → IsPathMade v made flags path p → IsPathMade u made flags path q → p ≡ q
-path-same v u made flags path p q x a b = go (is_sequential flags) a b
-  where
-    go : (s : Bool) → MatchBool s (IsNumbered v made path p) (p ≡ path) → MatchBool s (IsNumbered u made path q) (q ≡ path) → p ≡ q
-    go true h k = numbered-same v u made path p q x h k
-    go false h k = h ∙ sym k
-
-part-makes-same : (v u : View) (p : Part) (before a b : List Bytes) → Extends v u → PartMakes v before p a → PartMakes u before p b → a ≡ b
-part-makes-same v u (part.Create path d acl f) before a b x (p, i, e) (q, j, g) = e ∙ ap (λ y. before ++ y ∷ []) (path-same v u before f path p q x i j) ∙ sym g
-part-makes-same v u (part.Delete path n) before a b x h k = h ∙ sym k
-part-makes-same v u (part.SetData path d n) before a b x h k = h ∙ sym k
-part-makes-same v u (part.Check path n) before a b x h k = h ∙ sym k
-
-makes-same : (v u : View) (parts : List Part) (a b : List Bytes) → Extends v u → Makes v parts a → Makes u parts b → a ≡ b
-makes-same v u [] a b x h k = h ∙ sym k
-makes-same v u (p ∷ parts) a b x (n, before, m, h) (n', before', m', k) =
-    part-makes-same v u p before a b x h (subst (λ y. PartMakes u y p b) (sym (makes-same v u parts before before' x m m')) k)
+-- ---- what follows for a part of a multi
 
 part-same : (id : ℤ) (v u : View) (before : List Part) (p : Part) (w t : Want) → Extends v u → FollowsPart id v before p w → FollowsPart id u before p t → w ≡ t
-part-same id v u before (part.Create path d acl f) w t x (s, made, m, all, p, n, e) (s', made', m', all', q, n', e') =
-    e ∙ ap (λ y. key_want (DataKey y)) (numbered-same v u made path p q x n (subst (λ y. IsNumbered u y path q) (sym (makes-same v u before made made' x m m')) n')) ∙ sym e'
+part-same id v u before (part.Create path d acl f) w t x (s, changes, l, q, below, c, counted, e) (s', changes', l', q', below', c', counted', e') =
+    let same_q : q' ≡ q = some_is (sym below' ∙ below) in
+    let same : changes' ≡ changes = some_is (left_still v u x.keys id before changes (Some changes') l l') in
+    let there : AreCountsNow u changes q (Some (Some c')) = subst (λ (y : List TreeChange × Bytes). AreCountsNow u y.0 y.1 (Some (Some c'))) (λ i. (same i, same_q i)) counted' in
+    let same_c : c' ≡ c = some_is (some_is (counts_still v u x.keys changes q c (Some (Some c')) counted there)) in
+    e ∙ ap (λ (y : CountRec). key_want (DataKey (sequence_path path (nat_abs y.creates)))) (sym same_c) ∙ sym e'
 part-same id v u before (part.Delete path n) w t x h k = owner-same v u path w t x h k
 part-same id v u before (part.SetData path d n) w t x h k = absurd h
 part-same id v u before (part.Check path n) w t x h k = absurd h

@@ -11,11 +11,11 @@ loop-part-preserved c =
     let i : ℕ = c.loop-part.part-index in
     let parts : List Part = c.args.parts.now in
     let here : drop i parts ≡ c.part-item.result ∷ drop (i + 1) parts = drop_more parts i c.part-item.result c.loop-part-test.true ∙ ap (λ (p : Part). p ∷ drop (i + 1) parts) (sym c.part-item.is) in
-    part_behind _ c.args.view.now parts i c.part-item.result c.loop-part.made c.loop-part.keys c.in_ok-read.read c.push_part.new.keys c.in_ok-made.made here c.in_ok-read.ensures c.in_ok-made.ensures.keys c.in_ok-made.ensures.made c.loop-part.invariant
+    part_behind _ c.args.view.now parts i c.part-item.result c.loop-part.left c.loop-part.keys _ c.push_all.new.keys here c.in_ok-own.ensures c.in_ok-push_all.ensures c.loop-part.invariant
 
 pub returns : goal.returns
 returns c =
     let fits : SFits w64 c.args.session = search rules in
     let session = to_z-of_z w64 _ fits in
-    let h : IsBehind c.args.session c.args.view.now c.args.parts.now c.loop-part.part-index c.loop-part.made c.loop-part.keys = subst (λ (id : ℤ). IsBehind id c.args.view.now c.args.parts.now c.loop-part.part-index c.loop-part.made c.loop-part.keys) session c.loop-part.invariant in
-    all_behind c.args.session c.args.view.now c.args.parts.now c.loop-part.part-index c.loop-part.made c.loop-part.keys (drop_all c.loop-part.part-index c.args.parts.now c.loop-part-test.false) h
+    let h : IsBehind c.args.session c.args.view.now c.args.parts.now c.loop-part.part-index c.loop-part.left c.loop-part.keys = subst (λ (id : ℤ). IsBehind id c.args.view.now c.args.parts.now c.loop-part.part-index c.loop-part.left c.loop-part.keys) session c.loop-part.invariant in
+    all_behind c.args.session c.args.view.now c.args.parts.now c.loop-part.part-index c.loop-part.left c.loop-part.keys (drop_all c.loop-part.part-index c.args.parts.now c.loop-part-test.false) h

@@ -10,7 +10,7 @@ use Rattle.zk_model.specs.Single.{is_ephemeral, is_sequential, named}
 use Rattle.zx_base.specs.Maps.{Bytes}
 use Rattle.zn_updates.proofs.CreateClauses.{form_at}
 use Rattle.zn_updates.proofs.Forms.{create_path_valid}
-use Rattle.zn_multi.specs.Reading.{IsCreateRead, IsReadBy, Made}
+use Rattle.zn_multi.specs.Reading.{IsCreateRead, IsReadBy, Left}
 use Rattle.zn_multi.proofs.ReadKeys.{formed_read, refused_read}
 use Rattle.zn_multi.proofs.reading.read_create.Goals as goal
 
@@ -44,8 +44,8 @@ returns-in-Valid c =
     let up : parent c.in-Valid.named ≡ parent (named c.args.flags c.args.path.now) = ap parent form.0 in record {
       own = is.0;
       keys = is.1;
-      read = formed_read c.args.session c.args.view.now c.args.made (parts.Create c.args.path.now content c.args.acl.now c.args.flags) is.0 r.made form.1
-          (subst (λ (t : ℤ × Bool × Bool × Option Bytes). IsCreateRead t.0 c.args.view.now c.args.made c.args.path.now t.1 t.2 t.3 is.0 r.made) (λ i. (session i, sequential i, ephemeral i, up i)) is.2);
+      read = formed_read c.args.session c.args.view.now c.args.left (parts.Create c.args.path.now content c.args.acl.now c.args.flags) is.0 r.left form.1
+          (subst (λ (t : ℤ × Bool × Bool × Option Bytes). IsCreateRead t.0 c.args.view.now c.args.left c.args.path.now t.1 t.2 t.3 is.0 r.left) (λ i. (session i, sequential i, ephemeral i, up i)) is.2);
     }) c.read_named.ensures
 
 pub returns-in-Refused : goal.returns-in-Refused
@@ -54,6 +54,6 @@ returns-in-Refused c = λ content.
     let form = form_at c.args.path.now c.args.acl.now c.args.flags _ _ _ (to_z-of_z w32 _ fits) c.in-Refused.is c.in_ok-named.ensures content in record {
       own = [];
       keys = c.nothing_read.ensures.keys;
-      read = subst (λ (n : Made). IsReadBy c.args.session c.args.view.now c.args.made (parts.Create c.args.path.now content c.args.acl.now c.args.flags) [] n) (sym c.nothing_read.ensures.made)
-          (refused_read c.args.session c.args.view.now c.args.made (parts.Create c.args.path.now content c.args.acl.now c.args.flags) c.in-Refused.field-0 form);
+      read = subst (λ (n : Left). IsReadBy c.args.session c.args.view.now c.args.left (parts.Create c.args.path.now content c.args.acl.now c.args.flags) [] n) (sym c.nothing_read.ensures.left)
+          (refused_read c.args.session c.args.view.now c.args.left (parts.Create c.args.path.now content c.args.acl.now c.args.flags) c.in-Refused.field-0 form);
     }

@@ -5,11 +5,13 @@ use mir.Val.{SFits}
 use Rattle.zk_model.specs.Limits.{max_path}
 use Rattle.zk_model.specs.Paths.{is_path, parent}
 use Rattle.zx_base.specs.Maps.{Bytes}
+use Rattle.zn_layout.specs.declared.record.CountRec.{CountRec}
 use Rattle.zn_layout.specs.Keys.{key_bytes}
 use Rattle.zn_layout.proofs.Paths.{path_short}
+use Rattle.zn_view.specs.Leaving.{node_path}
 use Rattle.zn_view.specs.Views.{about_parent}
 use Rattle.zn_updates.specs.KeysRead.{plain_data, session_nodes}
-use Rattle.zn_multi.specs.Reading.{create_reads, sequence_data, IsNodePath}
+use Rattle.zn_multi.specs.Reading.{create_reads, sequence_data, AreCountsAbove, IsCreateLeft}
 use Rattle.zn_multi.proofs.ReadKeys.{keys_behind}
 use Rattle.zn_multi.proofs.reading.read_named.Goals as goal
 
@@ -30,6 +32,7 @@ push_data-requires c =
 pub returns : goal.returns
 returns c =
     let fits : SFits w64 c.args.session = search rules in
+    let session = to_z-of_z w64 _ fits in
     let path : Bytes = c.args.path.now in
     let above : Option Bytes = c.in_ok-parent.parent in
     let up : above ≡ parent c.args.named = c.in_ok-parent.ensures.parent in
@@ -37,16 +40,17 @@ returns c =
     let first : c.push_parent.new.keys ≡ map key_bytes (about_parent above) = c.in_ok-push_parent.ensures ∙ ap (λ (l : List Bytes). l ++ map key_bytes (about_parent above)) c.new-keys.ensures in
     let second = keys_behind _ (about_parent above) (plain_data c.args.sequential path) _ first c.in_ok-push_data.ensures in
     let own : c.push_session.new.keys ≡ c.push_data.new.keys ++ map key_bytes (session_nodes c.args.ephemeral c.args.session) =
-    subst (λ (o : ℤ). c.push_session.new.keys ≡ c.push_data.new.keys ++ map key_bytes (session_nodes c.args.ephemeral o)) (to_z-of_z w64 _ fits) c.in_ok-push_session.ensures in
+    subst (λ (o : ℤ). c.push_session.new.keys ≡ c.push_data.new.keys ++ map key_bytes (session_nodes c.args.ephemeral o)) session c.in_ok-push_session.ensures in
     let third = keys_behind _ (about_parent above ++ plain_data c.args.sequential path) (session_nodes c.args.ephemeral c.args.session) _ second own in
     let last = keys_behind _ ((about_parent above ++ plain_data c.args.sequential path) ++ session_nodes c.args.ephemeral c.args.session) (sequence_data c.args.sequential node) _ third c.in_ok-push_sequence.ensures in
-    let kept : c.keys-4.inside.items.items ≡ c.push_sequence.new.keys = cc in (
+    let counts : Option (Option CountRec) = c.in_ok-counts.counts in
+    let named_is : node ≡ node_path c.args.sequential path counts = c.in_ok-node.ensures in (
       create_reads c.args.session path c.args.sequential c.args.ephemeral above node,
-      kept ∙ last,
+      last,
       record {
-        node = node;
-        path_is = subst (λ (o : Option Bytes). IsNodePath c.args.view.now c.args.made c.args.sequential path o node) up c.in_ok-node.ensures;
-        keys = ap (λ (o : Option Bytes). create_reads c.args.session path c.args.sequential c.args.ephemeral o node) up;
-        next_is = c.in_ok-with_path.ensures;
+        counts = counts;
+        counts_are = subst (λ (o : Option Bytes). AreCountsAbove c.args.view.now c.args.left o counts) up c.in_ok-counts.ensures;
+        keys = λ i. create_reads c.args.session path c.args.sequential c.args.ephemeral (up i) (named_is i);
+        next_is = subst (λ (x : ℤ × Option Bytes × Option Bytes). IsCreateLeft c.args.view.now c.args.left c.args.ephemeral x.0 x.1 counts x.2 c.in_ok-left.left) (λ i. (session i, up i, named_is i)) c.in_ok-left.ensures;
       },
     )

@@ -15,20 +15,26 @@ returns-in-Create c =
     let session_fits : SFits w64 c.args.session = search rules in
     let flags = to_z-of_z w32 _ flags_fit in
     let session = to_z-of_z w64 _ session_fits in
-    IfOk-weaker c.read_create.result _ _ (λ r is. subst (λ (p : Part). IsPartRead c.args.session c.args.view.now c.args.made p r) (sym c.in-Create.is)
-    (subst (λ (t : ℤ × Bytes × List Acl × ℤ). IsPartRead t.0 c.args.view.now c.args.made (parts.Create t.1 c.in-Create.content t.2 t.3) r) (λ i. (session i, c.as_slice.ensures i, c.as_slice-in-Create.ensures i, flags i)) (is c.in-Create.content))) c.read_create.ensures
+    IfOk-weaker c.read_create.result _ _ (λ r is. subst (λ (p : Part). IsPartRead c.args.session c.args.view.now c.args.left p r) (sym c.in-Create.is)
+    (subst (λ (t : ℤ × Bytes × List Acl × ℤ). IsPartRead t.0 c.args.view.now c.args.left (parts.Create t.1 c.in-Create.content t.2 t.3) r) (λ i. (session i, c.as_slice.ensures i, c.as_slice-in-Create.ensures i, flags i)) (is c.in-Create.content))) c.read_create.ensures
 
 pub returns-in-Delete : goal.returns-in-Delete
 returns-in-Delete c =
-    IfOk-weaker c.read_delete.result _ _ (λ r is. subst (λ (p : Part). IsPartRead c.args.session c.args.view.now c.args.made p r) (sym c.in-Delete.is)
-    (subst (λ (path : Bytes). IsPartRead c.args.session c.args.view.now c.args.made (parts.Delete path c.in-Delete.version) r) c.as_slice-in-Delete.ensures (is c.args.session c.in-Delete.version))) c.read_delete.ensures
+    let fits : SFits w32 c.in-Delete.version = search rules in
+    let version = to_z-of_z w32 _ fits in
+    IfOk-weaker c.read_delete.result _ _ (λ r is. subst (λ (p : Part). IsPartRead c.args.session c.args.view.now c.args.left p r) (sym c.in-Delete.is)
+    (subst (λ (t : Bytes × ℤ). IsPartRead c.args.session c.args.view.now c.args.left (parts.Delete t.0 t.1) r) (λ i. (c.as_slice-in-Delete.ensures i, version i)) (is c.args.session))) c.read_delete.ensures
 
 pub returns-in-SetData : goal.returns-in-SetData
 returns-in-SetData c =
-    IfOk-weaker c.read_set.result _ _ (λ r is. subst (λ (p : Part). IsPartRead c.args.session c.args.view.now c.args.made p r) (sym c.in-SetData.is)
-    (subst (λ (path : Bytes). IsPartRead c.args.session c.args.view.now c.args.made (parts.SetData path c.in-SetData.content c.in-SetData.version) r) c.as_slice-in-SetData.ensures (is c.args.session c.in-SetData.version c.in-SetData.content c.args.view.now))) c.read_set.ensures
+    let fits : SFits w32 c.in-SetData.version = search rules in
+    let version = to_z-of_z w32 _ fits in
+    IfOk-weaker c.read_set.result _ _ (λ r is. subst (λ (p : Part). IsPartRead c.args.session c.args.view.now c.args.left p r) (sym c.in-SetData.is)
+    (subst (λ (t : Bytes × ℤ). IsPartRead c.args.session c.args.view.now c.args.left (parts.SetData t.0 c.in-SetData.content t.1) r) (λ i. (c.as_slice-in-SetData.ensures i, version i)) (is c.args.session c.in-SetData.content))) c.read_set.ensures
 
 pub returns-in-Check : goal.returns-in-Check
 returns-in-Check c =
-    IfOk-weaker c.read_check.result _ _ (λ r is. subst (λ (p : Part). IsPartRead c.args.session c.args.view.now c.args.made p r) (sym c.in-Check.is)
-    (subst (λ (path : Bytes). IsPartRead c.args.session c.args.view.now c.args.made (parts.Check path c.in-Check.version) r) c.as_slice-in-Check.ensures (is c.args.session c.in-Check.version c.args.view.now))) c.read_check.ensures
+    let fits : SFits w32 c.in-Check.version = search rules in
+    let version = to_z-of_z w32 _ fits in
+    IfOk-weaker c.read_check.result _ _ (λ r is. subst (λ (p : Part). IsPartRead c.args.session c.args.view.now c.args.left p r) (sym c.in-Check.is)
+    (subst (λ (t : Bytes × ℤ). IsPartRead c.args.session c.args.view.now c.args.left (parts.Check t.0 t.1) r) (λ i. (c.as_slice-in-Check.ensures i, version i)) (is c.args.session))) c.read_check.ensures

@@ -1,0 +1,9 @@
+-- A valid path is short.
+use Rattle.std.proofs.Common.{◌≤◌, length, sym, subst}
+use Rattle.zk_model.specs.Limits.{max_path}
+use Rattle.zn_layout.proofs.Paths.{path_short}
+use Rattle.zx_base.specs.Maps.{Bytes}
+use Rattle.zn_multi.proofs.leaving.counts_shown.Goals as goal
+
+pub counts_at-requires-clause-short : goal.counts_at-requires-clause-short
+counts_at-requires-clause-short c = subst (λ (p : Bytes). length p ≤ max_path) (sym c.bytes.ensures) (path_short c.args.path.now c.requires.valid)

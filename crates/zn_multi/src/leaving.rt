@@ -1,0 +1,597 @@
+//! What the parts of a multi leave, as far as later parts look at it. It tells, before all is looked up, whether the parts are
+//! carried out and which number a sequence node gets.
+
+ghost use Rattle.std.specs.Prelude.{◌≡◌, ◌&&◌, not, if◌then◌else◌, ◌≤◌, ◌<◌, ◌+◌, ◌^◌, ◌≤ℤ◌, ◌+ℤ◌, pos, negsuc, nat_abs, length, option_map, ◌<ℤ◌, ℕ, Option, Some, None, is_some, IfOk, IfSome, IsTrue};
+ghost use Rattle.std.specs.List.{list_all};
+ghost use Rattle.std.specs.Ordering.{int_eq};
+ghost use Rattle.zk_model.specs.Limits.{max_parts, max_path, max_version};
+ghost use Rattle.zk_model.specs.Paths.{is_path, parent as parent_of};
+ghost use Rattle.zn_layout.specs.Keys.{DataKey, CountsKey, SessionKey, key_bytes};
+ghost use Rattle.zk_model.specs.Single.{matches as matches_version};
+ghost use Rattle.zn_layout.specs.Records.{IsCountRec};
+ghost use Rattle.zn_view.specs.declared.leaving.NodeNow.{NodeNow as AnyNode};
+ghost use Rattle.zn_view.specs.declared.leaving.TreeChange.TheVariants as changed;
+ghost use Rattle.zn_multi.specs.Reading.{AreSmall, IfLeft};
+ghost use Rattle.zn_view.specs.Leaving.{set_once as set_once_more, one_child_more as one_more, one_child_less as one_less, node_with as node_with_change, counts_with as counts_with_change, owned_with as owned_with_change, node_after as node_after_all, counts_after as counts_after_all, owned_after as owned_after_all, with_change as with_one_change, create_change as change_of_create, delete_change as change_of_delete, set_change as change_of_set, is_checked as is_checked_in, is_owner_seen as is_owner_seen_in, node_path as path_of_node, owner_of as owner_for, are_seen as are_seen_in, IsNodeShown, AreCountsShown, IsOwnedShown, IsNodeNow, AreCountsNow, IsOwnedNow, IsOwnedFor, NodeLeaves, DeleteLeaves, SetLeaves, CheckLeaves};
+ghost use Rattle.zn_view.specs.Lookups.{HasSeen, sees};
+ghost use Rattle.zn_view.specs.Seen.{seen};
+ghost use Rattle.zn_view.specs.Views.{counts_of_parent};
+
+use std::alloc::Global;
+use zk_model::Path;
+use zk_model::limit::{MAX_CREATES, MAX_OWNED};
+use zn_layout::{CountRec, counts_key, data_key, session_key};
+use zn_view::{NodeNow, TreeChange, View};
+use zx_base::{Memory, Seq};
+
+/// The greatest version of a node's data, an int.
+const MAX_VERSION: i64 = i32::MAX as i64;
+
+/// The changes of the tree that the parts so far make, in turn: none where one of them is not carried out, or where the view does
+/// not show yet whether it is.
+pub(crate) type Left = Option<Seq<TreeChange>>;
+
+/// The node with its data set once more.
+fn set_once(node: Option<Option<NodeNow>>) -> Option<Option<NodeNow>>
+    requires { IfSome node (λ o. IfSome o (λ n. n.version <ℤ pos (2 ^ 62))) }
+    ensures { result ≡ option_map (option_map set_once_more) node }
+{
+    match node {
+        Some(Some(node)) => Some(Some(NodeNow {
+            version: node.version + 1,
+            owner: node.owner,
+        })),
+        Some(None) => Some(None),
+        None => None,
+    }
+}
+
+/// The node at a path after one change more.
+fn node_with(
+    node: Option<Option<NodeNow>>,
+    path: &Path,
+    change: &TreeChange,
+) -> Option<Option<NodeNow>>
+    requires { IfSome node (λ o. IfSome o (λ n. n.version <ℤ pos (2 ^ 62))) }
+    ensures { result ≡ node_with_change path.now node change.now }
+{
+    match change {
+        TreeChange::Created { path: other, owner } => {
+            if other.bytes() != path.bytes() {
+                return node;
+            }
+            Some(Some(NodeNow {
+                version: 0,
+                owner: *owner,
+            }))
+        }
+        TreeChange::Deleted { path: other, .. } => {
+            if other.bytes() != path.bytes() {
+                return node;
+            }
+            Some(None)
+        }
+        TreeChange::DataSet(other) => {
+            if other.bytes() != path.bytes() {
+                return node;
+            }
+            set_once(node)
+        }
+    }
+}
+
+/// The node at a path after these changes.
+fn node_after(
+    changes: &[TreeChange],
+    path: &Path,
+    node: Option<Option<NodeNow>>,
+) -> Option<Option<NodeNow>>
+    requires few { length changes.now ≤ max_parts }
+    requires within { IfSome node (λ o. IfSome o (λ n. n.version ≤ℤ max_version)) }
+    ensures { result ≡ node_after_all changes.now path.now node }
+{
+    let mut node = node;
+    for change in changes {
+        node = node_with(node, path, change);
+    }
+    node
+}
+
+/// Counts with one child more.
+fn one_child_more(counts: Option<Option<CountRec>>) -> Option<Option<CountRec>>
+    requires { IfSome counts (λ o. IfSome o AreSmall) }
+    ensures { result ≡ option_map (option_map one_more) counts }
+{
+    match counts {
+        Some(Some(counts)) => Some(Some(CountRec {
+            creates: counts.creates + 1,
+            children: counts.children + 1,
+        })),
+        Some(None) => Some(None),
+        None => None,
+    }
+}
+
+/// Counts with one child less.
+fn one_child_less(counts: Option<Option<CountRec>>) -> Option<Option<CountRec>>
+    requires { IfSome counts (λ o. IfSome o AreSmall) }
+    ensures { result ≡ option_map (option_map one_less) counts }
+{
+    match counts {
+        Some(Some(counts)) => Some(Some(CountRec {
+            creates: counts.creates,
+            children: (counts.children as u32).saturating_sub(1) as i32,
+        })),
+        Some(None) => Some(None),
+        None => None,
+    }
+}
+
+/// The counts of the node at a path after one change more.
+fn counts_with(
+    counts: Option<Option<CountRec>>,
+    path: &Path,
+    change: &TreeChange,
+) -> Option<Option<CountRec>>
+    requires { IfSome counts (λ o. IfSome o AreSmall) }
+    ensures { result ≡ counts_with_change path.now counts change.now }
+{
+    match change {
+        TreeChange::Created { path: other, .. } => {
+            if other.bytes() == path.bytes() {
+                return Some(Some(CountRec {
+                    creates: 0,
+                    children: 0,
+                }));
+            }
+            if !other.is_child_of(path.bytes()) {
+                return counts;
+            }
+            one_child_more(counts)
+        }
+        TreeChange::Deleted { path: other, .. } => {
+            if other.bytes() == path.bytes() {
+                return Some(None);
+            }
+            if !other.is_child_of(path.bytes()) {
+                return counts;
+            }
+            one_child_less(counts)
+        }
+        TreeChange::DataSet(_) => counts,
+    }
+}
+
+/// The counts of the node at a path after these changes.
+fn counts_after(
+    changes: &[TreeChange],
+    path: &Path,
+    counts: Option<Option<CountRec>>,
+) -> Option<Option<CountRec>>
+    requires few { length changes.now ≤ max_parts }
+    requires within { IfSome counts (λ o. IfSome o IsCountRec) }
+    ensures { result ≡ counts_after_all changes.now path.now counts }
+{
+    let mut counts = counts;
+    for change in changes {
+        counts = counts_with(counts, path, change);
+    }
+    counts
+}
+
+/// How many nodes a session owns after one change more.
+fn owned_with(owned: usize, session: i64, change: &TreeChange) -> usize
+    requires { owned < 2 ^ 62 }
+    ensures { result ≡ owned_with_change session owned change.now }
+{
+    match change {
+        TreeChange::Created { owner, .. } => { if *owner == session { owned + 1 } else { owned } }
+        TreeChange::Deleted { owner, .. } => {
+            if *owner == session {
+                owned.saturating_sub(1)
+            } else {
+                owned
+            }
+        }
+        TreeChange::DataSet(_) => owned,
+    }
+}
+
+/// How many nodes a session owns after these changes.
+fn owned_after(changes: &[TreeChange], session: i64, owned: usize) -> usize
+    requires few { length changes.now ≤ max_parts }
+    requires within { owned < 2 ^ 31 }
+    ensures { result ≡ owned_after_all changes.now session owned }
+{
+    let mut owned = owned;
+    for change in changes {
+        owned = owned_with(owned, session, change);
+    }
+    owned
+}
+
+/// The node that the view shows. Its key was looked up.
+fn node_shown(view: &View, path: &Path) -> Result<Option<NodeNow>, Memory>
+    requires valid { IsTrue (is_path path.now) }
+    requires seen { HasSeen view.now (DataKey path.now) }
+    ensures is { IfOk result (λ n. IsNodeShown (sees view.now (DataKey path.now)) (Some n)) }
+    ensures within { IfOk result (λ o. IfSome o (λ n. n.version ≤ℤ max_version)) }
+{
+    let Some((node, _)) = view.node_at(path.bytes())? else {
+        return Ok(None);
+    };
+    Ok(Some(NodeNow {
+        version: i64::from(node.version),
+        owner: node.owner,
+    }))
+}
+
+/// The node at a path after these changes; none where neither they nor the view tell.
+fn node_now(
+    alloc: Global,
+    view: &View,
+    changes: &[TreeChange],
+    path: &Path,
+) -> Result<Option<Option<NodeNow>>, Memory>
+    requires valid { IsTrue (is_path path.now) }
+    requires few { length changes.now ≤ max_parts }
+    ensures { IfOk result (IsNodeNow view.now changes.now path.now) }
+{
+    let key = data_key(alloc, path.bytes())?;
+    let shown = match view.found(key.as_slice()) {
+        Some(_) => Some(node_shown(view, path)?),
+        None => None,
+    };
+    Ok(node_after(changes, path, shown))
+}
+
+/// The counts that the view shows. Their key was looked up.
+fn counts_shown(view: &View, path: &Path) -> Result<Option<CountRec>, Memory>
+    requires valid { IsTrue (is_path path.now) }
+    requires seen { HasSeen view.now (CountsKey path.now) }
+    ensures is { IfOk result (λ c. AreCountsShown (sees view.now (CountsKey path.now)) (Some c)) }
+    ensures within { IfOk result (λ o. IfSome o IsCountRec) }
+{
+    match view.counts_at(path.bytes())? {
+        Some((counts, _)) => Ok(Some(counts)),
+        None => Ok(None),
+    }
+}
+
+/// The counts of the node at a path after these changes; none where neither they nor the view tell.
+pub(crate) fn counts_now(
+    alloc: Global,
+    view: &View,
+    changes: &[TreeChange],
+    path: &Path,
+) -> Result<Option<Option<CountRec>>, Memory>
+    requires valid { IsTrue (is_path path.now) }
+    requires few { length changes.now ≤ max_parts }
+    ensures { IfOk result (AreCountsNow view.now changes.now path.now) }
+{
+    let key = counts_key(alloc, path.bytes())?;
+    let shown = match view.found(key.as_slice()) {
+        Some(_) => Some(counts_shown(view, path)?),
+        None => None,
+    };
+    Ok(counts_after(changes, path, shown))
+}
+
+/// How many nodes the view shows that a session owns. The key of their list was looked up.
+fn owned_shown(view: &View, session: i64) -> Result<usize, Memory>
+    requires real { pos 1 ≤ℤ session }
+    requires seen { HasSeen view.now (SessionKey (nat_abs session)) }
+    ensures is { IfOk result (λ n. IsOwnedShown (sees view.now (SessionKey (nat_abs session))) (Some n)) }
+    ensures within { IfOk result (λ n. n < 2 ^ 31) }
+{
+    match view.nodes_of(session)? {
+        Some(nodes) => Ok(nodes.paths.len()),
+        None => Ok(0),
+    }
+}
+
+/// How many nodes a session owns after these changes; none where the view does not show it.
+fn owned_now(
+    alloc: Global,
+    view: &View,
+    changes: &[TreeChange],
+    session: i64,
+) -> Result<Option<usize>, Memory>
+    requires real { pos 1 ≤ℤ session }
+    requires few { length changes.now ≤ max_parts }
+    ensures { IfOk result (IsOwnedNow view.now changes.now session) }
+{
+    let key = session_key(alloc, session)?;
+    if view.found(key.as_slice()).is_none() {
+        return Ok(None);
+    }
+    Ok(Some(owned_after(changes, session, owned_shown(view, session)?)))
+}
+
+/// How many nodes the session owns, if a new node is to be one of them; 0 otherwise.
+fn owned_for(
+    alloc: Global,
+    view: &View,
+    changes: &[TreeChange],
+    session: i64,
+    ephemeral: bool,
+) -> Result<Option<usize>, Memory>
+    requires real { pos 1 ≤ℤ session }
+    requires few { length changes.now ≤ max_parts }
+    ensures { IfOk result (IsOwnedFor view.now changes.now ephemeral session) }
+{
+    if !ephemeral {
+        return Ok(Some(0));
+    }
+    owned_now(alloc, view, changes, session)
+}
+
+/// The changes with one more; none where that is none.
+fn with_change(changes: Seq<TreeChange>, change: Option<TreeChange>) -> Result<Left, Memory>
+    ensures { IfOk result (λ next. next ≡ with_one_change changes change) }
+{
+    let Some(change) = change else {
+        return Ok(None);
+    };
+    let mut changes = changes;
+    changes.push(change)?;
+    Ok(Some(changes))
+}
+
+/// A create's change.
+fn create_change(
+    path: Path,
+    owner: i64,
+    up: Option<Option<NodeNow>>,
+    counts: Option<Option<CountRec>>,
+    there: Option<Option<NodeNow>>,
+    owned: Option<usize>,
+) -> Option<TreeChange>
+    ensures { result ≡ change_of_create path owner up counts there owned }
+{
+    let Some(Some(up)) = up else {
+        return None;
+    };
+    let Some(Some(counts)) = counts else {
+        return None;
+    };
+    let Some(None) = there else {
+        return None;
+    };
+    let Some(owned) = owned else {
+        return None;
+    };
+    if up.owner == 0 && (counts.creates != MAX_CREATES && owned < MAX_OWNED) {
+        return Some(TreeChange::Created { path, owner });
+    }
+    None
+}
+
+/// The owner of a create's node: 0 where it is not ephemeral.
+fn owner_of(ephemeral: bool, session: i64) -> i64
+    ensures { result ≡ owner_for ephemeral session }
+{
+    if ephemeral { session } else { 0 }
+}
+
+/// What a create below a parent leaves, by the path of its node, if that is known.
+pub(crate) fn create_leaves(
+    alloc: Global,
+    view: &View,
+    changes: Seq<TreeChange>,
+    session: i64,
+    ephemeral: bool,
+    parent: &Path,
+    counts: Option<Option<CountRec>>,
+    node: Option<Path>,
+) -> Result<Left, Memory>
+    requires real { pos 1 ≤ℤ session }
+    requires parent { IsTrue (is_path parent.now) }
+    requires valid { IfSome node (λ p. IsTrue (is_path p)) }
+    requires few { length changes ≤ max_parts }
+    ensures { IfOk result (λ next. (up : Option (Option AnyNode)) × IsNodeNow view.now changes parent.now up × NodeLeaves view.now changes ephemeral session up counts node next) }
+{
+    let up = node_now(alloc, view, changes.as_slice(), parent)?;
+    let Some(node) = node else {
+        return Ok(None);
+    };
+    let there = node_now(alloc, view, changes.as_slice(), &node)?;
+    let owned = owned_for(alloc, view, changes.as_slice(), session, ephemeral)?;
+    let owner = owner_of(ephemeral, session);
+    with_change(
+        changes,
+        create_change(node, owner, up, counts, there, owned),
+    )
+}
+
+/// Whether a version that was asked for is this one; -1 is any.
+fn matches(asked: i32, version: i64) -> bool
+    ensures { result ≡ matches_version asked version }
+{
+    asked == -1 || i64::from(asked) == version
+}
+
+/// Whether the counts of a node's parent were looked up, if it has one.
+fn is_parent_seen(alloc: Global, view: &View, path: &Path) -> Result<bool, Memory>
+    requires { length path.now ≤ max_path }
+    ensures { IfOk result (λ seen. seen ≡ are_seen_in view.now (counts_of_parent (parent_of path.now))) }
+{
+    match path.parent(alloc)? {
+        Some(parent) => {
+            let key = counts_key(alloc, parent.bytes())?;
+            Ok(view.found(key.as_slice()).is_some())
+        }
+        None => Ok(true),
+    }
+}
+
+/// Whether the list of the nodes of a node's owner was looked up, if it has an owner.
+fn is_owner_seen(alloc: Global, view: &View, node: NodeNow) -> Result<bool, Memory>
+    ensures { IfOk result (λ seen. seen ≡ is_owner_seen_in view.now node.owner) }
+{
+    if node.owner < 1 {
+        return Ok(true);
+    }
+    let key = session_key(alloc, node.owner)?;
+    Ok(view.found(key.as_slice()).is_some())
+}
+
+/// Whether a node is in the version that a delete asks for and has no children.
+fn is_deletable(version: i32, node: NodeNow, counts: CountRec) -> bool
+    ensures { result ≡ (matches_version version node.version && int_eq counts.children (pos 0)) }
+{
+    matches(version, node.version) && counts.children == 0
+}
+
+/// The change of a delete that passes, once what it writes besides was looked up.
+fn deleted(path: Path, node: NodeNow, passes: bool, parent: bool, owner: bool) -> Option<TreeChange>
+    ensures { result ≡ (if passes && (parent && owner) then Some (changed.Deleted path node.owner) else None) }
+{
+    if passes && (parent && owner) {
+        return Some(TreeChange::Deleted {
+            path,
+            owner: node.owner,
+        });
+    }
+    None
+}
+
+/// A delete's change.
+fn delete_change(
+    alloc: Global,
+    view: &View,
+    path: Path,
+    version: i32,
+    node: Option<Option<NodeNow>>,
+    counts: Option<Option<CountRec>>,
+) -> Result<Option<TreeChange>, Memory>
+    requires { length path ≤ max_path }
+    ensures { IfOk result (λ change. change ≡ change_of_delete view.now path version node counts) }
+{
+    let Some(Some(node)) = node else {
+        return Ok(None);
+    };
+    let Some(Some(counts)) = counts else {
+        return Ok(None);
+    };
+    let passes = is_deletable(version, node, counts);
+    let parent = is_parent_seen(alloc, view, &path)?;
+    let owner = is_owner_seen(alloc, view, node)?;
+    Ok(deleted(path, node, passes, parent, owner))
+}
+
+/// What a delete of a valid path leaves.
+pub(crate) fn delete_leaves(
+    alloc: Global,
+    view: &View,
+    left: Left,
+    path: Path,
+    version: i32,
+) -> Result<Left, Memory>
+    requires { IfSome left (λ changes. length changes ≤ max_parts) }
+    ensures { IfOk result (IfLeft left (λ changes next. DeleteLeaves view.now changes path version next)) }
+{
+    let Some(changes) = left else {
+        return Ok(None);
+    };
+    let node = node_now(alloc, view, changes.as_slice(), &path)?;
+    let counts = counts_now(alloc, view, changes.as_slice(), &path)?;
+    let change = delete_change(alloc, view, path, version, node, counts)?;
+    with_change(changes, change)
+}
+
+/// Whether a node is in the version that a setData asks for, and this is not the greatest.
+fn is_settable(version: i32, node: NodeNow) -> bool
+    ensures { result ≡ (matches_version version node.version && not (int_eq node.version max_version)) }
+{
+    matches(version, node.version) && node.version != MAX_VERSION
+}
+
+/// Whether a node's counts were looked up.
+fn are_counts_seen(alloc: Global, view: &View, path: &Path) -> Result<bool, Memory>
+    requires { length path.now ≤ max_path }
+    ensures { IfOk result (λ looked. looked ≡ is_some (seen view.now (key_bytes (CountsKey path.now)))) }
+{
+    let key = counts_key(alloc, path.bytes())?;
+    Ok(view.found(key.as_slice()).is_some())
+}
+
+/// The change of a setData that passes, once what it writes besides was looked up.
+fn data_set(path: Path, passes: bool, looked: bool) -> Option<TreeChange>
+    ensures { result ≡ (if passes && looked then Some (changed.DataSet path) else None) }
+{
+    if passes && looked {
+        return Some(TreeChange::DataSet(path));
+    }
+    None
+}
+
+/// A setData's change.
+fn set_change(
+    alloc: Global,
+    view: &View,
+    path: Path,
+    version: i32,
+    node: Option<Option<NodeNow>>,
+) -> Result<Option<TreeChange>, Memory>
+    requires { length path ≤ max_path }
+    ensures { IfOk result (λ change. change ≡ change_of_set view.now path version node) }
+{
+    let Some(Some(node)) = node else {
+        return Ok(None);
+    };
+    let passes = is_settable(version, node);
+    let looked = are_counts_seen(alloc, view, &path)?;
+    Ok(data_set(path, passes, looked))
+}
+
+/// What a setData of a valid path leaves.
+pub(crate) fn set_leaves(
+    alloc: Global,
+    view: &View,
+    left: Left,
+    path: Path,
+    version: i32,
+) -> Result<Left, Memory>
+    requires { IfSome left (λ changes. length changes ≤ max_parts) }
+    ensures { IfOk result (IfLeft left (λ changes next. SetLeaves view.now changes path version next)) }
+{
+    let Some(changes) = left else {
+        return Ok(None);
+    };
+    let node = node_now(alloc, view, changes.as_slice(), &path)?;
+    let change = set_change(alloc, view, path, version, node)?;
+    with_change(changes, change)
+}
+
+/// Whether a check passes.
+fn is_checked(version: i32, node: Option<Option<NodeNow>>) -> bool
+    ensures { result ≡ is_checked_in version node }
+{
+    match node {
+        Some(Some(node)) => matches(version, node.version),
+        Some(None) | None => false,
+    }
+}
+
+/// What a check of a valid path leaves.
+pub(crate) fn check_leaves(
+    alloc: Global,
+    view: &View,
+    left: Left,
+    path: &Path,
+    version: i32,
+) -> Result<Left, Memory>
+    requires valid { IsTrue (is_path path.now) }
+    requires few { IfSome left (λ changes. length changes ≤ max_parts) }
+    ensures { IfOk result (IfLeft left (λ changes next. CheckLeaves view.now changes path.now version next)) }
+{
+    let Some(changes) = left else {
+        return Ok(None);
+    };
+    let node = node_now(alloc, view, changes.as_slice(), path)?;
+    if is_checked(version, node) {
+        return Ok(Some(changes));
+    }
+    Ok(None)
+}
