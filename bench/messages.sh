@@ -2,8 +2,8 @@
 # Writes and reads answers with a value of 20, 1,400 and 780,000 bytes (texts of 236 bytes, 2 KB and 1 MB) by ev_json and by
 # the same work in plain Rust: bench/messages.rs, which has the algorithms of Rust's serde_json, itoa and base64 written out by
 # hand, since a machine without a network cannot fetch the crates. Both are built for the same processor. Prints the best of
-# many short runs, taken by turns, and how many times as fast ev_json is. Of this it asserts nothing. Reading stands beside the
-# kit's own figure too: its serde_json's parser and its base64's decoder alone, which ev_json reads by.
+# many short runs, taken by turns, and how many times as fast ev_json is. Of this it asserts nothing. Reading stands beside another
+# figure of the kit too: its serde_json's parser, which builds a tree of values, and its base64's decoder alone.
 # Then reads bodies of some 8,388,608 bytes that are hostile, and prints seconds and peak kilobytes of the whole program, which
 # holds the body too. Fails where a body is refused for another reason, or a peak is above its bound.
 # usage: bench/messages.sh [ASKS]    so many asks of 236 bytes in all, 1,000,000 if left out; fewer of the longer ones
@@ -60,9 +60,10 @@ sys.exit(0 if good else 1)
 P
 }
 
-hostile 'open brackets' '[' '[' 'not json' 20480
-hostile 'zeros' '0' '0' 'not json' 20480
-hostile 'a string without end' '"' 'a' 'not json' 20480
+hostile 'open brackets' '[' '[' 'not json' 65536
+hostile 'zeros' '0' '0' 'not json' 65536
+hostile 'a string without end' '"' 'a' 'not json' 65536
 hostile 'small numbers' '[0' ',0' 'not json' 163840
-hostile 'small objects' '[{"":0}' ',{"":0}' 'not json' 1126400
+hostile 'small objects' '[{"":0}' ',{"":0}' 'not json' 180224
+hostile 'empty objects' '[{}' ',{}' 'not json' 196608
 exit "$failed"

@@ -4,3 +4,6 @@ pub mod Tokens
 pub mod Digits
 pub mod Rising
 pub mod Backs
+pub mod Placed
+pub mod Fits
+pub mod Numbers

@@ -5,3 +5,6 @@ pub mod Kinds
 pub mod Ranges
 pub mod Gives
 pub mod Printed
+pub mod Places
+pub mod Fitting
+pub mod Unparsed

@@ -10,12 +10,17 @@
 //!
 //! # Reading
 //!
-//! Each function of [`members`] looks up one member, by its snake case name and otherwise by its camel case name, and gives its
-//! value or the [`fault::JsonFault`] that names it. `specs/Kinds` defines each kind and its range.
+//! A [`parsed::Parsed`] is the list of a text's tokens, and a [`place::Place`] a value by where it begins there: no value is built.
+//! Its clauses speak of the value in the words of `serde_json`, by `data_at` of `specs/Places`. Each function of [`members`] looks
+//! up one member, by its snake case name and otherwise by its camel case name, and gives its value or the [`fault::JsonFault`] that
+//! names it. `specs/Kinds` defines each kind and its range.
 #![tactic(auto)]
 
 pub mod fault;
 pub mod field;
 pub mod members;
+mod number;
+pub mod parsed;
+pub mod place;
 mod printer;
 pub mod text;

@@ -4,7 +4,8 @@ use Rattle.serde_json.specs.Data.{Data}
 use Rattle.ev_fields.specs.declared.field.Field.{Field}
 use Rattle.ev_fields.specs.declared.fault.JsonFault.{JsonFault}
 use Rattle.ev_fields.specs.declared.fault.JsonFault.TheVariants as fault
-use Rattle.ev_json.specs.Bodies.{FaultOf, IsUnparsed}
+use Rattle.ev_fields.specs.Unparsed.{IsUnparsed}
+use Rattle.ev_json.specs.Bodies.{FaultOf}
 
 pub FaultOf-unparsed : {A : Type 0} (reading : Data → Result A Field) (body : List ℕ) (e : JsonFault) → IsUnparsed body e → FaultOf reading body e
 unfolding FaultOf

@@ -1,9 +1,7 @@
 -- Reading the items of a list one after another, as a loop does.
-use Rattle.std.proofs.Common.{◌≡◌, ℕ, ◌+◌, ◌≤◌, ◌<◌, List, [], ◌∷◌, ◌++◌, length, map, drop, get_or, Result, Ok, Err, refl, sym, ap, ◌∙◌, append_assoc}
-use Rattle.std.proofs.lemmas.List.{append-nil, drop_all, drop_more}
-use Rattle.serde_json.specs.Data.{Data}
-use Rattle.serde_json.specs.View.{view, items_of}
-use Rattle.serde_json.specs.declared.value.Value.{Value}
+use Rattle.std.proofs.Common.{◌≡◌, List, [], ◌∷◌, ◌++◌, Result, Ok, Err, refl, sym, ap, ◌∙◌, append_assoc}
+use Rattle.std.proofs.lemmas.List.{append-nil}
+use Rattle.serde_json.specs.Data.{Data, Items, no_items, item}
 use Rattle.ev_fields.specs.declared.field.Field.{Field}
 use Rattle.ev_fields.specs.declared.fault.JsonFault.{JsonFault}
 use Rattle.ev_fields.specs.declared.fault.JsonFault.TheVariants as fault
@@ -17,31 +15,24 @@ pub regroup : {A : Type 0} (front : List A) (x : A) (read : Result (List A) Fiel
 regroup front x (Ok xs) = ap (λ ys. Ok ys) (sym (append_assoc front (x ∷ []) xs))
 regroup front x (Err f) = refl
 
-abbrev pub rest_of : {A : Type 0} → (Data → Result A Field) → List Value → ℕ → Result (List A) Field
-rest_of reading xs i = each reading (items_of (map view (drop i xs)))
-
-pub goes_on : {A : Type 0} (reading : Data → Result A Field) (front : List A) (xs : List Value) (i : ℕ) (x : Value) (y : A) (total : Result (List A) Field)
-    → i < length xs → x ≡ get_or xs i x → reading (view x) ≡ Ok y
-    → with_front front (rest_of reading xs i) ≡ total → with_front (front ++ y ∷ []) (rest_of reading xs (i + 1)) ≡ total
+pub goes_on : {A : Type 0} (reading : Data → Result A Field) (front : List A) (ds rest : Items) (d : Data) (y : A) (total : Result (List A) Field)
+    → ds ≡ item d rest → reading d ≡ Ok y → with_front front (each reading ds) ≡ total → with_front (front ++ y ∷ []) (each reading rest) ≡ total
 unfolding each
-goes_on reading front xs i x y total lt is h so_far =
-    let e : drop i xs ≡ x ∷ drop (i + 1) xs = drop_more xs i x lt ∙ ap (λ (y : Value). y ∷ drop (i + 1) xs) (sym is) in
-    let one : with_front front (rest_of reading xs i) ≡ with_front (front ++ y ∷ []) (rest_of reading xs (i + 1)) = rw (e, h) (regroup front y (rest_of reading xs (i + 1))) in
+goes_on reading front ds rest d y total is h so_far =
+    let one : with_front front (each reading ds) ≡ with_front (front ++ y ∷ []) (each reading rest) = rw (is, h) (regroup front y (each reading rest)) in
     sym one ∙ so_far
 
-pub ends : {A : Type 0} (reading : Data → Result A Field) (e : JsonFault) (front : List A) (xs : List Value) (i : ℕ) (x : Value) (total : Result (List A) Field)
-    → i < length xs → x ≡ get_or xs i x → Fails e (reading (view x)) → with_front front (rest_of reading xs i) ≡ total → Fails e total
+pub ends : {A : Type 0} (reading : Data → Result A Field) (e : JsonFault) (front : List A) (ds rest : Items) (d : Data) (total : Result (List A) Field)
+    → ds ≡ item d rest → Fails e (reading d) → with_front front (each reading ds) ≡ total → Fails e total
 unfolding each
-ends reading fault.Memory front xs i x total lt is h so_far = tt
-ends reading fault.NotJson front xs i x total lt is h so_far = h
-ends reading (fault.Unreadable f) front xs i x total lt is h so_far =
-    let e : drop i xs ≡ x ∷ drop (i + 1) xs = drop_more xs i x lt ∙ ap (λ (y : Value). y ∷ drop (i + 1) xs) (sym is) in
-    let one : with_front front (rest_of reading xs i) ≡ Err f = rw (e, h) refl in
+ends reading fault.Memory front ds rest d total is h so_far = tt
+ends reading fault.NotJson front ds rest d total is h so_far = h
+ends reading (fault.Unreadable f) front ds rest d total is h so_far =
+    let one : with_front front (each reading ds) ≡ Err f = rw (is, h) refl in
     sym so_far ∙ one
 
-pub is_done : {A : Type 0} (reading : Data → Result A Field) (front : List A) (xs : List Value) (i : ℕ) (total : Result (List A) Field) → length xs ≤ i → with_front front (rest_of reading xs i) ≡ total → total ≡ Ok front
+pub is_done : {A : Type 0} (reading : Data → Result A Field) (front : List A) (ds : Items) (total : Result (List A) Field) → ds ≡ no_items → with_front front (each reading ds) ≡ total → total ≡ Ok front
 unfolding each
-is_done reading front xs i total le so_far =
-    let e : drop i xs ≡ [] = drop_all i xs le in
-    let one : with_front front (rest_of reading xs i) ≡ Ok front = rw e (ap (λ ys. Ok ys) (append-nil front)) in
+is_done reading front ds total is so_far =
+    let one : with_front front (each reading ds) ≡ Ok front = rw is (ap (λ ys. Ok ys) (append-nil front)) in
     sym so_far ∙ one

@@ -55,11 +55,3 @@ message_body (ask.Alive id) body = first_line body
 -- the body reads as this answer to the ask
 abbrev pub reads : Ask → List ℕ → Answer → Type 0
 reads asked body answered = ReadsAs (answer_in asked) (message_body asked body) answered
-
--- ---- for clauses of private functions
-
--- what a fault of the parser says: that memory ran out, or that the body is not UTF-8 or not JSON
-abbrev pub IsUnparsed : List ℕ → JsonFault → Type 0
-IsUnparsed body fault.Memory = ⊤
-IsUnparsed body fault.NotJson = IsUtf8 body → read body ≡ None
-IsUnparsed body (fault.Unreadable f) = ⊥

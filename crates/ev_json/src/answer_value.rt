@@ -1,7 +1,9 @@
 //! Answers read from JSON values.
 
 ghost use Rattle.std.specs.Prelude.{◌≡◌, List, Result, map, Ok};
-ghost use Rattle.serde_json.specs.View.{view, items_view};
+ghost use Rattle.std.specs.Bool.{MatchBool};
+ghost use Rattle.serde_json.specs.Data.{Data, Items, no_items, item};
+ghost use Rattle.ev_fields.specs.Places.{data_at, items_at};
 ghost use Rattle.ev_json.specs.Answers.{revision_in, kv_in, found_in, put_done_in, deleted_in, range_part_in, part_in, parts_in, txn_answer_in, range_answer_in, granted_in, kept_in, kept_alive_in, result_in, answer_in};
 ghost use Rattle.ev_fields.specs.Gives.{Gives, GivesAs};
 
@@ -11,25 +13,25 @@ use ev_fields::field::Field;
 use ev_fields::members::{
     broken, bytes, count, flag, items, lease, member, message, needed_bytes, needed_count, without,
 };
+use ev_fields::place::{Place, Places};
 use ev_types::{Act, ActAns, Answer, Ask, Kv, RangeAns, TxnReq};
-use serde_json::Value;
 use std::alloc::Global;
 use zx_base::Seq;
 
 /// The revision in a message's header.
 #[tactic(auto, unfolding(crate::specs::Answers::revision_in))]
-pub fn revision(value: &Value) -> Result<i64, JsonFault>
-    ensures { Gives result (revision_in (view value.now)) }
+pub fn revision(value: &Place<'_, '_>) -> Result<i64, JsonFault>
+    ensures { Gives result (revision_in (data_at value.now)) }
 {
     let header = message(value, Field::Header)?;
-    needed_count(header, Field::Revision)
+    needed_count(&header, Field::Revision)
 }
 
 impl Read for Kv {
     ghost reading = { kv_in };
 
     #[tactic(auto, unfolding(crate::specs::Answers::kv_in))]
-    fn read(alloc: Global, value: &Value) -> Result<Kv, JsonFault> {
+    fn read(alloc: Global, value: &Place<'_, '_>) -> Result<Kv, JsonFault> {
         let create_revision = count(value, Field::CreateRevision)?;
         let key = needed_bytes(alloc, value, Field::Key)?;
         let lease = lease(value, Field::Lease)?;
@@ -51,7 +53,7 @@ impl Read for RangeAns {
     ghost reading = { found_in };
 
     #[tactic(auto, unfolding(crate::specs::Answers::found_in))]
-    fn read(alloc: Global, value: &Value) -> Result<RangeAns, JsonFault> {
+    fn read(alloc: Global, value: &Place<'_, '_>) -> Result<RangeAns, JsonFault> {
         let count = count(value, Field::Count)?;
         let kvs = list(alloc, value, Field::Kvs)?;
         let more = flag(value, Field::More)?;
@@ -60,8 +62,8 @@ impl Read for RangeAns {
 }
 
 #[tactic(auto, unfolding(crate::specs::Answers::put_done_in))]
-fn put_done(value: &Value) -> Result<ActAns, JsonFault>
-    ensures { Gives result (put_done_in (view value.now)) }
+fn put_done(value: &Place<'_, '_>) -> Result<ActAns, JsonFault>
+    ensures { Gives result (put_done_in (data_at value.now)) }
 {
     message(value, Field::ResponsePut)?;
     without(value, Field::ResponseDeleteRange)?;
@@ -70,22 +72,22 @@ fn put_done(value: &Value) -> Result<ActAns, JsonFault>
 }
 
 #[tactic(auto, unfolding(crate::specs::Answers::deleted_in))]
-fn deleted(value: &Value) -> Result<ActAns, JsonFault>
-    ensures { Gives result (deleted_in (view value.now)) }
+fn deleted(value: &Place<'_, '_>) -> Result<ActAns, JsonFault>
+    ensures { Gives result (deleted_in (data_at value.now)) }
 {
     let delete = message(value, Field::ResponseDeleteRange)?;
-    let deleted = count(delete, Field::Deleted)?;
+    let deleted = count(&delete, Field::Deleted)?;
     without(value, Field::ResponsePut)?;
     without(value, Field::ResponseRange)?;
     Ok(ActAns::Deleted(deleted))
 }
 
 #[tactic(auto, unfolding(crate::specs::Answers::range_part_in))]
-fn range_part(alloc: Global, value: &Value) -> Result<ActAns, JsonFault>
-    ensures { Gives result (range_part_in (view value.now)) }
+fn range_part(alloc: Global, value: &Place<'_, '_>) -> Result<ActAns, JsonFault>
+    ensures { Gives result (range_part_in (data_at value.now)) }
 {
     let range = message(value, Field::ResponseRange)?;
-    let found = RangeAns::read(alloc, range)?;
+    let found = RangeAns::read(alloc, &range)?;
     without(value, Field::ResponsePut)?;
     without(value, Field::ResponseDeleteRange)?;
     Ok(ActAns::Range(found))
@@ -93,8 +95,8 @@ fn range_part(alloc: Global, value: &Value) -> Result<ActAns, JsonFault>
 
 /// The answer to one operation.
 #[tactic(auto, unfolding(crate::specs::Answers::part_in))]
-fn part(alloc: Global, act: &Act, value: &Value) -> Result<ActAns, JsonFault>
-    ensures { Gives result (part_in act.now (view value.now)) }
+fn part(alloc: Global, act: &Act, value: &Place<'_, '_>) -> Result<ActAns, JsonFault>
+    ensures { Gives result (part_in act.now (data_at value.now)) }
 {
     match act {
         Act::Put { .. } => put_done(value),
@@ -103,28 +105,38 @@ fn part(alloc: Global, act: &Act, value: &Value) -> Result<ActAns, JsonFault>
     }
 }
 
+/// Whether no items are left.
+fn are_over(values: Places<'_, '_>) -> bool
+    ensures { MatchBool result (items_at values.entry ≡ no_items)
+        ((d : Data) × (rest : Items) × (items_at values.entry ≡ item d rest)) }
+{
+    let mut values = values;
+    match values.next() {
+        Some(_) => false,
+        None => true,
+    }
+}
+
 /// One answer for each operation.
-fn parts(alloc: Global, acts: &[Act], values: &[Value]) -> Result<Vec<ActAns>, JsonFault>
-    ensures { GivesAs (λ v. v.items) result (parts_in acts.now (items_view values.now)) }
+fn parts(alloc: Global, acts: &[Act], mut values: Places<'_, '_>) -> Result<Vec<ActAns>, JsonFault>
+    ensures { GivesAs (λ v. v.items) result (parts_in acts.now (items_at values.entry)) }
 {
     let mut list = Vec::with_capacity(alloc, acts.len())?;
-    let mut rest = values;
     for act in acts {
-        let Some((value, after)) = rest.split_first() else {
+        let Some(value) = values.next() else {
             return Err(broken(Field::Responses));
         };
-        list.push(part(alloc, act, value)?)?;
-        rest = after;
+        list.push(part(alloc, act, &value)?)?;
     }
-    if !rest.is_empty() {
+    if !are_over(values) {
         return Err(broken(Field::Responses));
     }
     Ok(list)
 }
 
 #[tactic(auto, unfolding(crate::specs::Answers::txn_answer_in))]
-fn txn_answer(alloc: Global, txn: &TxnReq, value: &Value) -> Result<Answer, JsonFault>
-    ensures { Gives result (txn_answer_in txn.now (view value.now)) }
+fn txn_answer(alloc: Global, txn: &TxnReq, value: &Place<'_, '_>) -> Result<Answer, JsonFault>
+    ensures { Gives result (txn_answer_in txn.now (data_at value.now)) }
 {
     let revision = revision(value)?;
     let succeeded = flag(value, Field::Succeeded)?;
@@ -143,8 +155,8 @@ fn txn_answer(alloc: Global, txn: &TxnReq, value: &Value) -> Result<Answer, Json
 }
 
 #[tactic(auto, unfolding(crate::specs::Answers::range_answer_in))]
-fn range_answer(alloc: Global, value: &Value) -> Result<Answer, JsonFault>
-    ensures { Gives result (range_answer_in (view value.now)) }
+fn range_answer(alloc: Global, value: &Place<'_, '_>) -> Result<Answer, JsonFault>
+    ensures { Gives result (range_answer_in (data_at value.now)) }
 {
     let revision = revision(value)?;
     let found = RangeAns::read(alloc, value)?;
@@ -152,8 +164,8 @@ fn range_answer(alloc: Global, value: &Value) -> Result<Answer, JsonFault>
 }
 
 #[tactic(auto, unfolding(crate::specs::Answers::granted_in))]
-fn granted(value: &Value) -> Result<Answer, JsonFault>
-    ensures { Gives result (granted_in (view value.now)) }
+fn granted(value: &Place<'_, '_>) -> Result<Answer, JsonFault>
+    ensures { Gives result (granted_in (data_at value.now)) }
 {
     let id = lease(value, Field::Id)?;
     let ttl = count(value, Field::Ttl)?;
@@ -162,8 +174,8 @@ fn granted(value: &Value) -> Result<Answer, JsonFault>
 }
 
 #[tactic(auto, unfolding(crate::specs::Answers::kept_in))]
-fn kept(value: &Value) -> Result<Answer, JsonFault>
-    ensures { Gives result (kept_in (view value.now)) }
+fn kept(value: &Place<'_, '_>) -> Result<Answer, JsonFault>
+    ensures { Gives result (kept_in (data_at value.now)) }
 {
     let id = lease(value, Field::Id)?;
     let ttl = count(value, Field::Ttl)?;
@@ -173,35 +185,35 @@ fn kept(value: &Value) -> Result<Answer, JsonFault>
 
 /// The message in a line of a stream: its `result`, or the whole value where it has none.
 #[tactic(auto, unfolding(crate::specs::Answers::result_in))]
-pub fn result_of(value: &Value) -> Result<&Value, JsonFault>
-    ensures { GivesAs (λ v. view v.now) result (result_in (view value.now)) }
+pub fn result_of<'t, 'a>(value: Place<'t, 'a>) -> Result<Place<'t, 'a>, JsonFault>
+    ensures { GivesAs data_at result (result_in (data_at value.entry)) }
 {
-    let Some(found) = member(value, Field::Result) else {
+    let Some(found) = member(&value, Field::Result) else {
         return Ok(value);
     };
-    if found.as_object().is_none() {
+    if !found.is_object() {
         return Err(broken(Field::Result));
     }
     Ok(found)
 }
 
 #[tactic(auto, unfolding(crate::specs::Answers::kept_alive_in))]
-fn kept_alive(value: &Value) -> Result<Answer, JsonFault>
-    ensures { Gives result (kept_alive_in (view value.now)) }
+fn kept_alive(value: Place<'_, '_>) -> Result<Answer, JsonFault>
+    ensures { Gives result (kept_alive_in (data_at value.entry)) }
 {
     let message = result_of(value)?;
-    kept(message)
+    kept(&message)
 }
 
 /// The answer to an ask.
 #[tactic(auto, unfolding(crate::specs::Answers::answer_in))]
-pub fn answer(alloc: Global, ask: &Ask, value: &Value) -> Result<Answer, JsonFault>
-    ensures { Gives result (answer_in ask.now (view value.now)) }
+pub fn answer(alloc: Global, ask: &Ask, value: Place<'_, '_>) -> Result<Answer, JsonFault>
+    ensures { Gives result (answer_in ask.now (data_at value.entry)) }
 {
     match ask {
-        Ask::Txn(txn) => txn_answer(alloc, txn, value),
-        Ask::Range(_) => range_answer(alloc, value),
-        Ask::Grant { .. } => granted(value),
+        Ask::Txn(txn) => txn_answer(alloc, txn, &value),
+        Ask::Range(_) => range_answer(alloc, &value),
+        Ask::Grant { .. } => granted(&value),
         Ask::Alive { .. } => kept_alive(value),
     }
 }

@@ -1,7 +1,7 @@
 //! Asks read from JSON values.
 
 ghost use Rattle.std.specs.Prelude.{◌≡◌, Result, map, Ok, codes};
-ghost use Rattle.serde_json.specs.View.{view};
+ghost use Rattle.ev_fields.specs.Places.{data_at};
 ghost use Rattle.ev_json.specs.Asks.{guard_in, range_in, put_in, delete_in, range_act_in, act_in, txn_in, range_ask_in, txn_ask_in, grant_in, alive_in, ask_in, watch_in};
 ghost use Rattle.ev_fields.specs.Gives.{Gives, GivesAs};
 
@@ -12,8 +12,8 @@ use ev_fields::members::{
     broken, bytes, count, flag, has, key, lease, message, positive_count, positive_lease, without,
     word, word_or_none,
 };
+use ev_fields::place::Place;
 use ev_types::{Act, Ask, Guard, RangeReq, Route, TxnReq};
-use serde_json::Value;
 use std::alloc::Global;
 use zx_base::Bytes;
 
@@ -21,7 +21,7 @@ impl Read for Guard {
     ghost reading = { guard_in };
 
     #[tactic(auto, unfolding(crate::specs::Asks::guard_in))]
-    fn read(alloc: Global, value: &Value) -> Result<Guard, JsonFault> {
+    fn read(alloc: Global, value: &Place<'_, '_>) -> Result<Guard, JsonFault> {
         let key = key(alloc, value)?;
         let mod_revision = count(value, Field::ModRevision)?;
         without(value, Field::RangeEnd)?;
@@ -35,7 +35,7 @@ impl Read for RangeReq {
     ghost reading = { range_in };
 
     #[tactic(auto, unfolding(crate::specs::Asks::range_in))]
-    fn read(alloc: Global, value: &Value) -> Result<RangeReq, JsonFault> {
+    fn read(alloc: Global, value: &Place<'_, '_>) -> Result<RangeReq, JsonFault> {
         let key = key(alloc, value)?;
         let keys_only = flag(value, Field::KeysOnly)?;
         let limit = count(value, Field::Limit)?;
@@ -52,13 +52,13 @@ impl Read for RangeReq {
 }
 
 #[tactic(auto, unfolding(crate::specs::Asks::put_in))]
-fn put(alloc: Global, value: &Value) -> Result<Act, JsonFault>
-    ensures { Gives result (put_in (view value.now)) }
+fn put(alloc: Global, value: &Place<'_, '_>) -> Result<Act, JsonFault>
+    ensures { Gives result (put_in (data_at value.now)) }
 {
     let put = message(value, Field::RequestPut)?;
-    let key = key(alloc, put)?;
-    let lease = lease(put, Field::Lease)?;
-    let content = bytes(alloc, put, Field::Value)?;
+    let key = key(alloc, &put)?;
+    let lease = lease(&put, Field::Lease)?;
+    let content = bytes(alloc, &put, Field::Value)?;
     without(value, Field::RequestDeleteRange)?;
     without(value, Field::RequestRange)?;
     Ok(Act::Put {
@@ -69,22 +69,22 @@ fn put(alloc: Global, value: &Value) -> Result<Act, JsonFault>
 }
 
 #[tactic(auto, unfolding(crate::specs::Asks::delete_in))]
-fn delete(alloc: Global, value: &Value) -> Result<Act, JsonFault>
-    ensures { Gives result (delete_in (view value.now)) }
+fn delete(alloc: Global, value: &Place<'_, '_>) -> Result<Act, JsonFault>
+    ensures { Gives result (delete_in (data_at value.now)) }
 {
     let delete = message(value, Field::RequestDeleteRange)?;
-    let key = key(alloc, delete)?;
-    without(delete, Field::RangeEnd)?;
+    let key = key(alloc, &delete)?;
+    without(&delete, Field::RangeEnd)?;
     without(value, Field::RequestRange)?;
     Ok(Act::Delete { key })
 }
 
 #[tactic(auto, unfolding(crate::specs::Asks::range_act_in))]
-fn range(alloc: Global, value: &Value) -> Result<Act, JsonFault>
-    ensures { Gives result (range_act_in (view value.now)) }
+fn range(alloc: Global, value: &Place<'_, '_>) -> Result<Act, JsonFault>
+    ensures { Gives result (range_act_in (data_at value.now)) }
 {
     let range = message(value, Field::RequestRange)?;
-    let asked = RangeReq::read(alloc, range)?;
+    let asked = RangeReq::read(alloc, &range)?;
     Ok(Act::Range(asked))
 }
 
@@ -92,7 +92,7 @@ impl Read for Act {
     ghost reading = { act_in };
 
     #[tactic(auto, unfolding(crate::specs::Asks::act_in))]
-    fn read(alloc: Global, value: &Value) -> Result<Act, JsonFault> {
+    fn read(alloc: Global, value: &Place<'_, '_>) -> Result<Act, JsonFault> {
         if has(value, Field::RequestPut) {
             return put(alloc, value);
         }
@@ -107,8 +107,8 @@ impl Read for TxnReq {
     ghost reading = { txn_in };
 
     #[tactic(auto, unfolding(crate::specs::Asks::txn_in))]
-    fn read(alloc: Global, value: &Value) -> Result<TxnReq, JsonFault> {
-        if value.as_object().is_none() {
+    fn read(alloc: Global, value: &Place<'_, '_>) -> Result<TxnReq, JsonFault> {
+        if !value.is_object() {
             return Err(broken(Field::Success));
         }
         let guards = list(alloc, value, Field::Compare)?;
@@ -123,24 +123,24 @@ impl Read for TxnReq {
 }
 
 #[tactic(auto, unfolding(crate::specs::Asks::txn_ask_in))]
-fn txn_ask(alloc: Global, value: &Value) -> Result<Ask, JsonFault>
-    ensures { Gives result (txn_ask_in (view value.now)) }
+fn txn_ask(alloc: Global, value: &Place<'_, '_>) -> Result<Ask, JsonFault>
+    ensures { Gives result (txn_ask_in (data_at value.now)) }
 {
     let txn = TxnReq::read(alloc, value)?;
     Ok(Ask::Txn(txn))
 }
 
 #[tactic(auto, unfolding(crate::specs::Asks::range_ask_in))]
-fn range_ask(alloc: Global, value: &Value) -> Result<Ask, JsonFault>
-    ensures { Gives result (range_ask_in (view value.now)) }
+fn range_ask(alloc: Global, value: &Place<'_, '_>) -> Result<Ask, JsonFault>
+    ensures { Gives result (range_ask_in (data_at value.now)) }
 {
     let range = RangeReq::read(alloc, value)?;
     Ok(Ask::Range(range))
 }
 
 #[tactic(auto, unfolding(crate::specs::Asks::grant_in))]
-fn grant(value: &Value) -> Result<Ask, JsonFault>
-    ensures { Gives result (grant_in (view value.now)) }
+fn grant(value: &Place<'_, '_>) -> Result<Ask, JsonFault>
+    ensures { Gives result (grant_in (data_at value.now)) }
 {
     let id = positive_lease(value, Field::Id)?;
     let ttl = positive_count(value, Field::Ttl)?;
@@ -148,8 +148,8 @@ fn grant(value: &Value) -> Result<Ask, JsonFault>
 }
 
 #[tactic(auto, unfolding(crate::specs::Asks::alive_in))]
-fn alive(value: &Value) -> Result<Ask, JsonFault>
-    ensures { Gives result (alive_in (view value.now)) }
+fn alive(value: &Place<'_, '_>) -> Result<Ask, JsonFault>
+    ensures { Gives result (alive_in (data_at value.now)) }
 {
     let id = positive_lease(value, Field::Id)?;
     Ok(Ask::Alive { id })
@@ -157,8 +157,8 @@ fn alive(value: &Value) -> Result<Ask, JsonFault>
 
 /// The ask in the value of a body that was posted to the path of this route.
 #[tactic(auto, unfolding(crate::specs::Asks::ask_in))]
-pub fn ask(alloc: Global, route: Route, value: &Value) -> Result<Ask, JsonFault>
-    ensures { Gives result (ask_in route (view value.now)) }
+pub fn ask(alloc: Global, route: Route, value: &Place<'_, '_>) -> Result<Ask, JsonFault>
+    ensures { Gives result (ask_in route (data_at value.now)) }
 {
     match route {
         Route::Txn => txn_ask(alloc, value),
@@ -171,11 +171,11 @@ pub fn ask(alloc: Global, route: Route, value: &Value) -> Result<Ask, JsonFault>
 
 /// A request to watch one key: the revision to start at, and the key.
 #[tactic(auto, unfolding(crate::specs::Asks::watch_in))]
-pub fn watch(alloc: Global, value: &Value) -> Result<(i64, Bytes), JsonFault>
-    ensures { Gives result (watch_in (view value.now)) }
+pub fn watch(alloc: Global, value: &Place<'_, '_>) -> Result<(i64, Bytes), JsonFault>
+    ensures { Gives result (watch_in (data_at value.now)) }
 {
     let request = message(value, Field::CreateRequest)?;
-    let key = key(alloc, request)?;
-    let from = positive_count(request, Field::StartRevision)?;
+    let key = key(alloc, &request)?;
+    let from = positive_count(&request, Field::StartRevision)?;
     Ok((from, key))
 }

@@ -24,9 +24,10 @@
 //! # Cost
 //!
 //! Writing allocates the text once, with room estimated from the lengths of keys and values, and writes each member straight
-//! into it: a name as one literal, a key or a value in base64, 1,024 bytes at a time. Reading parses the body into a tree of
-//! values, in time in proportion to its bytes, and decodes each key and value once from there. The tree takes most of the memory:
-//! some 140 MB for an honest answer of 8 MB, and up to 1.1 GB for a hostile one of that size with many small objects.
+//! into it: a name as one literal, a key or a value in base64, 1,024 bytes at a time. Reading parses the body into a list of its
+//! tokens, in time in proportion to its bytes, builds no value of JSON, and decodes each key and value once from the body. A
+//! member is looked up by passing over the members of its object. The list takes most of the memory: some 6 times an honest
+//! answer's bytes, and up to 22 times those of a hostile one with many empty objects.
 #![tactic(auto)]
 
 mod answer_text;

@@ -2,7 +2,7 @@
 
 ghost use Rattle.std.specs.Prelude.{◌≡◌, ◌++◌, List, Result, map, Ok, IfOk, codes};
 ghost use Rattle.serde_json.specs.Find.{get};
-ghost use Rattle.serde_json.specs.View.{view};
+ghost use Rattle.ev_fields.specs.Places.{data_at};
 ghost use Rattle.ev_json.specs.Answers.{deletion_in, kv_needed, event_in, puts_of, news_in, change_in, line_in};
 ghost use Rattle.ev_fields.specs.Gives.{Gives};
 
@@ -12,14 +12,14 @@ use crate::list::{Read, list};
 use ev_fields::fault::JsonFault;
 use ev_fields::field::Field;
 use ev_fields::members::{broken, count, flag, member};
+use ev_fields::place::Place;
 use ev_types::Kv;
-use serde_json::Value;
 use std::alloc::{AllocError, Global};
 use zx_base::Seq;
 
 #[tactic(auto, unfolding(crate::specs::Answers::deletion_in))]
-fn is_deletion(value: &Value) -> Result<bool, JsonFault>
-    ensures { Gives result (deletion_in (view value.now)) }
+fn is_deletion(value: &Place<'_, '_>) -> Result<bool, JsonFault>
+    ensures { Gives result (deletion_in (data_at value.now)) }
 {
     let Some(kind) = member(value, Field::Kind) else {
         return Ok(false);
@@ -36,11 +36,11 @@ fn is_deletion(value: &Value) -> Result<bool, JsonFault>
     Err(broken(Field::Kind))
 }
 
-fn needed_kv(alloc: Global, value: &Value) -> Result<Kv, JsonFault>
-    ensures { Gives result (kv_needed (get (codes "kv") (view value.now))) }
+fn needed_kv(alloc: Global, value: &Place<'_, '_>) -> Result<Kv, JsonFault>
+    ensures { Gives result (kv_needed (get (codes "kv") (data_at value.now))) }
 {
     match value.get("kv") {
-        Some(kv) => Kv::read(alloc, kv),
+        Some(kv) => Kv::read(alloc, &kv),
         None => Err(broken(Field::Key)),
     }
 }
@@ -49,7 +49,7 @@ impl Read for Event {
     ghost reading = { event_in };
 
     #[tactic(auto, unfolding(crate::specs::Answers::event_in))]
-    fn read(alloc: Global, value: &Value) -> Result<Event, JsonFault> {
+    fn read(alloc: Global, value: &Place<'_, '_>) -> Result<Event, JsonFault> {
         let deletion = is_deletion(value)?;
         let kv = needed_kv(alloc, value)?;
         if !deletion {
@@ -76,8 +76,8 @@ fn puts(alloc: Global, events: Vec<Event>) -> Result<Vec<Kv>, AllocError>
 }
 
 #[tactic(auto, unfolding(crate::specs::Answers::news_in))]
-fn news(alloc: Global, value: &Value) -> Result<Line, JsonFault>
-    ensures { Gives result (news_in (view value.now)) }
+fn news(alloc: Global, value: &Place<'_, '_>) -> Result<Line, JsonFault>
+    ensures { Gives result (news_in (data_at value.now)) }
 {
     let revision = revision(value)?;
     let created = flag(value, Field::Created)?;
@@ -93,8 +93,8 @@ fn news(alloc: Global, value: &Value) -> Result<Line, JsonFault>
 }
 
 #[tactic(auto, unfolding(crate::specs::Answers::change_in))]
-fn change(alloc: Global, value: &Value) -> Result<Line, JsonFault>
-    ensures { Gives result (change_in (view value.now)) }
+fn change(alloc: Global, value: &Place<'_, '_>) -> Result<Line, JsonFault>
+    ensures { Gives result (change_in (data_at value.now)) }
 {
     let canceled = flag(value, Field::Canceled)?;
     let rev = count(value, Field::CompactRevision)?;
@@ -110,12 +110,12 @@ fn change(alloc: Global, value: &Value) -> Result<Line, JsonFault>
 
 /// One line of a watch.
 #[tactic(auto, unfolding(crate::specs::Answers::line_in))]
-pub fn line(alloc: Global, value: &Value) -> Result<Line, JsonFault>
-    ensures { Gives result (line_in (view value.now)) }
+pub fn line(alloc: Global, value: Place<'_, '_>) -> Result<Line, JsonFault>
+    ensures { Gives result (line_in (data_at value.entry)) }
 {
     if value.get("error").is_some() {
         return Ok(Line::Ended);
     }
     let message = result_of(value)?;
-    change(alloc, message)
+    change(alloc, &message)
 }

@@ -1,37 +1,21 @@
-//! Reads messages from bodies. A body is parsed once into a tree of JSON values, and each key and value is decoded once from there.
+//! Reads messages from bodies. A body is parsed once into a list of tokens, and each key and value is decoded once from there.
 
 ghost use Rattle.std.specs.Prelude.{◌≡◌, ◌≢◌, Some, None, IfOk, IfErr, IsUtf8};
-ghost use Rattle.serde_json.specs.Read.{read};
-ghost use Rattle.serde_json.specs.View.{view};
 ghost use Rattle.ev_types.specs.declared.route.Route.TheVariants as routes;
 ghost use Rattle.ev_json.specs.Answers.{answer_in, line_in};
 ghost use Rattle.ev_json.specs.Asks.{ask_in, watch_in};
-ghost use Rattle.ev_json.specs.Bodies.{IsUnparsed, FaultOf, first_line, message_body, reads, reads_ask, reads_line, reads_watch};
+ghost use Rattle.ev_json.specs.Bodies.{FaultOf, first_line, message_body, reads, reads_ask, reads_line, reads_watch};
 
 use crate::answer_value::answer;
 use crate::ask_value::{ask, watch};
 use crate::line::Line;
 use crate::line_value::line;
 use ev_fields::fault::JsonFault;
+use ev_fields::parsed::Parsed;
 use ev_types::{Answer, Ask, Route};
-use serde_json::{Category, Value};
+use json::Scratch;
 use std::alloc::Global;
 use zx_base::Bytes;
-
-fn parse(alloc: Global, body: &[u8]) -> Result<Value, JsonFault>
-    ensures ok { IfOk result (λ v. IsUtf8 body.now × (read body.now ≡ Some (view v))) }
-    ensures fault { IfErr result (λ e. IsUnparsed body.now e) }
-{
-    match Value::from_slice(alloc, body) {
-        Ok(value) => Ok(value),
-        Err(error) => {
-            if error.classify() == Category::Memory {
-                return Err(JsonFault::Memory);
-            }
-            Err(JsonFault::NotJson)
-        }
-    }
-}
 
 /// Reads the ask in a body that was posted to the path of this route, which is not `Watch`: [`read_watch`] reads those.
 #[tactic(auto, using(crate::proofs::Faults::unparsed), unfolding(crate::specs::Bodies::ReadsAs, crate::specs::Bodies::FaultOf))]
@@ -40,8 +24,9 @@ pub fn read_ask(alloc: Global, route: Route, body: &[u8]) -> Result<Ask, JsonFau
     ensures read { IfOk result (λ a. reads_ask route body.now a) }
     ensures fault { IfErr result (λ e. FaultOf (ask_in route) body.now e) }
 {
-    let value = parse(alloc, body)?;
-    let ask = ask(alloc, route, &value)?;
+    let mut scratch = Scratch::new(alloc);
+    let parsed = Parsed::parse(alloc, body, &mut scratch)?;
+    let ask = ask(alloc, route, &parsed.root())?;
     Ok(ask)
 }
 
@@ -51,8 +36,9 @@ pub fn read_watch(alloc: Global, body: &[u8]) -> Result<(i64, Bytes), JsonFault>
     ensures read { IfOk result (λ w. reads_watch body.now w.0 w.1) }
     ensures fault { IfErr result (λ e. FaultOf watch_in body.now e) }
 {
-    let value = parse(alloc, body)?;
-    let watch = watch(alloc, &value)?;
+    let mut scratch = Scratch::new(alloc);
+    let parsed = Parsed::parse(alloc, body, &mut scratch)?;
+    let watch = watch(alloc, &parsed.root())?;
     Ok(watch)
 }
 
@@ -84,8 +70,9 @@ pub fn read_answer(alloc: Global, ask: &Ask, body: &[u8]) -> Result<Answer, Json
     ensures fault { IfErr result (λ e. FaultOf (answer_in ask.now) (message_body ask.now body.now) e) }
 {
     let body = message_body(ask, body);
-    let value = parse(alloc, body)?;
-    let answer = answer(alloc, ask, &value)?;
+    let mut scratch = Scratch::new(alloc);
+    let parsed = Parsed::parse(alloc, body, &mut scratch)?;
+    let answer = answer(alloc, ask, parsed.root())?;
     Ok(answer)
 }
 
@@ -95,7 +82,8 @@ pub fn read_line(alloc: Global, bytes: &[u8]) -> Result<Line, JsonFault>
     ensures read { IfOk result (λ l. reads_line bytes.now l) }
     ensures fault { IfErr result (λ e. FaultOf line_in bytes.now e) }
 {
-    let value = parse(alloc, bytes)?;
-    let line = line(alloc, &value)?;
+    let mut scratch = Scratch::new(alloc);
+    let parsed = Parsed::parse(alloc, bytes, &mut scratch)?;
+    let line = line(alloc, parsed.root())?;
     Ok(line)
 }

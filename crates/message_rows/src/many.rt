@@ -122,7 +122,7 @@ fn spelled(alloc: Global, size: u32) -> Result<String, Memory> {
     }
 }
 
-/// Does `count` times what no reader can do without: parses a text with `serde_json`, and decodes a value with `base64`. Counts 1
+/// Does `count` times the least of a reader by values: parses a text with `serde_json`, and decodes a value with `base64`. Counts 1
 /// for each text parsed, and the bytes decoded.
 fn parse_all(alloc: Global, count: u32, text: &[u8], value: &str) -> u64 {
     let mut bytes: u64 = 0;
@@ -137,7 +137,7 @@ fn parse_all(alloc: Global, count: u32, text: &[u8], value: &str) -> u64 {
     bytes
 }
 
-/// Prints the microseconds of so many writes, of so many reads, and of what no reader can do without.
+/// Prints the microseconds of so many writes, of so many reads, and of the least of a reader by values.
 pub fn print_times(rt: &HostRuntime, size: &str, count: &str) -> Outcome<ExitCode> {
     let (size, count) = (number(size), number(count));
     let Ok(answer) = answer_of(rt.alloc(), size) else {
