@@ -1,10 +1,10 @@
 -- What a lapse leaves.
-use Rattle.std.proofs.Common.{◌≡◌, inl, inr, ℕ, ◌≤◌, nat_lt, Bool, true, false, List, [], ◌∷◌, length, refl, ap, subst, ◌∙◌, cond, arith}
+use Rattle.std.proofs.Common.{◌≡◌, inl, inr, ℕ, ◌≤◌, nat_lt, Bool, true, false, List, [], ◌∷◌, length, refl, ap, sym, subst, ◌∙◌, cond, arith}
 use Rattle.std.proofs.lemmas.Bool.{ltb-false}
 use Rattle.std.proofs.lemmas.Cmp.{int_cmp_total, tied_itself}
 use Rattle.std.proofs.lemmas.Int.{ints}
 use Rattle.std.proofs.lemmas.List.{length-append}
-use Rattle.std.specs.Prelude.{ℤ, ◌≤ℤ◌, not, ◌&&◌, ◌||◌, is_some, Option, Some, None, if◌then◌else◌}
+use Rattle.std.specs.Prelude.{ℤ, ◌≤ℤ◌, not, ◌&&◌, ◌||◌, is_some, Option, Some, None, if◌then◌else◌, unwrap_or}
 use Rattle.std.specs.FinMap.{get, remove, get-remove}
 use Rattle.std.specs.Ordering.{is_eq}
 use Rattle.ev_types.proofs.Lapsed.{lapse-lease}
@@ -14,7 +14,7 @@ use Rattle.ev_types.specs.Store.{Store, Change, grown, max_revisions, revision}
 use Rattle.ev_store.specs.FirstDenial.{full, lapse_denial}
 use Rattle.ev_store.specs.declared.fault.Denied.{Denied}
 use Rattle.ev_store.specs.declared.fault.Denied.TheVariants as denied
-use Rattle.ev_shared.specs.History.{IsFull, IsSettled}
+use Rattle.ev_shared.specs.History.{IsFull, IsSettled, lapsed}
 
 -- ---- denied
 
@@ -87,3 +87,11 @@ lapse_full s t id e h =
 pub lapse_keeps : (s t : Store) (id i : ℤ) → lapse s id ≡ Some t → IsSettled s i → IsSettled t i
 lapse_keeps s t id i e (inl gone) = inl (still_gone s t id i e gone)
 lapse_keeps s t id i e (inr full) = inr (lapse_full s t id e full)
+
+-- ---- whether it was done or denied
+
+pub lapsed_is : (s t : Store) (id : ℤ) → lapse s id ≡ Some t → t ≡ lapsed s id
+lapsed_is s t id e = sym (ap (λ (o : Option Store). unwrap_or o s) e)
+
+pub undone : (s : Store) (id : ℤ) → lapse s id ≡ None → s ≡ lapsed s id
+undone s id e = sym (ap (λ (o : Option Store). unwrap_or o s) e)

@@ -1,6 +1,5 @@
 pub mod Carried
 pub mod Replaying
 pub mod Lapsing
-pub mod Renewing
 pub mod Sweeping
 pub mod Shown

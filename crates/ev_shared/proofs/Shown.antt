@@ -3,7 +3,7 @@ use Rattle.std.proofs.Common.{◌≡◌, inl, inr, ℕ, ◌+◌, ◌≤◌, nat_
 use Rattle.std.proofs.lemmas.Bool.{ltb-true, ltb-false, cases_lt}
 use Rattle.std.proofs.lemmas.Bool.Decides.{Decides-int_eq}
 use Rattle.std.proofs.lemmas.Int.{ints}
-use Rattle.std.specs.Prelude.{pos, ◌≤ℤ◌, ◌||◌, Option, Some, None, if◌then◌else◌}
+use Rattle.std.specs.Prelude.{ℤ, pos, int_lt, ◌≤ℤ◌, ◌<ℤ◌, not, ◌&&◌, ◌||◌, Option, Some, None, if◌then◌else◌}
 use Rattle.std.specs.FinMap.{get}
 use Rattle.std.specs.Ordering.{int_eq}
 use Rattle.ev_types.proofs.Found.{found-key}
@@ -61,21 +61,28 @@ ranged s t k n a some e =
       ltb-false (length s.revisions) n seen,
     )
 
-by_future : (s : Store) (n : ℕ) (d : Denied) (b c : Bool) → nat_lt (length s.revisions) n ≡ b
+compacted_below : (s : Store) (n : ℕ) → is_compacted s (pos n) ≡ true → pos n <ℤ s.floor
+compacted_below s n e = go (not (int_eq (pos n) (pos 0))) e
+  where
+    go : (b : Bool) → (b && int_lt (pos n) s.floor) ≡ true → pos n <ℤ s.floor
+    go true e = omega (arith, ints)
+    go false e = absurd cc
+
+by_future : (s : Store) (n : ℕ) (d : Denied) (b c : Bool) → nat_lt (length s.revisions) n ≡ b → is_compacted s (pos n) ≡ c
     → (if b then Some (denied.Future (pos n) (revision s)) else if c then Some (denied.Compacted (pos n) s.floor) else None) ≡ Some d → Unseen s n (fault.Denied d)
-by_future s n d true c is e = subst (λ (x : Denied). Unseen s n (fault.Denied x)) (same e) (ltb-true (length s.revisions) n is)
+by_future s n d true c is low e = subst (λ (x : Denied). Unseen s n (fault.Denied x)) (same e) (ltb-true (length s.revisions) n is)
   where
     same : {x y : Denied} → Some x ≡ Some y → x ≡ y
     same e = cc
-by_future s n d false true is e = subst (λ (x : Denied). Unseen s n (fault.Denied x)) (same e) refl
+by_future s n d false true is low e = subst (λ (x : Denied). Unseen s n (fault.Denied x)) (same e) (refl, compacted_below s n low)
   where
     same : {x y : Denied} → Some x ≡ Some y → x ≡ y
     same e = cc
-by_future s n d false false is e = absurd cc
+by_future s n d false false is low e = absurd cc
 
 pub unseen : (s : Store) (k : Bytes) (n : ℕ) (d : Denied) → first_denial s (ask.Range (key_at k n)) ≡ Some d → Unseen s n (fault.Denied d)
 unfolding first_denial
-unseen s k n d e = by_future s n d (is_future s (pos n)) (is_compacted s (pos n)) refl e
+unseen s k n d e = by_future s n d (is_future s (pos n)) (is_compacted s (pos n)) refl refl e
 
 pub bounded : (s t : Store) (k : Bytes) (n : ℕ) (a : Answer) → carry s (ask.Range (key_at k n)) ≡ Some (t, a) → Fits (ask.Range (key_at k n)) a → length s.revisions ≤ max_revisions
 unfolding carry carried_out is_denied
@@ -104,3 +111,9 @@ put_from s k n kv e = by_put (get (store_at s n) k) e
 
 pub looks_next : (s : Store) (k : Bytes) (from next : ℕ) (kv : Kv) → from ≤ next → Looks s k next (look.Put kv) → pos from ≤ℤ kv.mod_revision
 looks_next s k from next kv le h = let is = put_from s k h.0 kv h.2 in let least = h.1 in omega (arith, ints)
+
+pub gone : (s t : Store) (k : Bytes) (from n : ℕ) (asked floor : ℤ) → from ≤ n → t ≡ s → Unseen s n (fault.Denied (denied.Compacted asked floor)) → Looks t k from (look.Compacted floor)
+gone s t k from n asked floor le same h = let below = h.1 in (h.0 ∙ sym (ap (λ (x : Store). x.floor) same), omega (arith, ints))
+
+pub gone_next : (s : Store) (k : Bytes) (from next : ℕ) (floor : ℤ) → from ≤ next → Looks s k next (look.Compacted floor) → pos from <ℤ floor
+gone_next s k from next floor le h = let below = h.1 in omega (arith, ints)

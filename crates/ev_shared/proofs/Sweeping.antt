@@ -1,11 +1,11 @@
 -- One more lease whose seconds are looked at.
-use Rattle.std.proofs.Common.{◌≡◌, ℕ, ◌+◌, ◌<◌, ◌≤◌, List, [], ◌∷◌, length, take, get_or, sym, subst}
+use Rattle.std.proofs.Common.{◌≡◌, ℕ, ◌+◌, ◌<◌, ◌≤◌, List, [], ◌∷◌, ◌++◌, length, take, get_or, refl, sym, ap, subst, ◌∙◌}
 use Rattle.std.specs.Prelude.{ℤ, All}
 use Rattle.std.proofs.lemmas.List.{take_more, take_all}
 use Rattle.std.proofs.lemmas.List.Elements.{All-append, All-cons, All-nil}
 use Rattle.ev_types.specs.Store.{Store}
 use Rattle.ev_shared.specs.History.{IsSettled}
-use Rattle.ev_shared.specs.Terms.{LapsesBy}
+use Rattle.ev_shared.specs.Terms.{LapsesBy, swept, swept_one}
 use Rattle.ev_shared.specs.declared.term.Term.{Term}
 
 pub none_yet : (now : ℕ) (s : Store) (xs : List Term) → All (LapsesBy now s) (take 0 xs)
@@ -19,3 +19,17 @@ one_more now s t xs i x lt is before keeps here =
 
 pub all_done : (now : ℕ) (s : Store) (xs : List Term) (i : ℕ) → length xs ≤ i → All (LapsesBy now s) (take i xs) → All (LapsesBy now s) xs
 all_done now s xs i le h = subst (All (LapsesBy now s)) (take_all i xs le) h
+
+-- ---- the store that the leases leave
+
+one_behind : (now : ℕ) (xs : List Term) (x : Term) (s : Store) → swept now (xs ++ x ∷ []) s ≡ swept_one now x (swept now xs s)
+one_behind now [] x s = refl
+one_behind now (y ∷ xs) x s = one_behind now xs x (swept_one now y s)
+
+pub swept_on : (now : ℕ) (s t u : Store) (xs : List Term) (i : ℕ) (x : Term) → i < length xs → x ≡ get_or xs i x → t ≡ swept now (take i xs) s → u ≡ swept_one now x t
+    → u ≡ swept now (take (i + 1) xs) s
+swept_on now s t u xs i x lt is before here =
+    here ∙ ap (swept_one now x) before ∙ sym (one_behind now (take i xs) x s) ∙ ap (λ (y : Term). swept now (take i xs ++ y ∷ []) s) is ∙ sym (ap (λ (l : List Term). swept now l s) (take_more xs i x lt))
+
+pub swept_all : (now : ℕ) (s t : Store) (xs : List Term) (i : ℕ) → length xs ≤ i → t ≡ swept now (take i xs) s → t ≡ swept now xs s
+swept_all now s t xs i le h = h ∙ ap (λ (l : List Term). swept now l s) (take_all i xs le)

@@ -1,5 +1,5 @@
 -- What a shared store went through. Its history is the list of its events, the oldest first, and its state is what they lead to.
-use Rattle.std.specs.Prelude.{◌≡◌, ◌⊎◌, ◌≤ℤ◌, ℤ, List, [], ◌∷◌, Some, false}
+use Rattle.std.specs.Prelude.{◌≡◌, ◌⊎◌, ◌≤ℤ◌, ℤ, List, [], ◌∷◌, ◌++◌, Some, false, unwrap_or}
 use Rattle.ev_types.specs.Denials.{carry, has_lease}
 use Rattle.ev_types.specs.Lapses.{lapse}
 use Rattle.ev_types.specs.Store.{Store, last_revision, revision}
@@ -15,6 +15,14 @@ Follows s (event.Lapsed id) t = lapse s id ≡ Some t
 abbrev pub Replays : Store → List Event → Store → Type 0
 Replays s [] t = t ≡ s
 Replays s (e ∷ es) t = (mid : Store) × Follows s e mid × Replays mid es t
+
+-- the history has what it had, and perhaps more after it
+abbrev pub GoesOn : List Event → List Event → Type 0
+GoesOn old new = (more : List Event) × (new ≡ old ++ more)
+
+-- the store after a lease lapsed; as it was where the lease is not there, or the store is full
+abbrev pub lapsed : Store → ℤ → Store
+lapsed s id = unwrap_or (lapse s id) s
 
 -- the store stands at its last revision
 abbrev pub IsFull : Store → Type 0

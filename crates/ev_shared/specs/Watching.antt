@@ -1,5 +1,5 @@
 -- What a watch of one key is told: the revisions that put the key, in order (etcd API reference, "Watch").
-use Rattle.std.specs.Prelude.{◌≡◌, ℕ, ◌<◌, ◌≤◌, ◌^◌, ℤ, pos, ◌≤ℤ◌, false, List, [], ◌∷◌, length, Option, Some, None, if◌then◌else◌}
+use Rattle.std.specs.Prelude.{◌≡◌, ℕ, ◌<◌, ◌≤◌, ◌^◌, ℤ, pos, ◌≤ℤ◌, ◌<ℤ◌, false, List, [], ◌∷◌, length, Option, Some, None, if◌then◌else◌}
 use Rattle.std.specs.FinMap.{get}
 use Rattle.std.specs.Ordering.{int_eq}
 use Rattle.ev_types.specs.Store.{Store, store_at}
@@ -33,12 +33,12 @@ NonePut s k from to = (n : ℕ) → from ≤ n → n < to → put_at s k n ≡ N
 abbrev pub Looks : Store → Bytes → ℕ → Look → Type 0
 Looks s k from (look.Put kv) = (n : ℕ) × (from ≤ n) × (put_at s k n ≡ Some kv) × NonePut s k from n
 Looks s k from (look.Waits next) = (from ≤ next) × (length s.revisions < next) × (next ≤ 2 ^ 62) × NonePut s k from next
-Looks s k from (look.Compacted floor) = floor ≡ s.floor
+Looks s k from (look.Compacted floor) = (floor ≡ s.floor) × (pos from <ℤ floor)
 
--- what a watch is told next is not before the revision that it waits for
+-- what a watch is told next is not before the revision that it waits for, and of a revision that was compacted, the least that was not
 abbrev pub IsNext : ℕ → Watched → Type 0
 IsNext from (watched.Put kv) = pos from ≤ℤ kv.mod_revision
-IsNext from (watched.Compacted floor) = Unit {0}
+IsNext from (watched.Compacted floor) = pos from <ℤ floor
 IsNext from watched.Closed = Unit {0}
 IsNext from watched.Memory = Unit {0}
 
@@ -60,7 +60,7 @@ found_in (answer.Alive revision id ttl) = []
 
 -- why a revision is not shown: it was compacted, or is still to come, or memory ran out
 abbrev pub Unseen : Store → ℕ → StoreFault → Type 0
-Unseen s n (fault.Denied (denied.Compacted asked floor)) = floor ≡ s.floor
+Unseen s n (fault.Denied (denied.Compacted asked floor)) = (floor ≡ s.floor) × (pos n <ℤ floor)
 Unseen s n (fault.Denied (denied.Future asked revision)) = length s.revisions < n
 Unseen s n (fault.Denied (denied.LeaseExists id)) = ⊥
 Unseen s n (fault.Denied (denied.NoLease id)) = ⊥

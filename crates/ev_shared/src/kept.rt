@@ -1,17 +1,18 @@
 //! What stands under the lock of a shared store.
 
-ghost use Rattle.std.specs.Prelude.{◌≡◌, ◌⊎◌, ℤ, All, List, true, false, filter, not, Some, IfOk, OnOk, OnErr, vec_len, vec_capacity};
+ghost use Rattle.std.specs.Prelude.{◌≡◌, ◌<◌, ℤ, All, List, true, Some, IfOk, OnOk, OnErr, vec_len, vec_capacity};
 ghost use Rattle.ev_call.specs.Asks.{IsGrantable};
 ghost use Rattle.ev_call.specs.Fitting.{Fits};
-ghost use Rattle.ev_types.specs.Denials.{carry, has_lease};
+ghost use Rattle.ev_types.specs.Denials.{carry};
 ghost use Rattle.ev_types.specs.Store as etcd;
 ghost use Rattle.ev_store.specs.declared.fault.Denied.{Denied as Denial};
 ghost use Rattle.ev_store.specs.FirstDenial.{first_denial};
-ghost use Rattle.ev_shared.specs.History.{Replays, IsFull, IsSettled};
-ghost use Rattle.ev_shared.specs.Terms.{LapsesBy, NeedsRoom, is_over, terms_after};
+ghost use Rattle.ev_shared.specs.History.{GoesOn, IsSettled, Replays, lapsed};
+ghost use Rattle.ev_shared.specs.Terms.{LapsesBy, Stay, swept, swept_one, terms_after};
+ghost use Rattle.ev_shared.specs.declared.term.Term.{Term as Lasting};
 
 use crate::event::Event;
-use crate::term::{Term, begin, end_over, is_over, renew};
+use crate::term::{Term, begin, end_over, is_over};
 use ev_store::{Store, StoreFault};
 use ev_types::{Answer, Ask};
 use std::alloc::Global;
@@ -71,11 +72,14 @@ impl Kept {
     }
 
     /// Lets a lease lapse, unless the store is full.
-    #[tactic(auto, using(crate::proofs::Replaying::goes_on, crate::proofs::Lapsing::lapse_settles, crate::proofs::Lapsing::lapse_keeps))]
+    #[tactic(auto, using(crate::proofs::Replaying::goes_on, crate::proofs::Replaying::one_longer, crate::proofs::Replaying::as_long, crate::proofs::Lapsing::lapse_settles, crate::proofs::Lapsing::lapse_keeps, crate::proofs::Lapsing::lapsed_is))]
     fn lapse(&mut self, id: i64) -> Result<(), Memory>
+        ensures lapses { OnOk result (self.new.store ≡ lapsed self.old.store id) }
         ensures settles { OnOk result (IsSettled self.new.store id) }
         ensures stays { (i : ℤ) → IsSettled self.old.store i → IsSettled self.new.store i }
         ensures terms { self.new.terms ≡ self.old.terms }
+        ensures began { self.new.first ≡ self.old.first }
+        ensures history { GoesOn self.old.events.items self.new.events.items }
     {
         match self.store.lapse(id) {
             Ok(_revision) => {
@@ -88,10 +92,14 @@ impl Kept {
     }
 
     /// Lets a lease lapse if its seconds have passed, unless the store is full.
+    #[tactic(auto, using(crate::proofs::Replaying::as_long))]
     fn lapse_due(&mut self, now: u64, term: Term) -> Result<(), Memory>
+        ensures swept { OnOk result (self.new.store ≡ swept_one now term self.old.store) }
         ensures lapses { OnOk result (LapsesBy now self.new.store term) }
         ensures stays { (i : ℤ) → IsSettled self.old.store i → IsSettled self.new.store i }
         ensures terms { self.new.terms ≡ self.old.terms }
+        ensures began { self.new.first ≡ self.old.first }
+        ensures history { GoesOn self.old.events.items self.new.events.items }
     {
         if is_over(now, term) {
             return self.lapse(term.id);
@@ -100,9 +108,13 @@ impl Kept {
     }
 
     /// Lets each lease lapse whose seconds have passed, unless the store is full.
+    #[tactic(auto, using(crate::proofs::Replaying::longer_still))]
     fn lapse_each(&mut self, now: u64) -> Result<(), Memory>
+        ensures swept { OnOk result (self.new.store ≡ swept now self.old.terms.items self.old.store) }
         ensures lapses { OnOk result (All (LapsesBy now self.new.store) self.old.terms.items) }
         ensures terms { self.new.terms ≡ self.old.terms }
+        ensures began { self.new.first ≡ self.old.first }
+        ensures history { GoesOn self.old.events.items self.new.events.items }
     {
         let mut index = 0;
         'terms: while index < self.terms.len() {
@@ -115,8 +127,11 @@ impl Kept {
 
     /// Lets each lease lapse whose seconds have passed. A lapse that is denied since the store is full is left undone.
     pub fn lapse_over(&mut self, now: u64) -> Result<(), Memory>
+        ensures swept { OnOk result (self.new.store ≡ swept now self.old.terms.items self.old.store) }
         ensures lapses { OnOk result (All (LapsesBy now self.new.store) self.old.terms.items) }
-        ensures terms { OnOk result ((self.new.terms.items ≡ filter (λ t. not (is_over now t)) self.old.terms.items) ⊎ ((self.new.terms.items ≡ self.old.terms.items) × IsFull self.new.store)) }
+        ensures terms { OnOk result (Stay now self.new.store self.old.terms.items self.new.terms.items) }
+        ensures began { self.new.first ≡ self.old.first }
+        ensures history { GoesOn self.old.events.items self.new.events.items }
     {
         self.lapse_each(now)?;
         if self.revision() < LAST_REVISION {
@@ -126,7 +141,7 @@ impl Kept {
     }
 
     /// Carries out one ask.
-    #[tactic(auto, using(crate::proofs::Replaying::goes_on, crate::proofs::Carried::fits))]
+    #[tactic(auto, using(crate::proofs::Replaying::goes_on, crate::proofs::Replaying::one_longer, crate::proofs::Replaying::as_long, crate::proofs::Carried::fits))]
     pub fn carry_out(&mut self, ask: &Ask) -> Result<Answer, StoreFault>
         requires { IsGrantable ask.now }
         ensures carried { IfOk result (λ a. carry self.old.store ask.now ≡ Some (self.new.store, a)) }
@@ -134,6 +149,8 @@ impl Kept {
         ensures first { (d : Denial) → result ≡ Err (StoreFault.Denied d) → first_denial self.old.store ask.now ≡ Some d }
         ensures stays { OnErr result (self.new.store ≡ self.old.store) }
         ensures terms { self.new.terms ≡ self.old.terms }
+        ensures began { self.new.first ≡ self.old.first }
+        ensures history { GoesOn self.old.events.items self.new.events.items }
     {
         let answer = self.store.carry_out(ask)?;
         let event = Event::Asked(Snapshot::of(ask), Snapshot::of(&answer));
@@ -141,58 +158,59 @@ impl Kept {
         Ok(answer)
     }
 
-    /// Takes note of when the lease of a grant or a keepalive is over. A grant finds room for its term.
-    fn note(&mut self, now: u64, ask: &Ask)
-        requires granted { IsGrantable ask.now }
-        requires room { NeedsRoom ask.now (vec_len self.old.terms) (vec_capacity self.old.terms) }
-        ensures terms { self.new.terms.items ≡ terms_after now ask.now self.old.terms.items }
+    /// Takes note of how long a lease lasts that was granted or kept alive at this moment.
+    fn note(&mut self, now: u64, answer: &Answer)
+        requires room { vec_len self.old.terms < vec_capacity self.old.terms }
+        ensures terms { self.new.terms.items ≡ terms_after now answer.now self.old.terms.items }
         ensures store { self.new.store ≡ self.old.store }
+        ensures began { self.new.first ≡ self.old.first }
+        ensures history { self.new.events ≡ self.old.events }
     {
-        match ask {
-            Ask::Grant { id, ttl } => {
-                let term = Term {
-                    id: *id,
-                    seconds: ttl.unsigned_abs(),
-                    since: now,
-                };
-                begin(&mut self.terms, term);
-            }
-            Ask::Alive { id } => {
-                let begun = Term {
-                    id: *id,
-                    seconds: 0,
-                    since: now,
-                };
-                renew(&mut self.terms, &begun);
-            }
-            Ask::Txn(_) | Ask::Range(_) => {}
-        }
+        let (id, seconds) = match answer {
+            Answer::Granted { id, ttl, .. } => (*id, *ttl),
+            Answer::Alive { ttl: 0, .. } => return,
+            Answer::Alive { id, ttl, .. } => (*id, *ttl),
+            Answer::Txn { .. } | Answer::Range { .. } => return,
+        };
+        let term = Term {
+            id,
+            seconds: seconds.unsigned_abs(),
+            since: now,
+        };
+        begin(&mut self.terms, term);
     }
 
-    /// Finds room for the term of a grant.
-    fn make_room(&mut self, ask: &Ask) -> Result<(), Memory>
-        ensures room { OnOk result (NeedsRoom ask.now (vec_len self.new.terms) (vec_capacity self.new.terms)) }
+    /// Finds room for one more term.
+    fn make_room(&mut self) -> Result<(), Memory>
+        ensures room { OnOk result (vec_len self.new.terms < vec_capacity self.new.terms) }
         ensures terms { self.new.terms.items ≡ self.old.terms.items }
         ensures store { self.new.store ≡ self.old.store }
+        ensures began { self.new.first ≡ self.old.first }
+        ensures history { self.new.events ≡ self.old.events }
     {
-        if let Ask::Grant { .. } = ask {
-            self.terms.reserve(1)?;
-        }
+        self.terms.reserve(1)?;
         Ok(())
     }
 
-    /// Carries out one ask at this moment. Before it, each lease whose seconds have passed lapses; a lapse that is denied since the
-    /// store is full is left undone. After a denial, and where memory runs out, leases may have lapsed; nothing else has changed.
+    /// Carries out one ask at this moment. Before it, each lease whose seconds have passed lapses, and no other; a lapse that is denied
+    /// since the store is full is left undone. After a denial, and where memory runs out, leases may have lapsed; nothing else has
+    /// changed.
+    #[tactic(auto, using(crate::proofs::Replaying::longer_still))]
     pub fn call_at(&mut self, now: u64, ask: &Ask) -> Result<Answer, StoreFault>
         requires { IsGrantable ask.now }
-        ensures carried { IfOk result (λ a. (mid : etcd.Store) × (carry mid ask.now ≡ Some (self.new.store, a)) × All (LapsesBy now mid) self.old.terms.items) }
+        ensures carried { IfOk result (λ a. carry (swept now self.old.terms.items self.old.store) ask.now ≡ Some (self.new.store, a)) }
+        ensures over { OnOk result (All (LapsesBy now (swept now self.old.terms.items self.old.store)) self.old.terms.items) }
         ensures fits { IfOk result (Fits ask.now) }
+        ensures noted { IfOk result (λ a. (stay : List Lasting) × Stay now (swept now self.old.terms.items self.old.store) self.old.terms.items stay × (self.new.terms.items ≡ terms_after now a stay)) }
+        ensures denied { (d : Denial) → result ≡ Err (StoreFault.Denied d) → self.new.store ≡ swept now self.old.terms.items self.old.store }
         ensures first { (d : Denial) → result ≡ Err (StoreFault.Denied d) → first_denial self.new.store ask.now ≡ Some d }
+        ensures began { self.new.first ≡ self.old.first }
+        ensures history { GoesOn self.old.events.items self.new.events.items }
     {
         self.lapse_over(now)?;
-        self.make_room(ask)?;
+        self.make_room()?;
         let answer = self.carry_out(ask)?;
-        self.note(now, ask);
+        self.note(now, &answer);
         Ok(answer)
     }
 }

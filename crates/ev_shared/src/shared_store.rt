@@ -71,7 +71,7 @@ impl SharedStore {
     }
 
     /// Waits for the first revision from `from` on that puts the key, from 1 to 2^62. A removal is no put.
-    #[tactic(auto, using(crate::proofs::Shown::looks_next))]
+    #[tactic(auto, using(crate::proofs::Shown::looks_next, crate::proofs::Shown::gone_next))]
     pub fn next_put<R: Wait>(&self, rt: &R, alloc: Global, key: &[u8], from: u64) -> Watched
         requires first { 1 ≤ from }
         requires small { from ≤ 2 ^ 62 }

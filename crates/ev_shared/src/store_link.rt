@@ -9,10 +9,11 @@ ghost use Rattle.ev_types.specs.Denials.{carry};
 ghost use Rattle.zx_outside.specs.Memory.{fails_next};
 ghost use Rattle.ev_shared.specs.Links.{MayFail};
 
-use ev_call::{CallFault, Etcd};
+use ev_call::{CallFault, Cluster, Etcd};
 use ev_store::{Store, StoreFault};
 use ev_types::{Answer, Ask};
 use std::marker::Model;
+use zx_base::Memory;
 use zx_history::GhostHistory;
 
 /// A link to a store that it owns. It carries each ask out at once.
@@ -138,5 +139,17 @@ impl Etcd for StoreLink {
         self.asks = self.asks.and(ask);
         self.results = self.results.and(&result);
         result
+    }
+}
+
+/// Its store is at hand, whatever the address.
+impl Cluster for StoreLink {
+    ghost use Rattle.std.specs.Prelude.{◌≡◌, Ok};
+
+    fn to(&mut self, _endpoint: &str) -> Result<(), Memory>
+        ensures done { result ≡ Ok tt }
+        ensures same { self.new ≡ self.old }
+    {
+        Ok(())
     }
 }

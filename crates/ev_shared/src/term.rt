@@ -1,8 +1,7 @@
 //! How long leases last.
 
-ghost use Rattle.std.specs.Prelude.{◌≡◌, ◌<◌, ◌++◌, ◌∷◌, [], map, filter, not, slice_index_or, slice_set, vec_len, vec_capacity};
-ghost use Rattle.ev_shared.specs.declared.term.Term.{Term as Renewed};
-ghost use Rattle.ev_shared.specs.Terms.{is_over, is_of, renewed};
+ghost use Rattle.std.specs.Prelude.{◌≡◌, ◌<◌, ◌++◌, ◌∷◌, [], filter, not, vec_len, vec_capacity};
+ghost use Rattle.ev_shared.specs.Terms.{is_over, is_of};
 
 /// How long a lease lasts.
 #[derive(Clone, Copy)]
@@ -34,24 +33,4 @@ pub fn end_over(terms: &mut Vec<Term>, now: u64)
     ensures { terms.new.items ≡ filter (λ t. not (is_over now t)) terms.old.items }
 {
     terms.retain(|term| !is_over(now, *term));
-}
-
-/// Begins the seconds of one lease anew, at this moment.
-pub fn renew(terms: &mut Vec<Term>, begun: &Term)
-    ensures { terms.new.items ≡ map (renewed begun.now.since begun.now.id) terms.old.items }
-{
-    for index in 0..terms.len() {
-        renew_at(terms, index, begun);
-    }
-}
-
-/// Begins the seconds of the lease at this place anew, if it is this one.
-fn renew_at(terms: &mut Vec<Term>, index: usize, begun: &Term)
-    requires { index < vec_len terms.old }
-    ensures items { (d : Renewed) → terms.new.items ≡ slice_set terms.old.items index (renewed begun.now.since begun.now.id (slice_index_or terms.old.items index d)) }
-    ensures len { vec_len terms.new ≡ vec_len terms.old }
-{
-    if terms[index].id == begun.id {
-        terms[index].since = begun.since;
-    }
 }

@@ -1,6 +1,7 @@
 //! What a watch of one key is told.
 
 ghost use Rattle.std.specs.Prelude.{◌≡◌, ◌≤◌, ◌<◌, ◌^◌, pos, Option, length, IfOk, IfErr, OnOk};
+ghost use Rattle.ev_shared.specs.History.{GoesOn};
 ghost use Rattle.ev_types.specs.declared.answer.Kv.{Kv as SomeKv};
 ghost use Rattle.ev_shared.specs.Watching.{Looks, Unseen, found_in, key_at, listed, put_at, put_by};
 ghost use Rattle.ev_types.specs.declared.ask.Ask.TheVariants as asks;
@@ -62,7 +63,7 @@ fn key_at(alloc: Global, key: &[u8], revision: u64) -> Result<Ask, Memory>
 
 impl Kept {
     /// The key as this revision puts it; `None` where the revision does not put it.
-    #[tactic(auto, using(crate::proofs::Shown::unseen))]
+    #[tactic(auto, using(crate::proofs::Shown::unseen, crate::proofs::Replaying::as_long))]
     fn put_at(&mut self, alloc: Global, key: &[u8], revision: u64) -> Result<Option<Kv>, StoreFault>
         requires first { 1 ≤ revision }
         requires small { revision < 2 ^ 63 }
@@ -71,6 +72,8 @@ impl Kept {
         ensures most { OnOk result (length self.old.store.revisions < 2 ^ 62) }
         ensures unseen { IfErr result (Unseen self.old.store revision) }
         ensures store { self.new.store ≡ self.old.store }
+        ensures began { self.new.first ≡ self.old.first }
+        ensures history { GoesOn self.old.events.items self.new.events.items }
     {
         let ask = key_at(alloc, key, revision)?;
         let answer = self.carry_out(&ask)?;
@@ -78,11 +81,14 @@ impl Kept {
     }
 
     /// Looks for the first revision from `from` on that puts the key.
-    #[tactic(auto, using(crate::proofs::Shown::moved_on))]
+    #[tactic(auto, using(crate::proofs::Shown::moved_on, crate::proofs::Shown::gone, crate::proofs::Replaying::as_long, crate::proofs::Replaying::longer_still))]
     pub fn look(&mut self, alloc: Global, key: &[u8], from: u64) -> Result<Look, Memory>
         requires first { 1 ≤ from }
         requires small { from ≤ 2 ^ 62 }
-        ensures { IfOk result (Looks self.new.store key.now from) }
+        ensures looks { IfOk result (Looks self.new.store key.now from) }
+        ensures store { self.new.store ≡ self.old.store }
+        ensures began { self.new.first ≡ self.old.first }
+        ensures history { GoesOn self.old.events.items self.new.events.items }
     {
         let mut revision = from;
         'revisions: loop {
