@@ -7,6 +7,7 @@
 //! | Left side | Right side |
 //! |---|---|
 //! | `serve PIECE BYTES` | why the connection ended, as in a transcript's `close` line, and all that it wrote, where these bytes came in pieces of PIECE bytes, or as many as fit where PIECE is 0 |
+//! | `closed PIECE BYTES` | the same, where the feed was closed before and the client is idle for a turn behind its pieces |
 //! | `fail WHAT PIECE BYTES` | the same stream is served again and again; each time the next call of WHAT fails, `reads` of the source, `writes` of the sink or `calls` of the link, until one run ends as without a failure. The cause of the runs before and their number; and how many whole packets were written, from which run on. Each wrote a front of what is written without a failure |
 //! | `cut PIECE BYTES` | the same, where the stream is cut before each of its bytes, and at its end |
 //! | `follow NUMBER VERSION ..` | what a follower from this number answers to lines with one head each, of these versions |
@@ -20,6 +21,7 @@ mod following;
 mod serving;
 mod timing;
 
+use crate::serving::{CLOSED, NONE};
 use crate::timing::print_times;
 use anyhow::Result;
 use row_files::{Rows, Words, bytes_of, status_of, try_file};
@@ -68,7 +70,10 @@ fn found_of<R: Wait>(
         return Ok(None);
     };
     if what == "serve" {
-        return Ok(Some(serving::shown(rt, alloc, bytes.as_slice(), piece)?));
+        return Ok(Some(serving::shown(rt, alloc, bytes.as_slice(), piece, NONE)?));
+    }
+    if what == "closed" {
+        return Ok(Some(serving::shown(rt, alloc, bytes.as_slice(), piece, CLOSED)?));
     }
     failing::told(rt, alloc, what, bytes.as_slice(), piece)
 }

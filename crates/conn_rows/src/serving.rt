@@ -10,7 +10,7 @@ use zk_transcript::{Ended, TranscriptLine};
 use zn_layout::begin_ask;
 use zp_conn::{Cause, Fresh, NoTrace, serve_connection};
 use zt_text::push_line;
-use zw_hub::hub;
+use zw_hub::{FeedEnd, hub};
 use zx_base::Memory;
 use zx_net::MemClock;
 use zx_outside::{MemSink, MemSource};
@@ -21,12 +21,14 @@ const FRESH: Fresh = Fresh {
     passwd: [0xaa; 16],
 };
 
-/// Which calls fail, counted from 1: 0 for none.
+/// Which calls fail, counted from 1: 0 for none; and whether the feed has ended.
 #[derive(Clone, Copy)]
 pub struct Failing {
     pub read: u64,
     pub write: u64,
     pub call: u64,
+    /// The feed was closed before, and the client is idle for a turn behind the listed pieces.
+    pub feed: bool,
 }
 
 /// Nothing fails.
@@ -34,6 +36,15 @@ pub const NONE: Failing = Failing {
     read: 0,
     write: 0,
     call: 0,
+    feed: false,
+};
+
+/// Nothing fails, and the feed has ended.
+pub const CLOSED: Failing = Failing {
+    read: 0,
+    write: 0,
+    call: 0,
+    feed: true,
 };
 
 /// A connection that ended.
@@ -63,11 +74,12 @@ pub fn begun(alloc: Global, failing: u64) -> Result<StoreLink, Memory> {
     }
 }
 
-/// The stream, in pieces of so many bytes.
+/// The stream, in pieces of so many bytes; then, where that is wanted, an idle turn.
 pub fn stream_of(
     alloc: Global,
     bytes: &[u8],
     piece: u32,
+    is_idle: bool,
     failing: u64,
 ) -> Result<MemSource, Memory> {
     let mut copy = Vec::new(alloc);
@@ -77,6 +89,9 @@ pub fn stream_of(
         for _ in bytes.chunks(piece as usize) {
             pieces.push(piece)?;
         }
+    }
+    if is_idle {
+        pieces.push(0)?;
     }
     Ok(MemSource::new(copy, pieces, listed(alloc, failing)?))
 }
@@ -90,9 +105,12 @@ pub fn serve<R: Wait>(
     failing: Failing,
 ) -> Result<Served, Memory> {
     let mut link = begun(alloc, failing.call)?;
-    let mut source = stream_of(alloc, bytes, piece, failing.read)?;
+    let mut source = stream_of(alloc, bytes, piece, failing.feed, failing.read)?;
     let mut sink = MemSink::new(alloc, listed(alloc, failing.write)?);
-    let (_hub, mut readers) = hub(rt, alloc, 1, 1)?;
+    let (mut hub, mut readers) = hub(rt, alloc, 1, 1)?;
+    if failing.feed {
+        hub.close(FeedEnd::NoLine)?;
+    }
     let Some(mut feed) = readers.pop() else {
         return Err(Memory);
     };
@@ -124,8 +142,14 @@ pub fn words_of(alloc: Global, cause: Cause) -> Result<String, Memory> {
 }
 
 /// Why the connection of a stream ended, and what it wrote.
-pub fn shown<R: Wait>(rt: &R, alloc: Global, bytes: &[u8], piece: u32) -> Result<String, Memory> {
-    let served = serve(rt, alloc, bytes, piece, NONE)?;
+pub fn shown<R: Wait>(
+    rt: &R,
+    alloc: Global,
+    bytes: &[u8],
+    piece: u32,
+    failing: Failing,
+) -> Result<String, Memory> {
+    let served = serve(rt, alloc, bytes, piece, failing)?;
     let mut found = words_of(alloc, served.cause)?;
     push_word(&mut found, hex_of(alloc, served.sink.bytes())?.as_str())?;
     Ok(found)

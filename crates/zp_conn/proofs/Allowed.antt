@@ -27,7 +27,7 @@ use Rattle.zp_conn.specs.Inboxes.{InboxState, IsEndedAfter, IsQuiet, ReadsOn, fa
 use Rattle.zp_conn.specs.declared.inbox.Came.{Came}
 use Rattle.zp_conn.specs.declared.inbox.Came.TheVariants as came
 use Rattle.zp_conn.specs.Serving.{FeedTold, LinkTold, SourceTold}
-use Rattle.zp_conn.specs.Turning.{Asks, Feeds, Fetches, Looks, calls, come_by, feeds, looks}
+use Rattle.zp_conn.specs.Turning.{Asks, Closes, Feeds, Fetches, Looks, calls, closes, come_by, feeds, looks}
 use Rattle.zp_conn.specs.Inputs.{IsAllowed, IsAnswered, IsFedIn, IsInTime}
 use Rattle.zp_conn.specs.declared.inputs.Next.{Next}
 use Rattle.zp_conn.specs.declared.inputs.Next.TheVariants as next
@@ -167,6 +167,9 @@ module _ (c : Core) (asked : Option Ask) (n : Next) (i : InboxState) (s : Source
 
   pub fetch_either : (cursor : ℤ) (w : Wants) (f f' : FeedTold) → w ≡ wants_of c → w ≡ wants.FrameOrEntry cursor → asked ≡ None → Feeds cursor n f f' → Fetches c asked n i i s s l l f f'
   fetch_either cursor w f f' e h none a = (let is : wants_of c ≡ wants.FrameOrEntry cursor = sym e ∙ h in feeds cursor none (ap awaits_entry is) (subst (CursorIs c) is (cursor_wanted c)) a refl refl refl)
+
+  pub fetch_end : (w : Wants) (i' : InboxState) (s' : SourceTold) (r : Came) (m : Next) (f f' : FeedTold) → w ≡ wants_of c → w ≡ wants.Frame → asked ≡ None → m ≡ come_by r → m ≡ next.Idle → ReadsOn r i i' s.given s'.given s.left s'.left → s'.faults ≡ faults_after r s.faults → IsEndedAfter r s'.ended → Closes n f f' → Fetches c asked n i i' s s' l l f f'
+  fetch_end w i' s' r m f f' e h none is idle on faults ended a = closes none (sym e ∙ h) (record { came = r; gives = sym idle ∙ is; reads = on; faults = faults; ended = ended }) a refl
 
   module _ (i' : InboxState) (s' : SourceTold) (r : Came) (is : n ≡ come_by r) (on : ReadsOn r i i' s.given s'.given s.left s'.left) (faults : s'.faults ≡ faults_after r s.faults) (none : asked ≡ None) where
     look : IsEndedAfter r s'.ended → Looks n i i' s s'

@@ -32,7 +32,7 @@ use Rattle.zp_run.specs.Runs.{answers_of, entries_of, frames_of}
 use Rattle.zp_conn.specs.Inboxes.{faults_after, Comes, Holds, InboxState, IsEndedAfter}
 use Rattle.zp_conn.specs.Inputs.{IsAllowed, IsAnswered, IsFedIn, IsInTime}
 use Rattle.zp_conn.specs.Serving.{AreFirstFrames, FeedTold, LinkTold, Rose, SourceTold, Told, is_behind_frames, outcome_of, with_calls}
-use Rattle.zp_conn.specs.Turning.{Asks, Feeds, Fetches, calls, feeds, looks, IsHeldFor, IsOutFor, IsShownBy, Looks, Stood, answered_by, answers_in, come_by, entries_in, fed_by, lags_in, listed}
+use Rattle.zp_conn.specs.Turning.{Asks, Closes, Feeds, Fetches, calls, closes, feeds, looks, IsHeldFor, IsOutFor, IsShownBy, Looks, Stood, answered_by, answers_in, closing_by, come_by, entries_in, fed_by, lags_in, listed}
 use Rattle.zp_conn.specs.declared.inbox.Came.{Came}
 use Rattle.zp_conn.specs.declared.inbox.Came.TheVariants as came
 use Rattle.zp_conn.specs.declared.inputs.Next.{Next}
@@ -215,6 +215,69 @@ feed-shown cursor (fed.Lagged was floor) old new lags closings g h l k = (lags-o
 feed-shown cursor (fed.Closed end) old new lags closings g h l k = subst (λ n. 0 < n) (sym k) (omega arith)
 feed-shown cursor fed.Memory old new lags closings g h l k = tt
 
+-- ---- the feed's end
+
+end-out : (r : Fed) (core : Core) → asked_of core.who core.stage ≡ None → IsOutFor (closing_by r) core None
+end-out (fed.Entry e) core h = h
+end-out fed.None core h = h
+end-out (fed.Lagged was floor) core h = h
+end-out (fed.Closed end) core h = (refl, inr h)
+end-out fed.Memory core h = refl
+
+end-may : (r : Fed) (core : Core) → asked_of core.who core.stage ≡ None → IsAllowed core (closing_by r)
+end-may (fed.Entry e) core h = tt
+end-may fed.None core h = tt
+end-may (fed.Lagged was floor) core h = tt
+end-may (fed.Closed end) core h = λ opened. h
+end-may fed.Memory core h = tt
+
+end-time : (r : Fed) (core : Core) → IsInTime core (closing_by r)
+end-time (fed.Entry e) core = tt
+end-time fed.None core = tt
+end-time (fed.Lagged was floor) core = tt
+end-time (fed.Closed end) core = tt
+end-time fed.Memory core = tt
+
+end-held : (r : Fed) (frames : List (List ℕ)) (read : List ℕ) (i : InboxState) → Holds read frames i → IsHeldFor (closing_by r) frames read i
+end-held (fed.Entry e) frames read i h = h
+end-held fed.None frames read i h = h
+end-held (fed.Lagged was floor) frames read i h = h
+end-held (fed.Closed end) frames read i h = h
+end-held fed.Memory frames read i h = held-front cause.Memory frames read i h refl
+
+end-answer : (r : Fed) → answers_in (closing_by r) ≡ []
+end-answer (fed.Entry e) = refl
+end-answer fed.None = refl
+end-answer (fed.Lagged was floor) = refl
+end-answer (fed.Closed end) = refl
+end-answer fed.Memory = refl
+
+end-entry : (r : Fed) → entries_in (closing_by r) ≡ []
+end-entry (fed.Entry e) = refl
+end-entry fed.None = refl
+end-entry (fed.Lagged was floor) = refl
+end-entry (fed.Closed end) = refl
+end-entry fed.Memory = refl
+
+end-lags : (r : Fed) → lags_in (closing_by r) ≡ 0
+end-lags (fed.Entry e) = refl
+end-lags fed.None = refl
+end-lags (fed.Lagged was floor) = refl
+end-lags (fed.Closed end) = refl
+end-lags fed.Memory = refl
+
+end-looked : (r : Fed) (es : List Entry) (before after : ℕ) (was list : Published) → IsOneRead r before after was list → (es ≡ []) ⊎ (0 < before) → (es ≡ []) ⊎ (0 < after)
+end-looked r es before after was list (inl once) h = inr (subst (λ n. 0 < n) (sym once) (omega arith))
+end-looked r es before after was list (inr (memory, same, stays)) (inl none) = inl none
+end-looked r es before after was list (inr (memory, same, stays)) (inr some) = inr (subst (λ n. 0 < n) (sym same) some)
+
+end-shown : (r : Fed) (old new : Told) (closings : ℕ) → (new.feed).closings ≡ closings + if_closed r → IsShownBy (closing_by r) old new
+end-shown (fed.Entry e) old new closings k = tt
+end-shown fed.None old new closings k = tt
+end-shown (fed.Lagged was floor) old new closings k = tt
+end-shown (fed.Closed end) old new closings k = subst (λ n. 0 < n) (sym k) (omega arith)
+end-shown fed.Memory old new closings k = tt
+
 -- ---- the source
 
 look-out : (r : Came) (core : Core) → asked_of core.who core.stage ≡ None → IsOutFor (come_by r) core None
@@ -359,6 +422,39 @@ module _ (fresh : Fresh) (old new : Told) (core : Core) (i : InboxState) (o : Li
       kept x es (inl none) c at = absurd (contains-none x (subst (λ xs. Contains xs x) none c))
       kept x es (inr some) c at = later-at f.list (new.feed).list x (a.extends some) at
 
+  -- a look whether the feed has ended
+  pub end-on : (n : Next) (f : FeedTold) → Stood fresh old new core i o None next.Idle → Closes n (new.feed) f → Stood fresh old (record new { feed = f }) core i o None n
+  end-on n f s a = subst (Stood fresh old (record new { feed = f }) core i o None) (sym a.gives) (record {
+    steps = s.steps;
+    ran = s.ran;
+    timely = s.timely;
+    holds = s.holds;
+    opened = s.opened;
+    out = end-out a.answer core s.out;
+    may = end-may a.answer core s.out;
+    in_time = end-time a.answer core;
+    read = s.read;
+    gives = s.gives;
+    held = end-held a.answer (frames_of s.steps) s.read i s.held;
+    calls = s.calls;
+    called = s.called;
+    asks = s.asks;
+    outcomes = s.outcomes ∙ ap (λ xs. answers_of s.steps ++ xs) (sym (end-answer a.answer));
+    entries = λ x c. (let before : Contains (entries_of s.steps ++ []) x = subst (λ xs. Contains (entries_of s.steps ++ xs) x) (end-entry a.answer) c in kept x (entries_of s.steps ++ []) s.looked before (s.entries x before));
+    looked = subst (λ xs. (entries_of s.steps ++ xs ≡ []) ⊎ (0 < f.reads)) (sym (end-entry a.answer)) (end-looked a.answer (entries_of s.steps ++ []) (new.feed).reads f.reads (new.feed).list f.list a.once s.looked);
+    written = s.written;
+    takes = s.takes;
+    says = s.says;
+    noted = s.noted;
+    grown = record { source = (s.grown).source; sink = (s.grown).sink; link = (s.grown).link };
+    lags = a.lagged ∙ s.lags ∙ ap (λ x. (old.feed).lags + x) (sym (end-lags a.answer));
+    shown = end-shown a.answer old (record new { feed = f }) (new.feed).closings a.closed;
+  })
+    where
+      kept : (x : Entry) (es : List Entry) → (es ≡ []) ⊎ (0 < (new.feed).reads) → Contains es x → IsAt (new.feed).list x.number x → IsAt f.list x.number x
+      kept x es (inl none) c at = absurd (contains-none x (subst (λ xs. Contains xs x) none c))
+      kept x es (inr some) c at = later-at f.list (new.feed).list x (a.extends some) at
+
   -- a look at the inbox
   pub look-on : (i' : InboxState) (n : Next) (t : SourceTold) → Stood fresh old new core i o None next.Idle → Looks n i i' (new.source) t → IsInTime core n → Stood fresh old (record new { source = t }) core i' o None n
   look-on i' n t s a time = subst (Stood fresh old (record new { source = t }) core i' o None) (sym a.gives) (record {
@@ -408,3 +504,6 @@ module _ (fresh : Fresh) (old new : Told) (core : Core) (i : InboxState) (o : Li
   fetch-on i' asked n t l f s (looks e (inr g) a time l-is) =
       subst (λ x. Stood fresh old (record new { source = t; link = x; feed = f }) core i' o None n) (sym l-is)
       (look-on fresh old (record new { feed = f }) core i o i' n t (feed-on fresh old new core i o g.0 next.Idle f (subst (λ x. Stood fresh old new core i o x next.Idle) e s) g.1 g.2 g.3) a time)
+  fetch-on i' asked n t l f s (closes e w a k l-is) =
+      subst (λ x. Stood fresh old (record new { source = t; link = x; feed = f }) core i' o None n) (sym l-is)
+      (end-on fresh old (record new { source = t }) core i' o n f (look-on fresh old new core i o i' next.Idle t (subst (λ x. Stood fresh old new core i o x next.Idle) e s) a tt) k)

@@ -6,6 +6,7 @@ use Rattle.ev_call.specs.Calls.{Call, failures_after, with_call}
 use Rattle.ev_call.specs.Fitting.{Fits}
 use Rattle.ev_call.specs.declared.etcd.CallFault.{CallFault}
 use Rattle.ev_call.specs.declared.etcd.CallFault.TheVariants as fault
+use Rattle.zk_model.specs.Limits.{max_long}
 use Rattle.zk_transcript.specs.declared.transcript.Cause.{Cause}
 use Rattle.zk_transcript.specs.declared.transcript.Cause.TheVariants as cause
 use Rattle.zn_layout.specs.declared.entry.Entry.{Entry}
@@ -21,6 +22,7 @@ use Rattle.zp_step.specs.Stages.{Core, asked_of, counted_up, is_shut, new_core, 
 use Rattle.zp_step.specs.Steps.{awaits_entry}
 use Rattle.zp_step.specs.declared.input.Input.{Input}
 use Rattle.zp_step.specs.declared.input.Input.TheVariants as input
+use Rattle.zp_step.specs.declared.wants.Wants.TheVariants as wants
 use Rattle.zp_laws.specs.Ending.{takes_out}
 use Rattle.zp_run.specs.Notes.{Noted, notes_of, with_notes}
 use Rattle.zp_run.specs.Runs.{Runs, Step, answer_in, answers_of, asks_of, closed_for, entries_of, entry_in, frames_of, said}
@@ -74,6 +76,24 @@ pub record Feeds (cursor : ℤ) (n : Next) (old new : FeedTold) : Type 0 where
   pub lagged : new.lags ≡ old.lags + if_lagged answer
   pub closed : new.closings ≡ old.closings + if_closed answer
 
+-- above all entries: none can come, and the end is handed in
+abbrev pub closing_by : Fed → Next
+closing_by (fed.Entry e) = next.Idle
+closing_by fed.None = next.Idle
+closing_by (fed.Lagged was floor) = next.Idle
+closing_by (fed.Closed end) = next.Input input.FeedClosed
+closing_by fed.Memory = next.Ended cause.Memory
+
+-- one read of the feed above all entries
+pub record Closes (n : Next) (old new : FeedTold) : Type 0 where
+  pub answer : Fed
+  pub gives : n ≡ closing_by answer
+  pub once : IsOneRead answer old.reads new.reads old.list new.list
+  pub extends : 0 < old.reads → Extends new.list old.list
+  pub told : IsFed new.list max_long answer
+  pub lagged : new.lags ≡ old.lags
+  pub closed : new.closings ≡ old.closings + if_closed answer
+
 -- ---- the source
 
 abbrev pub come_by : Came → Next
@@ -95,11 +115,13 @@ pub record Looks (n : Next) (i i' : InboxState) (old new : SourceTold) : Type 0 
 -- ---- what a turn takes in
 
 -- it had an ask to call; or it waited for an entry and read the feed; or it looked at the client's stream, perhaps after a read of
--- the feed that gave nothing
+-- the feed that gave nothing; or it looked at the stream, which gave nothing, where a frame alone is wanted, and then whether the
+-- feed has ended
 pub data Fetches (core : Core) (asked : Option Ask) (n : Next) (i i' : InboxState) (s s' : SourceTold) (l l' : LinkTold) (f f' : FeedTold) : Type 0 where
   calls : (q : Ask) → asked ≡ Some q → Asks q n l l' → i' ≡ i → s' ≡ s → f' ≡ f → Fetches core asked n i i' s s' l l' f f'
   feeds : (cursor : ℤ) → asked ≡ None → awaits_entry (wants_of core) ≡ true → cursor ≡ core.cursor → Feeds cursor n f f' → i' ≡ i → s' ≡ s → l' ≡ l → Fetches core asked n i i' s s' l l' f f'
   looks : asked ≡ None → (f' ≡ f) ⊎ ((cursor : ℤ) × (awaits_entry (wants_of core) ≡ true) × (cursor ≡ core.cursor) × Feeds cursor next.Idle f f') → Looks n i i' s s' → IsInTime core n → l' ≡ l → Fetches core asked n i i' s s' l l' f f'
+  closes : asked ≡ None → wants_of core ≡ wants.Frame → Looks next.Idle i i' s s' → Closes n f f' → l' ≡ l → Fetches core asked n i i' s s' l l' f f'
 
 -- ---- how the loop stands
 

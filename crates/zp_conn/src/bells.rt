@@ -7,8 +7,8 @@ use std::sync::Arc;
 use zw_hub::{Fed, Feed};
 use zx_net::Bell;
 
-/// A feed that arms a bell before each look, so that whoever publishes after the look and then rings wakes the one who waits for the
-/// bell's source.
+/// A feed that arms a bell before each look for an entry, so that whoever publishes after the look and then rings wakes the one who
+/// waits for the bell's source.
 #[derive(Drop)]
 pub struct Belled<F: Feed + Drop, B: Bell + Drop> {
     feed: F,
@@ -41,7 +41,10 @@ impl<F: Feed + Drop, B: Bell + Drop> Feed for Belled<F, B> {
     ghost closings = { λ b. F.closings b.feed };
 
     fn next(&mut self, cursor: i64) -> Fed {
-        self.bell.arm();
+        // A look whether the feed has ended needs no wake: no entry is above the greatest number.
+        if cursor < i64::MAX {
+            self.bell.arm();
+        }
         self.feed.next(cursor)
     }
 }

@@ -4,7 +4,7 @@ ghost use Rattle.std.specs.Prelude.{◌≡◌, ◌<◌, length};
 ghost use Rattle.ev_call.specs.Asks.{IsGrantable};
 ghost use Rattle.std.specs.Prelude.{IfSome};
 ghost use Rattle.zp_conn.specs.Inputs.{IsAnswered, IsFedIn};
-ghost use Rattle.zp_conn.specs.Turning.{Asks, Feeds, Fetches, come_by};
+ghost use Rattle.zp_conn.specs.Turning.{Asks, Closes, Feeds, Fetches, come_by};
 
 use crate::inbox::{Came, Inbox};
 use ev_call::{CallFault, Etcd};
@@ -53,6 +53,18 @@ fn entry<F: Feed>(feed: &mut F, cursor: i64) -> Next
     }
 }
 
+/// Whether the feed has ended. No entry is above the greatest number, so none is taken.
+fn end_of<F: Feed>(feed: &mut F) -> Next
+    ensures { Closes result (record { list = F.list feed.old; reads = F.reads feed.old; lags = F.lags feed.old; closings = F.closings feed.old }) (record { list = F.list feed.new; reads = F.reads feed.new; lags = F.lags feed.new; closings = F.closings feed.new }) }
+{
+    match feed.next(i64::MAX) {
+        Fed::Closed(_end) => Next::Input(Input::FeedClosed),
+        Fed::None | Fed::Entry(_) => Next::Idle,
+        Fed::Lagged { .. } => unreachable!(),
+        Fed::Memory => Next::Ended(Cause::Memory),
+    }
+}
+
 /// What a look at the stream comes to.
 fn looked(came: Came) -> Next
     ensures { result ≡ come_by came }
@@ -68,7 +80,8 @@ fn looked(came: Came) -> Next
 }
 
 /// Calls the ask that is out; or reads the feed or the source, as the connection wants. Where both are wanted, the feed is first.
-#[tactic(auto, using(crate::proofs::Allowed::fetch_answer, crate::proofs::Allowed::fetch_entry, crate::proofs::Allowed::fetch_either, crate::proofs::Allowed::fetch_frame, crate::proofs::Allowed::fetch_after, crate::proofs::Allowed::fetch_ahead, crate::proofs::Allowed::fetch_quiet))]
+/// Where a frame alone is wanted and none is there, looks whether the feed has ended.
+#[tactic(auto, using(crate::proofs::Allowed::fetch_answer, crate::proofs::Allowed::fetch_entry, crate::proofs::Allowed::fetch_either, crate::proofs::Allowed::fetch_frame, crate::proofs::Allowed::fetch_end, crate::proofs::Allowed::fetch_after, crate::proofs::Allowed::fetch_ahead, crate::proofs::Allowed::fetch_quiet))]
 pub(crate) fn take_in<L: Etcd, F: Feed, S: Source>(
     core: &Core,
     asked: Option<Ask>,
@@ -88,7 +101,10 @@ pub(crate) fn take_in<L: Etcd, F: Feed, S: Source>(
         return answer(link, &ask);
     }
     match core.wants() {
-        Wants::Frame => looked(inbox.next(source, room)),
+        Wants::Frame => match looked(inbox.next(source, room)) {
+            Next::Idle => end_of(feed),
+            found => found,
+        },
         Wants::FrameOrEntry { cursor } => match entry(feed, cursor) {
             Next::Idle => looked(inbox.next(source, room)),
             found => found,

@@ -3,7 +3,8 @@
 //! [`serve_connection`] drives a [`Core`](zp_core::Core) over a source and a sink of bytes, a link to etcd, a feed of entries and
 //! a clock, to the connection's end, and gives the cause.
 //!
-//! A frame is handed in only where the core wants one. Where it wants a frame or an entry, the feed is looked at first. A length out
+//! A frame is handed in only where the core wants one. Where it wants a frame or an entry, the feed is looked at first. Where it
+//! wants a frame alone and none is there, it looks whether the feed has ended, so that an idle client is closed too. A length out
 //! of range and the client's end are handed in behind all whole frames. While a reply waits for its entry, the client's stream is
 //! read on, up to [`MOST_AHEAD`](inbox::MOST_AHEAD) bytes, so that a read that waits can wait for the client or for a
 //! bell; past that, and after the client's end, the turn yields.
@@ -13,7 +14,7 @@
 //! [`LONGEST_HELD`](outbox::LONGEST_HELD) milliseconds after the first of them. So nothing waits for a frame that has not come.
 //!
 //! A publisher of entries that would wake the connection rings the bell of its source (`Wakes` of `zx_net`). A [`Belled`] feed arms
-//! that bell before each look.
+//! that bell before each look for an entry.
 //!
 //! Want of memory, of the trace too, ends the connection. What was sent by then is still written.
 //!

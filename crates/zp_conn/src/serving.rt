@@ -125,7 +125,8 @@ fn ended_by(flushed: Result<(), WriteFault>, why: Cause) -> Cause
 ///
 /// - `ClientEnd`, `BadLength` and `ReadFault`: the source ended, a length out of range stands there, the source failed;
 /// - `WriteFault`: the sink failed, and took a front of what was sent;
-/// - `LinkFault`: a call of the link failed; `Lagged` and `FeedClosed`: the feed answered so;
+/// - `LinkFault`: a call of the link failed; `Lagged`: the feed answered so;
+/// - `FeedClosed`: the feed answered so, where an entry is awaited, or where no watch is armed and no frame is there;
 /// - `Memory`: memory was refused, by the trace, the link or the feed too;
 /// - each other: what the client sent, or what an answer of etcd showed.
 pub fn serve_connection<W: Wait, L: Etcd, F: Feed, S: Source, K: Sink, C: Clock, T: Trace>(
