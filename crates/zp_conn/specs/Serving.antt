@@ -110,6 +110,12 @@ pub record FeedTold : Type 0 where
   pub lags : ℕ
   pub closings : ℕ
 
+-- what a source, a link and a feed tell
+pub record InputsTold : Type 0 where
+  pub source : SourceTold
+  pub link : LinkTold
+  pub feed : FeedTold
+
 -- what all objects tell before the call, or after it
 pub record Told : Type 0 where
   pub source : SourceTold

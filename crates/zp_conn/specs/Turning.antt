@@ -31,7 +31,7 @@ use Rattle.zx_base.specs.declared.memory.Memory.{Memory}
 use Rattle.zp_conn.specs.Driving.{Drives}
 use Rattle.zp_conn.specs.Inboxes.{faults_after, Holds, InboxState, IsBadAt, IsEndedAfter, ReadsOn}
 use Rattle.zp_conn.specs.Inputs.{IsAllowed, IsInTime}
-use Rattle.zp_conn.specs.Serving.{AreFirstFrames, FeedTold, LinkTold, Rose, Serves, SinkTold, SourceTold, Told, outcome_of, with_calls}
+use Rattle.zp_conn.specs.Serving.{AreFirstFrames, FeedTold, InputsTold, LinkTold, Rose, Serves, SinkTold, SourceTold, Told, outcome_of, with_calls}
 use Rattle.zp_conn.specs.Speaking.{joined}
 use Rattle.zp_conn.specs.declared.inbox.Came.{Came}
 use Rattle.zp_conn.specs.declared.inbox.Came.TheVariants as came
@@ -122,6 +122,9 @@ pub data Fetches (core : Core) (asked : Option Ask) (n : Next) (i i' : InboxStat
   feeds : (cursor : ℤ) → asked ≡ None → awaits_entry (wants_of core) ≡ true → cursor ≡ core.cursor → Feeds cursor n f f' → i' ≡ i → s' ≡ s → l' ≡ l → Fetches core asked n i i' s s' l l' f f'
   looks : asked ≡ None → (f' ≡ f) ⊎ ((cursor : ℤ) × (awaits_entry (wants_of core) ≡ true) × (cursor ≡ core.cursor) × Feeds cursor next.Idle f f') → Looks n i i' s s' → IsInTime core n → l' ≡ l → Fetches core asked n i i' s s' l l' f f'
   closes : asked ≡ None → wants_of core ≡ wants.Frame → Looks next.Idle i i' s s' → Closes n f f' → l' ≡ l → Fetches core asked n i i' s s' l l' f f'
+
+abbrev pub TakesIn : Core → Option Ask → Next → InboxState → InboxState → InputsTold → InputsTold → Type 0
+TakesIn core asked n i i' old new = Fetches core asked n i i' old.source new.source old.link new.link old.feed new.feed
 
 -- ---- how the loop stands
 

@@ -4,9 +4,10 @@ ghost use Rattle.std.specs.Prelude.{◌≡◌, ◌<◌, length};
 ghost use Rattle.ev_call.specs.Asks.{IsGrantable};
 ghost use Rattle.std.specs.Prelude.{IfSome};
 ghost use Rattle.zp_conn.specs.Inputs.{IsAnswered, IsFedIn};
-ghost use Rattle.zp_conn.specs.Turning.{Asks, Closes, Feeds, Fetches, come_by};
+ghost use Rattle.zp_conn.specs.Turning.{Asks, Closes, Feeds, TakesIn, come_by};
 
 use crate::inbox::{Came, Inbox};
+use crate::telling::{TellsFeed, TellsInputs, TellsLink};
 use ev_call::{CallFault, Etcd};
 use ev_types::Ask;
 use zk_transcript::Cause;
@@ -29,7 +30,7 @@ pub(crate) enum Next {
 fn answer<L: Etcd>(link: &mut L, ask: &Ask) -> Next
     requires { IsGrantable ask.now }
     ensures answered { IsAnswered ask.now result }
-    ensures asks { Asks ask.now result (record { calls = L.told link.old; failures = L.failures link.old }) (record { calls = L.told link.new; failures = L.failures link.new }) }
+    ensures asks { let told = ⟦<L as TellsLink>⟧.told in Asks ask.now result (told link.old) (told link.new) }
 {
     match link.call(ask) {
         Ok(answer) => Next::Input(Input::Answer(answer)),
@@ -42,7 +43,7 @@ fn answer<L: Etcd>(link: &mut L, ask: &Ask) -> Next
 #[tactic(auto, using(crate::proofs::Allowed::lag_above))]
 fn entry<F: Feed>(feed: &mut F, cursor: i64) -> Next
     ensures fed { IsFedIn cursor result }
-    ensures feeds { Feeds cursor result (record { list = F.list feed.old; reads = F.reads feed.old; lags = F.lags feed.old; closings = F.closings feed.old }) (record { list = F.list feed.new; reads = F.reads feed.new; lags = F.lags feed.new; closings = F.closings feed.new }) }
+    ensures feeds { let told = ⟦<F as TellsFeed>⟧.told in Feeds cursor result (told feed.old) (told feed.new) }
 {
     match feed.next(cursor) {
         Fed::Entry(entry) => Next::Input(Input::Entry(entry)),
@@ -55,7 +56,7 @@ fn entry<F: Feed>(feed: &mut F, cursor: i64) -> Next
 
 /// Whether the feed has ended. No entry is above the greatest number, so none is taken.
 fn end_of<F: Feed>(feed: &mut F) -> Next
-    ensures { Closes result (record { list = F.list feed.old; reads = F.reads feed.old; lags = F.lags feed.old; closings = F.closings feed.old }) (record { list = F.list feed.new; reads = F.reads feed.new; lags = F.lags feed.new; closings = F.closings feed.new }) }
+    ensures { let told = ⟦<F as TellsFeed>⟧.told in Closes result (told feed.old) (told feed.new) }
 {
     match feed.next(i64::MAX) {
         Fed::Closed(_end) => Next::Input(Input::FeedClosed),
@@ -93,9 +94,9 @@ pub(crate) fn take_in<L: Etcd, F: Feed, S: Source>(
 ) -> Next
     requires room { 0 < length room.old }
     requires granted { IfSome asked IsGrantable }
-    ensures { Fetches core.now asked result inbox.old inbox.new (record { given = S.given source.old; left = S.left source.old; faults = (S.counts source.old).faults; ended = S.ended source.old }) (record { given = S.given source.new; left = S.left source.new; faults = (S.counts source.new).faults; ended = S.ended source.new })
-        (record { calls = L.told link.old; failures = L.failures link.old }) (record { calls = L.told link.new; failures = L.failures link.new })
-        (record { list = F.list feed.old; reads = F.reads feed.old; lags = F.lags feed.old; closings = F.closings feed.old }) (record { list = F.list feed.new; reads = F.reads feed.new; lags = F.lags feed.new; closings = F.closings feed.new }) }
+    ensures { let t = ⟦<(S, L, F) as TellsInputs>⟧.told in
+        TakesIn core.now asked result inbox.old inbox.new (t (source.old, link.old, feed.old))
+        (t (source.new, link.new, feed.new)) }
 {
     if let Some(ask) = asked {
         return answer(link, &ask);

@@ -30,10 +30,12 @@ mod inputs;
 mod outbox;
 mod serving;
 mod speaking;
+mod telling;
 mod writing;
 
 pub use bells::Belled;
 pub use serving::serve_connection;
+pub use telling::{TellsAll, TellsFeed, TellsInputs, TellsLink, TellsSink, TellsSource};
 pub use zk_transcript::Cause;
 pub use zp_core::Fresh;
 pub use zp_run::{Event, ListTrace, NoTrace, Trace};

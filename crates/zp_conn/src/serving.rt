@@ -10,6 +10,7 @@ use crate::inbox::Inbox;
 use crate::inputs::{Next, take_in};
 use crate::outbox::{LONGEST_HELD, Outbox};
 use crate::speaking::Rest;
+use crate::telling::TellsAll;
 use crate::writing::WriteFault;
 use ev_call::Etcd;
 use ev_types::Ask;
@@ -73,10 +74,9 @@ fn run<W: Wait, L: Etcd, F: Feed, S: Source, K: Sink, C: Clock, T: Trace>(
 ) -> Cause
     requires real { pos 1 ≤ℤ fresh.id }
     requires none { outbox.old ≡ [] }
-    ensures { Ends fresh
-        (record { source = record { given = S.given source.old; left = S.left source.old; faults = (S.counts source.old).faults; ended = S.ended source.old }; sink = record { taken = K.taken sink.old; counts = K.counts sink.old }; link = record { calls = L.told link.old; failures = L.failures link.old }; feed = record { list = F.list feed.old; reads = F.reads feed.old; lags = F.lags feed.old; closings = F.closings feed.old }; notes = T.told trace.old })
-        (record { source = record { given = S.given source.new; left = S.left source.new; faults = (S.counts source.new).faults; ended = S.ended source.new }; sink = record { taken = K.taken sink.new; counts = K.counts sink.new }; link = record { calls = L.told link.new; failures = L.failures link.new }; feed = record { list = F.list feed.new; reads = F.reads feed.new; lags = F.lags feed.new; closings = F.closings feed.new }; notes = T.told trace.new })
-        outbox.new result }
+    ensures { let t = ⟦<(S, K, L, F, T) as TellsAll>⟧.told in
+        Ends fresh (t (source.old, sink.old, link.old, feed.old, trace.old))
+        (t (source.new, sink.new, link.new, feed.new, trace.new)) outbox.new result }
 {
     let mut core = Core::new(alloc, fresh);
     let mut inbox = Inbox::new(alloc);
@@ -141,10 +141,9 @@ pub fn serve_connection<W: Wait, L: Etcd, F: Feed, S: Source, K: Sink, C: Clock,
     trace: &mut T,
 ) -> Cause
     requires { pos 1 ≤ℤ fresh.id }
-    ensures { Serves fresh
-        (record { source = record { given = S.given source.old; left = S.left source.old; faults = (S.counts source.old).faults; ended = S.ended source.old }; sink = record { taken = K.taken sink.old; counts = K.counts sink.old }; link = record { calls = L.told link.old; failures = L.failures link.old }; feed = record { list = F.list feed.old; reads = F.reads feed.old; lags = F.lags feed.old; closings = F.closings feed.old }; notes = T.told trace.old })
-        (record { source = record { given = S.given source.new; left = S.left source.new; faults = (S.counts source.new).faults; ended = S.ended source.new }; sink = record { taken = K.taken sink.new; counts = K.counts sink.new }; link = record { calls = L.told link.new; failures = L.failures link.new }; feed = record { list = F.list feed.new; reads = F.reads feed.new; lags = F.lags feed.new; closings = F.closings feed.new }; notes = T.told trace.new })
-        result }
+    ensures { let t = ⟦<(S, K, L, F, T) as TellsAll>⟧.told in
+        Serves fresh (t (source.old, sink.old, link.old, feed.old, trace.old))
+        (t (source.new, sink.new, link.new, feed.new, trace.new)) result }
 {
     let mut outbox = Outbox::new(alloc);
     let why = run(
