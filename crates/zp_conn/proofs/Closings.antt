@@ -17,6 +17,7 @@ use Rattle.zp_run.specs.Laws.{IsClosedIn, RunsOn}
 use Rattle.zp_run.proofs.Running.{runs-on}
 use Rattle.zp_run.specs.Notes.{In, Noted, Out, noted_input, notes_in, notes_of, with_note, with_notes}
 use Rattle.zp_run.specs.Runs.{Step, answer_in, entry_in, frame_in, frames_of, said}
+use Rattle.zp_conn.specs.Answered.{AreAnswered}
 use Rattle.zp_conn.specs.Inboxes.{Holds, InboxState, IsBadAt}
 use Rattle.zp_conn.specs.Handing.{IsSpoken}
 use Rattle.zp_conn.specs.Serving.{AreFirstFrames, IsEndedFor, Told, is_behind_frames}
@@ -25,7 +26,7 @@ use Rattle.zp_conn.specs.Turning.{IsHeldFor, IsShownBy, Stood, listed}
 use Rattle.zp_conn.specs.declared.inputs.Next.TheVariants as next
 use Rattle.zp_conn.specs.declared.speaking.Rest.TheVariants as rest
 use Rattle.zp_conn.proofs.Ends.{Last, same-faults}
-use Rattle.zp_conn.proofs.Goings.{drives-push, flat_map-push, held-more, joined-step, notes-on}
+use Rattle.zp_conn.proofs.Goings.{drives-push, flat_map-push, held-more, joined-step, notes-on, said-push, step-row}
 use Rattle.zp_conn.proofs.Turning.{filter_map-push, held-front}
 
 -- what the input is, where the cause is one that is handed in
@@ -152,6 +153,7 @@ closes-last fresh old new core core' i x now o o' n why s p = record {
   read = s.read;
   gives = s.gives;
   frames = subst (λ l. AreFirstFrames why s.read l) (sym (filter_map-push (λ (t : Step). frame_in t.input) s.steps step)) (held-close why x (frames_of s.steps) s.read i closing s.held);
+  answers = subst (AreAnswered why (frames_of (s.steps ++ step ∷ []))) (sym (said-push s.steps step)) ((step-row fresh old new core core' i x now o o' n (Ok (rest.Close why)) s p).answers why (p.speaks).1.1);
   calls = s.calls;
   called = s.called;
   asked = record {

@@ -21,10 +21,12 @@ use Rattle.zp_laws.specs.Walking.{sends}
 use Rattle.zp_run.proofs.Running.{runs-on}
 use Rattle.zp_run.specs.Notes.{In, Noted, NotedInput, Out, noted_input, notes_in, notes_of, with_note, with_notes}
 use Rattle.zp_run.specs.Runs.{Step, answer_in, answers_of, entries_of, entry_in, frame_in, frames_of, said}
+use Rattle.zp_conn.proofs.Answering.{open-answered}
 use Rattle.zp_conn.proofs.Closings.{held-any}
 use Rattle.zp_conn.proofs.Ends.{Last, front-of, same-faults}
-use Rattle.zp_conn.proofs.Goings.{drives-push, flat_map-push, held-more, joined-both, joined-step, note-notes, notes-both, notes-on}
+use Rattle.zp_conn.proofs.Goings.{drives-push, flat_map-push, held-more, joined-both, joined-step, note-notes, notes-both, notes-on, said-push, step-row}
 use Rattle.zp_conn.proofs.Turning.{filter_map-push, held-front, rose}
+use Rattle.zp_conn.specs.Answered.{AreAnswered}
 use Rattle.zp_conn.specs.Handing.{Hands, IsSpoken}
 use Rattle.zp_conn.specs.Inboxes.{InboxState}
 use Rattle.zp_conn.specs.Serving.{AreFirstFrames, IsUnstepped, SinkTold, Told, is_behind_frames}
@@ -69,6 +71,7 @@ cut-last fresh old new core core' i x now o o' n m s p = record {
   read = s.read;
   gives = s.gives;
   frames = subst (λ l. AreFirstFrames cause.Memory s.read l) (sym (filter_map-push (λ (t : Step). frame_in t.input) s.steps step)) (held-any cause.Memory x (frames_of s.steps) s.read i refl s.held);
+  answers = subst (AreAnswered cause.Memory (frames_of (s.steps ++ step ∷ []))) (sym (said-push s.steps step)) (step-row fresh old new core core' i x now o o' n (Err m) s p).any;
   calls = s.calls;
   called = s.called;
   asked = record {
@@ -133,6 +136,7 @@ refused-last fresh old new core i x o o' n tail s same noted front = record {
   read = s.read;
   gives = s.gives;
   frames = fewer-frames cause.Memory s.read (frames_of s.steps) (listed (frame_in x)) refl (held-any cause.Memory x (frames_of s.steps) s.read i refl s.held);
+  answers = open-answered cause.Memory (frames_of s.steps) (said s.steps) refl core.stage s.opened s.answering;
   calls = s.calls;
   called = s.called;
   asked = record { asks = ([], s.asks); outcomes = refused-outcomes x s.steps _ s.outcomes };
@@ -165,6 +169,8 @@ module _ (fresh : Fresh) (old new : Told) (core : Core) (i : InboxState) (o o' :
     ran = s.ran;
     timely = s.timely;
     holds = s.holds;
+    rested = s.rested;
+    answering = s.answering;
     opened = s.opened;
     out = s.out;
     may = s.may;
@@ -196,6 +202,7 @@ module _ (fresh : Fresh) (old new : Told) (core : Core) (i : InboxState) (o o' :
     read = s.read;
     gives = s.gives;
     frames = held-front cause.WriteFault (frames_of s.steps) s.read i s.held refl;
+    answers = open-answered cause.WriteFault (frames_of s.steps) (said s.steps) refl core.stage s.opened s.answering;
     calls = s.calls;
     called = s.called;
     asked = record { asks = (listed asked, s.asks); outcomes = inl (sym (append-nil _) ∙ sym s.outcomes) };

@@ -17,7 +17,9 @@ use Rattle.zx_outside.proofs.Streams.{Takes-append}
 use Rattle.zp_step.specs.Stages.{Core, new_core}
 use Rattle.zp_run.specs.Notes.{Noted, notes_of, with_notes}
 use Rattle.zp_run.specs.Runs.{Runs, Step, entries_of, frames_of, said}
+use Rattle.zp_conn.proofs.Answering.{open-answered, weaker}
 use Rattle.zp_conn.proofs.Turning.{rose}
+use Rattle.zp_conn.specs.Answered.{AreAnswered, is_answered}
 use Rattle.zp_conn.specs.Driving.{Drives}
 use Rattle.zp_conn.specs.Inboxes.{InboxState}
 use Rattle.zp_conn.specs.Serving.{AreCallsOf, AreFirstFrames, AreNotesOf, IsEndedFor, IsWrittenOf, Rose, Serves, SinkTold, Told, is_behind_frames, is_whole, with_calls}
@@ -36,6 +38,7 @@ pub record Last (fresh : Fresh) (old new : Told) (o : List ℕ) (why : Cause) : 
   pub read : List ℕ
   pub gives : Gives read (old.source).given (new.source).given (old.source).left (new.source).left
   pub frames : AreFirstFrames why read (frames_of steps)
+  pub answers : AreAnswered why (frames_of steps) (said steps)
   pub calls : List Call
   pub called : (new.link).calls ≡ with_calls (old.link).calls calls
   pub asked : AreCallsOf why steps calls
@@ -113,6 +116,7 @@ module _ (fresh : Fresh) (old new : Told) (o : List ℕ) (why : Cause) (k : Sink
     read = h.read;
     gives = h.gives;
     frames = h.frames;
+    answers = h.answers;
     calls = h.calls;
     called = h.called;
     asked = h.asked;
@@ -135,6 +139,7 @@ module _ (fresh : Fresh) (old new : Told) (o : List ℕ) (why : Cause) (k : Sink
     read = h.read;
     gives = h.gives;
     frames = subst (λ w. AreFirstFrames w h.read (frames_of h.steps)) is h.frames;
+    answers = subst (λ w. AreAnswered w (frames_of h.steps) (said h.steps)) is h.answers;
     calls = h.calls;
     called = h.called;
     asked = subst (λ w. AreCallsOf w h.steps h.calls) is h.asked;
@@ -157,6 +162,7 @@ module _ (fresh : Fresh) (old new : Told) (o : List ℕ) (why : Cause) (k : Sink
     read = h.read;
     gives = h.gives;
     frames = record { front = (h.frames).front; is_front = (h.frames).is_front; fully = fully (h.frames).fully; all = (h.frames).all; rest = (h.frames).rest; framed = (h.frames).framed; first = (h.frames).first; whole = λ b. absurd (cc) };
+    answers = weaker why cause.WriteFault (frames_of h.steps) (said h.steps) refl h.answers;
     calls = h.calls;
     called = h.called;
     asked = record { asks = (h.asked).asks; outcomes = outcomes (h.asked).outcomes };
@@ -221,6 +227,27 @@ same-faults a b e = subst (λ (x : OutputCounts). a.faults ≤ x.faults) (sym e)
     go : (n : ℕ) → n ≤ n
     go n = omega arith
 
+-- it ends so wherever it stands
+unanswered : (old new : Told) (why : Cause) → IsShownBy (next.Ended why) old new → is_answered why ≡ false
+unanswered old new cause.Closed h = absurd h
+unanswered old new (cause.Expired revision) h = absurd h
+unanswered old new (cause.Moved mine found) h = absurd h
+unanswered old new (cause.ClientEnd place) h = absurd h
+unanswered old new (cause.BadLength place l) h = absurd h
+unanswered old new (cause.NoHeader place) h = absurd h
+unanswered old new cause.AuthRefused h = absurd h
+unanswered old new cause.Unknown h = absurd h
+unanswered old new (cause.ZxidAhead client head) h = absurd h
+unanswered old new (cause.Taken revision) h = absurd h
+unanswered old new cause.LinkFault h = absurd h
+unanswered old new (cause.Lagged cursor floor) h = absurd h
+unanswered old new cause.FeedClosed h = absurd h
+unanswered old new (cause.Damaged key value) h = absurd h
+unanswered old new cause.ReadFault h = refl
+unanswered old new cause.WriteFault h = absurd h
+unanswered old new cause.Restart h = absurd h
+unanswered old new cause.Memory h = refl
+
 pub ended-last : (fresh : Fresh) (old new : Told) (core : Core) (i : InboxState) (o : List ℕ) (why : Cause) → Stood fresh old new core i o None (next.Ended why) → Last fresh old new o why
 ended-last fresh old new core i o why s = record {
   steps = s.steps;
@@ -230,6 +257,7 @@ ended-last fresh old new core i o why s = record {
   read = s.read;
   gives = s.gives;
   frames = s.held;
+  answers = open-answered why (frames_of s.steps) (said s.steps) (unanswered old new why s.shown) core.stage s.opened s.answering;
   calls = s.calls;
   called = s.called;
   asked = record { asks = ([], s.asks); outcomes = inl (sym (append-nil _) ∙ sym s.outcomes) };

@@ -1,6 +1,6 @@
 -- A turn of the loop, from its input on.
 use Rattle.std.proofs.Common.{◌≡◌, ◌<◌, ◌+◌, ℕ, List, [], ◌∷◌, ◌++◌, true, false, refl, sym, ap, ◌∙◌, subst, inl, inr, append-nil, append_assoc, map}
-use Rattle.std.specs.Prelude.{◌⊎◌, Option, Some, None, Ok, Contains, flat_map}
+use Rattle.std.specs.Prelude.{◌⊎◌, Option, Some, None, Result, Ok, Contains, flat_map}
 use Rattle.std.proofs.lemmas.Grind.{flat_map-append}
 use Rattle.zk_transcript.specs.declared.transcript.Cause.{Cause}
 use Rattle.zk_transcript.specs.declared.transcript.Cause.TheVariants as cause
@@ -20,8 +20,10 @@ use Rattle.zp_run.proofs.Running.{runs-on}
 use Rattle.zp_run.specs.Notes.{In, Noted, Out, noted_input, notes_in, notes_of, with_note, with_notes}
 use Rattle.zp_run.specs.Runs.{Step, answer_in, asks_of, closed_for, entry_in, frame_in, frames_of, said}
 use Rattle.zp_conn.proofs.After.{rest_is_out}
+use Rattle.zp_conn.proofs.Answering.{Row, step-answers}
 use Rattle.zp_conn.proofs.Turning.{filter_map-push}
 use Rattle.zp_conn.specs.After.{IsOutAfter}
+use Rattle.zp_conn.specs.Answered.{HasAnswered}
 use Rattle.zp_conn.specs.Handing.{IsSpoken}
 use Rattle.zp_conn.specs.Inboxes.{Holds, InboxState}
 use Rattle.zp_conn.specs.Driving.{Drives, IsTimely}
@@ -32,6 +34,7 @@ use Rattle.zp_conn.specs.declared.inputs.Next.TheVariants as next
 use Rattle.zp_conn.specs.declared.speaking.Rest.{Rest}
 use Rattle.zp_conn.specs.declared.speaking.Rest.TheVariants as rest
 use Rattle.zx_base.proofs.Options.{none_some}
+use Rattle.zx_base.specs.declared.memory.Memory.{Memory}
 
 -- ---- lists that grow by a step
 
@@ -126,6 +129,17 @@ pub drives-push : (c c' c'' : Core) (ss : List Step) (s : Step) → Drives c ss 
 drives-push c c' c'' [] s e t m h = (c'', subst (λ d. IsTimely d s.input) e t, subst (λ d. MayTake d s.input) e m, subst (λ d. Steps d s.input s.time c'' s.out) e h, refl)
 drives-push c c' c'' (x ∷ xs) s (mid, t, m, h, more) t' m' h' = (mid, t, m, h, drives-push mid c' c'' xs s more t' m' h')
 
+-- ---- what is answered
+
+pub said-push : (ss : List Step) (s : Step) → said (ss ++ s ∷ []) ≡ said ss ++ sends s.out
+said-push ss s = flat_map-push (λ (t : Step). sends t.out) ss s
+
+pub step-row : (fresh : Fresh) (old new : Told) (core core' : Core) (i : InboxState) (x : Input) (now : ℕ) (o o' : List ℕ) (n : Option (List Noted)) (r : Result Rest Memory) → (s : Stood fresh old new core i o None (next.Input x)) → (p : IsSpoken r x now core core' o o' (with_note new.notes (In (noted_input x) now)) n)
+    → Row (frames_of (s.steps ++ record { input = x; time = now; out = p.out } ∷ [])) (said s.steps) core' p.out
+step-row fresh old new core core' i x now o o' n r s p =
+    subst (λ l. Row l (said s.steps) core' p.out) (sym (filter_map-push (λ (t : Step). frame_in t.input) s.steps (record { input = x; time = now; out = p.out })))
+    (step-answers (frames_of s.steps) (said s.steps) core core' x now p.out s.opened s.rested s.in_time s.may s.answering p.stepped)
+
 -- ---- the loop goes on
 
 module _ (fresh : Fresh) (old new : Told) (core core' : Core) (i : InboxState) (x : Input) (now : ℕ) (o o' : List ℕ) (n : Option (List Noted)) (r : Rest) where
@@ -138,6 +152,8 @@ module _ (fresh : Fresh) (old new : Told) (core core' : Core) (i : InboxState) (
     ran = (runs-on fresh s.steps step core core' s.opened s.ran s.may p.stepped).ran;
     timely = drives-push (new_core fresh) core core' s.steps step s.timely s.in_time s.may p.stepped;
     holds = p.holds;
+    rested = row.rested;
+    answering = subst (HasAnswered core'.stage (frames_of (s.steps ++ step ∷ []))) (sym (said-push s.steps step)) row.stands;
     opened = opened-after core core' x p.out r rested unshut after;
     out = out-after core core' x p.out r rested unshut after (s.out).1;
     may = tt;
@@ -162,6 +178,9 @@ module _ (fresh : Fresh) (old new : Told) (core core' : Core) (i : InboxState) (
     where
       step : Step
       step = record { input = x; time = now; out = p.out }
+
+      row : Row (frames_of (s.steps ++ step ∷ [])) (said s.steps) core' p.out
+      row = step-row fresh old new core core' i x now o o' n (Ok r) s p
 
       rested : IsRest p.out r
       rested = (p.speaks).1

@@ -5,9 +5,11 @@ pub mod Coming
 pub mod Grants
 pub mod Allowed
 pub mod After
+pub mod Answering
 pub mod Turning
 pub mod Goings
 pub mod Ends
 pub mod Closings
 pub mod Cuttings
 pub mod Loops
+pub mod Uncutting

@@ -48,6 +48,8 @@ starts fresh t i o least holds none = record {
   ran = refl;
   timely = refl;
   holds = record { frames = All-nil IsFrame; stage = least };
+  rested = refl;
+  answering = (refl, refl);
   opened = refl;
   out = refl;
   may = tt;

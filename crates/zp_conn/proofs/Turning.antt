@@ -361,6 +361,8 @@ module _ (fresh : Fresh) (old new : Told) (core : Core) (i : InboxState) (o : Li
     ran = s.ran;
     timely = s.timely;
     holds = s.holds;
+    rested = s.rested;
+    answering = s.answering;
     opened = s.opened;
     out = link-out a.result core;
     may = answered_allowed core q (answered_by a.result) s.out (link-answered q a.result a.fits);
@@ -393,6 +395,8 @@ module _ (fresh : Fresh) (old new : Told) (core : Core) (i : InboxState) (o : Li
     ran = s.ran;
     timely = s.timely;
     holds = s.holds;
+    rested = s.rested;
+    answering = s.answering;
     opened = s.opened;
     out = feed-out a.answer core s.out;
     may = fed_allowed core cursor (fed_by a.answer) w s.out e (feed-fed cursor a.answer f.list a.told);
@@ -429,6 +433,8 @@ module _ (fresh : Fresh) (old new : Told) (core : Core) (i : InboxState) (o : Li
     ran = s.ran;
     timely = s.timely;
     holds = s.holds;
+    rested = s.rested;
+    answering = s.answering;
     opened = s.opened;
     out = end-out a.answer core s.out;
     may = end-may a.answer core s.out;
@@ -462,6 +468,8 @@ module _ (fresh : Fresh) (old new : Told) (core : Core) (i : InboxState) (o : Li
     ran = s.ran;
     timely = s.timely;
     holds = s.holds;
+    rested = s.rested;
+    answering = s.answering;
     opened = s.opened;
     out = look-out a.came core s.out;
     may = look-may a.came core (s.read ++ (a.reads).piece) (frames_of s.steps) i' ((a.reads).comes s.read (frames_of s.steps) s.held);

@@ -1,5 +1,7 @@
 pub mod Driving
+pub mod Answered
 pub mod Serving
+pub mod Uncut
 pub mod Inboxes
 pub mod Writing
 pub mod Speaking

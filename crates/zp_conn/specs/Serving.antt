@@ -20,6 +20,7 @@ use Rattle.zp_step.specs.Stages.{Core, counted_up, new_core}
 use Rattle.zp_run.specs.Laws.{IsClosedIn}
 use Rattle.zp_run.specs.Notes.{In, Noted, NotedInput, notes_of, with_notes}
 use Rattle.zp_run.specs.Runs.{Runs, Step, answers_of, asks_of, entries_of, frames_of, said}
+use Rattle.zp_conn.specs.Answered.{AreAnswered}
 use Rattle.zp_conn.specs.Driving.{Drives}
 
 -- ---- the client's bytes
@@ -161,6 +162,8 @@ pub record Serves (fresh : Fresh) (old new : Told) (why : Cause) : Type 0 where
   pub read : List ℕ
   pub gives : Gives read (old.source).given (new.source).given (old.source).left (new.source).left
   pub frames : AreFirstFrames why read (frames_of steps)
+  -- and which of these were answered
+  pub answers : AreAnswered why (frames_of steps) (said steps)
   -- the link's calls
   pub calls : List Call
   pub called : (new.link).calls ≡ with_calls (old.link).calls calls

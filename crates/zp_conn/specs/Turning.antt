@@ -28,6 +28,7 @@ use Rattle.zp_run.specs.Notes.{Noted, notes_of, with_notes}
 use Rattle.zp_run.specs.Runs.{Runs, Step, answer_in, answers_of, asks_of, closed_for, entries_of, entry_in, frames_of, said}
 use Rattle.zp_core.specs.Held.{IsHeld}
 use Rattle.zx_base.specs.declared.memory.Memory.{Memory}
+use Rattle.zp_conn.specs.Answered.{HasAnswered}
 use Rattle.zp_conn.specs.Driving.{Drives}
 use Rattle.zp_conn.specs.Inboxes.{faults_after, Holds, InboxState, IsBadAt, IsEndedAfter, ReadsOn}
 use Rattle.zp_conn.specs.Inputs.{IsAllowed, IsInTime}
@@ -184,6 +185,8 @@ pub record Stood (fresh : Fresh) (old new : Told) (core : Core) (i : InboxState)
   pub ran : Runs (new_core fresh) steps core
   pub timely : Drives (new_core fresh) steps core
   pub holds : IsHeld core
+  pub rested : core.waiting ≡ []
+  pub answering : HasAnswered core.stage (frames_of steps) (said steps)
   pub opened : is_shut core.stage ≡ false
   pub out : IsOutFor n core asked
   pub may : IsAllowed core n

@@ -19,14 +19,15 @@
 //! Want of memory, of the trace too, ends the connection. What was sent by then is still written.
 //!
 //! In `specs/`, in reading order: `Serving` (what a call did, and what shows why it ended), `Driving` (when the client's frames are
-//! handed in), and then what the parts do: `Inboxes`, `Writing`, `Speaking`, `Handing`, `Inputs`, and `Turning`, which has the loop's
-//! invariant.
+//! handed in), `Answered` (which of them were answered), `Uncut` (where nobody cuts a connection off), and then what the parts do:
+//! `Inboxes`, `Writing`, `Speaking`, `Handing`, `Inputs`, and `Turning`, which has the loop's invariant.
 #![tactic(auto)]
 
 mod bells;
 mod handing;
 mod inbox;
 mod inputs;
+mod laws;
 mod outbox;
 mod serving;
 mod speaking;
@@ -34,6 +35,7 @@ mod telling;
 mod writing;
 
 pub use bells::Belled;
+pub use laws::uncut_connections_end_by_themselves;
 pub use serving::serve_connection;
 pub use telling::{TellsAll, TellsFeed, TellsInputs, TellsLink, TellsSink, TellsSource};
 pub use zk_transcript::Cause;

@@ -1,0 +1,41 @@
+-- What cuts a connection off is counted.
+use Rattle.std.proofs.Common.{◌≡◌, ℕ, ◌+◌, ◌<◌, ◌≤◌, ◌^◌, true, refl, inl, inr, arith}
+use Rattle.std.specs.Prelude.{◌⊎◌}
+use Rattle.zk_transcript.specs.declared.transcript.Cause.{Cause}
+use Rattle.zk_transcript.specs.declared.transcript.Cause.TheVariants as cause
+use Rattle.zs_session.specs.declared.connect.Fresh.{Fresh}
+use Rattle.zp_conn.specs.Serving.{IsEndedFor, Rose, Serves, Told}
+use Rattle.zp_conn.specs.Uncut.{IsStill, IsUncut, is_own}
+
+unrisen : (old new : ℕ) → IsStill old new → Rose old new → ⊥
+unrisen old new (same, small) (inl more) = omega (arith, same, more)
+unrisen old new (same, small) (inr full) = omega (arith, small, full)
+
+lagged : (a b : ℕ) → b ≡ a → b ≡ a + 1 → ⊥
+lagged a b e f = omega (arith, e, f)
+
+closed : (a : ℕ) → a ≡ 0 → 0 < a → ⊥
+closed a e f = omega (arith, e, f)
+
+pub uncut-ends : (fresh : Fresh) (old new : Told) (why : Cause) → Serves fresh old new why → IsUncut old new → is_own why ≡ true
+uncut-ends fresh old new why s u = go why s.ended
+  where
+    go : (w : Cause) → IsEndedFor fresh s.steps s.core old new s.read w → is_own w ≡ true
+    go cause.Closed h = refl
+    go (cause.Expired revision) h = refl
+    go (cause.Moved mine found) h = refl
+    go (cause.ClientEnd place) h = refl
+    go (cause.BadLength place l) h = refl
+    go (cause.NoHeader place) h = refl
+    go cause.AuthRefused h = refl
+    go cause.Unknown h = refl
+    go (cause.ZxidAhead client head) h = refl
+    go (cause.Taken revision) h = refl
+    go cause.LinkFault h = absurd (unrisen (old.link).failures (new.link).failures u.link h.1)
+    go (cause.Lagged cursor floor) h = absurd (lagged (old.feed).lags (new.feed).lags u.lags h.1.0)
+    go cause.FeedClosed h = absurd (closed (new.feed).closings u.closings h.1)
+    go (cause.Damaged key value) h = refl
+    go cause.ReadFault h = absurd (unrisen (old.source).faults (new.source).faults u.source h)
+    go cause.WriteFault h = absurd (unrisen ((old.sink).counts).faults ((new.sink).counts).faults u.sink h)
+    go cause.Restart h = absurd h
+    go cause.Memory h = refl
