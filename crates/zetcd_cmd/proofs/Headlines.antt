@@ -1,6 +1,6 @@
 -- What a replay did, from how its script ended.
 use Rattle.std.proofs.Common.{◌≡◌, ℕ, ◌==◌, ◌⊎◌, ⊎_elim, false, true≢false, List, [], ◌∷◌, ◌++◌, refl, sym, ap, ◌∙◌, subst, arith, append-nil, inl, inr}
-use Rattle.std.specs.Prelude.{Bool, Option, length, ◌<◌}
+use Rattle.std.specs.Prelude.{Bool, Option, length, ◌+◌, ◌<◌, ◌≤◌}
 use Rattle.std.specs.List.{Contains}
 use Rattle.std.proofs.lemmas.List.Elements.{All-contains}
 use Rattle.zt_text.specs.declared.script.Happening.{Happening}
@@ -12,7 +12,7 @@ use Rattle.zt_text.specs.Transcripts.{transcript_text}
 use Rattle.zx_outside.specs.Counts.{InputCounts}
 use Rattle.zx_outside.specs.Writing.{Takes}
 use Rattle.zp_happen.specs.Worlds.{World}
-use Rattle.zp_step.specs.Stages.{max_count}
+use Rattle.zk_lines.specs.Words.{max_place}
 use Rattle.zetcd_cmd.specs.declared.report.End.{End}
 use Rattle.zetcd_cmd.specs.declared.report.End.TheVariants as end
 use Rattle.zetcd_cmd.specs.declared.script.Script.{Script}
@@ -24,20 +24,28 @@ use Rattle.zetcd_cmd.specs.Outcomes.{Did, IsAtItsEnd, IsFront, StopsAt, ReplayWr
 use Rattle.zetcd_cmd.specs.Reporting.{ending_text, status_after}
 use Rattle.zetcd_cmd.specs.Scripting.{HasNoLineFeed, Stands, IsApplied, IsHalted, IsAgainst, EndsEarly}
 use Rattle.zetcd_cmd.proofs.Progress.{script-lines}
-use Rattle.zetcd_cmd.proofs.Reaching.{reached-claims}
+use Rattle.zetcd_cmd.proofs.Reaching.{AreHeld, reached-claims, reached-judged}
 
-replayed : (input : List ℕ) (s : Script) → length s.world.lines < max_count → IsApplied input s → IsReplayed input (transcript_text s.world.lines ++ done_text)
-replayed input s few a = record {
+replayed : (input : List ℕ) (s : Script) → AreHeld s.world.lines → IsApplied input s → IsReplayed input (transcript_text s.world.lines ++ done_text)
+replayed input s held a = record {
   happenings = a.happenings;
   ticks = a.reached.ticks;
   world = s.world;
   read = a.read;
   runs = a.reached.runs;
-  one_run = reached-claims a.happenings s.world few a.reached;
+  one_run = reached-claims a.happenings s.world held a.reached;
   written = refl;
+  judged = reached-judged a.happenings s.world held a.reached done_text (inr (inl refl));
 }
 
 -- ---- stopped
+
+-- the number of the next line, which has a place in a transcript
+abbrev pub IsLine : ℕ → Script → Type 0
+IsLine n s = (n ≡ s.line) × (n ≤ max_place)
+
+line-above : (n : ℕ) (s : Script) (before : ℕ) → IsLine n s → s.line ≡ before + 1 → 0 < n
+line-above n s before is number = (let same = is.0 in omega (arith, same, number))
 
 fault_unread : (w : World) (n : ℕ) (later : List Happening) (end : Option (ℕ × Unread)) (why : Unread) → IsAgainst w n later end (stop.Unread why) → StandsAgainst w n later end (unread_text why)
 fault_unread w n [] end why against = (why, against, refl)
@@ -47,59 +55,61 @@ fault_refused : (w : World) (n : ℕ) (later : List Happening) (end : Option (�
 fault_refused w n [] end why against = absurd against
 fault_refused w n (h ∷ later) end why against = (why, against, refl)
 
-stopped_unread : (input : List ℕ) (s : Script) (n : ℕ) (why : Unread) → length s.world.lines < max_count → n ≡ s.line → IsHalted input s (stop.Unread why) → IsStopped input (transcript_text s.world.lines ++ fault_text n (unread_text why)) n
-stopped_unread input s n why few is halted = record {
+stopped_unread : (input : List ℕ) (s : Script) (n : ℕ) (why : Unread) → AreHeld s.world.lines → IsLine n s → IsHalted input s (stop.Unread why) → IsStopped input (transcript_text s.world.lines ++ fault_text n (unread_text why)) n
+stopped_unread input s n why held is halted = record {
   before = halted.before;
   later = halted.later;
   end = halted.end;
   ticks = halted.reached.ticks;
   world = s.world;
   read = halted.read;
-  number = is ∙ halted.number;
+  number = is.0 ∙ halted.number;
   runs = halted.reached.runs;
-  one_run = reached-claims halted.before s.world few halted.reached;
+  one_run = reached-claims halted.before s.world held halted.reached;
   why = unread_text why;
-  because = fault_unread s.world n halted.later halted.end why (subst (λ (m : ℕ). IsAgainst s.world m halted.later halted.end (stop.Unread why)) (sym is) halted.against);
+  because = fault_unread s.world n halted.later halted.end why (subst (λ (m : ℕ). IsAgainst s.world m halted.later halted.end (stop.Unread why)) (sym is.0) halted.against);
   written = refl;
+  judged = reached-judged halted.before s.world held halted.reached (fault_text n (unread_text why)) (inr (inr (n, unread_text why, line-above n s (length halted.before) is halted.number, is.1, inr (why, refl), refl)));
 }
 
-stopped_refused : (input : List ℕ) (s : Script) (n : ℕ) (why : Why) → length s.world.lines < max_count → n ≡ s.line → IsHalted input s (stop.Refused why) → IsStopped input (transcript_text s.world.lines ++ fault_text n (why_text why)) n
-stopped_refused input s n why few is halted = record {
+stopped_refused : (input : List ℕ) (s : Script) (n : ℕ) (why : Why) → AreHeld s.world.lines → IsLine n s → IsHalted input s (stop.Refused why) → IsStopped input (transcript_text s.world.lines ++ fault_text n (why_text why)) n
+stopped_refused input s n why held is halted = record {
   before = halted.before;
   later = halted.later;
   end = halted.end;
   ticks = halted.reached.ticks;
   world = s.world;
   read = halted.read;
-  number = is ∙ halted.number;
+  number = is.0 ∙ halted.number;
   runs = halted.reached.runs;
-  one_run = reached-claims halted.before s.world few halted.reached;
+  one_run = reached-claims halted.before s.world held halted.reached;
   why = why_text why;
   because = fault_refused s.world n halted.later halted.end why
-      (subst (λ (m : ℕ). IsAgainst s.world m halted.later halted.end (stop.Refused why)) (sym is) halted.against);
+      (subst (λ (m : ℕ). IsAgainst s.world m halted.later halted.end (stop.Refused why)) (sym is.0) halted.against);
   written = refl;
+  judged = reached-judged halted.before s.world held halted.reached (fault_text n (why_text why)) (inr (inr (n, why_text why, line-above n s (length halted.before) is halted.number, is.1, inl (why, refl), refl)));
 }
 
 -- from what holds of the bytes that were read, whatever follows them
-stops_unread : (read : List ℕ) (s : Script) (n : ℕ) (ended : Bool) (left : Option (List ℕ)) (why : Unread) → length s.world.lines < max_count → n ≡ s.line →
+stops_unread : (read : List ℕ) (s : Script) (n : ℕ) (ended : Bool) (left : Option (List ℕ)) (why : Unread) → AreHeld s.world.lines → IsLine n s →
     (IsAtItsEnd ended left × IsHalted read s (stop.Unread why)) ⊎ EndsEarly read s (stop.Unread why) → StopsAt n ended left read (transcript_text s.world.lines ++ fault_text n (unread_text why))
-stops_unread read s n ended left why few at ends =
+stops_unread read s n ended left why held at ends =
     ⊎_elim
-    (λ (whole : IsAtItsEnd ended left × IsHalted read s (stop.Unread why)). record { stopped = stopped_unread read s n why few at whole.1; settled = inl whole.0 })
+    (λ (whole : IsAtItsEnd ended left × IsHalted read s (stop.Unread why)). record { stopped = stopped_unread read s n why held at whole.1; settled = inl whole.0 })
     (λ (early : EndsEarly read s (stop.Unread why)). record {
-      stopped = subst (λ (t : List ℕ). IsStopped t (transcript_text s.world.lines ++ fault_text n (unread_text why)) n) (append-nil read) (stopped_unread (read ++ []) s n why few at (early.0 []));
-      settled = inr (record { over = subst (λ (m : ℕ). IsOver read m) (sym at) early.1; for_good = λ rest. stopped_unread (read ++ rest) s n why few at (early.0 rest) });
+      stopped = subst (λ (t : List ℕ). IsStopped t (transcript_text s.world.lines ++ fault_text n (unread_text why)) n) (append-nil read) (stopped_unread (read ++ []) s n why held at (early.0 []));
+      settled = inr (record { over = subst (λ (m : ℕ). IsOver read m) (sym at.0) early.1; for_good = λ rest. stopped_unread (read ++ rest) s n why held at (early.0 rest) });
     })
     ends
 
-stops_refused : (read : List ℕ) (s : Script) (n : ℕ) (ended : Bool) (left : Option (List ℕ)) (why : Why) → length s.world.lines < max_count → n ≡ s.line →
+stops_refused : (read : List ℕ) (s : Script) (n : ℕ) (ended : Bool) (left : Option (List ℕ)) (why : Why) → AreHeld s.world.lines → IsLine n s →
     (IsAtItsEnd ended left × IsHalted read s (stop.Refused why)) ⊎ EndsEarly read s (stop.Refused why) → StopsAt n ended left read (transcript_text s.world.lines ++ fault_text n (why_text why))
-stops_refused read s n ended left why few at ends =
+stops_refused read s n ended left why held at ends =
     ⊎_elim
-    (λ (whole : IsAtItsEnd ended left × IsHalted read s (stop.Refused why)). record { stopped = stopped_refused read s n why few at whole.1; settled = inl whole.0 })
+    (λ (whole : IsAtItsEnd ended left × IsHalted read s (stop.Refused why)). record { stopped = stopped_refused read s n why held at whole.1; settled = inl whole.0 })
     (λ (early : EndsEarly read s (stop.Refused why)). record {
-      stopped = subst (λ (t : List ℕ). IsStopped t (transcript_text s.world.lines ++ fault_text n (why_text why)) n) (append-nil read) (stopped_refused (read ++ []) s n why few at (early.0 []));
-      settled = inr (record { over = subst (λ (m : ℕ). IsOver read m) (sym at) early.1; for_good = λ rest. stopped_refused (read ++ rest) s n why few at (early.0 rest) });
+      stopped = subst (λ (t : List ℕ). IsStopped t (transcript_text s.world.lines ++ fault_text n (why_text why)) n) (append-nil read) (stopped_refused (read ++ []) s n why held at (early.0 []));
+      settled = inr (record { over = subst (λ (m : ℕ). IsOver read m) (sym at.0) early.1; for_good = λ rest. stopped_refused (read ++ rest) s n why held at (early.0 rest) });
     })
     ends
 
@@ -108,8 +118,8 @@ stops_refused read s n ended left why few at ends =
 lacks : (bytes : List ℕ) → HasNoLineFeed bytes → Contains bytes 10 → ⊥
 lacks bytes none some = true≢false (All-contains (λ b. (b == 10) ≡ false) bytes 10 none some)
 
-cut_short : (input : List ℕ) (s : Script) → length s.world.lines < max_count → Stands input s → IsCutShort input (transcript_text s.world.lines ++ [])
-cut_short input s few st =
+cut_short : (input : List ℕ) (s : Script) → AreHeld s.world.lines → Stands input s → IsCutShort input (transcript_text s.world.lines ++ [])
+cut_short input s held st =
     let left = st.room in
     record {
       lines = st.read.lines;
@@ -124,19 +134,20 @@ cut_short input s few st =
       world = s.world;
       read = script-lines input s st;
       runs = st.read.reached.runs;
-      one_run = reached-claims st.read.happenings s.world few st.read.reached;
+      one_run = reached-claims st.read.happenings s.world held st.read.reached;
       written = append-nil (transcript_text s.world.lines);
+      judged = reached-judged st.read.happenings s.world held st.read.reached [] (inl refl);
     }
 
 -- ---- all that there is to write
 
-pub writes : (how : End) (n : ℕ) (s : Script) (ended : Bool) (left : Option (List ℕ)) (read : List ℕ) → length s.world.lines < max_count → n ≡ s.line → (how ≡ end.Stopped stop.Memory → ⊥) → EndsAt how ended left read s →
+pub writes : (how : End) (n : ℕ) (s : Script) (ended : Bool) (left : Option (List ℕ)) (read : List ℕ) → AreHeld s.world.lines → IsLine n s → (how ≡ end.Stopped stop.Memory → ⊥) → EndsAt how ended left read s →
     ReplayWrites (status_after how n) ended left read (transcript_text s.world.lines ++ ending_text how n)
-writes end.Whole n s ended left read few at not ends = (ends.0, replayed read s few ends.1)
-writes (end.Stopped (stop.Unread why)) n s ended left read few at not ends = stops_unread read s n ended left why few at ends
-writes (end.Stopped (stop.Refused why)) n s ended left read few at not ends = stops_refused read s n ended left why few at ends
-writes (end.Stopped stop.Memory) n s ended left read few at not ends = absurd (not refl)
-writes end.ReadFault n s ended left read few at not ends = cut_short read s few ends
+writes end.Whole n s ended left read held at not ends = (ends.0, replayed read s held ends.1)
+writes (end.Stopped (stop.Unread why)) n s ended left read held at not ends = stops_unread read s n ended left why held at ends
+writes (end.Stopped (stop.Refused why)) n s ended left read held at not ends = stops_refused read s n ended left why held at ends
+writes (end.Stopped stop.Memory) n s ended left read held at not ends = absurd (not refl)
+writes end.ReadFault n s ended left read held at not ends = cut_short read s held ends
 
 replays : (how : End) (n : ℕ) (ended : Bool) (left : Option (List ℕ)) (read output : List ℕ) → (how ≡ end.Stopped stop.Memory → ⊥) →
     ReplayWrites (status_after how n) ended left read output → Replays (status_after how n) ended left read output
@@ -147,27 +158,27 @@ replays (end.Stopped stop.Memory) n ended left read output not w = absurd (not r
 replays end.ReadFault n ended left read output not w = w
 
 -- all of it was written
-pub Did-all : (how : End) (n : ℕ) (s : Script) (ended : Bool) (given given' left left' taken taken' : Option (List ℕ)) → length s.world.lines < max_count → n ≡ s.line → (how ≡ end.Stopped stop.Memory → ⊥) →
+pub Did-all : (how : End) (n : ℕ) (s : Script) (ended : Bool) (given given' left left' taken taken' : Option (List ℕ)) → AreHeld s.world.lines → IsLine n s → (how ≡ end.Stopped stop.Memory → ⊥) →
     EndsReading how ended s given given' left left' → Takes (transcript_text s.world.lines ++ ending_text how n) taken taken' →
     Did (Replays (status_after how n) ended left') given given' left left' taken taken'
-Did-all how n s ended given given' left left' taken taken' few at not ends takes = record {
+Did-all how n s ended given given' left left' taken taken' held at not ends takes = record {
   read = ends.0;
   output = transcript_text s.world.lines ++ ending_text how n;
   gives = ends.1;
   takes = takes;
-  holds = replays how n ended left' ends.0 (transcript_text s.world.lines ++ ending_text how n) not (writes how n s ended left' ends.0 few at not ends.2);
+  holds = replays how n ended left' ends.0 (transcript_text s.world.lines ++ ending_text how n) not (writes how n s ended left' ends.0 held at not ends.2);
 }
 
 -- a front of it was written
-pub Did-front : (how : End) (n : ℕ) (s : Script) (ended : Bool) (given given' left left' taken taken' : Option (List ℕ)) → length s.world.lines < max_count → n ≡ s.line → (how ≡ end.Stopped stop.Memory → ⊥) →
+pub Did-front : (how : End) (n : ℕ) (s : Script) (ended : Bool) (given given' left left' taken taken' : Option (List ℕ)) → AreHeld s.world.lines → IsLine n s → (how ≡ end.Stopped stop.Memory → ⊥) →
     EndsReading how ended s given given' left left' → TakesSome (transcript_text s.world.lines ++ ending_text how n) taken taken' →
     Did (λ read output. IsFront (λ other whole. ReplayWrites other ended left' read whole) output) given given' left left' taken taken'
-Did-front how n s ended given given' left left' taken taken' few at not ends some = record {
+Did-front how n s ended given given' left left' taken taken' held at not ends some = record {
   read = ends.0;
   output = some.0;
   gives = ends.1;
   takes = some.3;
-  holds = (status_after how n, transcript_text s.world.lines ++ ending_text how n, some.1, writes how n s ended left' ends.0 few at not ends.2, some.2);
+  holds = (status_after how n, transcript_text s.world.lines ++ ending_text how n, some.1, writes how n s ended left' ends.0 held at not ends.2, some.2);
 }
 
 -- want of memory, with a front written or nothing

@@ -1,4 +1,4 @@
--- What a line that is read offers: a session's number in its range, and a password of 16 bytes.
+-- What a line that is read names: sessions' numbers in their range, and passwords of 16 bytes.
 use Rattle.std.proofs.Common.{◌≡◌, ℕ, ◌+◌, ◌*◌, ◌^◌, ◌<◌, ◌≤◌, List, [], ◌∷◌, length, true, false, if◌then◌else◌, Option, Some, None, refl, ap, sym, ◌∙◌, subst, suc, arith}
 use Rattle.std.proofs.lemmas.Grind.{common_steps}
 use Rattle.std.proofs.lemmas.Int.{ints}
@@ -7,7 +7,7 @@ use Rattle.zk_model.specs.Limits.{max_long}
 use Rattle.zt_text.specs.declared.script.Happening.{Happening}
 use Rattle.zt_text.specs.declared.script.Happening.TheVariants as line
 use Rattle.zt_text.specs.Scripts.{as_session_id, bytes_line, digits_value, foreign_line, four_words, frame_line, happening, hex, hex_byte, hex_digit, hex_pairs, lapse_line, line_of_form, line_read, max_line, number, number_and_bytes, numbered_line, of_number, one_word, open_line, password, pieces, reap_line, session_id, three_words, two_words, ◌>>=◌}
-use Rattle.zp_whole.specs.Accounting.{OffersSession}
+use Rattle.zp_lawful.specs.Written.{NamesSession}
 use Rattle.zp_world.specs.Applying.{IsOfScript}
 
 -- ---- what is read in steps
@@ -60,7 +60,7 @@ password-length w = if-holds (λ bytes. length bytes ≡ 16) (length w == 32) (h
 -- ---- lines
 
 abbrev Offers : Happening → Type 0
-Offers h = OffersSession h × IsOfScript h
+Offers h = NamesSession h × IsOfScript h
 
 open-offers : (words : List (List ℕ)) → IfSome (open_line words) Offers
 unfolding open_line
@@ -79,7 +79,7 @@ bytes-offers words = bind Offers (number_and_bytes words) _ (λ x is. (tt, tt))
 
 lapse-offers : (words : List (List ℕ)) → IfSome (lapse_line words) Offers
 unfolding lapse_line
-lapse-offers words = bind Offers (one_word words) _ (λ w is. bind Offers (session_id w) _ (λ id is1. (tt, tt)))
+lapse-offers words = bind Offers (one_word words) _ (λ w is. bind Offers (session_id w) _ (λ id is1. ((some-of IsNumber (session_id w) id (id-range w) is1).0, tt)))
 
 foreign-offers : (words : List (List ℕ)) → IfSome (foreign_line words) Offers
 unfolding foreign_line

@@ -1,18 +1,16 @@
 -- The worlds that the lines of a script lead to.
-use Rattle.std.specs.List.{AllByRecursion}
 use Rattle.std.specs.Prelude.{All, List}
 use Rattle.zk_transcript.specs.Legal.{Tick}
 use Rattle.zp_happen.specs.Runs.{Runs}
 use Rattle.zp_happen.specs.Worlds.{World}
-use Rattle.zp_whole.specs.Accounting.{IsWithinCounts, OffersSession}
-use Rattle.zt_text.specs.Transcripts.{IsWellFormed}
+use Rattle.zp_lawful.specs.Written.{NamesSession}
+use Rattle.zp_whole.specs.Accounting.{IsWithinCounts}
 use Rattle.zt_text.specs.declared.script.Happening.{Happening}
 
--- These happenings lead to this world. Each connection that they open offers a session's number and a password in their ranges, no
--- connection's count of frames is at its end, and the transcript's lines are well formed.
+-- These happenings lead to this world. Each connection that they open offers a session's number and a password in their ranges, each
+-- lapse names a session's number, and no connection's count of frames is at its end.
 pub record Reached (happenings : List Happening) (w : World) : Type 0 where
   pub ticks : List Tick
   pub runs : Runs happenings ticks w
-  pub offers : All OffersSession happenings
+  pub names : All NamesSession happenings
   pub within : IsWithinCounts w
-  pub formed : AllByRecursion IsWellFormed w.lines

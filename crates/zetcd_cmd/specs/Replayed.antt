@@ -10,7 +10,7 @@ use Rattle.zk_transcript.specs.Legal.{Tick}
 use Rattle.zp_happen.specs.Runs.{Runs}
 use Rattle.zp_happen.specs.Worlds.{World}
 use Rattle.zp_happen.specs.Faults.{fault}
-use Rattle.zetcd_cmd.specs.Claims.{IsOneRun}
+use Rattle.zetcd_cmd.specs.Claims.{IsLawfulWithin, IsOneRun}
 
 -- The whole input is a script, and the output is the transcript of a run to which exactly its happenings were applied.
 pub record IsReplayed (input output : List ℕ) : Type 0 where
@@ -21,6 +21,7 @@ pub record IsReplayed (input output : List ℕ) : Type 0 where
   pub runs : Runs happenings ticks world
   pub one_run : IsOneRun ticks world.lines
   pub written : output ≡ transcript_text world.lines ++ done_text
+  pub judged : IsLawfulWithin output world.lines
 
 -- what stands against the next line: its happening isn't possible, or it can't be read
 abbrev pub StandsAgainst : World → ℕ → List Happening → Option (ℕ × Unread) → List ℕ → Type 0
@@ -42,6 +43,7 @@ pub record IsStopped (input output : List ℕ) (n : ℕ) : Type 0 where
   pub why : List ℕ
   pub because : StandsAgainst world n later end why
   pub written : output ≡ transcript_text world.lines ++ fault_text n why
+  pub judged : IsLawfulWithin output world.lines
 
 -- What was read of line n and of the input tells that this line is over: it has its line feed, or more bytes than a line may
 -- have, or the input has more than a script may have.
@@ -72,3 +74,4 @@ pub record IsCutShort (input output : List ℕ) : Type 0 where
   pub runs : Runs happenings ticks world
   pub one_run : IsOneRun ticks world.lines
   pub written : output ≡ transcript_text world.lines
+  pub judged : IsLawfulWithin output world.lines

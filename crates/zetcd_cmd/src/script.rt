@@ -2,11 +2,14 @@
 
 ghost use Rattle.std.specs.Prelude.{◌≡◌, ◌+◌, ◌-◌, ◌^◌, ◌<◌, ◌≤◌, ◌++◌, ◌∷◌, [], ℕ, List, length, IfOk, OnOk, IfErr, MatchOption};
 ghost use Rattle.zt_text.specs.Scripts.{max_line, max_script};
+ghost use Rattle.zk_lines.specs.Words.{max_place};
+ghost use Rattle.zp_lawful.specs.Written.{AreTyped};
 ghost use Rattle.zetcd_cmd.specs.Replayed.{IsOver};
 ghost use Rattle.zetcd_cmd.specs.Scripting.{HasNoLineFeed, IsFirstLine, Plays, Halts, HasRead, Stands, IsApplied, Ends, EndsEarly, IsOverAt, IsKeptOut};
 
 use std::alloc::Global;
 use zk_transcript::TranscriptLine;
+use zp_lawful::lines_are_typed;
 use zp_world::{ApplyFault, World};
 use zt_text::{MAX_LINE, MAX_SCRIPT, Unread, Why, read_line};
 use zx_base::Memory;
@@ -58,13 +61,17 @@ impl Script {
         ensures lines { result.now ≡ self.now.world.lines }
         // No list in memory is longer.
         ensures few { length result.now < 2 ^ 64 - 1 }
+        ensures typed { AreTyped result.now }
     {
-        self.world.lines()
+        let lines = self.world.lines();
+        lines_are_typed(lines);
+        lines
     }
 
     /// The number of the line that is applied next, from 1.
     pub fn line(&self) -> u64
-        ensures { result ≡ self.now.line }
+        ensures line { result ≡ self.now.line }
+        ensures place { result ≤ max_place }
     {
         self.line
     }

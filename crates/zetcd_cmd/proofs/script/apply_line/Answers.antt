@@ -14,5 +14,5 @@ returns-in-Ok-clause-ok c = λ happenings r.
     (let is : line_read c.args.line.now ≡ Some c.in-Ok-Some.happening = sym c.in-Ok-Some.ensures ∙ c.in-Ok-Some.field-0-is in (
       c.in-Ok-Some.happening,
       is,
-      reached-on happenings c.args.world.now c.apply.new.self c.in-Ok-Some.happening (read-offers c.args.line.now c.in-Ok-Some.happening is).0 c.in-Ok.ensures.applies (record { frames = c.in-Ok.ensures.within }) c.in-Ok.ensures.formed r,
+      reached-on happenings c.args.world.now c.apply.new.self c.in-Ok-Some.happening (read-offers c.args.line.now c.in-Ok-Some.happening is).0 c.in-Ok.ensures.applies (record { frames = c.in-Ok.ensures.within }) r,
     ))

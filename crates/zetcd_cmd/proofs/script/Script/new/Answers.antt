@@ -5,5 +5,5 @@ use Rattle.zetcd_cmd.specs.Reached.{Reached}
 
 pub returns : goal.returns
 returns c =
-    let reached : Reached [] c.in_ok-world.world = reached-first c.in_ok-world.world c.in_ok-world.ensures.first (record { frames = c.in_ok-world.ensures.within }) c.in_ok-world.ensures.formed in
+    let reached : Reached [] c.in_ok-world.world = reached-first c.in_ok-world.world c.in_ok-world.ensures.first (record { frames = c.in_ok-world.ensures.within }) in
     search (rules, reached)
