@@ -50,7 +50,8 @@ pub fn zetcd<
     clock: &mut C,
 ) -> Status
     // Of `replay`, by the status: the transcript of a run to which exactly the lines that were read were applied. The run is one
-    // run of the service, each conversation in it is lawful and fresh, and the verdict on its lines is lawful.
+    // run of the service, each conversation in it is lawful and fresh, and the verdict on its lines is lawful. Within the limits of a
+    // transcript, what is written is read as these lines.
     ensures replay { IsReplay words.now → Did (Replays result (I.ended input.new) (I.left input.new)) (I.given input.old) (I.given input.new) (I.left input.old) (I.left input.new) (O.taken out.old) (O.taken out.new) }
     // Of `show`, by the status: what is shown of the stream that was read.
     ensures show { IsShow words.now → Did (Shows result (I.ended input.new) (I.left input.new)) (I.given input.old) (I.given input.new) (I.left input.old) (I.left input.new) (O.taken out.old) (O.taken out.new) }
