@@ -3,26 +3,24 @@ use Rattle.std.proofs.Common.{◌≡◌, ℕ, ◌==◌, ◌⊎◌, ⊎_elim, fal
 use Rattle.std.specs.Prelude.{Bool, Option, length, ◌+◌, ◌<◌, ◌≤◌}
 use Rattle.std.specs.List.{Contains}
 use Rattle.std.proofs.lemmas.List.Elements.{All-contains}
-use Rattle.zt_text.specs.declared.script.Happening.{Happening}
-use Rattle.zt_text.specs.declared.script.Unread.{Unread}
-use Rattle.zt_text.specs.declared.script.Why.{Why}
 use Rattle.zetcd_cmd.specs.Replayed.{IsReplayed, IsStopped, IsCutShort, IsOver, StandsAgainst}
-use Rattle.zt_text.specs.Faults.{done_text, fault_text, unread_text, why_text}
+use Rattle.zt_text.specs.Faults.{done_text, fault_text}
 use Rattle.zt_text.specs.Transcripts.{transcript_text}
 use Rattle.zx_outside.specs.Counts.{InputCounts}
 use Rattle.zx_outside.specs.Writing.{Takes}
-use Rattle.zp_happen.specs.Worlds.{World}
+use Rattle.zk_lines.specs.Readable.{IsReason}
 use Rattle.zk_lines.specs.Words.{max_place}
 use Rattle.zetcd_cmd.specs.declared.report.End.{End}
 use Rattle.zetcd_cmd.specs.declared.report.End.TheVariants as end
 use Rattle.zetcd_cmd.specs.declared.script.Script.{Script}
+use Rattle.zetcd_cmd.specs.declared.script.Stop.{Stop}
 use Rattle.zetcd_cmd.specs.declared.script.Stop.TheVariants as stop
 use Rattle.zetcd_cmd.specs.declared.status.Status.{Status}
 use Rattle.zetcd_cmd.specs.declared.status.Status.TheVariants as status
 use Rattle.zetcd_cmd.specs.Ending.{EndsAt, EndsReading}
 use Rattle.zetcd_cmd.specs.Outcomes.{Did, IsAtItsEnd, IsFront, StopsAt, ReplayWrites, Replays, TakesSome, IsUnharmed, Failed}
-use Rattle.zetcd_cmd.specs.Reporting.{ending_text, status_after}
-use Rattle.zetcd_cmd.specs.Scripting.{HasNoLineFeed, Stands, IsApplied, IsHalted, IsAgainst, EndsEarly}
+use Rattle.zetcd_cmd.specs.Reporting.{ending_text, status_after, stop_text}
+use Rattle.zetcd_cmd.specs.Scripting.{HasNoLineFeed, Stands, IsApplied, IsHalted}
 use Rattle.zetcd_cmd.proofs.Progress.{script-lines}
 use Rattle.zetcd_cmd.proofs.Reaching.{AreHeld, reached-claims, reached-judged}
 
@@ -47,16 +45,9 @@ IsLine n s = (n ≡ s.line) × (n ≤ max_place)
 line-above : (n : ℕ) (s : Script) (before : ℕ) → IsLine n s → s.line ≡ before + 1 → 0 < n
 line-above n s before is number = (let same = is.0 in omega (arith, same, number))
 
-fault_unread : (w : World) (n : ℕ) (later : List Happening) (end : Option (ℕ × Unread)) (why : Unread) → IsAgainst w n later end (stop.Unread why) → StandsAgainst w n later end (unread_text why)
-fault_unread w n [] end why against = (why, against, refl)
-fault_unread w n (h ∷ later) end why against = absurd against
-
-fault_refused : (w : World) (n : ℕ) (later : List Happening) (end : Option (ℕ × Unread)) (why : Why) → IsAgainst w n later end (stop.Refused why) → StandsAgainst w n later end (why_text why)
-fault_refused w n [] end why against = absurd against
-fault_refused w n (h ∷ later) end why against = (why, against, refl)
-
-stopped_unread : (input : List ℕ) (s : Script) (n : ℕ) (why : Unread) → AreHeld s.world.lines → IsLine n s → IsHalted input s (stop.Unread why) → IsStopped input (transcript_text s.world.lines ++ fault_text n (unread_text why)) n
-stopped_unread input s n why held is halted = record {
+stopped : (input : List ℕ) (s : Script) (n : ℕ) (why : Stop) → AreHeld s.world.lines → IsLine n s → IsReason (stop_text why) → IsHalted input s why →
+    IsStopped input (transcript_text s.world.lines ++ fault_text n (stop_text why)) n
+stopped input s n why held is reason halted = record {
   before = halted.before;
   later = halted.later;
   end = halted.end;
@@ -66,50 +57,25 @@ stopped_unread input s n why held is halted = record {
   number = is.0 ∙ halted.number;
   runs = halted.reached.runs;
   one_run = reached-claims halted.before s.world held halted.reached;
-  why = unread_text why;
-  because = fault_unread s.world n halted.later halted.end why (subst (λ (m : ℕ). IsAgainst s.world m halted.later halted.end (stop.Unread why)) (sym is.0) halted.against);
+  why = stop_text why;
+  because = subst (λ (m : ℕ). StandsAgainst s.world m halted.later halted.end (stop_text why)) (sym is.0) halted.against;
   written = refl;
-  judged = reached-judged halted.before s.world held halted.reached (fault_text n (unread_text why)) (inr (inr (n, unread_text why, line-above n s (length halted.before) is halted.number, is.1, inr (why, refl), refl)));
+  judged = reached-judged halted.before s.world held halted.reached (fault_text n (stop_text why))
+      (inr (inr (n, stop_text why, line-above n s (length halted.before) is halted.number, is.1, reason, refl)));
 }
 
-stopped_refused : (input : List ℕ) (s : Script) (n : ℕ) (why : Why) → AreHeld s.world.lines → IsLine n s → IsHalted input s (stop.Refused why) → IsStopped input (transcript_text s.world.lines ++ fault_text n (why_text why)) n
-stopped_refused input s n why held is halted = record {
-  before = halted.before;
-  later = halted.later;
-  end = halted.end;
-  ticks = halted.reached.ticks;
-  world = s.world;
-  read = halted.read;
-  number = is.0 ∙ halted.number;
-  runs = halted.reached.runs;
-  one_run = reached-claims halted.before s.world held halted.reached;
-  why = why_text why;
-  because = fault_refused s.world n halted.later halted.end why
-      (subst (λ (m : ℕ). IsAgainst s.world m halted.later halted.end (stop.Refused why)) (sym is.0) halted.against);
-  written = refl;
-  judged = reached-judged halted.before s.world held halted.reached (fault_text n (why_text why)) (inr (inr (n, why_text why, line-above n s (length halted.before) is halted.number, is.1, inl (why, refl), refl)));
-}
+-- the line that was not applied stops the script whatever follows these bytes, which tell that it is over
+abbrev StopsEarly : List ℕ → Script → Stop → Type 0
+StopsEarly read s why = ((rest : List ℕ) → IsHalted (read ++ rest) s why) × IsOver read s.line
 
--- from what holds of the bytes that were read, whatever follows them
-stops_unread : (read : List ℕ) (s : Script) (n : ℕ) (ended : Bool) (left : Option (List ℕ)) (why : Unread) → AreHeld s.world.lines → IsLine n s →
-    (IsAtItsEnd ended left × IsHalted read s (stop.Unread why)) ⊎ EndsEarly read s (stop.Unread why) → StopsAt n ended left read (transcript_text s.world.lines ++ fault_text n (unread_text why))
-stops_unread read s n ended left why held at ends =
+stops : (read : List ℕ) (s : Script) (n : ℕ) (ended : Bool) (left : Option (List ℕ)) (why : Stop) → AreHeld s.world.lines → IsLine n s → IsReason (stop_text why) →
+    (IsAtItsEnd ended left × IsHalted read s why) ⊎ StopsEarly read s why → StopsAt n ended left read (transcript_text s.world.lines ++ fault_text n (stop_text why))
+stops read s n ended left why held at reason ends =
     ⊎_elim
-    (λ (whole : IsAtItsEnd ended left × IsHalted read s (stop.Unread why)). record { stopped = stopped_unread read s n why held at whole.1; settled = inl whole.0 })
-    (λ (early : EndsEarly read s (stop.Unread why)). record {
-      stopped = subst (λ (t : List ℕ). IsStopped t (transcript_text s.world.lines ++ fault_text n (unread_text why)) n) (append-nil read) (stopped_unread (read ++ []) s n why held at (early.0 []));
-      settled = inr (record { over = subst (λ (m : ℕ). IsOver read m) (sym at.0) early.1; for_good = λ rest. stopped_unread (read ++ rest) s n why held at (early.0 rest) });
-    })
-    ends
-
-stops_refused : (read : List ℕ) (s : Script) (n : ℕ) (ended : Bool) (left : Option (List ℕ)) (why : Why) → AreHeld s.world.lines → IsLine n s →
-    (IsAtItsEnd ended left × IsHalted read s (stop.Refused why)) ⊎ EndsEarly read s (stop.Refused why) → StopsAt n ended left read (transcript_text s.world.lines ++ fault_text n (why_text why))
-stops_refused read s n ended left why held at ends =
-    ⊎_elim
-    (λ (whole : IsAtItsEnd ended left × IsHalted read s (stop.Refused why)). record { stopped = stopped_refused read s n why held at whole.1; settled = inl whole.0 })
-    (λ (early : EndsEarly read s (stop.Refused why)). record {
-      stopped = subst (λ (t : List ℕ). IsStopped t (transcript_text s.world.lines ++ fault_text n (why_text why)) n) (append-nil read) (stopped_refused (read ++ []) s n why held at (early.0 []));
-      settled = inr (record { over = subst (λ (m : ℕ). IsOver read m) (sym at.0) early.1; for_good = λ rest. stopped_refused (read ++ rest) s n why held at (early.0 rest) });
+    (λ (whole : IsAtItsEnd ended left × IsHalted read s why). record { stopped = stopped read s n why held at reason whole.1; settled = inl whole.0 })
+    (λ (early : StopsEarly read s why). record {
+      stopped = subst (λ (t : List ℕ). IsStopped t (transcript_text s.world.lines ++ fault_text n (stop_text why)) n) (append-nil read) (stopped (read ++ []) s n why held at reason (early.0 []));
+      settled = inr (record { over = subst (λ (m : ℕ). IsOver read m) (sym at.0) early.1; for_good = λ rest. stopped (read ++ rest) s n why held at reason (early.0 rest) });
     })
     ends
 
@@ -144,8 +110,8 @@ cut_short input s held st =
 pub writes : (how : End) (n : ℕ) (s : Script) (ended : Bool) (left : Option (List ℕ)) (read : List ℕ) → AreHeld s.world.lines → IsLine n s → (how ≡ end.Stopped stop.Memory → ⊥) → EndsAt how ended left read s →
     ReplayWrites (status_after how n) ended left read (transcript_text s.world.lines ++ ending_text how n)
 writes end.Whole n s ended left read held at not ends = (ends.0, replayed read s held ends.1)
-writes (end.Stopped (stop.Unread why)) n s ended left read held at not ends = stops_unread read s n ended left why held at ends
-writes (end.Stopped (stop.Refused why)) n s ended left read held at not ends = stops_refused read s n ended left why held at ends
+writes (end.Stopped (stop.Unread why)) n s ended left read held at not ends = stops read s n ended left (stop.Unread why) held at (inr (why, refl)) ends
+writes (end.Stopped (stop.Refused why)) n s ended left read held at not ends = stops read s n ended left (stop.Refused why) held at (inl (why, refl)) ends
 writes (end.Stopped stop.Memory) n s ended left read held at not ends = absurd (not refl)
 writes end.ReadFault n s ended left read held at not ends = cut_short read s held ends
 

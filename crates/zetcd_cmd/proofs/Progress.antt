@@ -48,7 +48,7 @@ Ends-at input line happenings later w new (stop.Unread why) reached number read 
   reached = subst (λ (v : World). Reached happenings v) (sym halts.2) reached;
   number = number;
   read = read ∙ ap (λ o. behind happenings (then_script (length happenings + 1) o later)) halts.1;
-  against = let why_is = halts.0 in ap (λ (n : ℕ). Some (n, Unreadable)) (sym number) ∙ ap (λ (u : Unread). Some (new.line, u)) (sym why_is);
+  against = let why_is = halts.0 in (why, ap (λ (n : ℕ). Some (n, Unreadable)) (sym number) ∙ ap (λ (u : Unread). Some (new.line, u)) (sym why_is), refl);
 }
 Ends-at input line happenings later w new (stop.Refused why) reached number read halts = record {
   before = happenings;
@@ -57,7 +57,7 @@ Ends-at input line happenings later w new (stop.Refused why) reached number read
   reached = subst (λ (v : World). Reached happenings v) (sym halts.3) reached;
   number = number;
   read = read ∙ ap (λ o. behind happenings (then_script (length happenings + 1) o later)) halts.1;
-  against = subst (λ (v : World). fault v halts.0 ≡ Some why) (sym halts.3) halts.2;
+  against = (why, subst (λ (v : World). fault v halts.0 ≡ Some why) (sym halts.3) halts.2, refl);
 }
 Ends-at input line happenings later w new stop.Memory reached number read halts = tt {0}
 
@@ -138,7 +138,7 @@ Ends-begun seen bytes rest old new (stop.Unread why) lacks out world line r fits
       read = script-from input ∙ ap (script_from 1 max_script) place
           ∙ script_from-long max_script r.lines begun rest r.happenings r.says (All-append no_line_feed old.pending.items bytes r.begun lacks) out.1 (omega arith)
           ∙ ap (λ (hs : List Happening). (hs, Some (length r.happenings + 1, Unreadable))) (sym (append-nil r.happenings));
-      against = ap (λ (n : ℕ). Some (n, Unreadable)) (sym (line ∙ r.number)) ∙ ap (λ (u : Unread). Some (new.line, u)) (sym out.0);
+      against = (why, ap (λ (n : ℕ). Some (n, Unreadable)) (sym (line ∙ r.number)) ∙ ap (λ (u : Unread). Some (new.line, u)) (sym out.0), refl);
     }
 Ends-begun seen bytes rest old new (stop.Refused why) lacks out world line r fits = absurd out
 Ends-begun seen bytes rest old new stop.Memory lacks out world line r fits = tt {0}
@@ -224,7 +224,7 @@ Ends-cut seen rest s r full more =
       read = script-from (seen ++ rest) ∙ ap (script_from 1 max_script) (behind_pending seen r.lines s.pending.items rest r.parts)
           ∙ script_from-cut max_script r.lines s.pending.items rest r.happenings r.says r.begun r.short (sym size ∙ full) more
           ∙ ap (λ (hs : List Happening). (hs, Some (length r.happenings + 1, TooLong))) (sym (append-nil r.happenings));
-      against = ap (λ (n : ℕ). Some (n, TooLong)) (sym r.number);
+      against = (TooLong, ap (λ (n : ℕ). Some (n, TooLong)) (sym r.number), refl);
     }
 
 pub Ends-over : (seen piece front rest : List ℕ) (old new : Script) → front ≡ take old.room piece → length front ≡ old.room → old.room < length piece →

@@ -42,11 +42,17 @@ pub record AreHeld (lines : List TranscriptLine) : Type 0 where
 
 module _ (hs : List Happening) (w : World) (held : AreHeld w.lines) (r : Reached hs w) where
   pub reached-claims : IsOneRun r.ticks w.lines
-  reached-claims = record {
-    run = every-run-served hs r.ticks w (all-offer hs r.names) r.within r.runs;
-    lawful = every-replay-lawful hs r.ticks w (all-offer hs r.names) (few-counted w.lines held.few) r.runs;
-    fits = lines-of-runs-fit hs r.ticks w r.names (few-counted w.lines held.few) held.typed r.runs;
-  }
+  reached-claims =
+      let run = every-run-served hs r.ticks w (all-offer hs r.names) r.within r.runs in
+      record {
+        legal = run.history.legal;
+        ordered = run.history.ordered;
+        punctual = run.punctual;
+        shown = run.history.shown;
+        served = run.served;
+        lawful = every-replay-lawful hs r.ticks w (all-offer hs r.names) (few-counted w.lines held.few) r.runs;
+        fits = lines-of-runs-fit hs r.ticks w r.names (few-counted w.lines held.few) held.typed r.runs;
+      }
 
   pub reached-judged : (end : List ℕ) → (end ≡ []) ⊎ IsLastLine end → IsLawfulWithin (transcript_text w.lines ++ end) w.lines
   reached-judged end last short room = written-replays-are-lawful hs r.ticks w end r.names (few-counted w.lines held.few) held.typed r.runs last short room

@@ -73,12 +73,9 @@ ReplayWrites _ ended left read output = ⊥
 -- A replay with this status read and wrote these bytes. With a fault of the output a front was written, and with want of memory
 -- a front or nothing.
 abbrev pub Replays : Status → Bool → Option (List ℕ) → List ℕ → List ℕ → Type 0
-Replays status.Done ended left read output = ReplayWrites status.Done ended left read output
-Replays (status.Script line) ended left read output = ReplayWrites (status.Script line) ended left read output
-Replays status.ReadFault ended left read output = ReplayWrites status.ReadFault ended left read output
 Replays status.WriteFault ended left read output = IsFront (λ other whole. ReplayWrites other ended left read whole) output
 Replays status.Memory ended left read output = (output ≡ []) ⊎ IsFront (λ other whole. ReplayWrites other ended left read whole) output
-Replays _ ended left read output = ⊥
+Replays s ended left read output = ReplayWrites s ended left read output
 
 -- ---- show
 
@@ -126,12 +123,9 @@ ShowWrites _ ended left read output = ⊥
 -- A show with this status read and wrote these bytes. With a fault of the output a front was written, and with want of memory
 -- the lines of a front of what was read.
 abbrev pub Shows : Status → Bool → Option (List ℕ) → List ℕ → List ℕ → Type 0
-Shows status.Done ended left read output = ShowWrites status.Done ended left read output
-Shows (status.Script line) ended left read output = ShowWrites (status.Script line) ended left read output
-Shows status.ReadFault ended left read output = ShowWrites status.ReadFault ended left read output
 Shows status.WriteFault ended left read output = IsFront (λ other whole. ShowWrites other ended left read whole) output
 Shows status.Memory ended left read output = (front : List ℕ) × (later : List ℕ) × (read ≡ front ++ later) × IsBegun front output
-Shows _ ended left read output = ⊥
+Shows s ended left read output = ShowWrites s ended left read output
 
 -- ---- judge
 
@@ -148,13 +142,9 @@ JudgeWrites _ ended left read output = ⊥
 -- A judgement with this status read and wrote these bytes. With a fault of the output a front was written, and with want of memory
 -- nothing.
 abbrev pub Judges : Status → Bool → Option (List ℕ) → List ℕ → List ℕ → Type 0
-Judges status.Done ended left read output = JudgeWrites status.Done ended left read output
-Judges status.Unlawful ended left read output = JudgeWrites status.Unlawful ended left read output
-Judges (status.Script line) ended left read output = JudgeWrites (status.Script line) ended left read output
-Judges status.ReadFault ended left read output = JudgeWrites status.ReadFault ended left read output
 Judges status.WriteFault ended left read output = IsFront (λ other whole. JudgeWrites other ended left read whole) output
 Judges status.Memory ended left read output = output ≡ []
-Judges _ ended left read output = ⊥
+Judges s ended left read output = JudgeWrites s ended left read output
 
 -- ---- other words
 

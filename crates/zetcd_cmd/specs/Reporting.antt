@@ -6,18 +6,24 @@ use Rattle.zx_outside.specs.Writing.{Takes, counts_after_write}
 use Rattle.zx_outside.specs.declared.sink.Took.TheVariants as took
 use Rattle.zetcd_cmd.specs.declared.report.Unwritten.{Unwritten}
 use Rattle.zetcd_cmd.specs.declared.report.Unwritten.TheVariants as unwritten
+use Rattle.zetcd_cmd.specs.declared.script.Stop.{Stop}
 use Rattle.zetcd_cmd.specs.declared.script.Stop.TheVariants as stop
 use Rattle.zetcd_cmd.specs.declared.report.End.{End}
 use Rattle.zetcd_cmd.specs.declared.report.End.TheVariants as end
 use Rattle.zetcd_cmd.specs.declared.status.Status.{Status}
 use Rattle.zetcd_cmd.specs.declared.status.Status.TheVariants as status
 
+-- why no further line was applied, in words; where memory was refused, nothing is said
+abbrev pub stop_text : Stop → List ℕ
+stop_text (stop.Unread why) = unread_text why
+stop_text (stop.Refused why) = why_text why
+stop_text stop.Memory = []
+
 -- the last line, by how the script ended before line n
 abbrev pub ending_text : End → ℕ → List ℕ
 ending_text end.Whole n = done_text
-ending_text (end.Stopped (stop.Unread why)) n = fault_text n (unread_text why)
-ending_text (end.Stopped (stop.Refused why)) n = fault_text n (why_text why)
 ending_text (end.Stopped stop.Memory) n = []
+ending_text (end.Stopped why) n = fault_text n (stop_text why)
 ending_text end.ReadFault n = []
 
 abbrev pub status_after : End → ℕ → Status

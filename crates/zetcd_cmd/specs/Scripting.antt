@@ -8,7 +8,8 @@ use Rattle.zt_text.specs.Scripts.{IsWholeLines}
 use Rattle.zp_happen.specs.Worlds.{World}
 use Rattle.zp_happen.specs.Faults.{fault}
 use Rattle.zetcd_cmd.specs.Reached.{Reached}
-use Rattle.zetcd_cmd.specs.Replayed.{IsOver}
+use Rattle.zetcd_cmd.specs.Replayed.{IsOver, StandsAgainst}
+use Rattle.zetcd_cmd.specs.Reporting.{stop_text}
 use Rattle.zetcd_cmd.specs.declared.script.Script.{Script}
 use Rattle.zetcd_cmd.specs.declared.script.Stop.{Stop}
 use Rattle.zetcd_cmd.specs.declared.script.Stop.TheVariants as stop
@@ -74,15 +75,6 @@ pub record IsApplied (input : List ℕ) (s : Script) : Type 0 where
   pub reached : Reached happenings s.world
   pub read : script input ≡ (happenings, None)
 
--- what stands against line n
-abbrev pub IsAgainst : World → ℕ → List Happening → Option (ℕ × Unread) → Stop → Type 0
-IsAgainst w n [] end (stop.Unread why) = end ≡ Some (n, why)
-IsAgainst w n [] end (stop.Refused why) = ⊥
-IsAgainst w n [] end stop.Memory = ⊥
-IsAgainst w n (h ∷ later) end (stop.Unread why) = ⊥
-IsAgainst w n (h ∷ later) end (stop.Refused why) = fault w h ≡ Some why
-IsAgainst w n (h ∷ later) end stop.Memory = ⊥
-
 -- the lines before the next were applied, and this stands against the next
 pub record IsHalted (input : List ℕ) (s : Script) (why : Stop) : Type 0 where
   pub before : List Happening
@@ -91,7 +83,7 @@ pub record IsHalted (input : List ℕ) (s : Script) (why : Stop) : Type 0 where
   pub reached : Reached before s.world
   pub number : s.line ≡ length before + 1
   pub read : script input ≡ (before ++ later, end)
-  pub against : IsAgainst s.world s.line later end why
+  pub against : StandsAgainst s.world s.line later end (stop_text why)
 
 -- the lines before the next were applied, and this stands against the next; where memory was refused, nothing is said
 abbrev pub Ends : List ℕ → Script → Stop → Type 0
