@@ -9,9 +9,10 @@
 //! read on, up to [`MOST_AHEAD`](inbox::MOST_AHEAD) bytes, so that a read that waits can wait for the client or for a
 //! bell; past that, and after the client's end, the turn yields.
 //!
-//! Packets are held back while further whole frames are there, and go out in one write. They go out at once where no whole frame
-//! is left, where a reply waits for its entry, where they are [`MOST_HELD`](outbox::MOST_HELD) bytes, and
-//! [`LONGEST_HELD`](outbox::LONGEST_HELD) milliseconds after the first of them. So nothing waits for a frame that has not come.
+//! Packets are held back while further whole frames are there, and go out in one write. After each input they go out where no whole
+//! frame is left, where a reply waits for its entry, where they are [`MOST_HELD`](outbox::MOST_HELD) bytes, and
+//! [`LONGEST_HELD`](outbox::LONGEST_HELD) milliseconds after the first of them. So nothing waits for a frame that has not come; what is
+//! held waits for an ask that is out.
 //!
 //! A publisher of entries that would wake the connection rings the bell of its source (`Wakes` of `zx_net`). A [`Belled`] feed arms
 //! that bell before each look for an entry.

@@ -12,7 +12,7 @@ use zx_outside::Sink;
 /// How many bytes are held at most before they are written.
 pub(crate) const MOST_HELD: usize = 65_536;
 
-/// For how many milliseconds a packet is held at most while frames are handed in.
+/// After how many milliseconds a packet that is held goes out, once an input was handed in.
 pub(crate) const LONGEST_HELD: u64 = 20;
 
 /// Packets that were sent and are not written yet, one after the other. Each is copied once.
