@@ -1,2 +1,3 @@
 pub mod Reading
+pub mod Dialling
 pub mod Local
