@@ -5,3 +5,4 @@ pub mod Executing
 pub mod Telling
 pub mod Stepping
 pub mod Living
+pub mod Followed

@@ -1,6 +1,7 @@
 //! The laws of lives. Each function does nothing, and its contract is the law.
 
 ghost use Rattle.zp_lives.specs.Alone.{AloneFromTheFirst, AloneIsServed};
+ghost use Rattle.zp_lives.specs.Followed.{HonestLinesGiveEntries};
 ghost use Rattle.zp_lives.specs.Lives.{AccountedAreServed, LivesAreAccounted};
 
 /// A world of which all is accounted for stays so by the steps of one connection's run, whatever happens beside them: other
@@ -19,4 +20,11 @@ pub fn connections_live_in_worlds()
 pub fn one_connection_alone_is_served()
     ensures accounted { AloneIsServed }
     ensures first { AloneFromTheFirst }
+{}
+
+/// A follower over an honest watch gives entries of the store's updates, and no fault but want of memory. The lines are honest where
+/// they tell heads of the store, in order and each once, from the follower's own on: each is put once more than the one before it,
+/// and has a record.
+pub fn followers_give_the_stores_entries()
+    ensures { HonestLinesGiveEntries }
 {}

@@ -13,14 +13,17 @@
 //! - `Events`: the steps of a connection, and what happens beside them;
 //! - `Lives`: how a step is taken in a world (`Takes`), and what holds behind a run there;
 //! - `Feeding`: answers of one store, and entries of its updates (`IsFedBy`);
+//! - `Followed`: what a follower (`zw_feed`) makes of an honest watch of such a store;
 //! - `Showing`: what a transcript shows of a connection, and what its steps would have it show;
 //! - `Alone`: one connection alone.
 //!
 //! In `proofs/`: `Events` (what each event keeps is kept by all of them: the one law of which worlds are a use), `Keeping` (a
-//! step), `Entries` (an entry of a store is the world's), `Executing` (an ask can be carried out), `Telling` (lines), `Stepping`
-//! (each kind of step has its world), `Living` (a whole run).
+//! step), `Entries` (an entry of a store is the world's), `Followed` (the lines of a watch), `Executing` (an ask can be carried out),
+//! `Telling` (lines), `Stepping` (each kind of step has its world), `Living` (a whole run).
 #![tactic(auto)]
 
 mod laws;
 
-pub use laws::{connections_live_in_worlds, one_connection_alone_is_served};
+pub use laws::{
+    connections_live_in_worlds, followers_give_the_stores_entries, one_connection_alone_is_served,
+};
