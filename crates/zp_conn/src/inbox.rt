@@ -64,6 +64,11 @@ impl Inbox {
         }
     }
 
+    /// How many bytes came, at most 2^64 - 1.
+    pub(crate) fn count(&self) -> u64 {
+        self.count
+    }
+
     /// Whether no whole frame is left.
     pub(crate) fn is_empty(&self) -> bool {
         self.frames.is_empty()

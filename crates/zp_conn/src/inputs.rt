@@ -81,7 +81,7 @@ fn looked(came: Came) -> Next
 }
 
 /// Calls the ask that is out; or reads the feed or the source, as the connection wants. Where both are wanted, the feed is first.
-/// Where a frame alone is wanted and none is there, looks whether the feed has ended.
+/// Where a frame alone is wanted, none is there and no byte came, looks whether the feed has ended.
 #[tactic(auto, using(crate::proofs::Allowed::fetch_answer, crate::proofs::Allowed::fetch_entry, crate::proofs::Allowed::fetch_either, crate::proofs::Allowed::fetch_frame, crate::proofs::Allowed::fetch_end, crate::proofs::Allowed::fetch_after, crate::proofs::Allowed::fetch_ahead, crate::proofs::Allowed::fetch_quiet))]
 pub(crate) fn take_in<L: Etcd, F: Feed, S: Source>(
     core: &Core,
@@ -102,10 +102,13 @@ pub(crate) fn take_in<L: Etcd, F: Feed, S: Source>(
         return answer(link, &ask);
     }
     match core.wants() {
-        Wants::Frame => match looked(inbox.next(source, room)) {
-            Next::Idle => end_of(feed),
-            found => found,
-        },
+        Wants::Frame => {
+            let before = inbox.count();
+            match looked(inbox.next(source, room)) {
+                Next::Idle if inbox.count() == before => end_of(feed),
+                found => found,
+            }
+        }
         Wants::FrameOrEntry { cursor } => match entry(feed, cursor) {
             Next::Idle => looked(inbox.next(source, room)),
             found => found,
