@@ -1,5 +1,6 @@
 pub mod Carried
 pub mod Replaying
+pub mod Keyed
 pub mod Lapsing
 pub mod Sweeping
 pub mod Shown

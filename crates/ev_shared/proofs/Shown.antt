@@ -3,7 +3,7 @@ use Rattle.std.proofs.Common.{◌≡◌, inl, inr, ℕ, ◌+◌, ◌≤◌, nat_
 use Rattle.std.proofs.lemmas.Bool.{ltb-true, ltb-false, cases_lt}
 use Rattle.std.proofs.lemmas.Bool.Decides.{Decides-int_eq}
 use Rattle.std.proofs.lemmas.Int.{ints}
-use Rattle.std.specs.Prelude.{ℤ, pos, int_lt, ◌≤ℤ◌, ◌<ℤ◌, not, ◌&&◌, ◌||◌, Option, Some, None, if◌then◌else◌}
+use Rattle.std.specs.Prelude.{ℤ, pos, int_lt, ◌≤ℤ◌, ◌<ℤ◌, ◌<◌, ◌^◌, not, ◌&&◌, ◌||◌, Option, Some, None, if◌then◌else◌}
 use Rattle.std.specs.FinMap.{get}
 use Rattle.std.specs.Ordering.{int_eq}
 use Rattle.ev_types.proofs.Found.{found-key}
@@ -19,8 +19,10 @@ use Rattle.ev_store.specs.declared.fault.Denied.{Denied}
 use Rattle.ev_store.specs.declared.fault.Denied.TheVariants as denied
 use Rattle.ev_store.specs.declared.fault.StoreFault.TheVariants as fault
 use Rattle.ev_call.specs.Fitting.{Fits}
+use Rattle.ev_shared.proofs.Keyed.{key-at}
+use Rattle.ev_shared.specs.declared.shared_store.Watched.TheVariants as watched
 use Rattle.ev_shared.specs.declared.watch.Look.TheVariants as look
-use Rattle.ev_shared.specs.Watching.{Looks, key_at, listed, found_in, put_by, put_at, NonePut, Unseen}
+use Rattle.ev_shared.specs.Watching.{IsNext, Looks, key_at, listed, found_in, put_by, put_at, NonePut, Unseen}
 use Rattle.zx_base.specs.Maps.{Bytes}
 
 one_at : (k : Bytes) (n : ℕ) (m : Keys) → found (key_at k n) m ≡ one_found (get m k)
@@ -98,19 +100,24 @@ moved_on s k from n before here m least most = elim (cases_lt m n) [
   | inr le ↦ (let same : n ≡ m = omega (arith, le, most) in subst (λ (x : ℕ). put_at s k x ≡ None) same here)
 ]
 
-pub put_from : (s : Store) (k : Bytes) (n : ℕ) (kv : Kv) → put_at s k n ≡ Some kv → kv.mod_revision ≡ pos n
+put_from : (s : Store) (k : Bytes) (n : ℕ) (kv : Kv) → put_at s k n ≡ Some kv → (kv.mod_revision ≡ pos n) × (get (store_at s n) k ≡ Some kv)
 put_from s k n kv e = by_put (get (store_at s n) k) e
   where
-    if_same : (b : Bool) (x : Kv) → int_eq x.mod_revision (pos n) ≡ b → (if b then Some x else None) ≡ Some kv → kv.mod_revision ≡ pos n
-    if_same true x is e = let same : x ≡ kv = cc in subst (λ (y : Kv). y.mod_revision ≡ pos n) same ((Decides-int_eq x.mod_revision (pos n)).0 is)
+    if_same : (b : Bool) (x : Kv) → int_eq x.mod_revision (pos n) ≡ b → (if b then Some x else None) ≡ Some kv → (kv.mod_revision ≡ pos n) × (Some x ≡ Some kv)
+    if_same true x is e = let same : x ≡ kv = cc in (subst (λ (y : Kv). y.mod_revision ≡ pos n) same ((Decides-int_eq x.mod_revision (pos n)).0 is), e)
     if_same false x is e = absurd cc
 
-    by_put : (o : Option Kv) → put_by (pos n) o ≡ Some kv → kv.mod_revision ≡ pos n
+    by_put : (o : Option Kv) → put_by (pos n) o ≡ Some kv → (kv.mod_revision ≡ pos n) × (o ≡ Some kv)
     by_put None e = absurd cc
     by_put (Some x) e = if_same (int_eq x.mod_revision (pos n)) x refl e
 
-pub looks_next : (s : Store) (k : Bytes) (from next : ℕ) (kv : Kv) → from ≤ next → Looks s k next (look.Put kv) → pos from ≤ℤ kv.mod_revision
-looks_next s k from next kv le h = let is = put_from s k h.0 kv h.2 in let least = h.1 in omega (arith, ints)
+pub looks_next : (s : Store) (k : Bytes) (from next : ℕ) (kv : Kv) → from ≤ next → Looks s k next (look.Put kv) → IsNext k from (watched.Put kv)
+looks_next s k from next kv le h =
+    let is = put_from s k h.0 kv h.3 in
+    let at = is.0 in
+    let least = h.1 in
+    let most = h.2 in
+    (key-at s h.0 k kv is.1, omega (arith, ints), omega (arith, ints))
 
 pub gone : (s t : Store) (k : Bytes) (from n : ℕ) (asked floor : ℤ) → from ≤ n → t ≡ s → Unseen s n (fault.Denied (denied.Compacted asked floor)) → Looks t k from (look.Compacted floor)
 gone s t k from n asked floor le same h = let below = h.1 in (h.0 ∙ sym (ap (λ (x : Store). x.floor) same), omega (arith, ints))

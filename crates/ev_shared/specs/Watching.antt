@@ -31,16 +31,17 @@ NonePut s k from to = (n : ℕ) → from ≤ n → n < to → put_at s k n ≡ N
 
 -- the first put from a revision on; or that there is none yet; or that the revision was compacted
 abbrev pub Looks : Store → Bytes → ℕ → Look → Type 0
-Looks s k from (look.Put kv) = (n : ℕ) × (from ≤ n) × (put_at s k n ≡ Some kv) × NonePut s k from n
+Looks s k from (look.Put kv) = (n : ℕ) × (from ≤ n) × (n < 2 ^ 62) × (put_at s k n ≡ Some kv) × NonePut s k from n
 Looks s k from (look.Waits next) = (from ≤ next) × (length s.revisions < next) × (next ≤ 2 ^ 62) × NonePut s k from next
 Looks s k from (look.Compacted floor) = (floor ≡ s.floor) × (pos from <ℤ floor)
 
--- what a watch is told next is not before the revision that it waits for, and of a revision that was compacted, the least that was not
-abbrev pub IsNext : ℕ → Watched → Type 0
-IsNext from (watched.Put kv) = pos from ≤ℤ kv.mod_revision
-IsNext from (watched.Compacted floor) = pos from <ℤ floor
-IsNext from watched.Closed = Unit {0}
-IsNext from watched.Memory = Unit {0}
+-- What a watch of this key is told next: a put of the key, at the revision that it waits for or a later one, below 2^62; or, where the
+-- revision that it waits for was compacted, the least that was not.
+abbrev pub IsNext : Bytes → ℕ → Watched → Type 0
+IsNext k from (watched.Put kv) = (kv.key ≡ k) × (pos from ≤ℤ kv.mod_revision) × (kv.mod_revision <ℤ pos (2 ^ 62))
+IsNext k from (watched.Compacted floor) = pos from <ℤ floor
+IsNext k from watched.Closed = Unit {0}
+IsNext k from watched.Memory = Unit {0}
 
 -- ---- for clauses of private functions
 

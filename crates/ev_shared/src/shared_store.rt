@@ -70,12 +70,13 @@ impl SharedStore {
         self.kept.lock(rt).revision()
     }
 
-    /// Waits for the first revision from `from` on that puts the key, from 1 to 2^62. A removal is no put.
-    #[tactic(auto, using(crate::proofs::Shown::looks_next, crate::proofs::Shown::gone_next))]
+    /// Waits for the first revision from `from` on that puts the key, from 1 to 2^62. A removal is no put. The revision of a put is
+    /// below 2^62, and one that was compacted is below the least that can be named.
+    #[tactic(auto, using(crate::proofs::Shown::gone_next))]
     pub fn next_put<R: Wait>(&self, rt: &R, alloc: Global, key: &[u8], from: u64) -> Watched
         requires first { 1 ≤ from }
         requires small { from ≤ 2 ^ 62 }
-        ensures { IsNext from result }
+        ensures { IsNext key.now from result }
     {
         let mut guard = self.kept.lock(rt);
         let mut next = from;
