@@ -1,6 +1,6 @@
 -- How faults of messages end a connection.
 use Rattle.std.proofs.Common.{◌≡◌, ◌≢◌, inl, inr, ℕ, ◌+◌, ◌<◌, List, add-one, refl, sym, subst}
-use Rattle.std.specs.Prelude.{ℤ, Result, Ok, Err}
+use Rattle.std.specs.Prelude.{ℤ, nat_abs, Result, Ok, Err}
 use Rattle.std.specs.Global.{Vec}
 use Rattle.ev_types.specs.declared.route.Route.{Route}
 use Rattle.ev_types.specs.declared.route.Route.TheVariants as route
@@ -13,7 +13,9 @@ use Rattle.ev_http.specs.declared.fault.HttpFault.TheVariants as http
 use Rattle.ev_http.specs.Taking.{Told}
 use Rattle.ev_gateway.specs.declared.connection.GatewayEnd.{GatewayEnd}
 use Rattle.ev_gateway.specs.declared.connection.GatewayEnd.TheVariants as ends
-use Rattle.ev_gateway.specs.Serving.{AnswersOr, Counted, EndsBy, Receives, Replies, Responds, RespondsOr, Serves, SinkTold, Turns, end_of, unreadable_text}
+use Rattle.ev_gateway.specs.Serving.{AnswersOr, EndsBy, Receives, Replies, Responds, RespondsOr, Serves, Turns, end_of, unreadable_text}
+use Rattle.ev_gateway.specs.Sinks.{SinkTold}
+use Rattle.ev_gateway.specs.Streaming.{Streams}
 
 response : (sent : Result (Unit {0}) HttpFault) (status : ℕ) (text : List ℕ) (k k' : SinkTold) → Responds sent status text k k' → RespondsOr (end_of sent) status text k k'
 response (Ok u) status text k k' h = h
@@ -31,20 +33,20 @@ response (Err http.ReadFault) status text k k' h = absurd h
 pub responds : (r : Result (Unit {0}) GatewayEnd) (sent : Result (Unit {0}) HttpFault) (status : ℕ) (text : List ℕ) (k k' : SinkTold) → r ≡ end_of sent → Responds sent status text k k' → RespondsOr r status text k k'
 responds r sent status text k k' e h = subst (λ (x : Result (Unit {0}) GatewayEnd). RespondsOr x status text k k') (sym e) (response sent status text k k' h)
 
-stream : (sent : Result (Unit {0}) HttpFault) (to : Route) (body : List ℕ) (from : ℤ) (key : List ℕ) (k k' : SinkTold) → to ≡ route.Watch → reads_watch body from key → Counted sent k k' → AnswersOr (end_of sent) to body k k'
+stream : (sent : Result (Unit {0}) HttpFault) (to : Route) (body : List ℕ) (from : ℤ) (key : List ℕ) (k k' : SinkTold) → to ≡ route.Watch → reads_watch body from key → Streams sent key (nat_abs from) k k' → AnswersOr (end_of sent) to body k k'
 stream (Ok u) to body from key k k' is reading h = inr (is, inr (from, key, reading, h))
 stream (Err http.Memory) to body from key k k' is reading h = tt
 stream (Err http.WriteFault) to body from key k k' is reading h = (refl, inr (is, inr (from, key, reading, h)))
-stream (Err http.Head) to body from key k k' is reading h = absurd h
-stream (Err (http.Status n)) to body from key k k' is reading h = absurd h
-stream (Err http.Route) to body from key k k' is reading h = absurd h
-stream (Err (http.Body place)) to body from key k k' is reading h = absurd h
-stream (Err (http.TooLong n)) to body from key k k' is reading h = absurd h
-stream (Err (http.Ended n)) to body from key k k' is reading h = absurd h
-stream (Err http.Idle) to body from key k k' is reading h = absurd h
-stream (Err http.ReadFault) to body from key k k' is reading h = absurd h
+stream (Err http.Head) to body from key k k' is reading h = absurd h.wrote
+stream (Err (http.Status n)) to body from key k k' is reading h = absurd h.wrote
+stream (Err http.Route) to body from key k k' is reading h = absurd h.wrote
+stream (Err (http.Body place)) to body from key k k' is reading h = absurd h.wrote
+stream (Err (http.TooLong n)) to body from key k k' is reading h = absurd h.wrote
+stream (Err (http.Ended n)) to body from key k k' is reading h = absurd h.wrote
+stream (Err http.Idle) to body from key k k' is reading h = absurd h.wrote
+stream (Err http.ReadFault) to body from key k k' is reading h = absurd h.wrote
 
-pub watched : (r : Result (Unit {0}) GatewayEnd) (sent : Result (Unit {0}) HttpFault) (to : Route) (body : List ℕ) (from : ℤ) (key : List ℕ) (k k' : SinkTold) → r ≡ end_of sent → to ≡ route.Watch → reads_watch body from key → Counted sent k k' → AnswersOr r to body k k'
+pub watched : (r : Result (Unit {0}) GatewayEnd) (sent : Result (Unit {0}) HttpFault) (to : Route) (body : List ℕ) (from : ℤ) (key : List ℕ) (k k' : SinkTold) → r ≡ end_of sent → to ≡ route.Watch → reads_watch body from key → Streams sent key (nat_abs from) k k' → AnswersOr r to body k k'
 watched r sent to body from key k k' e is reading h = subst (λ (x : Result (Unit {0}) GatewayEnd). AnswersOr x to body k k') (sym e) (stream sent to body from key k k' is reading h)
 
 pub refused : (r : Result (Unit {0}) GatewayEnd) (to : Route) (body : List ℕ) (f : JsonFault) (k k' : SinkTold) → to ≡ route.Watch → FaultOf watch_in body f → f ≢ json.Memory → RespondsOr r 400 unreadable_text k k' → AnswersOr r to body k k'

@@ -1,3 +1,3 @@
-pub mod Counting
 pub mod Ending
 pub mod Reading
+pub mod Streaming

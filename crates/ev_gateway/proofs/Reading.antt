@@ -1,7 +1,7 @@
--- An ask that was read can be carried out.
-use Rattle.std.proofs.Common.{◌^◌, arith}
+-- An ask that was read can be carried out, and a key that is to be watched can be.
+use Rattle.std.proofs.Common.{ℕ, ◌≤◌, ◌^◌, arith}
 use Rattle.std.proofs.lemmas.Int.{ints}
-use Rattle.std.specs.Prelude.{ℤ, pos, ◌≤ℤ◌, ◌<ℤ◌}
+use Rattle.std.specs.Prelude.{ℤ, pos, nat_abs, ◌≤ℤ◌, ◌<ℤ◌}
 use Rattle.ev_types.specs.declared.ask.Ask.{Ask}
 use Rattle.ev_types.specs.declared.ask.Ask.TheVariants as ask
 use Rattle.ev_call.specs.Asks.{IsGrantable}
@@ -22,3 +22,6 @@ grantable (ask.Txn t) h = tt
 grantable (ask.Range q) h = tt
 grantable (ask.Grant id ttl) h = (one id h.0, least ttl h.1, most ttl h.1)
 grantable (ask.Alive id) h = tt
+
+pub watchable : (from : ℤ) → IsPositiveCount from → (1 ≤ nat_abs from) × (nat_abs from ≤ 2 ^ 62)
+watchable from h = let is = h.1 in let some = h.2 in let small = h.3 in (omega (arith, ints), omega (arith, ints))

@@ -1,1 +1,3 @@
 pub mod Serving
+pub mod Sinks
+pub mod Streaming

@@ -1,11 +1,10 @@
 -- How a gateway serves one connection: each request is read, and answered before the next one is read.
-use Rattle.std.specs.Prelude.{◌≡◌, ◌≢◌, ◌⊎◌, ℕ, zero, suc, ◌<◌, ◌≤◌, ℤ, List, ◌++◌, length, codes, Option, Some, Result, Ok, Err}
+use Rattle.std.specs.Prelude.{◌≡◌, ◌≢◌, ◌⊎◌, ℕ, zero, suc, ◌<◌, ◌≤◌, ℤ, nat_abs, List, ◌++◌, length, codes, Some, Result, Ok, Err}
 use Rattle.std.specs.Global.{Vec}
 use Rattle.ev_types.specs.declared.answer.Answer.{Answer}
 use Rattle.ev_types.specs.declared.ask.Ask.{Ask}
 use Rattle.ev_types.specs.declared.route.Route.{Route}
 use Rattle.ev_types.specs.declared.route.Route.TheVariants as route
-use Rattle.zx_outside.specs.Counts.{OutputCounts, one_more}
 use Rattle.ev_call.specs.Fitting.{Fits}
 use Rattle.ev_fields.specs.declared.fault.JsonFault.{JsonFault}
 use Rattle.ev_fields.specs.declared.fault.JsonFault.TheVariants as json
@@ -18,6 +17,8 @@ use Rattle.ev_http.specs.declared.taking.Tally.{Tally}
 use Rattle.ev_http.specs.Messages.{HoldsRequest, ReadsRequestBody, RequestAnswer}
 use Rattle.ev_http.specs.Sending.{Sends, response_head}
 use Rattle.ev_http.specs.Taking.{Told, Took, failed, fresh}
+use Rattle.ev_gateway.specs.Sinks.{SinkTold}
+use Rattle.ev_gateway.specs.Streaming.{Streams}
 use Rattle.ev_gateway.specs.declared.connection.GatewayEnd.{GatewayEnd}
 use Rattle.ev_gateway.specs.declared.connection.GatewayEnd.TheVariants as ends
 
@@ -50,15 +51,6 @@ Replies to body status text = AnswersAsk to body status text ⊎ RefusesAsk to b
 
 -- ---- one message
 
--- What a sink tells of itself.
-pub record SinkTold : Type 0 where
-  pub taken : Option (List ℕ)
-  pub counts : OutputCounts
-  pub name : ℕ
-
-abbrev pub sink_told : {K : Type 0} → (K → Option (List ℕ)) → (K → OutputCounts) → (K → ℕ) → K → SinkTold
-sink_told taken counts name sink = record { taken = taken sink; counts = counts sink; name = name sink }
-
 -- The next request was read, or there is a fault. Where the source holds a whole request, it is that one.
 pub record Receives (result : Result (Route × Vec ℕ) HttpFault) (source source' : Told) : Type 0 where
   pub bytes : List ℕ
@@ -71,20 +63,6 @@ pub record Receives (result : Result (Route × Vec ℕ) HttpFault) (source sourc
 abbrev pub Writes : Result (Unit {0}) HttpFault → List ℕ → SinkTold → SinkTold → Type 0
 Writes result bytes sink sink' = Sends result bytes sink.taken sink'.taken sink.counts sink'.counts sink.name sink'.name
 
--- what the sink's counts say of a stream: a write fault counts as one, and nothing else is counted
-abbrev pub Counted : Result (Unit {0}) HttpFault → SinkTold → SinkTold → Type 0
-Counted (Ok _) sink sink' = (sink'.counts ≡ sink.counts) × (sink'.name ≡ sink.name)
-Counted (Err http.WriteFault) sink sink' = (sink'.counts.faults ≡ one_more sink.counts.faults) × (sink'.name ≡ sink.name)
-Counted (Err http.Memory) sink sink' = (sink'.counts ≡ sink.counts) × (sink'.name ≡ sink.name)
-Counted (Err http.Head) sink sink' = ⊥
-Counted (Err (http.Status n)) sink sink' = ⊥
-Counted (Err http.Route) sink sink' = ⊥
-Counted (Err (http.Body place)) sink sink' = ⊥
-Counted (Err (http.TooLong n)) sink sink' = ⊥
-Counted (Err (http.Ended n)) sink sink' = ⊥
-Counted (Err http.Idle) sink sink' = ⊥
-Counted (Err http.ReadFault) sink sink' = ⊥
-
 -- one response was sent
 abbrev pub Responds : Result (Unit {0}) HttpFault → ℕ → List ℕ → SinkTold → SinkTold → Type 0
 Responds result status text sink sink' = Writes result (response_head status (length text) ++ text) sink sink'
@@ -93,11 +71,11 @@ Responds result status text sink sink' = Writes result (response_head status (le
 abbrev pub AnswersOnce : Result (Unit {0}) HttpFault → Route → List ℕ → SinkTold → SinkTold → Type 0
 AnswersOnce result to body sink sink' = (to ≢ route.Watch) × (status : ℕ) × (text : List ℕ) × Replies to body status text × Responds result status text sink sink'
 
--- a request to watch a key is answered by a stream, or by one response where it cannot be read
+-- a request to watch a key is answered by a stream of its puts, or by one response where it cannot be read
 abbrev pub AnswersWatch : Result (Unit {0}) HttpFault → Route → List ℕ → SinkTold → SinkTold → Type 0
 AnswersWatch result to body sink sink' =
     (to ≡ route.Watch) × (((status : ℕ) × (text : List ℕ) × RefusesWatch body status text × Responds result status text sink sink')
-    ⊎ ((from : ℤ) × (key : List ℕ) × reads_watch body from key × Counted result sink sink'))
+    ⊎ ((from : ℤ) × (key : List ℕ) × reads_watch body from key × Streams result key (nat_abs from) sink sink'))
 
 abbrev pub Answers : Result (Unit {0}) HttpFault → Route → List ℕ → SinkTold → SinkTold → Type 0
 Answers result to body sink sink' = AnswersOnce result to body sink sink' ⊎ AnswersWatch result to body sink sink'

@@ -1,14 +1,15 @@
 //! One connection.
 
-ghost use Rattle.std.specs.Prelude.{◌≡◌, ◌≢◌, ◌≤◌, ◌^◌};
+ghost use Rattle.std.specs.Prelude.{◌≡◌, ◌≢◌};
 ghost use Rattle.ev_http.specs.Taking.{told};
-ghost use Rattle.ev_gateway.specs.Serving.{AnswersOr, EndsBy, Receives, RespondsOr, Turns, end_of, sink_told, unreadable_text};
+ghost use Rattle.ev_gateway.specs.Serving.{AnswersOr, EndsBy, Receives, RespondsOr, Turns, end_of, unreadable_text};
+ghost use Rattle.ev_gateway.specs.Sinks.{sink_told};
 ghost use Rattle.ev_types.specs.declared.route.Route.TheVariants as routes;
 
 use crate::reply::{Reply, refusal, reply_to};
 use crate::watching::watch;
 use ev_http::{HttpFault, read_request, send_response};
-use ev_json::{JsonFault, read_watch};
+use ev_json::{JsonFault, read_watch, what_is_read_fits};
 use ev_shared::SharedStore;
 use ev_types::Route;
 use std::alloc::Global;
@@ -58,16 +59,8 @@ fn refuse<K: Sink>(alloc: Global, sink: &mut K) -> Result<(), GatewayEnd>
     }
 }
 
-/// The revision to watch from, which is one that a store can have, or the next after its last.
-fn first_revision(from: i64) -> u64
-    ensures least { 1 ≤ result }
-    ensures most { result ≤ 2 ^ 62 }
-{
-    from.unsigned_abs().max(1).min(1 << 62)
-}
-
 /// Answers a request to watch a key.
-#[tactic(auto, using(crate::proofs::Ending::watched, crate::proofs::Ending::refused))]
+#[tactic(auto, using(crate::proofs::Ending::watched, crate::proofs::Ending::refused, crate::proofs::Reading::watchable))]
 fn answer_watch<R: Wait, K: Sink>(
     rt: &R,
     alloc: Global,
@@ -81,7 +74,8 @@ fn answer_watch<R: Wait, K: Sink>(
 {
     match read_watch(alloc, body) {
         Ok((from, key)) => {
-            let first = first_revision(from);
+            what_is_read_fits();
+            let first = from.unsigned_abs();
             end_of(watch(rt, alloc, store, sink, key.as_slice(), first))
         }
         Err(JsonFault::Memory) => Err(GatewayEnd::Memory),

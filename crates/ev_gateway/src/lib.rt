@@ -1,8 +1,11 @@
 //! The JSON gateway of an etcd in memory, for one HTTP connection (etcd API reference, "gRPC gateway").
 //!
 //! [`gateway`] reads requests one after the other and answers each before it reads the next: an ask by the store's answer, with
-//! status 200; an ask that the store denies, and a body that cannot be read, with status 400. A request to watch a key is answered by
-//! a stream: a line that says that the watch was created, and a line for each revision that puts the key. `specs/Serving` says so.
+//! status 200; an ask that the store denies, and a body that cannot be read, with status 400. `specs/Serving` says so.
+//!
+//! A request to watch a key is answered by a stream: a line that says that the watch was created, and a line for each put that the
+//! store tells, of rising revisions from the one that was asked for on. The last chunk comes where the store is closed, and behind a
+//! line that says so where the revision to go on from was compacted (`specs/Streaming`).
 //!
 //! # Limits
 //!

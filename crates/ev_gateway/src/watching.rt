@@ -1,7 +1,10 @@
 //! The stream that a watch is answered by.
 
-ghost use Rattle.std.specs.Prelude.{◌≤◌, ◌^◌};
-ghost use Rattle.ev_gateway.specs.Serving.{Counted, sink_told};
+ghost use Rattle.std.specs.Prelude.{◌≡◌, ◌<◌, ◌≤◌, ◌+◌, ◌≤ℤ◌, ◌<ℤ◌, ◌^◌, ◌++◌, ◌∷◌, [], pos, nat_abs, length, IfOk};
+ghost use Rattle.ev_http.specs.Chunked.{last_chunk};
+ghost use Rattle.ev_json.specs.Messages.{canceled_text, line_text};
+ghost use Rattle.ev_gateway.specs.Sinks.{sink_told};
+ghost use Rattle.ev_gateway.specs.Streaming.{Streams, WroteFront, begun, line_chunk, put_line};
 
 use ev_http::{HttpFault, send_chunk, send_last_chunk, send_stream_head};
 use ev_json::{write_canceled, write_line};
@@ -12,59 +15,80 @@ use std::sync::Wait;
 use zx_base::Memory;
 use zx_outside::Sink;
 
-/// The text of a line, with its line feed.
-fn with_feed(line: Result<Vec<u8>, Memory>) -> Result<Vec<u8>, Memory> {
-    let mut line = line?;
-    line.push(b'\n')?;
-    Ok(line)
+/// The line with a line feed behind it.
+fn with_feed(line: Vec<u8>) -> Result<Vec<u8>, Memory>
+    ensures { IfOk result (λ text. text.items ≡ line.items ++ 10 ∷ []) }
+{
+    let mut text = line;
+    text.push(b'\n')?;
+    Ok(text)
 }
 
 /// Sends a line as one chunk.
-#[tactic(auto, using(crate::proofs::Counting::counted_sent))]
-fn send_line<K: Sink>(
-    alloc: Global,
-    sink: &mut K,
-    line: Result<Vec<u8>, Memory>,
-) -> Result<(), HttpFault>
-    ensures { Counted result (sink_told K.taken K.counts K.name sink.old) (sink_told K.taken K.counts K.name sink.new) }
+#[tactic(auto, using(crate::proofs::Streaming::by_sent))]
+fn send_line<K: Sink>(alloc: Global, sink: &mut K, line: Vec<u8>) -> Result<(), HttpFault>
+    ensures { WroteFront result (line_chunk line.items) (sink_told K.taken K.counts K.name sink.old) (sink_told K.taken K.counts K.name sink.new) }
 {
     match with_feed(line) {
-        Ok(line) => {
-            if line.is_empty() {
-                return Ok(());
-            }
-            send_chunk(alloc, sink, line.as_slice())
-        }
+        Ok(text) => send_chunk(alloc, sink, text.as_slice()),
         Err(_) => Err(HttpFault::Memory),
     }
 }
 
 /// Sends the line of one put.
 fn send_put<K: Sink>(alloc: Global, sink: &mut K, kv: Kv) -> Result<(), HttpFault>
-    ensures { Counted result (sink_told K.taken K.counts K.name sink.old) (sink_told K.taken K.counts K.name sink.new) }
+    ensures { WroteFront result (put_line kv) (sink_told K.taken K.counts K.name sink.old) (sink_told K.taken K.counts K.name sink.new) }
 {
     let revision = kv.mod_revision;
     let puts = [kv];
-    send_line(alloc, sink, write_line(alloc, puts.as_slice(), revision))
+    match write_line(alloc, puts.as_slice(), revision) {
+        Ok(line) => send_line(alloc, sink, line),
+        Err(_) => Err(HttpFault::Memory),
+    }
+}
+
+/// Sends the line that says that the watch was created.
+fn send_created<K: Sink>(alloc: Global, sink: &mut K, revision: i64) -> Result<(), HttpFault>
+    ensures { WroteFront result (line_chunk (line_text [] revision)) (sink_told K.taken K.counts K.name sink.old) (sink_told K.taken K.counts K.name sink.new) }
+{
+    match write_line(alloc, &[], revision) {
+        Ok(line) => send_line(alloc, sink, line),
+        Err(_) => Err(HttpFault::Memory),
+    }
 }
 
 /// Sends the head of the stream, and the line that says that the watch was created.
-#[tactic(auto, using(crate::proofs::Counting::counted_wrote, crate::proofs::Counting::counted_on))]
+#[tactic(auto, using(crate::proofs::Streaming::by_wrote, crate::proofs::Streaming::both, crate::proofs::Streaming::cut))]
 fn begin<K: Sink>(alloc: Global, sink: &mut K, revision: i64) -> Result<(), HttpFault>
-    ensures { Counted result (sink_told K.taken K.counts K.name sink.old) (sink_told K.taken K.counts K.name sink.new) }
+    ensures { WroteFront result (begun revision) (sink_told K.taken K.counts K.name sink.old) (sink_told K.taken K.counts K.name sink.new) }
 {
     match send_stream_head(sink) {
-        Ok(()) => send_line(alloc, sink, write_line(alloc, &[], revision)),
+        Ok(()) => send_created(alloc, sink, revision),
         Err(fault) => Err(fault),
     }
 }
 
-/// Says that the revision to go on from was compacted, and ends the stream.
-#[tactic(auto, using(crate::proofs::Counting::counted_wrote, crate::proofs::Counting::counted_on))]
-fn cancel<K: Sink>(alloc: Global, sink: &mut K, floor: i64, revision: i64) -> Result<(), HttpFault>
-    ensures { Counted result (sink_told K.taken K.counts K.name sink.old) (sink_told K.taken K.counts K.name sink.new) }
+/// Says that the revision to go on from was compacted.
+fn send_canceled<K: Sink>(
+    alloc: Global,
+    sink: &mut K,
+    floor: i64,
+    revision: i64,
+) -> Result<(), HttpFault>
+    ensures { WroteFront result (line_chunk (canceled_text floor revision)) (sink_told K.taken K.counts K.name sink.old) (sink_told K.taken K.counts K.name sink.new) }
 {
-    match send_line(alloc, sink, write_canceled(alloc, floor, revision)) {
+    match write_canceled(alloc, floor, revision) {
+        Ok(line) => send_line(alloc, sink, line),
+        Err(_) => Err(HttpFault::Memory),
+    }
+}
+
+/// Says that the revision to go on from was compacted, and ends the stream.
+#[tactic(auto, using(crate::proofs::Streaming::by_wrote, crate::proofs::Streaming::both, crate::proofs::Streaming::cut))]
+fn cancel<K: Sink>(alloc: Global, sink: &mut K, floor: i64, revision: i64) -> Result<(), HttpFault>
+    ensures { WroteFront result (line_chunk (canceled_text floor revision) ++ last_chunk) (sink_told K.taken K.counts K.name sink.old) (sink_told K.taken K.counts K.name sink.new) }
+{
+    match send_canceled(alloc, sink, floor, revision) {
         Ok(()) => send_last_chunk(sink),
         Err(fault) => Err(fault),
     }
@@ -72,15 +96,17 @@ fn cancel<K: Sink>(alloc: Global, sink: &mut K, floor: i64, revision: i64) -> Re
 
 /// The revision after a put.
 fn after(revision: i64) -> u64
-    ensures least { 1 ≤ result }
+    requires first { pos 1 ≤ℤ revision }
+    requires small { revision <ℤ pos (2 ^ 62) }
+    ensures exact { result ≡ nat_abs revision + 1 }
     ensures most { result ≤ 2 ^ 62 }
 {
-    revision.unsigned_abs().saturating_add(1).min(1 << 62)
+    revision.unsigned_abs() + 1
 }
 
 /// Answers a request to watch a key from a revision on: a line that says that the watch was created, and then a line for each
 /// revision that puts the key, until the store is closed.
-#[tactic(auto, using(crate::proofs::Counting::counted_wrote, crate::proofs::Counting::counted_on))]
+#[tactic(auto, using(crate::proofs::Streaming::by_wrote, crate::proofs::Streaming::began, crate::proofs::Streaming::more, crate::proofs::Streaming::closed, crate::proofs::Streaming::canceled, crate::proofs::Streaming::unbegun, crate::proofs::Streaming::broken, crate::proofs::Streaming::starved))]
 pub fn watch<R: Wait, K: Sink>(
     rt: &R,
     alloc: Global,
@@ -91,7 +117,7 @@ pub fn watch<R: Wait, K: Sink>(
 ) -> Result<(), HttpFault>
     requires first { 1 ≤ from }
     requires small { from ≤ 2 ^ 62 }
-    ensures { Counted result (sink_told K.taken K.counts K.name sink.old) (sink_told K.taken K.counts K.name sink.new) }
+    ensures { Streams result key.now from (sink_told K.taken K.counts K.name sink.old) (sink_told K.taken K.counts K.name sink.new) }
 {
     if let Err(fault) = begin(alloc, sink, store.revision(rt)) {
         return Err(fault);

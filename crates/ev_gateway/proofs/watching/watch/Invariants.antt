@@ -1,9 +1,9 @@
 use Rattle.std.proofs.Common.{◌≤◌, ◌^◌}
-use Rattle.std.specs.Prelude.{Ok}
-use Rattle.ev_gateway.specs.Serving.{Counted, sink_told}
+use Rattle.ev_gateway.specs.Sinks.{sink_told}
+use Rattle.ev_gateway.proofs.Streaming.{Came}
 use Rattle.ev_gateway.proofs.watching.watch.Given as goal
 
 abbrev pub invariant-puts : goal.invariant-puts
 invariant-puts g l =
     (goal.iterator-puts g).can_next l.iterator' × (goal.iterator-puts g).is_finite l.iterator' × (1 ≤ l.next) × (l.next ≤ 2 ^ 62)
-    × Counted (Ok tt) (sink_told g.K.Sink.taken g.K.Sink.counts g.K.Sink.name l.fn.sink) (sink_told g.K.Sink.taken g.K.Sink.counts g.K.Sink.name l.sink)
+    × Came l.key l.from l.next (sink_told g.K.Sink.taken g.K.Sink.counts g.K.Sink.name l.fn.sink) (sink_told g.K.Sink.taken g.K.Sink.counts g.K.Sink.name l.sink)
