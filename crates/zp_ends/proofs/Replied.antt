@@ -1,17 +1,23 @@
--- What a walk gives is notices and one reply to each frame that it passes; and a settled connection's walk has passed them all.
+-- What a walk gives is notices and one reply to each frame that it passes; a settled connection's walk has passed them all, and the
+-- first packet is the welcome.
 use Rattle.std.proofs.Common.{◌≡◌, ℕ, zero, suc, ◌+◌, ◌≤◌, List, [], ◌∷◌, ◌++◌, length, take, refl, sym, ap, ◌∙◌, subst, arith, append_assoc, Bool, true, false, ℤ, inl, inr}
-use Rattle.std.specs.Prelude.{Option, Some, None, ◌&&◌, ◌⊎◌, All, map, nat_le, bytes_eq, drop}
+use Rattle.std.specs.Prelude.{Option, Some, None, option_and_then, ◌&&◌, ◌⊎◌, All, map, nat_le, bytes_eq, drop}
 use Rattle.std.proofs.lemmas.Bool.{and_parts}
 use Rattle.std.proofs.lemmas.List.{map-append}
 use Rattle.std.proofs.lemmas.List.Elements.{All-nil, All-cons, All-append}
 use Rattle.std.proofs.lemmas.Slice.Eq.{bytes_eq-Decides}
 use Rattle.zk_jute.specs.Packets.{notice_packet, reply_packet}
+use Rattle.zk_jute.specs.Connects.{read_connect}
 use Rattle.zk_jute.specs.Requests.{read_request}
 use Rattle.zk_model.specs.Watches.{Watches, fire_all, is_unarmed}
+use Rattle.zk_model.specs.declared.connect.ConnectRequest.{ConnectRequest}
 use Rattle.zk_model.specs.declared.reply.Notice.{Notice}
 use Rattle.zk_transcript.proofs.Longer.{if_Some, then_Some, then_due-next}
+use Rattle.zk_transcript.proofs.Placed.{first_place-shown}
 use Rattle.zk_transcript.specs.Answers.{Told, plain_reply, xid_of}
-use Rattle.zk_transcript.specs.History.{after, state_at}
+use Rattle.zk_transcript.specs.Conversations.{IsConnectAnswered, IsWelcomed, welcome}
+use Rattle.zk_transcript.specs.History.{Session, after, frame, frame_shown, session_at, state_at}
+use Rattle.zk_transcript.specs.Legal.{Attachment, attach_of}
 use Rattle.zk_transcript.specs.Walks.{Answer, Choice, Due, Plain, Tell, Walker, after_update, answer_as_of, answer_plainly, are_sent, at_start, due_notices, fired_above, fired_at, fired_from, has_header, is_above, later_of, may_answer_at, move, next_update, own_update, packets, placed_frame, plain_answer, reply_step_if, then_due, then_fired, told_update, walk}
 use Rattle.zk_transcript.specs.declared.transcript.TranscriptLine.{TranscriptLine}
 use Rattle.zk_transcript.specs.declared.transcript.UpdateRec.{UpdateRec}
@@ -26,6 +32,7 @@ use Rattle.zp_whole.proofs.Lives.{known-at}
 use Rattle.zp_whole.proofs.Running.{every-run-accounted}
 use Rattle.zp_whole.proofs.Settled.{settled-idle}
 use Rattle.zp_whole.specs.Accounting.{IsAccounted}
+use Rattle.zp_whole.specs.Bounds.{attachment}
 use Rattle.zp_whole.specs.Connecting.{IsInStage}
 use Rattle.zp_whole.specs.Counting.{HasFrames}
 use Rattle.zp_whole.specs.Knowing.{HasClose}
@@ -33,7 +40,7 @@ use Rattle.zp_whole.specs.Settled.{IsAnswered, IsIdle}
 use Rattle.zp_ends.proofs.Bytes.{first-counts, runs-counts}
 use Rattle.zp_ends.proofs.Ending.{settles-to}
 use Rattle.zp_ends.proofs.Enough.{lines-enough}
-use Rattle.zp_ends.specs.Answering.{AreAnswers, AreReplies, EverySettleAnswers, IsAllAnswered, IsNotice, IsReplyTo}
+use Rattle.zp_ends.specs.Answering.{AreAnswers, AreReplies, EverySettleAnswers, IsAllAnswered, IsConnectAnswer, IsNotice, IsReplyTo}
 
 abbrev sent : List Due → List (List ℕ)
 sent ds = map (λ (d : Due). d.1) ds
@@ -174,6 +181,26 @@ sent-same (d ∷ ds) (p ∷ ps) h =
     let bytes = (bytes_eq-Decides d.1 p.1).0 ((and_parts (nat_le d.0 p.0) (bytes_eq d.1 p.1) both.0).1) in
     ap (λ b. b ∷ sent ds) bytes ∙ ap (λ l. p.1 ∷ l) (sent-same ds ps both.1)
 
+-- ---- the answer to the connect
+
+-- a welcome is sent to a connect that was read, so its frame has a line
+welcome-answers : (lines : List TranscriptLine) (c k : ℕ) (id : ℤ) (p : Due) (o : Option (List ℕ)) (x : Option Session) → frame c 0 lines ≡ o → IsWelcomed lines c k id p (option_and_then read_connect o) x → IsConnectAnswer lines c p.1
+welcome-answers lines c k id p None x e h = absurd h
+welcome-answers lines c k id p (Some bytes) x e h = go (read_connect bytes) x h
+  where
+    go : (r : Option ConnectRequest) (y : Option Session) → IsWelcomed lines c k id p r y → IsConnectAnswer lines c p.1
+    go None y g = absurd g
+    go (Some r) None g = absurd g
+    go (Some r) (Some y) g =
+        let at = first_place-shown (frame_shown c 0) 0 lines bytes e in
+        record { place = at.0; bytes = bytes; framed = at.1; response = welcome r id y; spells = g.1 }
+
+-- where a session is attached, the first packet is the welcome
+first-answers : (lines : List TranscriptLine) (c : ℕ) (a : ℕ × Attachment) (first : Due) (more : List Due) → attach_of c lines ≡ Some a → packets c lines ≡ first ∷ more → IsConnectAnswered lines c (packets c lines) (attach_of c lines) → IsConnectAnswer lines c first.1
+first-answers lines c a first more attached is h =
+    let welcomed = subst (λ o. IsConnectAnswered lines c (first ∷ more) o) attached (subst (λ ps. IsConnectAnswered lines c ps (attach_of c lines)) is h) in
+    welcome-answers lines c a.0 a.1.session first (frame c 0 lines) (session_at a.1.session (state_at lines (a.0 + 1))) refl welcomed
+
 -- ---- a connection at rest
 
 module _ (w : World) (c : ℕ) (x : Conn) (core : Core) (h : IsAccounted w) (there : conn_at c w ≡ Some x) (actor : x.actor ≡ Connection core) where
@@ -198,12 +225,13 @@ module _ (w : World) (c : ℕ) (x : Conn) (core : Core) (h : IsAccounted w) (the
       let same = ((sv.stands).matches).next in
       ready sv.walker.next up (λ i le. ((known.0).lined).to_come i (omega (arith, count, came, same, le)))
       sv.first sv.packets_were sv.welcomed
+      (first-answers w.lines c (sv.place, attachment core.who) sv.first sv.packets_were sv.attached sv.welcomed (h.within c).connected)
       (λ m e2. subst (AreReplies w.lines c 1 m) (sent-same (sv.talks).due sv.packets_were (subst (λ ps. are_sent (sv.talks).due (drop 1 ps) ≡ true) sv.welcomed (sv.talks).sent))
       (walk-replies w.lines c core.who.session (at_start core.who.mine (sv.place + 1)) (sv.talks).choices (sv.walker, (sv.talks).due) walked m e2))
     where
-      ready : (n : ℕ) → 1 ≤ n → ((i : ℕ) → n ≤ i → placed_frame c i w.lines ≡ None) → (first : Due) (were : List Due) → packets c w.lines ≡ first ∷ were → ((m : ℕ) → 1 + m ≡ n → AreReplies w.lines c 1 m (sent were)) → IsAllAnswered w.lines c
-      ready zero le none first were is replies = absurd (omega (arith, le))
-      ready (suc m) le none first were is replies = record { frames = suc m; none_later = none; answered = subst (λ ps. AreAnswers w.lines c (suc m) (sent ps)) (sym is) (replies m (omega arith)) }
+      ready : (n : ℕ) → 1 ≤ n → ((i : ℕ) → n ≤ i → placed_frame c i w.lines ≡ None) → (first : Due) (were : List Due) → packets c w.lines ≡ first ∷ were → IsConnectAnswer w.lines c first.1 → ((m : ℕ) → 1 + m ≡ n → AreReplies w.lines c 1 m (sent were)) → IsAllAnswered w.lines c
+      ready zero le none first were is connected replies = absurd (omega (arith, le))
+      ready (suc m) le none first were is connected replies = record { frames = suc m; none_later = none; answered = subst (λ ps. AreAnswers w.lines c (suc m) (sent ps)) (sym is) (connected, replies m (omega arith)) }
   at-rest (Connecting y) e k wait = absurd wait
   at-rest (KeepingAlive f) e k wait = absurd wait
   at-rest (Checking f) e k wait = absurd wait

@@ -1,7 +1,8 @@
 -- That a connection was answered, said of the transcript's lines alone.
 use Rattle.std.specs.Prelude.{All, List, Some, None, [], map, suc, zero, ℕ, ℤ, ◌+◌, ◌++◌, ◌∷◌, ◌≡◌, ◌≤◌, ◌⊎◌}
-use Rattle.zk_jute.specs.Packets.{notice_packet, reply_packet}
+use Rattle.zk_jute.specs.Packets.{connect_packet, notice_packet, reply_packet}
 use Rattle.zk_jute.specs.Requests.{read_request}
+use Rattle.zk_model.specs.declared.connect.ConnectResponse.{ConnectResponse}
 use Rattle.zk_model.specs.declared.reply.Notice.{Notice}
 use Rattle.zk_model.specs.declared.reply.Reply.{Reply}
 use Rattle.zk_transcript.specs.Answers.{xid_of}
@@ -21,6 +22,14 @@ use Rattle.zp_ends.specs.Settling.{IsWithinBound}
 
 abbrev pub IsNotice : List ℕ → Type 0
 IsNotice packet = (n : Notice) × (packet ≡ notice_packet n)
+
+-- the answer to frame 0 of c, its connect: a welcome or a refusal
+pub record IsConnectAnswer (lines : List TranscriptLine) (c : ℕ) (packet : List ℕ) : Type 0 where
+  pub place : ℕ
+  pub bytes : List ℕ
+  pub framed : placed_frame c 0 lines ≡ Some (place, bytes)
+  pub response : ConnectResponse
+  pub spells : packet ≡ connect_packet response
 
 -- the reply to frame i of c: it has that frame's xid
 pub record IsReplyTo (lines : List TranscriptLine) (c i : ℕ) (packet : List ℕ) : Type 0 where
@@ -43,9 +52,9 @@ AreReplies lines c i (suc n) ps = (notices : List (List ℕ)) × (packet : List 
 abbrev pub AreAnswers : List TranscriptLine → ℕ → ℕ → List (List ℕ) → Type 0
 AreAnswers lines c zero ps = ps ≡ []
 AreAnswers lines c (suc n) [] = ⊥
-AreAnswers lines c (suc n) (first ∷ ps) = AreReplies lines c 1 n ps
+AreAnswers lines c (suc n) (first ∷ ps) = IsConnectAnswer lines c first × AreReplies lines c 1 n ps
 
--- each frame of c has its answer
+-- Each frame of c has its answer: each below `frames` has a line, which its answer names, and no later one has a line.
 pub record IsAllAnswered (lines : List TranscriptLine) (c : ℕ) : Type 0 where
   pub frames : ℕ
   pub none_later : (i : ℕ) → frames ≤ i → placed_frame c i lines ≡ None
