@@ -22,6 +22,7 @@ pub enum Tried {
     NoConnection,
     NoMemory,
     NoWatch,
+    NoAnswer,
     NoTransaction,
     NotTold,
     NotEnded,
@@ -35,6 +36,7 @@ impl Tried {
             Tried::NoConnection => "the server could not be dialled",
             Tried::NoMemory => "memory was refused",
             Tried::NoWatch => "the watch was not created",
+            Tried::NoAnswer => "the first ask was not answered",
             Tried::NoTransaction => "the transaction was not carried out",
             Tried::NotTold => "the watch was not told of the transaction",
             Tried::NotEnded => "the watch was not ended",
@@ -111,7 +113,7 @@ fn is_told<S: Source>(alloc: Global, lines: &mut Lines<S>, at: i64) -> bool {
     }
 }
 
-/// Carries out a transaction that puts the key, on a connection of its own, and gives its revision.
+/// Carries out a transaction that puts the key, on a connection of its own that had an ask before, and gives its revision.
 fn put_it<R: Clock, N: Net>(
     rt: &R,
     alloc: Global,
@@ -120,6 +122,9 @@ fn put_it<R: Clock, N: Net>(
 ) -> Result<i64, Tried> {
     let (source, sink) = connect(rt, net, address)?;
     let mut link = HttpLink::new(alloc, source, sink, host())?;
+    if link.call(&Ask::Alive { id: 1 }).is_err() {
+        return Err(Tried::NoAnswer);
+    }
     let ask = put(alloc)?;
     match link.call(&ask) {
         Ok(

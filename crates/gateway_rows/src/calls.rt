@@ -8,11 +8,12 @@ use crate::marks::{push_escaped, unescaped};
 use crate::serving::fault_of;
 use ev_http::HttpFault;
 use ev_json::write_answer;
-use ev_link::{CallFault, Etcd, HttpLink, LinkFailure};
+use ev_link::{CallFault, Cluster, DialCluster, Etcd, HttpLink, LinkFailure};
 use ev_types::{Act, Answer, Ask, RangeReq, TxnReq};
 use row_files::{Words, push, push_number};
 use std::alloc::Global;
 use zx_base::{Bytes, Memory, Seq};
+use zx_net::MemNet;
 use zx_outside::{MemSink, MemSource};
 
 /// What so many calls came to.
@@ -64,6 +65,41 @@ fn make(alloc: Global, count: u32, bytes: Vec<u8>) -> Result<String, Memory> {
         push_result(alloc, &mut found, link.call(&ask))?;
     }
     push_failure(alloc, &mut found, link.last_failure())?;
+    Ok(found)
+}
+
+/// What so many calls of a link that dials came to, and one more after it was told its address anew.
+pub fn dialled(alloc: Global, given: &str) -> Result<Option<String>, Memory> {
+    let Some((failing, rest)) = given.split_once(' ') else {
+        return Ok(None);
+    };
+    let Some((count, bytes)) = rest.split_once(' ') else {
+        return Ok(None);
+    };
+    let (Some(failing), Some(count)) = (Words::new(failing).place(), Words::new(count).number())
+    else {
+        return Ok(None);
+    };
+    let bytes = unescaped(alloc, bytes)?;
+    Ok(Some(dial(alloc, failing, count, bytes)?))
+}
+
+fn dial(alloc: Global, failing: u64, count: u32, bytes: Vec<u8>) -> Result<String, Memory> {
+    let mut numbers = Vec::new(alloc);
+    numbers.push(failing)?;
+    let mut streams = Vec::new(alloc);
+    streams.push(bytes)?;
+    let mut link = DialCluster::new(alloc, MemNet::new(alloc, numbers, streams));
+    let mut found = String::new(alloc);
+    for _ in 0..count {
+        let ask = head_ask(alloc)?;
+        push_result(alloc, &mut found, link.call(&ask))?;
+    }
+    link.to(host())?;
+    push(&mut found, "anew ")?;
+    let ask = head_ask(alloc)?;
+    push_result(alloc, &mut found, link.call(&ask))?;
+    push(&mut found, "end")?;
     Ok(found)
 }
 

@@ -12,6 +12,8 @@
 mod hanging;
 mod random;
 mod stop;
+#[cfg(test)]
+mod tests;
 
 pub use hanging::HangsUp;
 pub use random::{MemRandom, RandWord, Random};
