@@ -1,0 +1,251 @@
+-- Dials, one after the other.
+use Rattle.std.proofs.Common.{◌≡◌, ℕ, ◌+◌, ◌<◌, ◌≤◌, ℤ, pos, Bool, true, false, List, [], ◌∷◌, ◌++◌, length, refl, sym, ap, ◌∙◌, subst, arith, append_assoc, append-nil, length-append, Option, Some, None, Result, Ok, Err, inl, inr}
+use Rattle.std.specs.Prelude.{◌≢◌, ◌+ℤ◌, codes}
+use Rattle.ev_types.specs.declared.answer.Kv.{Kv}
+use Rattle.ev_types.specs.declared.route.Route.TheVariants as route
+use Rattle.ev_json.specs.Messages.{watch_text}
+use Rattle.ev_http.specs.Sending.{Sends, request_head}
+use Rattle.ev_http.specs.Stream.{IsAt}
+use Rattle.ev_http.specs.declared.fault.HttpFault.{HttpFault}
+use Rattle.ev_http.specs.declared.fault.HttpFault.TheVariants as http
+use Rattle.ev_http.specs.declared.lines.Lines.{Lines}
+use Rattle.ev_words.specs.declared.fault.Fault.{Fault}
+use Rattle.zn_layout.specs.declared.entry.Entry.{Entry}
+use Rattle.zw_hub.specs.Ends.{IsProper}
+use Rattle.zw_hub.specs.Lists.{with_end}
+use Rattle.zw_hub.specs.declared.feed.FeedEnd.{FeedEnd}
+use Rattle.zw_hub.specs.declared.feed.FeedEnd.TheVariants as ends
+use Rattle.zw_hub.specs.declared.published.Published.{Published}
+use Rattle.zx_outside.specs.Counts.{one_more}
+use Rattle.zw_follow.specs.Dials.{Answers, AreBarren, AreDials, AreOver, Comes, Dial, DialsOnce, EndBarren, Followed, Follows, GivesUp, IsBetween, IsDial, IsFailed, IsOverBefore, IsOverDial, NetTold, Opens, OpensNone, Stops, Telling, WasRead, barren_after, entries_of, request_with, said_of, watch_request}
+use Rattle.zw_follow.specs.Publishing.{Explains, IsPlaced, Publishes, Said, heads_of, zxid_after}
+use Rattle.zw_follow.specs.Streams.{GoesOn, IsOver, IsUnsentBy, ReadsStream}
+use Rattle.zw_follow.specs.declared.place.Place.{Place}
+use Rattle.zw_follow.specs.declared.stream.StreamEnd.{StreamEnd}
+use Rattle.zw_follow.specs.declared.stream.StreamEnd.TheVariants as stream
+use Rattle.zw_follow.proofs.Ending.{proper_memory, proper_no_line}
+use Rattle.zw_follow.proofs.Growing.{heads_join, publishes_join, publishes_nothing, zxid_join}
+
+-- ---- one dial
+
+-- the request was sent
+pub opens_lines : {In Out : Type 0} (tells : Telling In Out) (lines : Lines In) (source : In) (host : List ℕ) (zxid : ℤ) (net net' : NetTold) → lines.source ≡ source → IsAt lines (tells.source source) [] [] → Answers tells (Ok tt) host zxid net net' source
+    → Opens tells (Ok lines) host zxid net net'
+opens_lines {In = In} tells lines source host zxid net net' is at answers =
+    (subst (λ (s : In). IsAt lines (tells.source s) [] []) (sym is) at, subst (λ (s : In). Answers tells (Ok tt) host zxid net net' s) (sym is) answers)
+
+-- it was not sent: the sink had a fault, or memory was refused
+pub opens_none : {In Out : Type 0} (tells : Telling In Out) (why : HttpFault) (end : StreamEnd) (host : List ℕ) (zxid : ℤ) (net net' : NetTold) → IsUnsentBy why end → OpensNone tells why host zxid net net' → Opens tells (Err end) host zxid net net'
+opens_none tells why (stream.Closes end) host zxid net net' unsent none = (unsent.0, subst (λ (w : HttpFault). OpensNone tells w host zxid net net') unsent.1 none)
+opens_none tells http.WriteFault (stream.Over told barren) host zxid net net' unsent none = (unsent.0, inr none)
+opens_none tells http.Memory (stream.Over told barren) host zxid net net' unsent none = absurd (unsent.1 refl)
+opens_none tells http.Head (stream.Over told barren) host zxid net net' unsent none = absurd (none.answers).sends
+opens_none tells (http.Status n) (stream.Over told barren) host zxid net net' unsent none = absurd (none.answers).sends
+opens_none tells http.Route (stream.Over told barren) host zxid net net' unsent none = absurd (none.answers).sends
+opens_none tells (http.Body place) (stream.Over told barren) host zxid net net' unsent none = absurd (none.answers).sends
+opens_none tells (http.TooLong n) (stream.Over told barren) host zxid net net' unsent none = absurd (none.answers).sends
+opens_none tells (http.Ended n) (stream.Over told barren) host zxid net net' unsent none = absurd (none.answers).sends
+opens_none tells http.Idle (stream.Over told barren) host zxid net net' unsent none = absurd (none.answers).sends
+opens_none tells http.ReadFault (stream.Over told barren) host zxid net net' unsent none = absurd (none.answers).sends
+opens_none tells why stream.Stopped host zxid net net' unsent none = absurd unsent
+
+-- a dial that read no line
+pub dials_none : {In Out : Type 0} (tells : Telling In Out) (host : List ℕ) (end : StreamEnd) (net net' : NetTold) (list : Published) (zxid : ℤ) (n : ℕ) → Opens tells (Err end) host zxid net net' → DialsOnce tells host end net net' list list zxid zxid n n
+dials_none tells host (stream.Over why barren) net net' list zxid n (counts, inl failed) = record {
+  dial = record { before = net; after = net'; zxid = zxid; said = []; entries = [] };
+  starts = refl;
+  stops = refl;
+  asks = refl;
+  is = inl (failed, refl, refl);
+  left = [];
+  publishes = publishes_nothing list;
+  zxid_is = refl;
+  comes = (refl, refl, inl ((failed, refl, refl), counts));
+}
+dials_none tells host (stream.Over why barren) net net' list zxid n (counts, inr none) = record {
+  dial = record { before = net; after = net'; zxid = zxid; said = []; entries = [] };
+  starts = refl;
+  stops = refl;
+  asks = refl;
+  is = inr (inl (http.WriteFault, none, refl, refl));
+  left = [];
+  publishes = publishes_nothing list;
+  zxid_is = refl;
+  comes = (refl, refl, inr (inl ((none, refl, refl), counts)));
+}
+dials_none tells host (stream.Closes end) net net' list zxid n opens =
+    let d : Dial = record { before = net; after = net'; zxid = zxid; said = []; entries = [] } in
+    record {
+      dial = d;
+      starts = refl;
+      stops = refl;
+      asks = refl;
+      is = inr (inl (http.Memory, opens.1, refl, refl));
+      left = [];
+      publishes = publishes_nothing list;
+      zxid_is = refl;
+      comes = subst (λ (e : FeedEnd). Comes tells host (stream.Closes e) d [] list n n) (sym opens.0) (proper_memory, tt, refl);
+    }
+dials_none tells host stream.Stopped net net' list zxid n opens = absurd opens
+
+-- the worker stays at its place
+pub goes_on_unopened : {In Out : Type 0} (tells : Telling In Out) (end : StreamEnd) (host : List ℕ) (zxid : ℤ) (net net' : NetTold) (list : Published) (place : Place) → Opens tells (Err end) host zxid net net' → IsPlaced list place → GoesOn end list place
+goes_on_unopened tells (stream.Over why barren) host zxid net net' list place opens placed = placed
+goes_on_unopened tells (stream.Closes end) host zxid net net' list place opens placed = placed.is_open
+goes_on_unopened tells stream.Stopped host zxid net net' list place opens placed = absurd opens
+
+comes_read : {In Out : Type 0} (tells : Telling In Out) (host : List ℕ) (end : StreamEnd) (d : Dial) (before after : Published) (zxid zxid' : ℤ) (n n' : ℕ) (w : WasRead tells host d) (r : ReadsStream tells.source w.source end before after zxid zxid' n n')
+    → d.said ≡ r.said → Comes tells host end d r.left after n n'
+comes_read tells host stream.Stopped d before after zxid zxid' n n' w r same = r.ends
+comes_read tells host (stream.Over why barren) d before after zxid zxid' n n' w r same =
+    ((r.ends).0, (r.ends).1, inr (inr (w, subst (λ (said : List Said). IsOver tells.source w.source said barren) (sym same) (r.ends).2)))
+comes_read tells host (stream.Closes end) d before after zxid zxid' n n' w r same =
+    ((r.ends).0, subst (λ (said : List Said). Explains end after said r.left) (sym same) (r.ends).1, (r.ends).2)
+
+-- a dial whose stream was read
+pub dials_read : {In Out : Type 0} (tells : Telling In Out) (lines : Lines In) (host : List ℕ) (end : StreamEnd) (net net' : NetTold) (before after : Published) (zxid zxid' : ℤ) (n n' : ℕ) → Opens tells (Ok lines) host zxid net net'
+    → ReadsStream tells.source lines.source end before after zxid zxid' n n' → DialsOnce tells host end net net' before after zxid zxid' n n'
+dials_read tells lines host end net net' before after zxid zxid' n n' opens r =
+    let d : Dial = record { before = net; after = net'; zxid = zxid; said = r.said; entries = r.entries } in
+    let w : WasRead tells host d = record { source = lines.source; answers = opens.1; lines = r.lines; read = r.read } in
+    record {
+      dial = d;
+      starts = refl;
+      stops = refl;
+      asks = refl;
+      is = inr (inr w);
+      left = r.left;
+      publishes = r.publishes;
+      zxid_is = r.zxid_is;
+      comes = comes_read tells host end d before after zxid zxid' n n' w r refl;
+    }
+
+-- ---- one more dial
+
+said_push : (ds : List Dial) (d : Dial) → said_of (ds ++ d ∷ []) ≡ said_of ds ++ d.said
+said_push [] d = append-nil d.said
+said_push (first ∷ ds) d = ap (λ (said : List Said). first.said ++ said) (said_push ds d) ∙ sym (append_assoc first.said (said_of ds) d.said)
+
+entries_push : (ds : List Dial) (d : Dial) → entries_of (ds ++ d ∷ []) ≡ entries_of ds ++ d.entries
+entries_push [] d = append-nil d.entries
+entries_push (first ∷ ds) d = ap (λ (es : List Entry). first.entries ++ es) (entries_push ds d) ∙ sym (append_assoc first.entries (entries_of ds) d.entries)
+
+over_before : {In Out : Type 0} (tells : Telling In Out) (host : List ℕ) (d : Dial) (ds : List Dial) → (barren : Bool) × IsOverDial tells host d barren → IsOverBefore tells host d ds
+over_before tells host d [] over = tt
+over_before tells host d (next ∷ ds) over = over
+
+dials_push : {In Out : Type 0} (tells : Telling In Out) (host : List ℕ) (net now : NetTold) (zxid : ℤ) (ds : List Dial) (d : Dial) → AreDials tells host net zxid ds now → AreOver tells host ds → d.before ≡ now → d.zxid ≡ zxid_after zxid (entries_of ds)
+    → IsDial tells host d → AreDials tells host net zxid (ds ++ d ∷ []) d.after
+dials_push tells host net now zxid [] d dials over starts asks is = (starts ∙ dials, asks, is, tt, refl)
+dials_push tells host net now zxid (first ∷ ds) d dials over starts asks is = (
+  dials.0,
+  dials.1,
+  dials.2,
+  over_before tells host first (ds ++ d ∷ []) over.0,
+  dials_push tells host first.after now (zxid_after zxid first.entries) ds d dials.4 over.1 starts (asks ∙ zxid_join zxid first.entries (entries_of ds)) is,
+)
+
+over_push : {In Out : Type 0} (tells : Telling In Out) (host : List ℕ) (ds : List Dial) (d : Dial) → AreOver tells host ds → (barren : Bool) × IsOverDial tells host d barren → AreOver tells host (ds ++ d ∷ [])
+over_push tells host [] d h over = (over, tt)
+over_push tells host (first ∷ ds) d h over = (h.0, over_push tells host ds d h.1 over)
+
+barren_push : {In Out : Type 0} (tells : Telling In Out) (host : List ℕ) (ds : List Dial) (d : Dial) → AreBarren tells host ds → IsOverDial tells host d true → AreBarren tells host (ds ++ d ∷ [])
+barren_push tells host [] d h over = (over, tt)
+barren_push tells host (first ∷ ds) d h over = (h.0, barren_push tells host ds d h.1 over)
+
+end_barren : {In Out : Type 0} (tells : Telling In Out) (host : List ℕ) (n : ℕ) (ds : List Dial) (d : Dial) (barren : Bool) → EndBarren tells host n ds → IsOverDial tells host d barren → EndBarren tells host (barren_after barren n) (ds ++ d ∷ [])
+end_barren tells host n ds d true h over = record {
+  earlier = h.earlier;
+  last = h.last ++ d ∷ [];
+  split = ap (λ (l : List Dial). l ++ d ∷ []) h.split ∙ append_assoc h.earlier h.last (d ∷ []);
+  count = length-append h.last (d ∷ []) ∙ ap (λ (k : ℕ). k + 1) h.count;
+  barren = barren_push tells host h.last d h.barren over;
+}
+end_barren tells host n ds d false h over = record { earlier = ds ++ d ∷ []; last = []; split = sym (append-nil (ds ++ d ∷ [])); count = refl; barren = tt }
+
+followed_push : {In Out : Type 0} (tells : Telling In Out) (host : List ℕ) (end : StreamEnd) (net now net' : NetTold) (zxid zxid' zxid'' : ℤ) (before list after : Published) (barren n n' : ℕ)
+    → (b : IsBetween tells host net now zxid before list zxid' barren) → (o : DialsOnce tells host end now net' list after zxid' zxid'' n n') → Followed tells host net net' zxid (b.dials ++ o.dial ∷ []) o.left before after
+followed_push tells host end net now net' zxid zxid' zxid'' before list after barren n n' b o = record {
+  dials = subst (AreDials tells host net zxid (b.dials ++ o.dial ∷ [])) o.stops
+      (dials_push tells host net now zxid b.dials o.dial (b.followed).dials b.over o.starts (o.asks ∙ b.asks) o.is);
+  publishes = subst (λ (es : List Entry). Publishes (heads_of (said_of (b.dials ++ o.dial ∷ []))) es o.left before after) (sym (entries_push b.dials o.dial))
+      (subst (λ (heads : List Kv). Publishes heads (entries_of b.dials ++ (o.dial).entries) o.left before after) (sym (ap heads_of (said_push b.dials o.dial) ∙ heads_join (said_of b.dials) (o.dial).said))
+      (publishes_join (heads_of (said_of b.dials)) (heads_of (o.dial).said) (entries_of b.dials) (o.dial).entries o.left before list after (b.followed).publishes o.publishes));
+}
+
+-- ---- all dials
+
+pub between_starts : {In Out : Type 0} (tells : Telling In Out) (host : List ℕ) (net : NetTold) (zxid : ℤ) (list : Published) → IsBetween tells host net net zxid list list zxid 0
+between_starts tells host net zxid list = record {
+  dials = [];
+  followed = record { dials = refl; publishes = publishes_nothing list };
+  over = tt;
+  asks = refl;
+  none = record { earlier = []; last = []; split = refl; count = refl; barren = tt };
+}
+
+pub between_goes : {In Out : Type 0} (tells : Telling In Out) (host : List ℕ) (why : Fault) (is_barren : Bool) (net now net' : NetTold) (zxid zxid' zxid'' : ℤ) (before list after : Published) (barren n n' : ℕ)
+    → IsBetween tells host net now zxid before list zxid' barren → DialsOnce tells host (stream.Over why is_barren) now net' list after zxid' zxid'' n n' → IsBetween tells host net net' zxid before after zxid'' (barren_after is_barren barren)
+between_goes tells host why is_barren net now net' zxid zxid' zxid'' before list after barren n n' b o = record {
+  dials = b.dials ++ o.dial ∷ [];
+  followed = subst (λ (left : List Kv). Followed tells host net net' zxid (b.dials ++ o.dial ∷ []) left before after) (o.comes).0
+      (followed_push tells host (stream.Over why is_barren) net now net' zxid zxid' zxid'' before list after barren n n' b o);
+  over = over_push tells host b.dials o.dial b.over (is_barren, (o.comes).2);
+  asks = o.zxid_is ∙ ap (λ (z : ℤ). zxid_after z (o.dial).entries) b.asks ∙ sym (zxid_join zxid (entries_of b.dials) (o.dial).entries) ∙ ap (zxid_after zxid) (sym (entries_push b.dials o.dial));
+  none = end_barren tells host barren b.dials o.dial is_barren b.none (o.comes).2;
+}
+
+-- the word to stop was set, between two dials
+pub stops_between : {In Out : Type 0} (tells : Telling In Out) (host : List ℕ) (net now : NetTold) (zxid zxid' : ℤ) (before list : Published) (barren n n' : ℕ) → IsBetween tells host net now zxid before list zxid' barren → list.end ≡ None → n' ≡ one_more n
+    → Stops tells host None net now zxid before list n n'
+stops_between tells host net now zxid zxid' before list barren n n' b is_open counted = (is_open, counted, b.dials, b.followed)
+
+-- the word to stop was set while a stream was read
+pub stops_within : {In Out : Type 0} (tells : Telling In Out) (host : List ℕ) (net now net' : NetTold) (zxid zxid' zxid'' : ℤ) (before list after : Published) (barren first n n' : ℕ) → IsBetween tells host net now zxid before list zxid' barren
+    → DialsOnce tells host stream.Stopped now net' list after zxid' zxid'' n n' → after.end ≡ None → n ≡ first → Stops tells host None net net' zxid before after first n'
+stops_within tells host net now net' zxid zxid' zxid'' before list after barren first n n' b o is_open unset = (
+  is_open,
+  (o.comes).1 ∙ ap one_more unset,
+  b.dials ++ o.dial ∷ [],
+  subst (λ (left : List Kv). Followed tells host net net' zxid (b.dials ++ o.dial ∷ []) left before after) (o.comes).0
+      (followed_push tells host stream.Stopped net now net' zxid zxid' zxid'' before list after barren n n' b o),
+)
+
+gives_up : {In Out : Type 0} (tells : Telling In Out) (host : List ℕ) (end : FeedEnd) (list : Published) (ds : List Dial) (d : Dial) (left : List Kv) → Explains end list d.said left → GivesUp tells host end list (ds ++ d ∷ []) left
+gives_up tells host (ends.Compacted rev) list ds d left why = (ds, d, refl, why)
+gives_up tells host (ends.Gap expected found) list ds d left why = (ds, d, refl, why)
+gives_up tells host (ends.Damaged key value) list ds d left why = (ds, d, refl, why)
+gives_up tells host ends.NoLine list ds d left why = absurd why.4
+gives_up tells host ends.Memory list ds d left why = (ds, d, refl, why)
+
+-- the updates cannot be followed any further
+pub closes : {In Out : Type 0} (tells : Telling In Out) (host : List ℕ) (end : FeedEnd) (net now net' : NetTold) (zxid zxid' zxid'' : ℤ) (before list after : Published) (barren first n n' : ℕ) → IsBetween tells host net now zxid before list zxid' barren
+    → DialsOnce tells host (stream.Closes end) now net' list after zxid' zxid'' n n' → after.end ≡ None → n ≡ first → Stops tells host (Some end) net net' zxid before after first n'
+closes tells host end net now net' zxid zxid' zxid'' before list after barren first n n' b o is_open unset = (
+  is_open,
+  (o.comes).2 ∙ unset,
+  (o.comes).0,
+  b.dials ++ o.dial ∷ [],
+  o.left,
+  followed_push tells host (stream.Closes end) net now net' zxid zxid' zxid'' before list after barren n n' b o,
+  gives_up tells host end after b.dials o.dial o.left (o.comes).1,
+)
+
+-- ten dials in a row gave no line
+pub no_line : {In Out : Type 0} (tells : Telling In Out) (host : List ℕ) (net now : NetTold) (zxid zxid' : ℤ) (before list : Published) (barren first n : ℕ) → IsBetween tells host net now zxid before list zxid' barren → barren ≡ 10 → list.end ≡ None → n ≡ first
+    → Stops tells host (Some ends.NoLine) net now zxid before list first n
+no_line tells host net now zxid zxid' before list barren first n b ten is_open unset =
+    (is_open, unset, proper_no_line, b.dials, [], b.followed, refl, subst (λ (k : ℕ). EndBarren tells host k b.dials) ten b.none)
+
+pub barren_small : (is_barren : Bool) (n : ℕ) → n < 10 → barren_after is_barren n ≤ 10
+barren_small true n small = omega (arith, small)
+barren_small false n small = omega arith
+
+pub ten_barren : (n : ℕ) → n ≤ 10 → 10 ≤ n → n ≡ 10
+ten_barren n most least = omega (arith, most, least)
+
+-- the list is closed for the end
+pub follows_closed : {In Out : Type 0} (tells : Telling In Out) (host : List ℕ) (end end' : FeedEnd) (net net' : NetTold) (zxid : ℤ) (before between after : Published) (n n' : ℕ) → Stops tells host (Some end) net net' zxid before between n n' → end' ≡ end → after ≡ with_end between end
+    → Follows tells host (Some end') net net' zxid before after n n'
+follows_closed tells host end end' net net' zxid before between after n n' stops same closed =
+    subst (λ (e : FeedEnd). Follows tells host (Some e) net net' zxid before after n n') (sym same) (between, stops, closed)

@@ -1,0 +1,180 @@
+-- A list that grows by entries.
+use Rattle.std.proofs.Common.{◌≡◌, ℕ, ◌+◌, ◌<◌, ◌^◌, ℤ, pos, List, [], ◌∷◌, ◌++◌, length, refl, sym, ap, ◌∙◌, subst, arith, append_assoc, append-nil, length-append}
+use Rattle.std.proofs.lemmas.Int.{ints}
+use Rattle.std.proofs.lemmas.List.Elements.{All-filter, All-from_recursion, All-head, All-nil, All-tail, All-weaker}
+use Rattle.std.specs.Prelude.{◌+ℤ◌, ◌≤ℤ◌, ◌<ℤ◌, All, None, Ok, Err}
+use Rattle.ev_types.specs.declared.answer.Kv.{Kv}
+use Rattle.ev_fields.specs.Ranges.{IsCount}
+use Rattle.ev_json.specs.Ranges.{KvFits, LineFits}
+use Rattle.ev_json.specs.declared.line.Line.{Line}
+use Rattle.ev_json.specs.declared.line.Line.TheVariants as line
+use Rattle.zn_layout.specs.declared.entry.Entry.{Entry}
+use Rattle.zw_feed.specs.Following.{AreEntries, IsNumbered, heads_in, is_head}
+use Rattle.zw_feed.specs.Following as feed
+use Rattle.zw_hub.specs.Lists.{last_number, with_entry}
+use Rattle.zw_hub.specs.declared.published.Published.{Published}
+use Rattle.zx_base.specs.declared.memory.Memory.{Memory}
+use Rattle.zw_follow.specs.Publishing.{IsPlaced, IsPublishing, IsRun, Publishes, PublishesAll, Said, heads_of, with_entries, zxid_after}
+use Rattle.zw_follow.specs.declared.place.Place.{Place}
+
+-- ---- numbers of an etcd
+
+counted : (n m : ℤ) → n ≡ m → IsCount m → (pos 0 ≤ℤ n) × (n <ℤ pos (2 ^ 62))
+counted n m is c = let e : m ≡ pos c.0 = c.1 in let l : c.0 < 2 ^ 62 = c.2 in (omega (arith, ints, is, e), omega (arith, ints, is, e, l))
+
+numbered : (kv : Kv) → KvFits kv → IsNumbered kv
+numbered kv h = let c = counted kv.version kv.version refl h.4 in record { least = c.0; most = c.1 }
+
+-- a line that was read may be taken
+pub line_fits : (l : Line) → LineFits l → feed.LineFits l
+line_fits line.Created h = tt
+line_fits (line.Events revision kvs) h = All-weaker KvFits IsNumbered numbered kvs (All-from_recursion KvFits kvs h.1)
+line_fits (line.Compacted rev) h = tt
+line_fits line.Ended h = tt
+
+pub heads_fit : (l : Line) → LineFits l → All KvFits (heads_in l)
+heads_fit line.Created h = All-nil KvFits
+heads_fit (line.Events revision kvs) h = All-filter is_head KvFits kvs (All-from_recursion KvFits kvs h.1)
+heads_fit (line.Compacted rev) h = All-nil KvFits
+heads_fit line.Ended h = All-nil KvFits
+
+-- the entries of heads have numbers that follow
+pub entries_run : (n : ℤ) (kvs : List Kv) (es : List Entry) → All KvFits kvs → AreEntries n kvs es → IsRun n es
+entries_run n [] [] fits h = tt
+entries_run n [] (e ∷ es) fits h = absurd h
+entries_run n (kv ∷ kvs) [] fits h = absurd h
+entries_run n (kv ∷ kvs) (e ∷ es) fits h =
+    let c = counted e.zxid kv.mod_revision (h.0).zxid (All-head KvFits kv kvs fits).3 in
+    ((h.0).number_is, c.0, c.1, entries_run (n +ℤ pos 1) kvs es (All-tail KvFits kv kvs fits) h.1)
+
+-- ---- lists
+
+pub with_none : (list : Published) → with_entries list [] ≡ list
+with_none list = ap (λ (es : List Entry). record list { entries = es }) (append-nil list.entries)
+
+pub with_more : (list : Published) (es others : List Entry) → with_entries (with_entries list es) others ≡ with_entries list (es ++ others)
+with_more list es others = ap (λ (all : List Entry). record list { entries = all }) (append_assoc list.entries es others)
+
+pub last_after : (list : Published) (e : Entry) → last_number (with_entry list e) ≡ last_number list +ℤ pos 1
+last_after list e = let s : length (list.entries ++ e ∷ []) ≡ length list.entries + 1 = length-append list.entries (e ∷ []) in omega (arith, ints, s)
+
+pub last_with : (list : Published) (es : List Entry) → last_number (with_entries list es) ≡ last_number list +ℤ pos (length es)
+last_with list es = let s : length (list.entries ++ es) ≡ length list.entries + length es = length-append list.entries es in omega (arith, ints, s)
+
+pub still_open : (before now : Published) (es : List Entry) → now ≡ with_entries before es → before.end ≡ None → now.end ≡ None
+still_open before now es grown h = ap (λ (list : Published). list.end) grown ∙ h
+
+pub zxid_join : (zxid : ℤ) (es others : List Entry) → zxid_after zxid (es ++ others) ≡ zxid_after (zxid_after zxid es) others
+zxid_join zxid [] others = refl
+zxid_join zxid (e ∷ es) others = zxid_join e.zxid es others
+
+-- ---- a list of entries, one after the other
+
+pub publishing_starts : (all : List Entry) (list : Published) (place : Place) → IsRun (last_number list) all → IsPlaced list place → IsPublishing all all list list place.zxid place
+publishing_starts all list place run placed = record {
+  done = [];
+  split = refl;
+  grown = sym (with_none list);
+  is_open = placed.is_open;
+  run = run;
+  placed = placed.placed;
+  zxid_is = refl;
+  zxid_least = placed.zxid_least;
+  zxid_most = placed.zxid_most;
+}
+
+-- one more is published
+pub publishing_goes : (all queue rest : List Entry) (e : Entry) (before now next : Published) (zxid : ℤ) (place place' : Place) → queue ≡ e ∷ rest → next ≡ with_entry now e → place'.number ≡ e.number → place'.zxid ≡ e.zxid
+    → IsPublishing all queue before now zxid place → IsPublishing all rest before next zxid place'
+publishing_goes all queue rest e before now next zxid place place' popped grown is stands h = record {
+  done = h.done ++ e ∷ [];
+  split = h.split ∙ ap (λ (q : List Entry). h.done ++ q) popped ∙ sym (append_assoc h.done (e ∷ []) rest);
+  grown = grown ∙ ap (λ (list : Published). with_entry list e) h.grown ∙ with_more before h.done (e ∷ []);
+  is_open = ap (λ (list : Published). list.end) grown ∙ h.is_open;
+  run = subst (λ (n : ℤ). IsRun n rest) (sym last) run.3;
+  placed = is ∙ run.0 ∙ sym last;
+  zxid_is = stands ∙ sym (zxid_join zxid h.done (e ∷ []));
+  zxid_least = subst (λ (z : ℤ). pos 0 ≤ℤ z) (sym stands) run.1;
+  zxid_most = subst (λ (z : ℤ). z <ℤ pos (2 ^ 62)) (sym stands) run.2;
+}
+  where
+    run : IsRun (last_number now) (e ∷ rest)
+    run = subst (IsRun (last_number now)) popped h.run
+
+    last : last_number next ≡ last_number now +ℤ pos 1
+    last = ap last_number grown ∙ last_after now e
+
+-- the next one has the next number
+pub next_number : (all queue rest : List Entry) (e : Entry) (before now : Published) (zxid : ℤ) (place : Place) → queue ≡ e ∷ rest → IsPublishing all queue before now zxid place → e.number ≡ last_number now +ℤ pos 1
+next_number all queue rest e before now zxid place popped h = (subst (IsRun (last_number now)) popped h.run).0
+
+pub published_all : (all queue : List Entry) (before now : Published) (place place' : Place) (u : Unit {0}) → queue ≡ [] → IsPublishing all queue before now place.zxid place' → PublishesAll (Ok u) all before now place place'
+published_all all queue before now place place' u none h = subst (λ (q : List Entry). IsPublishing all q before now place.zxid place') none h
+
+-- memory was refused
+pub published_front : (all queue : List Entry) (before now now' : Published) (place place' : Place) (m : Memory) → now' ≡ now → IsPublishing all queue before now place.zxid place' → PublishesAll (Err m) all before now' place place'
+published_front all queue before now now' place place' m same h = (h.done, queue, h.split, same ∙ h.grown, h.zxid_is)
+
+-- ---- what is added
+
+pub publishes_nothing : (list : Published) → Publishes [] [] [] list list
+publishes_nothing list = record { taken = []; split = refl; gives = tt; grown = sym (with_none list) }
+
+pub entries_join : (n : ℤ) (kvs kvs' : List Kv) (es es' : List Entry) → AreEntries n kvs es → AreEntries (n +ℤ pos (length es)) kvs' es' → AreEntries n (kvs ++ kvs') (es ++ es')
+entries_join n [] kvs' [] es' h h' = subst (λ (m : ℤ). AreEntries m kvs' es') (omega (arith, ints)) h'
+entries_join n [] kvs' (e ∷ es) es' h h' = absurd h
+entries_join n (kv ∷ kvs) kvs' [] es' h h' = absurd h
+entries_join n (kv ∷ kvs) kvs' (e ∷ es) es' h h' = (h.0, entries_join (n +ℤ pos 1) kvs kvs' es es' h.1 (subst (λ (m : ℤ). AreEntries m kvs' es') (omega (arith, ints)) h'))
+
+pub publishes_join : (heads heads' : List Kv) (es es' : List Entry) (left : List Kv) (first second third : Published) → Publishes heads es [] first second → Publishes heads' es' left second third
+    → Publishes (heads ++ heads') (es ++ es') left first third
+publishes_join heads heads' es es' left first second third h h' = record {
+  taken = h.taken ++ h'.taken;
+  split = ap (λ (kvs : List Kv). kvs ++ heads') (h.split ∙ append-nil h.taken) ∙ ap (λ (kvs : List Kv). h.taken ++ kvs) h'.split ∙ sym (append_assoc h.taken h'.taken left);
+  gives = entries_join (last_number first) h.taken h'.taken es es' h.gives (subst (λ (n : ℤ). AreEntries n h'.taken es') (ap last_number h.grown ∙ last_with first es) h'.gives);
+  grown = h'.grown ∙ ap (λ (list : Published). with_entries list es') h.grown ∙ with_more first es es';
+}
+
+-- nothing of these heads is added
+pub publishes_left : (heads heads' : List Kv) (es : List Entry) (first second third : Published) → third ≡ second → Publishes heads es [] first second → Publishes (heads ++ heads') es heads' first third
+publishes_left heads heads' es first second third same h = record {
+  taken = h.taken;
+  split = ap (λ (kvs : List Kv). kvs ++ heads') (h.split ∙ append-nil h.taken);
+  gives = h.gives;
+  grown = same ∙ h.grown;
+}
+
+-- a front of the entries are the entries of a front of the heads
+entries_front : (n : ℤ) (kvs : List Kv) (es left : List Entry) → AreEntries n kvs (es ++ left) → (front : List Kv) × (rest : List Kv) × (kvs ≡ front ++ rest) × AreEntries n front es
+entries_front n kvs [] left h = ([], kvs, refl, tt)
+entries_front n [] (e ∷ es) left h = absurd h
+entries_front n (kv ∷ kvs) (e ∷ es) left h =
+    let rest = entries_front (n +ℤ pos 1) kvs es left h.1 in
+    (kv ∷ rest.0, rest.1, ap (λ (l : List Kv). kv ∷ l) rest.2, h.0, rest.3)
+
+pub publishes_front : (kvs : List Kv) (es front rest : List Entry) (before after : Published) → AreEntries (last_number before) kvs es → es ≡ front ++ rest → after ≡ with_entries before front
+    → (left : List Kv) × Publishes kvs front left before after
+publishes_front kvs es front rest before after gives split grown =
+    let cut = entries_front (last_number before) kvs front rest (subst (AreEntries (last_number before) kvs) split gives) in
+    (cut.1, record { taken = cut.0; split = cut.2; gives = cut.3; grown = grown })
+
+-- ---- lines
+
+pub heads_join : (said more : List Said) → heads_of (said ++ more) ≡ heads_of said ++ heads_of more
+heads_join [] more = refl
+heads_join (s ∷ said) more = ap (λ (kvs : List Kv). heads_in s.line ++ kvs) (heads_join said more) ∙ sym (append_assoc (heads_in s.line) (heads_of said) (heads_of more))
+
+pub heads_push : (said : List Said) (s : Said) (l : Line) → s.line ≡ l → heads_of (said ++ s ∷ []) ≡ heads_of said ++ heads_in l
+heads_push said s l is = heads_join said (s ∷ []) ∙ ap (λ (kvs : List Kv). heads_of said ++ kvs) (append-nil (heads_in s.line) ∙ ap heads_in is)
+
+-- one more line
+pub publishes_line : (said : List Said) (s : Said) (l : Line) (es es' : List Entry) (left : List Kv) (first second third : Published) → s.line ≡ l → Publishes (heads_of said) es [] first second → Publishes (heads_in l) es' left second third
+    → Publishes (heads_of (said ++ s ∷ [])) (es ++ es') left first third
+publishes_line said s l es es' left first second third is h h' =
+    subst (λ (kvs : List Kv). Publishes kvs (es ++ es') left first third) (sym (heads_push said s l is)) (publishes_join (heads_of said) (heads_in l) es es' left first second third h h')
+
+-- one more line that adds nothing
+pub publishes_unread : (said : List Said) (s : Said) (es : List Entry) (first second third : Published) → third ≡ second → Publishes (heads_of said) es [] first second
+    → Publishes (heads_of (said ++ s ∷ [])) es (heads_in s.line) first third
+publishes_unread said s es first second third same h =
+    subst (λ (kvs : List Kv). Publishes kvs es (heads_in s.line) first third) (sym (heads_push said s s.line refl)) (publishes_left (heads_of said) (heads_in s.line) es first second third same h)

@@ -1,0 +1,205 @@
+-- What a worker that follows the head comes to, over all the streams that it dials.
+use Rattle.std.specs.Prelude.{◌≡◌, ◌⊎◌, ℕ, ◌+◌, ℤ, pos, ◌+ℤ◌, Bool, true, false, List, [], ◌∷◌, ◌++◌, length, codes, Option, Some, None, Result, Ok, Err}
+use Rattle.ev_types.specs.declared.answer.Kv.{Kv}
+use Rattle.ev_types.specs.declared.route.Route.TheVariants as route
+use Rattle.ev_json.specs.Messages.{watch_text}
+use Rattle.ev_http.specs.Sending.{Sends, request_head}
+use Rattle.ev_http.specs.Stream.{IsAt}
+use Rattle.ev_http.specs.Taking.{Told, told}
+use Rattle.ev_http.specs.declared.fault.HttpFault.{HttpFault}
+use Rattle.ev_http.specs.declared.fault.HttpFault.TheVariants as http
+use Rattle.ev_http.specs.declared.lines.Lines.{Lines}
+use Rattle.ev_words.specs.declared.fault.Fault.{Fault}
+use Rattle.zn_layout.specs.declared.entry.Entry.{Entry}
+use Rattle.zw_hub.specs.Ends.{IsProper}
+use Rattle.zw_hub.specs.Lists.{with_end}
+use Rattle.zw_hub.specs.declared.feed.FeedEnd.{FeedEnd}
+use Rattle.zw_hub.specs.declared.feed.FeedEnd.TheVariants as ends
+use Rattle.zw_hub.specs.declared.published.Published.{Published}
+use Rattle.zx_net.specs.Nets.{GivesNext, IsFreshSink, IsFreshSource, NetCounts}
+use Rattle.zx_outside.specs.Counts.{InputCounts, OutputCounts, one_more}
+use Rattle.zw_follow.specs.Publishing.{Explains, Publishes, Said, heads_of, zxid_after}
+use Rattle.zw_follow.specs.Streams.{IsOver, IsReadTo, spelled}
+use Rattle.zw_follow.specs.declared.place.Place.{Place}
+use Rattle.zw_follow.specs.declared.stream.StreamEnd.{StreamEnd}
+use Rattle.zw_follow.specs.declared.stream.StreamEnd.TheVariants as stream
+
+-- ---- what is told
+
+-- what a net tells
+pub record NetTold : Type 0 where
+  pub counts : NetCounts
+  pub streams : Option (List (List ℕ))
+
+-- what the ends of a net's streams tell
+pub record Telling (In Out : Type 0) : Type 0 where
+  pub source : In → Told
+  pub taken : Out → Option (List ℕ)
+  pub counts : Out → OutputCounts
+  pub name : Out → ℕ
+
+abbrev pub telling : {In Out : Type 0} → (In → Option (List ℕ)) → (In → Option (List ℕ)) → (In → InputCounts) → (In → Bool) → (In → ℕ) → (Out → Option (List ℕ)) → (Out → OutputCounts) → (Out → ℕ) → Telling In Out
+telling given left counts ended name taken faults named = record { source = told given left counts ended name; taken = taken; counts = faults; name = named }
+
+-- ---- one dial
+
+-- the request to this host for the puts of the head from the revision after this zxid on (etcd API reference, "Watch")
+abbrev pub request_with : List ℕ → List ℕ → List ℕ
+request_with host body = request_head host route.Watch (length body) ++ body
+
+abbrev pub watch_request : List ℕ → ℤ → List ℕ
+watch_request host zxid = request_with host (watch_text (zxid +ℤ pos 1) (codes "zk/head"))
+
+-- the dial failed, which is counted
+abbrev pub IsFailed : NetTold → NetTold → Type 0
+IsFailed net net' = net' ≡ record net { counts = record (net.counts) { dial_faults = one_more (net.counts).dial_faults } }
+
+-- The dial gave both ends of a stream, the next one of the net where that is told; and the sending of the request came to this.
+pub record Answers {In Out : Type 0} (tells : Telling In Out) (sent : Result (Unit {0}) HttpFault) (host : List ℕ) (zxid : ℤ) (net net' : NetTold) (source : In) : Type 0 where
+  pub counts : net'.counts ≡ net.counts
+  pub gives : GivesNext net.streams net'.streams (tells.source source).left
+  pub fresh : IsFreshSource (tells.source source).given (tells.source source).counts (tells.source source).ended (tells.source source).name 0
+  pub sink : Out
+  pub fresh_sink : IsFreshSink (tells.taken sink) (tells.counts sink) (tells.name sink) 0
+  pub after : Out
+  pub sends : Sends sent (watch_request host zxid) (tells.taken sink) (tells.taken after) (tells.counts sink) (tells.counts after) (tells.name sink) (tells.name after)
+
+-- it gave both ends of a stream, and the request was not sent, for this reason
+pub record OpensNone {In Out : Type 0} (tells : Telling In Out) (why : HttpFault) (host : List ℕ) (zxid : ℤ) (net net' : NetTold) : Type 0 where
+  pub source : In
+  pub answers : Answers tells (Err why) host zxid net net' source
+
+-- One dial: what the net told before and after it, the zxid after whose revision it asks, the lines that its stream gave, and the
+-- entries that were published of them.
+pub record Dial : Type 0 where
+  pub before : NetTold
+  pub after : NetTold
+  pub zxid : ℤ
+  pub said : List Said
+  pub entries : List Entry
+
+abbrev pub GaveNothing : Dial → Type 0
+GaveNothing d = (d.said ≡ []) × (d.entries ≡ [])
+
+abbrev pub WasRefused : Dial → Type 0
+WasRefused d = IsFailed d.before d.after × GaveNothing d
+
+-- the request was not sent, for this reason
+abbrev pub WasUnsent : {In Out : Type 0} → Telling In Out → List ℕ → HttpFault → Dial → Type 0
+WasUnsent tells host why d = OpensNone tells why host d.zxid d.before d.after × GaveNothing d
+
+-- the request was sent, and these lines were read of what came
+pub record WasRead {In Out : Type 0} (tells : Telling In Out) (host : List ℕ) (d : Dial) : Type 0 where
+  pub source : In
+  pub answers : Answers tells (Ok tt) host d.zxid d.before d.after source
+  pub lines : Lines In
+  pub read : IsReadTo tells.source source lines (spelled d.said)
+
+abbrev pub IsDial : {In Out : Type 0} → Telling In Out → List ℕ → Dial → Type 0
+IsDial tells host d = WasRefused d ⊎ (((why : HttpFault) × WasUnsent tells host why d) ⊎ WasRead tells host d)
+
+-- The dial failed, its sink had a fault, or its stream is over; and whether it counts as one that gave no line.
+abbrev pub IsOverDial : {In Out : Type 0} → Telling In Out → List ℕ → Dial → Bool → Type 0
+IsOverDial tells host d barren = (WasRefused d × (barren ≡ true)) ⊎ ((WasUnsent tells host http.WriteFault d × (barren ≡ true)) ⊎ ((r : WasRead tells host d) × IsOver tells.source r.source d.said barren))
+
+-- ---- dials in a row
+
+abbrev pub said_of : List Dial → List Said
+said_of [] = []
+said_of (d ∷ ds) = d.said ++ said_of ds
+
+abbrev pub entries_of : List Dial → List Entry
+entries_of [] = []
+entries_of (d ∷ ds) = d.entries ++ entries_of ds
+
+-- only a dial that is over is followed by another
+abbrev pub IsOverBefore : {In Out : Type 0} → Telling In Out → List ℕ → Dial → List Dial → Type 0
+IsOverBefore tells host d [] = Unit {0}
+IsOverBefore tells host d (next ∷ ds) = (barren : Bool) × IsOverDial tells host d barren
+
+-- Dials in a row, each of which asks from behind the last entry that was published before it.
+abbrev pub AreDials : {In Out : Type 0} → Telling In Out → List ℕ → NetTold → ℤ → List Dial → NetTold → Type 0
+AreDials tells host net zxid [] net' = net' ≡ net
+AreDials tells host net zxid (d ∷ ds) net' = (d.before ≡ net) × (d.zxid ≡ zxid) × IsDial tells host d × IsOverBefore tells host d ds × AreDials tells host d.after (zxid_after zxid d.entries) ds net'
+
+-- each of them counts as one that gave no line
+abbrev pub AreBarren : {In Out : Type 0} → Telling In Out → List ℕ → List Dial → Type 0
+AreBarren tells host [] = Unit {0}
+AreBarren tells host (d ∷ ds) = IsOverDial tells host d true × AreBarren tells host ds
+
+-- the last n of them do
+pub record EndBarren {In Out : Type 0} (tells : Telling In Out) (host : List ℕ) (n : ℕ) (ds : List Dial) : Type 0 where
+  pub earlier : List Dial
+  pub last : List Dial
+  pub split : ds ≡ earlier ++ last
+  pub count : length last ≡ n
+  pub barren : AreBarren tells host last
+
+-- ---- the whole
+
+-- These dials were made, one after the other, and the list grew by the entries of the lines that they gave, each once and in order; these
+-- heads are left.
+pub record Followed {In Out : Type 0} (tells : Telling In Out) (host : List ℕ) (net net' : NetTold) (zxid : ℤ) (ds : List Dial) (left : List Kv) (before after : Published) : Type 0 where
+  pub dials : AreDials tells host net zxid ds net'
+  pub publishes : Publishes (heads_of (said_of ds)) (entries_of ds) left before after
+
+-- why the updates cannot be followed any further: the last ten dials in a row gave no line; or the last line of the last dial shows it
+abbrev pub GivesUp : {In Out : Type 0} → Telling In Out → List ℕ → FeedEnd → Published → List Dial → List Kv → Type 0
+GivesUp tells host ends.NoLine list ds left = (left ≡ []) × EndBarren tells host 10 ds
+GivesUp tells host end list ds left = (earlier : List Dial) × (d : Dial) × (ds ≡ earlier ++ d ∷ []) × Explains end list d.said left
+
+-- What all streams come to, by the readings that found the word to stop set, before and after; the list is open.
+abbrev pub Stops : {In Out : Type 0} → Telling In Out → List ℕ → Option FeedEnd → NetTold → NetTold → ℤ → Published → Published → ℕ → ℕ → Type 0
+Stops tells host None net net' zxid before after n n' = (after.end ≡ None) × (n' ≡ one_more n) × (ds : List Dial) × Followed tells host net net' zxid ds [] before after
+Stops tells host (Some end) net net' zxid before after n n' =
+    (after.end ≡ None) × (n' ≡ n) × IsProper end × (ds : List Dial) × (left : List Kv) × Followed tells host net net' zxid ds left before after × GivesUp tells host end after ds left
+
+-- What a worker that follows the head comes to: it was told to stop, and the list is open; or the list is closed for the end that it
+-- gives.
+abbrev pub Follows : {In Out : Type 0} → Telling In Out → List ℕ → Option FeedEnd → NetTold → NetTold → ℤ → Published → Published → ℕ → ℕ → Type 0
+Follows tells host None net net' zxid before after n n' = Stops tells host None net net' zxid before after n n'
+Follows tells host (Some end) net net' zxid before after n n' = (between : Published) × Stops tells host (Some end) net net' zxid before between n n' × (after ≡ with_end between end)
+
+-- ---- for clauses of private functions
+
+-- what a dial comes to before any line is read
+abbrev pub Opens : {In Out : Type 0} → Telling In Out → Result (Lines In) StreamEnd → List ℕ → ℤ → NetTold → NetTold → Type 0
+Opens tells (Ok lines) host zxid net net' = IsAt lines (tells.source lines.source) [] [] × Answers tells (Ok tt) host zxid net net' lines.source
+Opens tells (Err (stream.Over why barren)) host zxid net net' = (barren ≡ true) × (IsFailed net net' ⊎ OpensNone tells http.WriteFault host zxid net net')
+Opens tells (Err (stream.Closes end)) host zxid net net' = (end ≡ ends.Memory) × OpensNone tells http.Memory host zxid net net'
+Opens tells (Err stream.Stopped) host zxid net net' = ⊥
+
+-- what came of one dial, by its end: its lines, and what they added to the list
+abbrev pub Comes : {In Out : Type 0} → Telling In Out → List ℕ → StreamEnd → Dial → List Kv → Published → ℕ → ℕ → Type 0
+Comes tells host stream.Stopped d left list n n' = (left ≡ []) × (n' ≡ one_more n)
+Comes tells host (stream.Over why barren) d left list n n' = (left ≡ []) × (n' ≡ n) × IsOverDial tells host d barren
+Comes tells host (stream.Closes end) d left list n n' = IsProper end × Explains end list d.said left × (n' ≡ n)
+
+pub record DialsOnce {In Out : Type 0} (tells : Telling In Out) (host : List ℕ) (end : StreamEnd) (net net' : NetTold) (before after : Published) (zxid zxid' : ℤ) (n n' : ℕ) : Type 0 where
+  pub dial : Dial
+  pub starts : dial.before ≡ net
+  pub stops : dial.after ≡ net'
+  pub asks : dial.zxid ≡ zxid
+  pub is : IsDial tells host dial
+  pub left : List Kv
+  pub publishes : Publishes (heads_of dial.said) dial.entries left before after
+  pub zxid_is : zxid' ≡ zxid_after zxid dial.entries
+  pub comes : Comes tells host end dial left after n n'
+
+-- how many dials in a row gave no line, with one more
+abbrev pub barren_after : Bool → ℕ → ℕ
+barren_after true n = n + 1
+barren_after false n = 0
+
+-- all of them are over
+abbrev pub AreOver : {In Out : Type 0} → Telling In Out → List ℕ → List Dial → Type 0
+AreOver tells host [] = Unit {0}
+AreOver tells host (d ∷ ds) = ((barren : Bool) × IsOverDial tells host d barren) × AreOver tells host ds
+
+-- some dials were made, and are over
+pub record IsBetween {In Out : Type 0} (tells : Telling In Out) (host : List ℕ) (net now : NetTold) (zxid : ℤ) (before list : Published) (zxid' : ℤ) (barren : ℕ) : Type 0 where
+  pub dials : List Dial
+  pub followed : Followed tells host net now zxid dials [] before list
+  pub over : AreOver tells host dials
+  pub asks : zxid' ≡ zxid_after zxid (entries_of dials)
+  pub none : EndBarren tells host barren dials

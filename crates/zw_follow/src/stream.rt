@@ -1,0 +1,334 @@
+//! One stream of a watch.
+
+ghost use Rattle.std.specs.Prelude.{◌≡◌, ◌≤ℤ◌, ◌<ℤ◌, ◌^◌, pos, None, [], true, List, OnOk, IfOk, IfErr, IfSome};
+ghost use Rattle.ev_http.specs.Stream.{IsAt};
+ghost use Rattle.ev_http.specs.Taking.{told};
+ghost use Rattle.ev_json.specs.Ranges.{LineFits};
+ghost use Rattle.zw_hub.specs.Lists.{last_number};
+ghost use Rattle.zw_follow.specs.Dials.{Opens, telling};
+ghost use Rattle.zw_follow.specs.Publishing.{IsPlaced, IsRun, Means, PublishesAll, Said, Stands, TakesLine};
+ghost use Rattle.zw_follow.specs.Streams.{GoesOn, IsBrokenBy, IsMissed, IsReadTo, IsUnsentBy, ReadsOn, ReadsStream};
+ghost use Rattle.zw_follow.specs.Streams.{has_no_events, is_nothing, spelled, taken_after};
+
+use crate::place::Place;
+use crate::rings::Rings;
+use ev_http::{HttpFault, Lines, send_request};
+use ev_json::{JsonFault, Line, read_line, what_is_read_fits, write_watch};
+use ev_types::Route;
+use ev_words::Fault;
+use std::alloc::Global;
+use std::collections::VecDeque;
+use std::sync::{Arc, Wait};
+use zn_layout::Entry;
+use zw_feed::{FeedFault, Follower};
+use zw_hub::{FeedEnd, Hub};
+use zx_base::Memory;
+use zx_net::Net;
+use zx_outside::Source;
+use zx_words::StopWord;
+
+/// Why a stream is read no further.
+#[derive(Drop)]
+pub enum StreamEnd {
+    /// The worker was told to stop.
+    Stopped,
+    /// The stream is over, and may be dialled again. `is_barren`: it gave no line, or none but that it was created and one that
+    /// cannot be read.
+    Over { fault: Fault, is_barren: bool },
+    /// The updates cannot be followed any further.
+    Closes(FeedEnd),
+}
+
+/// What a stream gave so far.
+#[derive(Clone, Copy)]
+pub(crate) enum Taken {
+    Nothing,
+    /// That the watch was created, and nothing else.
+    Created,
+    /// Any other line.
+    Events,
+}
+
+fn barren(fault: Fault) -> StreamEnd
+    ensures { result ≡ StreamEnd.Over fault true }
+{
+    StreamEnd::Over {
+        fault,
+        is_barren: true,
+    }
+}
+
+/// What it means that the request was not sent.
+fn unsent(fault: HttpFault) -> StreamEnd
+    ensures { IsUnsentBy fault result }
+{
+    match fault {
+        HttpFault::Memory => StreamEnd::Closes(FeedEnd::Memory),
+        HttpFault::Head
+        | HttpFault::Status(_)
+        | HttpFault::Route
+        | HttpFault::Body { .. }
+        | HttpFault::TooLong { .. }
+        | HttpFault::Ended { .. }
+        | HttpFault::Idle
+        | HttpFault::ReadFault
+        | HttpFault::WriteFault => barren(Fault::Http(fault)),
+    }
+}
+
+/// Dials, and asks for the head's puts from the revision after this zxid on, which is below 2^62.
+pub(crate) fn open<N: Net>(
+    alloc: Global,
+    net: &mut N,
+    endpoint: &str,
+    zxid: i64,
+) -> Result<Lines<N::In>, StreamEnd>
+    requires { (pos 0 ≤ℤ zxid) × (zxid <ℤ pos (2 ^ 62)) }
+    ensures { Opens
+        (telling N.In.given N.In.left N.In.counts N.In.ended N.In.name N.Out.taken N.Out.counts N.Out.name)
+        result endpoint.now zxid
+        (record { counts = N.counts net.old; streams = N.streams net.old })
+        (record { counts = N.counts net.new; streams = N.streams net.new }) }
+{
+    let Ok((source, mut sink)) = net.dial(endpoint) else {
+        return Err(barren(Fault::Dial));
+    };
+    let Ok(text) = write_watch(alloc, zxid + 1, b"zk/head".as_slice()) else {
+        return Err(StreamEnd::Closes(FeedEnd::Memory));
+    };
+    match send_request(alloc, &mut sink, endpoint, Route::Watch, text.as_slice()) {
+        Ok(()) => Ok(Lines::new(alloc, source)),
+        Err(fault) => Err(unsent(fault)),
+    }
+}
+
+/// What it means that no line came: that it did not come in time is no fault.
+fn missed(why: HttpFault) -> Result<Option<Line>, Fault>
+    ensures { IsMissed why result }
+{
+    match why {
+        HttpFault::Idle => Ok(None),
+        HttpFault::Head
+        | HttpFault::Status(_)
+        | HttpFault::Route
+        | HttpFault::Body { .. }
+        | HttpFault::TooLong { .. }
+        | HttpFault::Ended { .. }
+        | HttpFault::ReadFault
+        | HttpFault::WriteFault
+        | HttpFault::Memory => Err(Fault::Http(why)),
+    }
+}
+
+/// The next line of a stream; `None` where none came within a minute.
+fn next_line<S: Source>(alloc: Global, lines: &mut Lines<S>) -> Result<Option<Line>, Fault>
+    ensures fits { IfOk result (λ found. IfSome found LineFits) }
+    ensures reads { (dialled : S) (said : List Said)
+        → IsReadTo (told S.given S.left S.counts S.ended S.name) dialled lines.old (spelled said)
+        → ReadsOn (told S.given S.left S.counts S.ended S.name) dialled result lines.new said }
+{
+    let text = match lines.next() {
+        Ok(text) => text,
+        Err(fault) => return missed(fault),
+    };
+    // Proof only: the numbers of a line that was read are in an etcd's range.
+    what_is_read_fits();
+    match read_line(alloc, text.as_slice()) {
+        Ok(line) => Ok(Some(line)),
+        Err(fault) => Err(Fault::Json(fault)),
+    }
+}
+
+fn is_nothing(taken: Taken) -> bool
+    ensures { result ≡ is_nothing taken }
+{
+    match taken {
+        Taken::Nothing => true,
+        Taken::Created | Taken::Events => false,
+    }
+}
+
+fn has_no_events(taken: Taken) -> bool
+    ensures { result ≡ has_no_events taken }
+{
+    match taken {
+        Taken::Nothing | Taken::Created => true,
+        Taken::Events => false,
+    }
+}
+
+/// What it means that no line came, where the stream gave this before.
+fn broken_at(why: HttpFault, taken: Taken) -> StreamEnd
+    ensures { IsBrokenBy (Fault.Http why) taken result }
+{
+    match why {
+        HttpFault::Memory => StreamEnd::Closes(FeedEnd::Memory),
+        HttpFault::TooLong { .. } => StreamEnd::Over {
+            fault: Fault::Http(why),
+            is_barren: has_no_events(taken),
+        },
+        HttpFault::Head
+        | HttpFault::Status(_)
+        | HttpFault::Route
+        | HttpFault::Body { .. }
+        | HttpFault::Ended { .. }
+        | HttpFault::Idle
+        | HttpFault::ReadFault
+        | HttpFault::WriteFault => StreamEnd::Over {
+            fault: Fault::Http(why),
+            is_barren: is_nothing(taken),
+        },
+    }
+}
+
+/// What it means that a line cannot be read, where the stream gave this before.
+fn broken_before(why: JsonFault, taken: Taken) -> StreamEnd
+    ensures { IsBrokenBy (Fault.Json why) taken result }
+{
+    match why {
+        JsonFault::Memory => StreamEnd::Closes(FeedEnd::Memory),
+        JsonFault::NotJson | JsonFault::Unreadable { .. } => StreamEnd::Over {
+            fault: Fault::Json(why),
+            is_barren: has_no_events(taken),
+        },
+    }
+}
+
+/// What a line that did not come, or cannot be read, means, where the stream gave this before.
+fn broken(fault: Fault, taken: Taken) -> StreamEnd
+    ensures { IsBrokenBy fault taken result }
+{
+    match fault {
+        Fault::Http(why) => broken_at(why, taken),
+        Fault::Json(why) => broken_before(why, taken),
+        Fault::Memory => StreamEnd::Closes(FeedEnd::Memory),
+        Fault::First
+        | Fault::Dial
+        | Fault::Ended
+        | Fault::Compacted(_)
+        | Fault::Gap(..)
+        | Fault::Damaged
+        | Fault::NoLine => StreamEnd::Over {
+            fault,
+            is_barren: false,
+        },
+    }
+}
+
+/// What a stream gave, with this line too.
+fn taken_after(line: &Line, before: Taken) -> Taken
+    ensures { result ≡ taken_after line.now before }
+{
+    match line {
+        Line::Created => match before {
+            Taken::Nothing | Taken::Created => Taken::Created,
+            Taken::Events => Taken::Events,
+        },
+        Line::Events { .. } | Line::Compacted { .. } | Line::Ended => Taken::Events,
+    }
+}
+
+/// Publishes these entries, in order. Where memory is refused, a front of them is published.
+#[tactic(auto, using(crate::proofs::Growing::next_number, crate::proofs::Growing::published_all, crate::proofs::Growing::published_front))]
+fn publish<R: Wait + Drop>(
+    alloc: Global,
+    hub: &mut Hub<R>,
+    entries: Vec<Entry>,
+    place: &mut Place,
+) -> Result<(), Memory>
+    requires run { IsRun (last_number hub.old.list) entries.items }
+    requires placed { IsPlaced hub.old.list place.old }
+    ensures { PublishesAll result entries.items hub.old.list hub.new.list place.old place.new }
+{
+    let mut queue = VecDeque::from(entries);
+    'entries: while let Some(entry) = queue.pop_front() {
+        let next = Place {
+            number: entry.number,
+            zxid: entry.zxid,
+        };
+        hub.publish(Arc::new(alloc, entry)?)?;
+        *place = next;
+    }
+    Ok(())
+}
+
+/// What a fault of the follower means.
+fn end_of(fault: FeedFault) -> StreamEnd
+    ensures { Means fault result }
+{
+    match fault {
+        FeedFault::Ended => StreamEnd::Over {
+            fault: Fault::Ended,
+            is_barren: false,
+        },
+        FeedFault::Compacted { rev } => StreamEnd::Closes(FeedEnd::Compacted { rev }),
+        FeedFault::Gap { expected, found } => StreamEnd::Closes(FeedEnd::Gap { expected, found }),
+        FeedFault::Damaged { key, value } => StreamEnd::Closes(FeedEnd::Damaged { key, value }),
+        FeedFault::Memory => StreamEnd::Closes(FeedEnd::Memory),
+    }
+}
+
+/// Takes a line, and publishes its entries.
+fn take_line<R: Wait + Drop>(
+    alloc: Global,
+    follower: &mut Follower,
+    line: &Line,
+    hub: &mut Hub<R>,
+    place: &mut Place,
+) -> Result<(), StreamEnd>
+    requires line { LineFits line.now }
+    requires stands { Stands hub.old.list follower.old place.old }
+    ensures takes { TakesLine result line.now hub.old.list hub.new.list place.old.zxid place.new.zxid }
+    ensures stands { OnOk result (Stands hub.new.list follower.new place.new) }
+    ensures goes_on { IfErr result (λ end. GoesOn end hub.new.list place.new) }
+{
+    let entries = match follower.take(line) {
+        Ok(entries) => entries,
+        Err(fault) => return Err(end_of(fault)),
+    };
+    match publish(alloc, hub, entries, place) {
+        Ok(()) => Ok(()),
+        Err(_refused) => Err(StreamEnd::Closes(FeedEnd::Memory)),
+    }
+}
+
+/// Publishes the entries of a stream, line by line, until it is over or the word to stop is set.
+pub(crate) fn read_stream<R: Wait, H: Wait + Drop, S: Source, Q: StopWord, B: Rings>(
+    rt: &R,
+    alloc: Global,
+    lines: &mut Lines<S>,
+    place: &mut Place,
+    hub: &mut Hub<H>,
+    stop: &mut Q,
+    bells: &B,
+) -> StreamEnd
+    requires first { IsAt lines.old (told S.given S.left S.counts S.ended S.name lines.old.source) [] [] }
+    requires placed { IsPlaced hub.old.list place.old }
+    ensures goes_on { GoesOn result hub.new.list place.new }
+    ensures reads { ReadsStream (told S.given S.left S.counts S.ended S.name) lines.old.source result
+        hub.old.list hub.new.list place.old.zxid place.new.zxid
+        (Q.set_readings stop.old) (Q.set_readings stop.new) }
+{
+    let mut follower = Follower::new(alloc, place.number);
+    let mut taken = Taken::Nothing;
+    'lines: for _ in rt.forever() {
+        if stop.is_set() {
+            return StreamEnd::Stopped;
+        }
+        let found = match next_line(alloc, lines) {
+            Ok(found) => found,
+            Err(fault) => return broken(fault, taken),
+        };
+        let line = match found {
+            Some(line) => line,
+            None => continue 'lines,
+        };
+        taken = taken_after(&line, taken);
+        match take_line(alloc, &mut follower, &line, hub, place) {
+            Ok(()) => {}
+            Err(end) => return end,
+        }
+        bells.ring(rt);
+    }
+    unreachable!()
+}
