@@ -33,11 +33,11 @@ use Rattle.zw_follow.proofs.Reading.{taken_push}
 
 -- ---- ends that may close a list
 
-pub is_no_gap : FeedEnd → Type 0
+abbrev pub is_no_gap : FeedEnd → Type 0
 is_no_gap (ends.Gap expected found) = ⊥
 is_no_gap _ = Unit {0}
 
-pub is_not_damaged : FeedEnd → Type 0
+abbrev pub is_not_damaged : FeedEnd → Type 0
 is_not_damaged (ends.Damaged key value) = ⊥
 is_not_damaged _ = Unit {0}
 

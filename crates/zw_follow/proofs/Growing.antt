@@ -150,7 +150,7 @@ entries_front n kvs [] left h = ([], kvs, refl, tt)
 entries_front n [] (e ∷ es) left h = absurd h
 entries_front n (kv ∷ kvs) (e ∷ es) left h =
     let rest = entries_front (n +ℤ pos 1) kvs es left h.1 in
-    (kv ∷ rest.0, rest.1, ap (λ (l : List Kv). kv ∷ l) rest.2, h.0, rest.3)
+    (kv ∷ rest.0, rest.1, ap (λ (l : List Kv). kv ∷ l) rest.2, (h.0, rest.3))
 
 pub publishes_front : (kvs : List Kv) (es front rest : List Entry) (before after : Published) → AreEntries (last_number before) kvs es → es ≡ front ++ rest → after ≡ with_entries before front
     → (left : List Kv) × Publishes kvs front left before after

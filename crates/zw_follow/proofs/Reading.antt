@@ -32,7 +32,7 @@ spelled_join (s ∷ said) more = ap (λ (bytes : List ℕ). s.text ++ (10 ∷ by
 
 -- ---- one call
 
-is_unknown : Option (List ℕ) → Type 0
+abbrev is_unknown : Option (List ℕ) → Type 0
 is_unknown None = Unit {0}
 is_unknown (Some bytes) = ⊥
 

@@ -31,15 +31,15 @@ use Rattle.zw_follow.proofs.Growing.{entries_run, heads_fit, last_with, publishe
 
 -- ---- ends that a broken head shows
 
-expected_of : FeedEnd → ℤ
+abbrev expected_of : FeedEnd → ℤ
 expected_of (ends.Gap expected found) = expected
 expected_of _ = pos 0
 
-found_of : FeedEnd → ℤ
+abbrev found_of : FeedEnd → ℤ
 found_of (ends.Gap expected found) = found
 found_of _ = pos 0
 
-value_of : FeedEnd → Bytes
+abbrev value_of : FeedEnd → Bytes
 value_of (ends.Damaged key value) = value
 value_of _ = []
 
@@ -57,10 +57,10 @@ proper_damaged key value broken = record {
 
 -- ---- what the follower said
 
-at_number : ℤ → FollowerState
+abbrev at_number : ℤ → FollowerState
 at_number n = record { number = n; fault = None }
 
-at_place : Place → FollowerState
+abbrev at_place : Place → FollowerState
 at_place place = at_number place.number
 
 -- a follower that has no fault

@@ -20,10 +20,10 @@ pub returns-in-Ok-read_line-clause-reads : goal.returns-in-Ok-read_line-clause-r
 returns-in-Ok-read_line-clause-reads g c = λ dialled said h.
     let P : List ℕ → Type 0 = λ bytes. reads_line bytes c.in-Ok-read_line.line in
     line_is_said (told g.S.Source.given g.S.Source.left g.S.Source.counts g.S.Source.ended g.S.Source.name) dialled c.args.lines.now c.next.new.self said c.in-Ok.text c.in-Ok-read_line.line
-    (record { added = (c.in-Ok.ensures.line).0; before = _; after = _; took = (c.in-Ok.ensures.line).1; answers = (c.in-Ok.ensures.line).2; reads = c.in-Ok.ensures.reads }) (subst P c.as_slice.ensures.value c.in-Ok-read_line.ensures.read) h
+    (record { added = (c.in-Ok.ensures.line).0; before = _; after = _; took = (c.in-Ok.ensures.line).1; answers = (c.in-Ok.ensures.line).2; reads = c.in-Ok.ensures.reads }) (subst P c.as_slice.ensures c.in-Ok-read_line.ensures.read) h
 
 pub returns-clause-reads : goal.returns-clause-reads
 returns-clause-reads g c = λ dialled said h.
     let P : List ℕ → Type 0 = λ bytes. FaultOf line_in bytes c.in-Err-read_line.fault in
     line_is_unreadable (told g.S.Source.given g.S.Source.left g.S.Source.counts g.S.Source.ended g.S.Source.name) dialled c.args.lines.now c.next.new.self said c.in-Ok.text c.in-Err-read_line.fault
-    (record { added = (c.in-Ok.ensures.line).0; before = _; after = _; took = (c.in-Ok.ensures.line).1; answers = (c.in-Ok.ensures.line).2; reads = c.in-Ok.ensures.reads }) (subst P c.as_slice.ensures.value c.in-Err-read_line.ensures.fault) h
+    (record { added = (c.in-Ok.ensures.line).0; before = _; after = _; took = (c.in-Ok.ensures.line).1; answers = (c.in-Ok.ensures.line).2; reads = c.in-Ok.ensures.reads }) (subst P c.as_slice.ensures c.in-Err-read_line.ensures.fault) h

@@ -8,4 +8,4 @@ entries-init g c = subst (λ q. IsPublishing c.args.entries.items q c.args.hub.n
     (publishing_starts c.args.entries.items c.args.hub.now.list c.args.place.now c.requires.run c.requires.placed)
 
 pub entries-preserved : goal.entries-preserved
-entries-preserved g c = publishing_goes _ _ _ c.in-Some.entry _ _ _ _ _ _ c.in-Some.ensures.items (search rules) refl refl c.entries.invariant
+entries-preserved g c = publishing_goes _ _ _ c.in-Some.entry _ _ _ _ _ _ c.in-Some.ensures.items (search rules) (search rules) (search rules) c.entries.invariant
