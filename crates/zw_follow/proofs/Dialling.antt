@@ -1,6 +1,6 @@
 -- Dials, one after the other.
-use Rattle.std.proofs.Common.{◌≡◌, ℕ, ◌+◌, ◌<◌, ◌≤◌, ℤ, pos, Bool, true, false, List, [], ◌∷◌, ◌++◌, length, refl, sym, ap, ◌∙◌, subst, arith, append_assoc, append-nil, length-append, Option, Some, None, Result, Ok, Err, inl, inr}
-use Rattle.std.specs.Prelude.{◌≢◌, ◌+ℤ◌, codes}
+use Rattle.std.proofs.Common.{◌≡◌, ℕ, ◌+◌, ◌^◌, ◌<◌, ◌≤◌, ℤ, pos, to_z, of_z, w64, Bool, true, false, List, [], ◌∷◌, ◌++◌, length, refl, sym, ap, ◌∙◌, subst, arith, append_assoc, append-nil, length-append, Option, Some, None, Result, Ok, Err, inl, inr}
+use Rattle.std.specs.Prelude.{◌≢◌, ◌+ℤ◌, ◌≤ℤ◌, ◌<ℤ◌, codes}
 use Rattle.ev_types.specs.declared.answer.Kv.{Kv}
 use Rattle.ev_types.specs.declared.route.Route.TheVariants as route
 use Rattle.ev_json.specs.Messages.{watch_text}
@@ -27,6 +27,11 @@ use Rattle.zw_follow.proofs.Ending.{proper_memory, proper_no_line}
 use Rattle.zw_follow.proofs.Growing.{heads_join, publishes_join, publishes_nothing, zxid_join}
 
 -- ---- one dial
+
+-- a call is given the number that it is
+pub opens_at : {In Out : Type 0} (tells : Telling In Out) (result : Result (Lines In) StreamEnd) (host : List ℕ) (zxid : ℤ) (net net' : NetTold) → pos 0 ≤ℤ zxid → zxid <ℤ pos (2 ^ 62) → Opens tells result host (to_z w64 (of_z w64 zxid)) net net'
+    → Opens tells result host zxid net net'
+opens_at tells result host zxid net net' least most h = subst (λ (z : ℤ). Opens tells result host z net net') (passed zxid least most) h
 
 -- the request was sent
 pub opens_lines : {In Out : Type 0} (tells : Telling In Out) (lines : Lines In) (source : In) (host : List ℕ) (zxid : ℤ) (net net' : NetTold) → lines.source ≡ source → IsAt lines (tells.source source) [] [] → Answers tells (Ok tt) host zxid net net' source
@@ -56,22 +61,22 @@ dials_none tells host (stream.Over why barren) net net' list zxid n (counts, inl
   starts = refl;
   stops = refl;
   asks = refl;
-  is = inl (failed, refl, refl);
+  is = inl (failed, (refl, refl));
   left = [];
   publishes = publishes_nothing list;
   zxid_is = refl;
-  comes = (refl, refl, inl ((failed, refl, refl), counts));
+  comes = (refl, refl, inl ((failed, (refl, refl)), counts));
 }
 dials_none tells host (stream.Over why barren) net net' list zxid n (counts, inr none) = record {
   dial = record { before = net; after = net'; zxid = zxid; said = []; entries = [] };
   starts = refl;
   stops = refl;
   asks = refl;
-  is = inr (inl (http.WriteFault, none, refl, refl));
+  is = inr (inl (http.WriteFault, (none, (refl, refl))));
   left = [];
   publishes = publishes_nothing list;
   zxid_is = refl;
-  comes = (refl, refl, inr (inl ((none, refl, refl), counts)));
+  comes = (refl, refl, inr (inl ((none, (refl, refl)), counts)));
 }
 dials_none tells host (stream.Closes end) net net' list zxid n opens =
     let d : Dial = record { before = net; after = net'; zxid = zxid; said = []; entries = [] } in
@@ -80,7 +85,7 @@ dials_none tells host (stream.Closes end) net net' list zxid n opens =
       starts = refl;
       stops = refl;
       asks = refl;
-      is = inr (inl (http.Memory, opens.1, refl, refl));
+      is = inr (inl (http.Memory, (opens.1, (refl, refl))));
       left = [];
       publishes = publishes_nothing list;
       zxid_is = refl;
@@ -235,7 +240,7 @@ closes tells host end net now net' zxid zxid' zxid'' before list after barren fi
 pub no_line : {In Out : Type 0} (tells : Telling In Out) (host : List ℕ) (net now : NetTold) (zxid zxid' : ℤ) (before list : Published) (barren first n : ℕ) → IsBetween tells host net now zxid before list zxid' barren → barren ≡ 10 → list.end ≡ None → n ≡ first
     → Stops tells host (Some ends.NoLine) net now zxid before list first n
 no_line tells host net now zxid zxid' before list barren first n b ten is_open unset =
-    (is_open, unset, proper_no_line, b.dials, [], b.followed, refl, subst (λ (k : ℕ). EndBarren tells host k b.dials) ten b.none)
+    (is_open, unset, proper_no_line, b.dials, [], b.followed, (refl, subst (λ (k : ℕ). EndBarren tells host k b.dials) ten b.none))
 
 pub barren_small : (is_barren : Bool) (n : ℕ) → n < 10 → barren_after is_barren n ≤ 10
 barren_small true n small = omega (arith, small)

@@ -1,6 +1,6 @@
 -- How a stream goes on, and how it ends.
-use Rattle.std.proofs.Common.{◌≡◌, ℕ, ℤ, pos, Bool, true, false, List, [], ◌∷◌, ◌++◌, refl, sym, ap, ◌∙◌, subst, append_assoc, append-nil, Option, Some, None, Result, Ok, Err, inl, inr}
-use Rattle.std.specs.Prelude.{◌≢◌}
+use Rattle.std.proofs.Common.{◌≡◌, ℕ, ◌^◌, ℤ, pos, to_z, of_z, w64, Bool, true, false, List, [], ◌∷◌, ◌++◌, refl, sym, ap, ◌∙◌, subst, append_assoc, append-nil, Option, Some, None, Result, Ok, Err, inl, inr}
+use Rattle.std.specs.Prelude.{◌≢◌, ◌≤ℤ◌, ◌<ℤ◌}
 use Rattle.zx_base.specs.Maps.{Bytes}
 use Rattle.ev_http.specs.Stream.{IsAt}
 use Rattle.ev_http.specs.Taking.{Told}
@@ -28,7 +28,7 @@ use Rattle.zw_follow.specs.declared.stream.StreamEnd.{StreamEnd}
 use Rattle.zw_follow.specs.declared.stream.StreamEnd.TheVariants as stream
 use Rattle.zw_follow.specs.declared.stream.Taken.{Taken}
 use Rattle.zw_follow.specs.declared.stream.Taken.TheVariants as taken
-use Rattle.zw_follow.proofs.Growing.{publishes_line, publishes_nothing, publishes_unread, zxid_join}
+use Rattle.zw_follow.proofs.Growing.{passed, publishes_line, publishes_nothing, publishes_unread, zxid_join}
 use Rattle.zw_follow.proofs.Reading.{taken_push}
 
 -- ---- ends that may close a list
@@ -65,6 +65,10 @@ pub unset_now : (r : Bool) (first n n' : ℕ) → n' ≡ readings_after r n → 
 unset_now r first n n' counted unset same = counted ∙ ap (λ (b : Bool). readings_after b n) unset ∙ same
 
 -- ---- a stream
+
+-- where a new follower stands
+pub follower_at : (n : ℤ) (s : FollowerState) → pos 0 ≤ℤ n → n <ℤ pos (2 ^ 62) → s ≡ record { number = to_z w64 (of_z w64 n); fault = None } → s ≡ record { number = n; fault = None }
+follower_at n s least most is = is ∙ ap (λ (k : ℤ). record { number = k; fault = None }) (passed n least most)
 
 pub following_starts : {In : Type 0} (tells : In → Told) (lines : Lines In) (list : Published) (place : Place) (follower : FollowerState) → IsAt lines (tells lines.source) [] [] → IsPlaced list place → follower ≡ record { number = place.number; fault = None }
     → IsFollowing tells lines.source lines list list place.zxid place follower taken.Nothing

@@ -1,6 +1,6 @@
 -- A list that grows by entries.
-use Rattle.std.proofs.Common.{◌≡◌, ℕ, ◌+◌, ◌<◌, ◌^◌, ℤ, pos, List, [], ◌∷◌, ◌++◌, length, refl, sym, ap, ◌∙◌, subst, arith, append_assoc, append-nil, length-append}
-use Rattle.std.proofs.lemmas.Int.{ints}
+use Rattle.std.proofs.Common.{◌≡◌, ℕ, ◌+◌, ◌<◌, ◌^◌, ℤ, pos, negsuc, to_z, of_z, w64, List, [], ◌∷◌, ◌++◌, length, refl, sym, ap, ◌∙◌, subst, arith, append_assoc, append-nil, length-append}
+use Rattle.std.proofs.lemmas.Int.{ints, to_z_pos}
 use Rattle.std.proofs.lemmas.List.Elements.{All-filter, All-from_recursion, All-head, All-nil, All-tail, All-weaker}
 use Rattle.std.specs.Prelude.{◌+ℤ◌, ◌≤ℤ◌, ◌<ℤ◌, All, None, Ok, Err}
 use Rattle.ev_types.specs.declared.answer.Kv.{Kv}
@@ -18,6 +18,11 @@ use Rattle.zw_follow.specs.Publishing.{IsPlaced, IsPublishing, IsRun, Publishes,
 use Rattle.zw_follow.specs.declared.place.Place.{Place}
 
 -- ---- numbers of an etcd
+
+-- such a number is the one that a callee is given
+pub passed : (z : ℤ) → pos 0 ≤ℤ z → z <ℤ pos (2 ^ 62) → to_z w64 (of_z w64 z) ≡ z
+passed (pos n) least most = let small : n < 2 ^ 63 = omega (arith, ints, most) in to_z_pos w64 n small
+passed (negsuc n) least most = absurd (omega (arith, ints, least))
 
 counted : (n m : ℤ) → n ≡ m → IsCount m → (pos 0 ≤ℤ n) × (n <ℤ pos (2 ^ 62))
 counted n m is c = let e : m ≡ pos c.0 = c.1 in let l : c.0 < 2 ^ 62 = c.2 in (omega (arith, ints, is, e), omega (arith, ints, is, e, l))
@@ -46,6 +51,15 @@ entries_run n (kv ∷ kvs) [] fits h = absurd h
 entries_run n (kv ∷ kvs) (e ∷ es) fits h =
     let c = counted e.zxid kv.mod_revision (h.0).zxid (All-head KvFits kv kvs fits).3 in
     ((h.0).number_is, c.0, c.1, entries_run (n +ℤ pos 1) kvs es (All-tail KvFits kv kvs fits) h.1)
+
+-- the number of the last of them is below 2 ^ 62
+pub entries_below : (n : ℤ) (kvs : List Kv) (es : List Entry) → All KvFits kvs → AreEntries n kvs es → n <ℤ pos (2 ^ 62) → (n +ℤ pos (length es)) <ℤ pos (2 ^ 62)
+entries_below n [] [] fits h below = omega (arith, ints, below)
+entries_below n [] (e ∷ es) fits h below = absurd h
+entries_below n (kv ∷ kvs) [] fits h below = absurd h
+entries_below n (kv ∷ kvs) (e ∷ es) fits h below =
+    let c = counted (n +ℤ pos 1) kv.version (sym (h.0).shown) (All-head KvFits kv kvs fits).4 in
+    let rest : (n +ℤ pos 1 +ℤ pos (length es)) <ℤ pos (2 ^ 62) = entries_below (n +ℤ pos 1) kvs es (All-tail KvFits kv kvs fits) h.1 c.1 in omega (arith, ints, rest)
 
 -- ---- lists
 

@@ -27,7 +27,7 @@ use Rattle.zw_follow.specs.declared.place.Place.{Place}
 use Rattle.zw_follow.specs.declared.stream.StreamEnd.{StreamEnd}
 use Rattle.zw_follow.specs.declared.stream.StreamEnd.TheVariants as stream
 use Rattle.zw_follow.proofs.Ending.{is_no_gap, is_not_damaged, proper_compacted}
-use Rattle.zw_follow.proofs.Growing.{entries_run, heads_fit, last_with, publishes_front, still_open, with_none}
+use Rattle.zw_follow.proofs.Growing.{entries_below, entries_run, heads_fit, last_with, publishes_front, still_open, with_none}
 
 -- ---- ends that a broken head shows
 
@@ -114,21 +114,22 @@ line_taken l es s s' before after place place' u stands takes p =
       p.zxid_is ∙ ap (zxid_after place.zxid) (sym all),
     )
 
-pub line_stands : (l : Line) (es : Vec Entry) (s s' : FollowerState) (before after : Published) (place place' : Place) (u : Unit {0}) → (pos 0 ≤ℤ s'.number) → (s'.number <ℤ pos (2 ^ 62)) → Stands before s place → Takes s l (Ok es) s'
+pub line_stands : (l : Line) (es : Vec Entry) (s s' : FollowerState) (before after : Published) (place place' : Place) (u : Unit {0}) → LineFits l → Stands before s place → Takes s l (Ok es) s'
     → PublishesAll (Ok u) es.items before after place place' → Stands after s' place'
-line_stands l es s s' before after place place' u least most stands takes p =
+line_stands l es s s' before after place place' u fits stands takes p =
     let all : es.items ≡ p.done = p.split ∙ append-nil p.done in
     let g = gives_at l (Ok es) s s' place stands.follows takes in
     let last : place'.number ≡ place.number +ℤ pos (length es.items) =
     p.placed ∙ ap last_number (p.grown ∙ ap (with_entries before) (sym all)) ∙ last_with before es.items ∙ ap (λ (n : ℤ). n +ℤ pos (length es.items)) (sym (stands.placed).placed) in
     let is : s' ≡ at_place place' = g.1 ∙ ap at_number (sym last) in
-    let number : s'.number ≡ place'.number = ap (λ (x : FollowerState). x.number) is in
+    let least : pos 0 ≤ℤ place.number = (stands.placed).least in
+    let below : (place.number +ℤ pos (length es.items)) <ℤ pos (2 ^ 62) = entries_below place.number (heads_in l) es.items (heads_fit l fits) (g.0).0 (stands.placed).most in
     record {
       placed = record {
         is_open = p.is_open;
         placed = p.placed;
-        least = subst (λ (n : ℤ). pos 0 ≤ℤ n) number least;
-        most = subst (λ (n : ℤ). n <ℤ pos (2 ^ 62)) number most;
+        least = omega (arith, ints, last, least);
+        most = subst (λ (n : ℤ). n <ℤ pos (2 ^ 62)) (sym last) below;
         zxid_least = p.zxid_least;
         zxid_most = p.zxid_most;
       };

@@ -104,7 +104,7 @@ fn follow_stream<R: Wait, H: Wait + Drop, N: Net, Q: StopWord, B: Rings>(
     stop: &mut Q,
     bells: &B,
 ) -> StreamEnd
-    requires { IsPlaced hub.old.list place.old }
+    requires placed { IsPlaced hub.old.list place.old }
     ensures goes_on { GoesOn result hub.new.list place.new }
     ensures dials { DialsOnce
         (telling N.In.given N.In.left N.In.counts N.In.ended N.In.name N.Out.taken N.Out.counts N.Out.name)

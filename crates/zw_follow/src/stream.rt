@@ -83,7 +83,8 @@ pub(crate) fn open<N: Net>(
     endpoint: &str,
     zxid: i64,
 ) -> Result<Lines<N::In>, StreamEnd>
-    requires { (pos 0 ≤ℤ zxid) × (zxid <ℤ pos (2 ^ 62)) }
+    requires least { pos 0 ≤ℤ zxid }
+    requires most { zxid <ℤ pos (2 ^ 62) }
     ensures { Opens
         (telling N.In.given N.In.left N.In.counts N.In.ended N.In.name N.Out.taken N.Out.counts N.Out.name)
         result endpoint.now zxid

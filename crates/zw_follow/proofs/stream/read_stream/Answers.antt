@@ -5,14 +5,11 @@ use Rattle.ev_json.specs.Ranges.{LineFits}
 use Rattle.ev_json.specs.declared.line.Line.{Line}
 use Rattle.zw_follow.specs.Streams.{IsFollowing, ReadsOn}
 use Rattle.zw_follow.specs.declared.stream.Taken.{Taken}
-use Rattle.zw_follow.proofs.Ending.{following_goes, following_starts, following_waits, goes_on_broken, set_now, stream_breaks, stream_ends, stream_stops, unset_now}
+use Rattle.zw_follow.proofs.Ending.{follower_at, following_goes, following_starts, following_waits, goes_on_broken, set_now, stream_breaks, stream_ends, stream_stops, unset_now}
 use Rattle.zw_follow.proofs.stream.read_stream.Goals as goal
 
-pub new-requires : goal.new-requires
-new-requires g c = (c.requires.placed.least, c.requires.placed.most)
-
 pub lines-init : goal.lines-init
-lines-init g c = (tt, tt, refl, following_starts (told g.S.Source.given g.S.Source.left g.S.Source.counts g.S.Source.ended g.S.Source.name) _ _ _ _ c.requires.first c.requires.placed c.new-follower.ensures)
+lines-init g c = (tt, tt, refl, following_starts (told g.S.Source.given g.S.Source.left g.S.Source.counts g.S.Source.ended g.S.Source.name) _ _ _ _ c.requires.first c.requires.placed (follower_at _ _ c.requires.placed.least c.requires.placed.most c.new-follower.ensures))
 
 pub returns-then-is_set-clause-goes_on : goal.returns-then-is_set-clause-goes_on
 returns-then-is_set-clause-goes_on g c = (((c.lines.invariant.3).stands).placed).is_open
@@ -24,20 +21,20 @@ pub returns-in-Err-clause-goes_on : goal.returns-in-Err-clause-goes_on
 returns-in-Err-clause-goes_on g c = goes_on_broken _ _ c.in-Err.fault _ c.broken.result c.broken.ensures ((c.lines.invariant.3).stands).placed
 
 pub returns-in-Err-clause-reads : goal.returns-in-Err-clause-reads
-returns-in-Err-clause-reads g c = stream_breaks (told g.S.Source.given g.S.Source.left g.S.Source.counts g.S.Source.ended g.S.Source.name) _ _ _ _ _ _ _ _ _ c.in-Err.fault c.broken.result _ _ c.lines.invariant.3 (c.in-Err.ensures.reads _ _ (c.lines.invariant.3).read) c.broken.ensures
+returns-in-Err-clause-reads g c = stream_breaks (told g.S.Source.given g.S.Source.left g.S.Source.counts g.S.Source.ended g.S.Source.name) _ _ c.next_line.new.lines _ _ _ _ _ _ c.in-Err.fault c.broken.result _ _ c.lines.invariant.3 (c.in-Err.ensures.reads _ _ (c.lines.invariant.3).read) c.broken.ensures
     (unset_now c.is_set.result _ _ _ c.is_set.ensures c.if-is_set.false c.lines.invariant.2)
 
-pub lines-preserved-in-None : goal.lines-preserved-in-None
-lines-preserved-in-None g c =
+pub lines-preserved-in-None-found : goal.lines-preserved-in-None-found
+lines-preserved-in-None-found g c =
     let found : ReadsOn (told g.S.Source.given g.S.Source.left g.S.Source.counts g.S.Source.ended g.S.Source.name) _ (Ok c.in-Ok.found) _ _ = c.in-Ok.ensures.reads _ _ (c.lines.invariant.3).read in (
       tt,
       tt,
       unset_now c.is_set.result _ _ _ c.is_set.ensures c.if-is_set.false c.lines.invariant.2,
-      following_waits (told g.S.Source.given g.S.Source.left g.S.Source.counts g.S.Source.ended g.S.Source.name) _ _ _ _ _ _ _ _ _ c.lines.invariant.3 (subst (λ (f : Option Line). ReadsOn (told g.S.Source.given g.S.Source.left g.S.Source.counts g.S.Source.ended g.S.Source.name) _ (Ok f) _ _) c.in-None.is found),
+      following_waits (told g.S.Source.given g.S.Source.left g.S.Source.counts g.S.Source.ended g.S.Source.name) _ _ _ _ _ _ _ _ _ c.lines.invariant.3 (subst (λ (f : Option Line). ReadsOn (told g.S.Source.given g.S.Source.left g.S.Source.counts g.S.Source.ended g.S.Source.name) _ (Ok f) _ _) c.in-None-found.is found),
     )
 
 pub take_line-requires-clause-line : goal.take_line-requires-clause-line
-take_line-requires-clause-line g c = subst (λ (f : Option Line). IfSome f LineFits) c.in-Some.is c.in-Ok.ensures.fits
+take_line-requires-clause-line g c = subst (λ (f : Option Line). IfSome f LineFits) c.in-Some-found.is c.in-Ok.ensures.fits
 
 pub take_line-requires-clause-stands : goal.take_line-requires-clause-stands
 take_line-requires-clause-stands g c = (c.lines.invariant.3).stands
@@ -46,16 +43,26 @@ pub returns-in-Err-take_line-clause-goes_on : goal.returns-in-Err-take_line-clau
 returns-in-Err-take_line-clause-goes_on g c = c.in-Err-take_line.ensures.goes_on
 
 pub returns-in-Err-take_line-clause-reads : goal.returns-in-Err-take_line-clause-reads
-returns-in-Err-take_line-clause-reads g c = stream_ends (told g.S.Source.given g.S.Source.left g.S.Source.counts g.S.Source.ended g.S.Source.name) _ _ _ _ _ _ _ _ _ _ _ c.in-Some.line c.in-Err-take_line.end _ _ c.lines.invariant.3
-    (λ said h. subst (λ (f : Option Line). ReadsOn (told g.S.Source.given g.S.Source.left g.S.Source.counts g.S.Source.ended g.S.Source.name) _ (Ok f) _ said) c.in-Some.is (c.in-Ok.ensures.reads _ said h)) c.in-Err-take_line.ensures.takes
+returns-in-Err-take_line-clause-reads g c = stream_ends (told g.S.Source.given g.S.Source.left g.S.Source.counts g.S.Source.ended g.S.Source.name) _ _ c.next_line.new.lines _ _ _ _ _ _ _ _ c.in-Some-found.line c.in-Err-take_line.end _ _ c.lines.invariant.3
+    (λ said h. subst (λ (f : Option Line). ReadsOn (told g.S.Source.given g.S.Source.left g.S.Source.counts g.S.Source.ended g.S.Source.name) _ (Ok f) _ said) c.in-Some-found.is (c.in-Ok.ensures.reads _ said h)) c.in-Err-take_line.ensures.takes
     (unset_now c.is_set.result _ _ _ c.is_set.ensures c.if-is_set.false c.lines.invariant.2)
+
+pub lines-preserved-in-Ok-take_line : goal.lines-preserved-in-Ok-take_line
+lines-preserved-in-Ok-take_line g c = (
+  tt,
+  tt,
+  unset_now c.is_set.result _ _ _ c.is_set.ensures c.if-is_set.false c.lines.invariant.2,
+  subst (λ (t : Taken). IsFollowing (told g.S.Source.given g.S.Source.left g.S.Source.counts g.S.Source.ended g.S.Source.name) _ _ _ _ _ _ _ t) (sym c.taken_after-taken.ensures)
+      (following_goes (told g.S.Source.given g.S.Source.left g.S.Source.counts g.S.Source.ended g.S.Source.name) _ _ _ _ _ _ _ _ _ _ _ _ c.in-Some-found.line tt c.lines.invariant.3
+      (subst (λ (f : Option Line). ReadsOn (told g.S.Source.given g.S.Source.left g.S.Source.counts g.S.Source.ended g.S.Source.name) _ (Ok f) _ _) c.in-Some-found.is (c.in-Ok.ensures.reads _ _ (c.lines.invariant.3).read)) c.in-Ok-take_line.ensures.takes c.in-Ok-take_line.ensures.stands),
+)
 
 pub lines-preserved : goal.lines-preserved
 lines-preserved g c = (
   tt,
   tt,
   unset_now c.is_set.result _ _ _ c.is_set.ensures c.if-is_set.false c.lines.invariant.2,
-  subst (λ (t : Taken). IsFollowing (told g.S.Source.given g.S.Source.left g.S.Source.counts g.S.Source.ended g.S.Source.name) _ _ _ _ _ _ _ t) (sym c.taken_after.ensures)
-      (following_goes (told g.S.Source.given g.S.Source.left g.S.Source.counts g.S.Source.ended g.S.Source.name) _ _ _ _ _ _ _ _ _ _ _ _ c.in-Some.line tt c.lines.invariant.3
-      (subst (λ (f : Option Line). ReadsOn (told g.S.Source.given g.S.Source.left g.S.Source.counts g.S.Source.ended g.S.Source.name) _ (Ok f) _ _) c.in-Some.is (c.in-Ok.ensures.reads _ _ (c.lines.invariant.3).read)) c.in-Ok-take_line.ensures.takes c.in-Ok-take_line.ensures.stands),
+  subst (λ (t : Taken). IsFollowing (told g.S.Source.given g.S.Source.left g.S.Source.counts g.S.Source.ended g.S.Source.name) _ _ _ _ _ _ _ t) (sym c.taken_after-taken.ensures)
+      (following_goes (told g.S.Source.given g.S.Source.left g.S.Source.counts g.S.Source.ended g.S.Source.name) _ _ _ _ _ _ _ _ _ _ _ _ c.in-Some-found.line tt c.lines.invariant.3
+      (subst (λ (f : Option Line). ReadsOn (told g.S.Source.given g.S.Source.left g.S.Source.counts g.S.Source.ended g.S.Source.name) _ (Ok f) _ _) c.in-Some-found.is (c.in-Ok.ensures.reads _ _ (c.lines.invariant.3).read)) c.in-Ok-take_line.ensures.takes c.in-Ok-take_line.ensures.stands),
 )

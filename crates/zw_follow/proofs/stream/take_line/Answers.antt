@@ -1,4 +1,3 @@
-use Rattle.std.proofs.Common.{rules}
 use Rattle.zw_follow.proofs.Growing.{line_fits}
 use Rattle.zw_follow.proofs.Taking.{goes_on_failed, line_fails, line_refused, line_stands, line_taken, open_refused, run_at}
 use Rattle.zw_follow.proofs.stream.take_line.Goals as goal
@@ -22,10 +21,10 @@ pub returns-in-Ok-publish-clause-takes : goal.returns-in-Ok-publish-clause-takes
 returns-in-Ok-publish-clause-takes g c = line_taken _ c.in-Ok.entries _ _ _ _ _ _ tt c.requires.stands c.in-Ok.ensures c.in-Ok-publish.ensures
 
 pub returns-in-Ok-publish-clause-stands : goal.returns-in-Ok-publish-clause-stands
-returns-in-Ok-publish-clause-stands g c = line_stands _ c.in-Ok.entries _ _ _ _ _ _ tt (search rules) (search rules) c.requires.stands c.in-Ok.ensures c.in-Ok-publish.ensures
+returns-in-Ok-publish-clause-stands g c = line_stands _ c.in-Ok.entries _ _ _ _ _ _ tt c.requires.line c.requires.stands c.in-Ok.ensures c.in-Ok-publish.ensures
 
-pub returns-clause-takes : goal.returns-clause-takes
-returns-clause-takes g c = line_refused _ c.in-Ok.entries _ _ _ _ _ _ _ c.requires.stands c.in-Ok.ensures c.in-Err-publish.ensures
+pub returns-in-Err-publish-clause-takes : goal.returns-in-Err-publish-clause-takes
+returns-in-Err-publish-clause-takes g c = line_refused _ c.in-Ok.entries _ _ _ _ c.args.place.now c.publish.new.place _ c.requires.stands c.in-Ok.ensures c.in-Err-publish.ensures
 
-pub returns-clause-goes_on : goal.returns-clause-goes_on
-returns-clause-goes_on g c = open_refused _ _ _ _ _ _ c.in-Err-publish.ensures ((c.requires.stands).placed).is_open
+pub returns-in-Err-publish-clause-goes_on : goal.returns-in-Err-publish-clause-goes_on
+returns-in-Err-publish-clause-goes_on g c = open_refused _ _ _ c.args.place.now c.publish.new.place _ c.in-Err-publish.ensures ((c.requires.stands).placed).is_open
