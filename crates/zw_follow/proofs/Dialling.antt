@@ -24,7 +24,7 @@ use Rattle.zw_follow.specs.declared.place.Place.{Place}
 use Rattle.zw_follow.specs.declared.stream.StreamEnd.{StreamEnd}
 use Rattle.zw_follow.specs.declared.stream.StreamEnd.TheVariants as stream
 use Rattle.zw_follow.proofs.Ending.{proper_memory, proper_no_line}
-use Rattle.zw_follow.proofs.Growing.{heads_join, publishes_join, publishes_nothing, zxid_join}
+use Rattle.zw_follow.proofs.Growing.{heads_join, passed, publishes_join, publishes_nothing, zxid_join}
 
 -- ---- one dial
 
@@ -189,15 +189,15 @@ between_starts tells host net zxid list = record {
   none = record { earlier = []; last = []; split = refl; count = refl; barren = tt };
 }
 
-pub between_goes : {In Out : Type 0} (tells : Telling In Out) (host : List ℕ) (why : Fault) (is_barren : Bool) (net now net' : NetTold) (zxid zxid' zxid'' : ℤ) (before list after : Published) (barren n n' : ℕ)
-    → IsBetween tells host net now zxid before list zxid' barren → DialsOnce tells host (stream.Over why is_barren) now net' list after zxid' zxid'' n n' → IsBetween tells host net net' zxid before after zxid'' (barren_after is_barren barren)
-between_goes tells host why is_barren net now net' zxid zxid' zxid'' before list after barren n n' b o = record {
+pub between_goes : {In Out : Type 0} (tells : Telling In Out) (host : List ℕ) (why : Fault) (is_barren : Bool) (net now net' : NetTold) (zxid zxid' zxid'' : ℤ) (before list after : Published) (barren barren' n n' : ℕ)
+    → IsBetween tells host net now zxid before list zxid' barren → DialsOnce tells host (stream.Over why is_barren) now net' list after zxid' zxid'' n n' → barren' ≡ barren_after is_barren barren → IsBetween tells host net net' zxid before after zxid'' barren'
+between_goes tells host why is_barren net now net' zxid zxid' zxid'' before list after barren barren' n n' b o counted = record {
   dials = b.dials ++ o.dial ∷ [];
   followed = subst (λ (left : List Kv). Followed tells host net net' zxid (b.dials ++ o.dial ∷ []) left before after) (o.comes).0
       (followed_push tells host (stream.Over why is_barren) net now net' zxid zxid' zxid'' before list after barren n n' b o);
   over = over_push tells host b.dials o.dial b.over (is_barren, (o.comes).2);
   asks = o.zxid_is ∙ ap (λ (z : ℤ). zxid_after z (o.dial).entries) b.asks ∙ sym (zxid_join zxid (entries_of b.dials) (o.dial).entries) ∙ ap (zxid_after zxid) (sym (entries_push b.dials o.dial));
-  none = end_barren tells host barren b.dials o.dial is_barren b.none (o.comes).2;
+  none = subst (λ (k : ℕ). EndBarren tells host k (b.dials ++ o.dial ∷ [])) (sym counted) (end_barren tells host barren b.dials o.dial is_barren b.none (o.comes).2);
 }
 
 -- the word to stop was set, between two dials

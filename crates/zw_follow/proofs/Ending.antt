@@ -22,7 +22,7 @@ use Rattle.zx_outside.specs.Counts.{one_more}
 use Rattle.zx_words.specs.Words.{readings_after}
 use Rattle.zx_outside.proofs.Streams.{Gives-nil}
 use Rattle.zw_follow.specs.Publishing.{Explains, IsPlaced, IsShown, Publishes, Said, Stands, TakesLine, heads_of, zxid_after}
-use Rattle.zw_follow.specs.Streams.{EndsBy, GoesOn, IsBrokenBy, IsFollowing, IsReadTo, ReadsOn, ReadsStream, StopsAt, spelled, taken_after}
+use Rattle.zw_follow.specs.Streams.{EndsBy, GoesOn, IsBrokenBy, IsFollowing, IsReadTo, IsTaken, ReadsOn, ReadsStream, StopsAt, spelled, taken_after}
 use Rattle.zw_follow.specs.declared.place.Place.{Place}
 use Rattle.zw_follow.specs.declared.stream.StreamEnd.{StreamEnd}
 use Rattle.zw_follow.specs.declared.stream.StreamEnd.TheVariants as stream
@@ -83,11 +83,11 @@ following_starts tells lines list place follower at placed follows = record {
 }
 
 -- no line came in time
-pub following_waits : {In : Type 0} (tells : In → Told) (dialled : In) (lines lines' : Lines In) (before now : Published) (zxid : ℤ) (place : Place) (follower : FollowerState) (gave : Taken)
-    → (h : IsFollowing tells dialled lines before now zxid place follower gave) → ReadsOn tells dialled (Ok None) lines' h.said → IsFollowing tells dialled lines' before now zxid place follower gave
-following_waits tells dialled lines lines' before now zxid place follower gave h read = record {
+pub following_waits : {In : Type 0} (tells : In → Told) (dialled : In) (lines lines' : Lines In) (before now : Published) (zxid : ℤ) (place : Place) (follower : FollowerState) (gave : Taken) (found : Option Line)
+    → (h : IsFollowing tells dialled lines before now zxid place follower gave) → found ≡ None → ReadsOn tells dialled (Ok found) lines' h.said → IsFollowing tells dialled lines' before now zxid place follower gave
+following_waits tells dialled lines lines' before now zxid place follower gave found h none read = record {
   said = h.said;
-  read = read;
+  read = subst (λ (f : Option Line). ReadsOn tells dialled (Ok f) lines' h.said) none read;
   entries = h.entries;
   publishes = h.publishes;
   zxid_is = h.zxid_is;
@@ -96,18 +96,20 @@ following_waits tells dialled lines lines' before now zxid place follower gave h
 }
 
 -- one more line was taken
-pub following_goes : {In : Type 0} (tells : In → Told) (dialled : In) (lines lines' : Lines In) (before now next : Published) (zxid : ℤ) (place place' : Place) (follower follower' : FollowerState) (gave : Taken) (l : Line) (u : Unit {0})
-    → (h : IsFollowing tells dialled lines before now zxid place follower gave) → ReadsOn tells dialled (Ok (Some l)) lines' h.said → TakesLine (Ok u) l now next place.zxid place'.zxid → Stands next follower' place'
-    → IsFollowing tells dialled lines' before next zxid place' follower' (taken_after l gave)
-following_goes tells dialled lines lines' before now next zxid place place' follower follower' gave l u h read takes stands = record {
-  said = h.said ++ read.0 ∷ [];
-  read = read.2;
-  entries = h.entries ++ takes.0;
-  publishes = publishes_line h.said read.0 l h.entries takes.0 [] before now next read.1 h.publishes takes.1;
-  zxid_is = takes.2 ∙ ap (λ (z : ℤ). zxid_after z takes.0) h.zxid_is ∙ sym (zxid_join zxid h.entries takes.0);
-  stands = stands;
-  is = taken_push gave h.said read.0 l read.1 h.is;
-}
+pub following_goes : {In : Type 0} (tells : In → Told) (dialled : In) (lines lines' : Lines In) (before now next : Published) (zxid : ℤ) (place place' : Place) (follower follower' : FollowerState) (gave gave' : Taken) (found : Option Line) (l : Line) (u : Unit {0})
+    → (h : IsFollowing tells dialled lines before now zxid place follower gave) → found ≡ Some l → ReadsOn tells dialled (Ok found) lines' h.said → TakesLine (Ok u) l now next place.zxid place'.zxid → Stands next follower' place' → gave' ≡ taken_after l gave
+    → IsFollowing tells dialled lines' before next zxid place' follower' gave'
+following_goes tells dialled lines lines' before now next zxid place place' follower follower' gave gave' found l u h some reads takes stands counted =
+    let read : ReadsOn tells dialled (Ok (Some l)) lines' h.said = subst (λ (f : Option Line). ReadsOn tells dialled (Ok f) lines' h.said) some reads in
+    record {
+      said = h.said ++ read.0 ∷ [];
+      read = read.2;
+      entries = h.entries ++ takes.0;
+      publishes = publishes_line h.said read.0 l h.entries takes.0 [] before now next read.1 h.publishes takes.1;
+      zxid_is = takes.2 ∙ ap (λ (z : ℤ). zxid_after z takes.0) h.zxid_is ∙ sym (zxid_join zxid h.entries takes.0);
+      stands = stands;
+      is = subst (λ (t : Taken). IsTaken t (h.said ++ read.0 ∷ [])) (sym counted) (taken_push gave h.said read.0 l read.1 h.is);
+    }
 
 -- ---- its end
 
@@ -174,7 +176,7 @@ stream_closes tells dialled lines lines' before now next zxid zxid' place follow
 shown_in : (list list' : Published) (l l' : Line) (end : FeedEnd) → list' ≡ list → l' ≡ l → IsShown list end l → IsShown list' end l'
 shown_in list list' l l' end same is shown = subst (λ (x : Published). IsShown x end l') (sym same) (subst (λ (x : Line). IsShown list end x) (sym is) shown)
 
-pub stream_ends : {In : Type 0} (tells : In → Told) (dialled : In) (lines lines' : Lines In) (before now next : Published) (zxid zxid' : ℤ) (place : Place) (follower : FollowerState) (gave : Taken) (l : Line) (end : StreamEnd) (n n' : ℕ)
+stream_ends : {In : Type 0} (tells : In → Told) (dialled : In) (lines lines' : Lines In) (before now next : Published) (zxid zxid' : ℤ) (place : Place) (follower : FollowerState) (gave : Taken) (l : Line) (end : StreamEnd) (n n' : ℕ)
     → IsFollowing tells dialled lines before now zxid place follower gave → ((said : List Said) → IsReadTo tells dialled lines (spelled said) → ReadsOn tells dialled (Ok (Some l)) lines' said) → TakesLine (Err end) l now next place.zxid zxid' → n' ≡ n
     → ReadsStream tells dialled end before next zxid zxid' n n'
 stream_ends tells dialled lines lines' before now next zxid zxid' place follower gave l (stream.Closes ends.Memory) n n' h reads takes counted =
@@ -208,3 +210,10 @@ stream_ends tells dialled lines lines' before now next zxid zxid' place follower
     stream_closes tells dialled lines lines' before now next zxid zxid' place follower gave l (stream.Over why barren) n n' h read takes.0 takes.1
     (none, counted, inr ((h.said, read.0, refl, read.1 ∙ takes.2), takes.3))
 stream_ends tells dialled lines lines' before now next zxid zxid' place follower gave l stream.Stopped n n' h reads takes counted = absurd takes
+
+-- the same, where what was found is that line
+pub stream_ends_at : {In : Type 0} (tells : In → Told) (dialled : In) (lines lines' : Lines In) (before now next : Published) (zxid zxid' : ℤ) (place : Place) (follower : FollowerState) (gave : Taken) (found : Option Line) (l : Line) (end : StreamEnd) (n n' : ℕ)
+    → IsFollowing tells dialled lines before now zxid place follower gave → found ≡ Some l → ((said : List Said) → IsReadTo tells dialled lines (spelled said) → ReadsOn tells dialled (Ok found) lines' said) → TakesLine (Err end) l now next place.zxid zxid' → n' ≡ n
+    → ReadsStream tells dialled end before next zxid zxid' n n'
+stream_ends_at tells dialled lines lines' before now next zxid zxid' place follower gave found l end n n' h some reads takes counted =
+    stream_ends tells dialled lines lines' before now next zxid zxid' place follower gave l end n n' h (λ said read. subst (λ (f : Option Line). ReadsOn tells dialled (Ok f) lines' said) some (reads said read)) takes counted

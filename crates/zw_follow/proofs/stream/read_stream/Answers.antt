@@ -1,11 +1,9 @@
-use Rattle.std.proofs.Common.{sym, subst, refl}
-use Rattle.std.specs.Prelude.{Option, IfSome, Ok}
+use Rattle.std.proofs.Common.{subst, refl}
+use Rattle.std.specs.Prelude.{Option, IfSome}
 use Rattle.ev_http.specs.Taking.{told}
 use Rattle.ev_json.specs.Ranges.{LineFits}
 use Rattle.ev_json.specs.declared.line.Line.{Line}
-use Rattle.zw_follow.specs.Streams.{IsFollowing, ReadsOn}
-use Rattle.zw_follow.specs.declared.stream.Taken.{Taken}
-use Rattle.zw_follow.proofs.Ending.{follower_at, following_goes, following_starts, following_waits, goes_on_broken, set_now, stream_breaks, stream_ends, stream_stops, unset_now}
+use Rattle.zw_follow.proofs.Ending.{follower_at, following_goes, following_starts, following_waits, goes_on_broken, set_now, stream_breaks, stream_ends_at, stream_stops, unset_now}
 use Rattle.zw_follow.proofs.stream.read_stream.Goals as goal
 
 pub lines-init : goal.lines-init
@@ -25,13 +23,12 @@ returns-in-Err-clause-reads g c = stream_breaks (told g.S.Source.given g.S.Sourc
     (unset_now c.is_set.result _ _ _ c.is_set.ensures c.if-is_set.false c.lines.invariant.2)
 
 pub lines-preserved-in-None-found : goal.lines-preserved-in-None-found
-lines-preserved-in-None-found g c =
-    let found : ReadsOn (told g.S.Source.given g.S.Source.left g.S.Source.counts g.S.Source.ended g.S.Source.name) _ (Ok c.in-Ok.found) _ _ = c.in-Ok.ensures.reads _ _ (c.lines.invariant.3).read in (
-      tt,
-      tt,
-      unset_now c.is_set.result _ _ _ c.is_set.ensures c.if-is_set.false c.lines.invariant.2,
-      following_waits (told g.S.Source.given g.S.Source.left g.S.Source.counts g.S.Source.ended g.S.Source.name) _ _ _ _ _ _ _ _ _ c.lines.invariant.3 (subst (λ (f : Option Line). ReadsOn (told g.S.Source.given g.S.Source.left g.S.Source.counts g.S.Source.ended g.S.Source.name) _ (Ok f) _ _) c.in-None-found.is found),
-    )
+lines-preserved-in-None-found g c = (
+  tt,
+  tt,
+  unset_now c.is_set.result _ _ _ c.is_set.ensures c.if-is_set.false c.lines.invariant.2,
+  following_waits (told g.S.Source.given g.S.Source.left g.S.Source.counts g.S.Source.ended g.S.Source.name) _ _ c.next_line.new.lines _ _ _ _ _ _ c.in-Ok.found c.lines.invariant.3 c.in-None-found.is (c.in-Ok.ensures.reads _ _ (c.lines.invariant.3).read),
+)
 
 pub take_line-requires-clause-line : goal.take_line-requires-clause-line
 take_line-requires-clause-line g c = subst (λ (f : Option Line). IfSome f LineFits) c.in-Some-found.is c.in-Ok.ensures.fits
@@ -43,8 +40,7 @@ pub returns-in-Err-take_line-clause-goes_on : goal.returns-in-Err-take_line-clau
 returns-in-Err-take_line-clause-goes_on g c = c.in-Err-take_line.ensures.goes_on
 
 pub returns-in-Err-take_line-clause-reads : goal.returns-in-Err-take_line-clause-reads
-returns-in-Err-take_line-clause-reads g c = stream_ends (told g.S.Source.given g.S.Source.left g.S.Source.counts g.S.Source.ended g.S.Source.name) _ _ c.next_line.new.lines _ _ _ _ _ _ _ _ c.in-Some-found.line c.in-Err-take_line.end _ _ c.lines.invariant.3
-    (λ said h. subst (λ (f : Option Line). ReadsOn (told g.S.Source.given g.S.Source.left g.S.Source.counts g.S.Source.ended g.S.Source.name) _ (Ok f) _ said) c.in-Some-found.is (c.in-Ok.ensures.reads _ said h)) c.in-Err-take_line.ensures.takes
+returns-in-Err-take_line-clause-reads g c = stream_ends_at (told g.S.Source.given g.S.Source.left g.S.Source.counts g.S.Source.ended g.S.Source.name) _ _ c.next_line.new.lines _ _ _ _ _ _ _ _ c.in-Ok.found c.in-Some-found.line c.in-Err-take_line.end _ _ c.lines.invariant.3 c.in-Some-found.is (c.in-Ok.ensures.reads _) c.in-Err-take_line.ensures.takes
     (unset_now c.is_set.result _ _ _ c.is_set.ensures c.if-is_set.false c.lines.invariant.2)
 
 pub lines-preserved-in-Ok-take_line : goal.lines-preserved-in-Ok-take_line
@@ -52,9 +48,8 @@ lines-preserved-in-Ok-take_line g c = (
   tt,
   tt,
   unset_now c.is_set.result _ _ _ c.is_set.ensures c.if-is_set.false c.lines.invariant.2,
-  subst (λ (t : Taken). IsFollowing (told g.S.Source.given g.S.Source.left g.S.Source.counts g.S.Source.ended g.S.Source.name) _ _ _ _ _ _ _ t) (sym c.taken_after-taken.ensures)
-      (following_goes (told g.S.Source.given g.S.Source.left g.S.Source.counts g.S.Source.ended g.S.Source.name) _ _ _ _ _ _ _ _ _ _ _ _ c.in-Some-found.line tt c.lines.invariant.3
-      (subst (λ (f : Option Line). ReadsOn (told g.S.Source.given g.S.Source.left g.S.Source.counts g.S.Source.ended g.S.Source.name) _ (Ok f) _ _) c.in-Some-found.is (c.in-Ok.ensures.reads _ _ (c.lines.invariant.3).read)) c.in-Ok-take_line.ensures.takes c.in-Ok-take_line.ensures.stands),
+  following_goes (told g.S.Source.given g.S.Source.left g.S.Source.counts g.S.Source.ended g.S.Source.name) _ _ c.next_line.new.lines _ _ _ _ _ _ _ _ _ _ c.in-Ok.found c.in-Some-found.line tt c.lines.invariant.3 c.in-Some-found.is (c.in-Ok.ensures.reads _ _ (c.lines.invariant.3).read) c.in-Ok-take_line.ensures.takes
+      c.in-Ok-take_line.ensures.stands c.taken_after-taken.ensures,
 )
 
 pub lines-preserved : goal.lines-preserved
@@ -62,7 +57,6 @@ lines-preserved g c = (
   tt,
   tt,
   unset_now c.is_set.result _ _ _ c.is_set.ensures c.if-is_set.false c.lines.invariant.2,
-  subst (λ (t : Taken). IsFollowing (told g.S.Source.given g.S.Source.left g.S.Source.counts g.S.Source.ended g.S.Source.name) _ _ _ _ _ _ _ t) (sym c.taken_after-taken.ensures)
-      (following_goes (told g.S.Source.given g.S.Source.left g.S.Source.counts g.S.Source.ended g.S.Source.name) _ _ _ _ _ _ _ _ _ _ _ _ c.in-Some-found.line tt c.lines.invariant.3
-      (subst (λ (f : Option Line). ReadsOn (told g.S.Source.given g.S.Source.left g.S.Source.counts g.S.Source.ended g.S.Source.name) _ (Ok f) _ _) c.in-Some-found.is (c.in-Ok.ensures.reads _ _ (c.lines.invariant.3).read)) c.in-Ok-take_line.ensures.takes c.in-Ok-take_line.ensures.stands),
+  following_goes (told g.S.Source.given g.S.Source.left g.S.Source.counts g.S.Source.ended g.S.Source.name) _ _ c.next_line.new.lines _ _ _ _ _ _ _ _ _ _ c.in-Ok.found c.in-Some-found.line tt c.lines.invariant.3 c.in-Some-found.is (c.in-Ok.ensures.reads _ _ (c.lines.invariant.3).read) c.in-Ok-take_line.ensures.takes
+      c.in-Ok-take_line.ensures.stands c.taken_after-taken.ensures,
 )
