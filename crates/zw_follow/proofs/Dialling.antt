@@ -1,23 +1,19 @@
 -- Dials, one after the other.
-use Rattle.std.proofs.Common.{◌≡◌, ℕ, ◌+◌, ◌^◌, ◌<◌, ◌≤◌, ℤ, pos, to_z, of_z, w64, Bool, true, false, List, [], ◌∷◌, ◌++◌, length, refl, sym, ap, ◌∙◌, subst, arith, append_assoc, append-nil, length-append, Option, Some, None, Result, Ok, Err, inl, inr}
-use Rattle.std.specs.Prelude.{◌≢◌, ◌+ℤ◌, ◌≤ℤ◌, ◌<ℤ◌, codes}
+use Rattle.std.proofs.Common.{◌≡◌, ℕ, ◌+◌, ◌^◌, ◌<◌, ◌≤◌, ℤ, pos, to_z, of_z, w64, Bool, true, false, List, [], ◌∷◌, ◌++◌, refl, sym, ap, ◌∙◌, subst, arith, append_assoc, append-nil, length-append, Some, None, Result, Ok, Err, inl, inr}
+use Rattle.std.specs.Prelude.{◌≤ℤ◌, ◌<ℤ◌}
 use Rattle.ev_types.specs.declared.answer.Kv.{Kv}
-use Rattle.ev_types.specs.declared.route.Route.TheVariants as route
-use Rattle.ev_json.specs.Messages.{watch_text}
-use Rattle.ev_http.specs.Sending.{Sends, request_head}
 use Rattle.ev_http.specs.Stream.{IsAt}
 use Rattle.ev_http.specs.declared.fault.HttpFault.{HttpFault}
 use Rattle.ev_http.specs.declared.fault.HttpFault.TheVariants as http
 use Rattle.ev_http.specs.declared.lines.Lines.{Lines}
 use Rattle.ev_words.specs.declared.fault.Fault.{Fault}
 use Rattle.zn_layout.specs.declared.entry.Entry.{Entry}
-use Rattle.zw_hub.specs.Ends.{IsProper}
 use Rattle.zw_hub.specs.Lists.{with_end}
 use Rattle.zw_hub.specs.declared.feed.FeedEnd.{FeedEnd}
 use Rattle.zw_hub.specs.declared.feed.FeedEnd.TheVariants as ends
 use Rattle.zw_hub.specs.declared.published.Published.{Published}
 use Rattle.zx_outside.specs.Counts.{one_more}
-use Rattle.zw_follow.specs.Dials.{Answers, AreBarren, AreDials, AreOver, Comes, Dial, DialsOnce, EndBarren, Followed, Follows, GivesUp, IsBetween, IsDial, IsFailed, IsOverBefore, IsOverDial, NetTold, Opens, OpensNone, Stops, Telling, WasRead, barren_after, entries_of, request_with, said_of, watch_request}
+use Rattle.zw_follow.specs.Dials.{Answers, AreBarren, AreDials, AreOver, Comes, Dial, DialsOnce, EndBarren, Followed, Follows, GivesUp, IsBetween, IsDial, IsOverBefore, IsOverDial, NetTold, Opens, OpensNone, Stops, Telling, WasRead, barren_after, entries_of, said_of}
 use Rattle.zw_follow.specs.Publishing.{Explains, IsPlaced, Publishes, Said, heads_of, zxid_after}
 use Rattle.zw_follow.specs.Streams.{GoesOn, IsOver, IsUnsentBy, ReadsStream}
 use Rattle.zw_follow.specs.declared.place.Place.{Place}

@@ -1,28 +1,21 @@
 -- How a stream goes on, and how it ends.
-use Rattle.std.proofs.Common.{◌≡◌, ℕ, ◌^◌, ℤ, pos, to_z, of_z, w64, Bool, true, false, List, [], ◌∷◌, ◌++◌, refl, sym, ap, ◌∙◌, subst, append_assoc, append-nil, Option, Some, None, Result, Ok, Err, inl, inr}
-use Rattle.std.specs.Prelude.{◌≢◌, ◌≤ℤ◌, ◌<ℤ◌}
-use Rattle.zx_base.specs.Maps.{Bytes}
+use Rattle.std.proofs.Common.{◌≡◌, ℕ, ◌^◌, ℤ, pos, to_z, of_z, w64, Bool, true, false, List, [], ◌∷◌, ◌++◌, refl, sym, ap, ◌∙◌, subst, Option, Some, None, Ok, Err, inl, inr}
+use Rattle.std.specs.Prelude.{◌≤ℤ◌, ◌<ℤ◌}
 use Rattle.ev_http.specs.Stream.{IsAt}
 use Rattle.ev_http.specs.Taking.{Told}
 use Rattle.ev_http.specs.declared.lines.Lines.{Lines}
 use Rattle.ev_json.specs.declared.line.Line.{Line}
-use Rattle.ev_json.specs.declared.line.Line.TheVariants as line
-use Rattle.ev_types.specs.declared.answer.Kv.{Kv}
 use Rattle.ev_words.specs.declared.fault.Fault.{Fault}
-use Rattle.zn_layout.specs.Reading.{IsNoValue, head_bytes, IsHeadWithin}
-use Rattle.zn_layout.specs.declared.entry.Entry.{Entry}
-use Rattle.zw_feed.specs.Following.{BreaksAt, FollowerState, IsBroken, heads_in}
-use Rattle.zw_feed.specs.declared.fault.FeedFault.TheVariants as feed
+use Rattle.zw_feed.specs.Following.{FollowerState, heads_in}
 use Rattle.zw_hub.specs.Ends.{IsProper}
-use Rattle.zw_hub.specs.Lists.{last_number}
 use Rattle.zw_hub.specs.declared.feed.FeedEnd.{FeedEnd}
 use Rattle.zw_hub.specs.declared.feed.FeedEnd.TheVariants as ends
 use Rattle.zw_hub.specs.declared.published.Published.{Published}
 use Rattle.zx_outside.specs.Counts.{one_more}
 use Rattle.zx_words.specs.Words.{readings_after}
 use Rattle.zx_outside.proofs.Streams.{Gives-nil}
-use Rattle.zw_follow.specs.Publishing.{Explains, IsPlaced, IsShown, Publishes, Said, Stands, TakesLine, heads_of, zxid_after}
-use Rattle.zw_follow.specs.Streams.{EndsBy, GoesOn, IsBrokenBy, IsFollowing, IsReadTo, IsTaken, ReadsOn, ReadsStream, StopsAt, spelled, taken_after}
+use Rattle.zw_follow.specs.Publishing.{IsPlaced, IsShown, Said, Stands, TakesLine, zxid_after}
+use Rattle.zw_follow.specs.Streams.{EndsBy, GoesOn, IsBrokenBy, IsFollowing, IsReadTo, IsTaken, ReadsOn, ReadsStream, spelled, taken_after}
 use Rattle.zw_follow.specs.declared.place.Place.{Place}
 use Rattle.zw_follow.specs.declared.stream.StreamEnd.{StreamEnd}
 use Rattle.zw_follow.specs.declared.stream.StreamEnd.TheVariants as stream

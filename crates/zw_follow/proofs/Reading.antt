@@ -1,5 +1,5 @@
 -- A stream, read line by line.
-use Rattle.std.proofs.Common.{◌≡◌, ℕ, ◌+◌, ℤ, Bool, true, false, List, [], ◌∷◌, ◌++◌, refl, sym, ap, ◌∙◌, subst, append_assoc, append-nil, Option, Some, None, Result, Ok, Err, inl, inr}
+use Rattle.std.proofs.Common.{◌≡◌, ℕ, List, [], ◌∷◌, ◌++◌, refl, sym, ap, ◌∙◌, subst, append_assoc, Option, Some, None, Result, Ok, Err}
 use Rattle.std.specs.Prelude.{◌≢◌, IfOk, IfSome, cond, unwrap_or}
 use Rattle.std.specs.Io.KnownBytes.{prepend_known}
 use Rattle.ev_fields.specs.declared.fault.JsonFault.{JsonFault}
@@ -18,7 +18,7 @@ use Rattle.ev_json.specs.declared.line.Line.TheVariants as line
 use Rattle.ev_words.specs.declared.fault.Fault.{Fault}
 use Rattle.ev_words.specs.declared.fault.Fault.TheVariants as fault
 use Rattle.zx_outside.specs.Counts.{one_more}
-use Rattle.zx_outside.proofs.Streams.{Gives-append, Gives-nil}
+use Rattle.zx_outside.proofs.Streams.{Gives-append}
 use Rattle.zw_follow.specs.Publishing.{Said}
 use Rattle.zw_follow.specs.Streams.{AreCreated, GivesNone, IsMissed, IsReadTo, IsTaken, ReadsOn, StopsAt, spelled, taken_after}
 use Rattle.zw_follow.specs.declared.stream.Taken.{Taken}

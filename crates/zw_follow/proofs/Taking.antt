@@ -1,5 +1,5 @@
 -- A line, taken.
-use Rattle.std.proofs.Common.{◌≡◌, ℕ, ◌+◌, ◌^◌, ℤ, pos, Bool, true, false, List, [], ◌∷◌, ◌++◌, length, refl, sym, ap, ◌∙◌, subst, arith, append-nil, Option, Some, None, Result, Ok, Err}
+use Rattle.std.proofs.Common.{◌≡◌, ◌^◌, ℤ, pos, List, [], length, refl, sym, ap, ◌∙◌, subst, arith, append-nil, None, Result, Ok, Err}
 use Rattle.std.proofs.lemmas.Int.{ints}
 use Rattle.std.specs.Prelude.{◌≢◌, ◌+ℤ◌, ◌≤ℤ◌, ◌<ℤ◌}
 use Rattle.std.specs.Global.{Vec}
@@ -7,9 +7,6 @@ use Rattle.zx_base.specs.Maps.{Bytes}
 use Rattle.zx_base.specs.declared.memory.Memory.{Memory}
 use Rattle.ev_json.specs.Ranges.{LineFits}
 use Rattle.ev_json.specs.declared.line.Line.{Line}
-use Rattle.ev_json.specs.declared.line.Line.TheVariants as line
-use Rattle.ev_types.specs.declared.answer.Kv.{Kv}
-use Rattle.ev_words.specs.declared.fault.Fault.{Fault}
 use Rattle.zn_layout.specs.Reading.{IsNoValue, head_bytes, IsHeadWithin}
 use Rattle.zn_layout.specs.declared.entry.Entry.{Entry}
 use Rattle.zw_feed.specs.Following.{AreEntries, BreaksAt, FollowerState, Gives, IsBroken, Takes, heads_in}
@@ -21,7 +18,7 @@ use Rattle.zw_hub.specs.Lists.{last_number}
 use Rattle.zw_hub.specs.declared.feed.FeedEnd.{FeedEnd}
 use Rattle.zw_hub.specs.declared.feed.FeedEnd.TheVariants as ends
 use Rattle.zw_hub.specs.declared.published.Published.{Published}
-use Rattle.zw_follow.specs.Publishing.{IsPlaced, IsRun, Means, Publishes, PublishesAll, Stands, TakesLine, with_entries, zxid_after}
+use Rattle.zw_follow.specs.Publishing.{IsPlaced, IsRun, Means, PublishesAll, Stands, TakesLine, with_entries, zxid_after}
 use Rattle.zw_follow.specs.Streams.{GoesOn}
 use Rattle.zw_follow.specs.declared.place.Place.{Place}
 use Rattle.zw_follow.specs.declared.stream.StreamEnd.{StreamEnd}

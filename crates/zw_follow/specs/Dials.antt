@@ -9,7 +9,6 @@ use Rattle.ev_http.specs.Taking.{Told, told}
 use Rattle.ev_http.specs.declared.fault.HttpFault.{HttpFault}
 use Rattle.ev_http.specs.declared.fault.HttpFault.TheVariants as http
 use Rattle.ev_http.specs.declared.lines.Lines.{Lines}
-use Rattle.ev_words.specs.declared.fault.Fault.{Fault}
 use Rattle.zn_layout.specs.declared.entry.Entry.{Entry}
 use Rattle.zw_hub.specs.Ends.{IsProper}
 use Rattle.zw_hub.specs.Lists.{with_end}
@@ -20,7 +19,6 @@ use Rattle.zx_net.specs.Nets.{GivesNext, IsFreshSink, IsFreshSource, NetCounts}
 use Rattle.zx_outside.specs.Counts.{InputCounts, OutputCounts, one_more}
 use Rattle.zw_follow.specs.Publishing.{Explains, Publishes, Said, heads_of, zxid_after}
 use Rattle.zw_follow.specs.Streams.{IsOver, IsReadTo, spelled}
-use Rattle.zw_follow.specs.declared.place.Place.{Place}
 use Rattle.zw_follow.specs.declared.stream.StreamEnd.{StreamEnd}
 use Rattle.zw_follow.specs.declared.stream.StreamEnd.TheVariants as stream
 

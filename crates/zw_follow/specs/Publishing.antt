@@ -1,5 +1,5 @@
 -- What lines of a watch on the head add to a list: the entries of their heads, each once and in order (etcd API reference, "Watch").
-use Rattle.std.specs.Prelude.{◌≡◌, ◌≢◌, ℕ, ℤ, pos, ◌+ℤ◌, ◌≤ℤ◌, ◌<ℤ◌, ◌^◌, List, [], ◌∷◌, ◌++◌, Bool, false, Option, Some, None, Result, Ok, Err}
+use Rattle.std.specs.Prelude.{◌≡◌, ℕ, ℤ, pos, ◌+ℤ◌, ◌≤ℤ◌, ◌<ℤ◌, ◌^◌, List, [], ◌∷◌, ◌++◌, false, None, Result, Ok, Err}
 use Rattle.ev_types.specs.declared.answer.Kv.{Kv}
 use Rattle.ev_json.specs.Bodies.{reads_line}
 use Rattle.ev_json.specs.declared.line.Line.{Line}

@@ -1,4 +1,4 @@
-use Rattle.std.proofs.Common.{refl, rules, subst, sym}
+use Rattle.std.proofs.Common.{rules, subst, sym}
 use Rattle.zw_follow.specs.Publishing.{IsPublishing}
 use Rattle.zw_follow.proofs.Growing.{publishing_goes, publishing_starts}
 use Rattle.zw_follow.proofs.stream.publish.Goals as goal
