@@ -1,0 +1,38 @@
+-- Faults of etcd, and of the way to it, as an operator reads them.
+use Rattle.std.specs.Prelude.{ℕ, List, ◌++◌, codes}
+use Rattle.std.specs.Fmt.{decimal, signed_decimal}
+use Rattle.ev_fields.specs.declared.fault.JsonFault.{JsonFault}
+use Rattle.ev_fields.specs.declared.fault.JsonFault.TheVariants as json
+use Rattle.ev_http.specs.declared.fault.HttpFault.{HttpFault}
+use Rattle.ev_http.specs.declared.fault.HttpFault.TheVariants as http
+use Rattle.ev_words.specs.declared.fault.Fault.{Fault}
+use Rattle.ev_words.specs.declared.fault.Fault.TheVariants as fault
+
+unfoldable pub http_words : HttpFault → List ℕ
+http_words http.Head = codes "what came is no HTTP answer"
+http_words (http.Status n) = codes "status " ++ decimal n
+http_words http.Route = codes "what came is no answer"
+http_words (http.Body place) = codes "the answer is broken at byte " ++ decimal place
+http_words (http.TooLong limit) = codes "the answer has more than " ++ (decimal limit ++ codes " bytes")
+http_words (http.Ended taken) = codes "the connection ended"
+http_words http.Idle = codes "no answer within a minute"
+http_words http.ReadFault = codes "the connection cannot be read"
+http_words http.WriteFault = codes "the connection cannot be written"
+http_words http.Memory = codes "out of memory"
+
+unfoldable pub json_words : JsonFault → List ℕ
+json_words json.NotJson = codes "what came cannot be understood"
+json_words (json.Unreadable field) = codes "what came cannot be understood"
+json_words json.Memory = codes "out of memory"
+
+unfoldable pub words : Fault → List ℕ
+words fault.First = codes "no answer"
+words fault.Dial = codes "nobody answers"
+words (fault.Http why) = http_words why
+words (fault.Json why) = json_words why
+words fault.Ended = codes "etcd ended it"
+words (fault.Compacted rev) = codes "updates before revision " ++ (signed_decimal rev ++ codes " were compacted unread")
+words (fault.Gap expected found) = codes "update " ++ (signed_decimal expected ++ (codes " is missing, " ++ (signed_decimal found ++ codes " came")))
+words fault.Damaged = codes "a value is no record of this service"
+words fault.NoLine = codes "ten tries in a row gave nothing"
+words fault.Memory = codes "out of memory"

@@ -1,0 +1,91 @@
+//! Faults of which an operator is told, in words.
+
+ghost use Rattle.std.specs.Prelude.{◌≡◌, Some};
+ghost use Rattle.std.specs.Fmt.{DisplaysOnOk};
+ghost use Rattle.ev_words.specs.Words.{http_words, json_words, words};
+
+use ev_http::HttpFault;
+use ev_json::JsonFault;
+use std::fmt;
+use std::fmt::{Display, Formatter, Write};
+
+/// A fault of etcd, or of the way to it.
+#[derive(Clone, Copy)]
+pub enum Fault {
+    /// The first ask had no answer.
+    First,
+    /// Nobody answers at the address.
+    Dial,
+    /// A message could not be sent or read.
+    Http(HttpFault),
+    /// What came could not be understood.
+    Json(JsonFault),
+    /// etcd ended the watch.
+    Ended,
+    /// The revisions from here on were compacted before they were read.
+    Compacted(i64),
+    /// An update is missing: this one was expected, and that one found.
+    Gap(i64, i64),
+    /// A key of the service has a value that is no record.
+    Damaged,
+    /// Ten dials in a row gave no line.
+    NoLine,
+    /// Memory was refused.
+    Memory,
+}
+
+#[tactic(auto, unfolding(crate::specs::Words::http_words))]
+fn write_http<W: Write>(fault: HttpFault, f: &mut Formatter<W>) -> fmt::Result
+    ensures { DisplaysOnOk W.write_str_gives f.old result (Some (http_words fault)) f.new }
+{
+    match fault {
+        HttpFault::Head => f.write_str("what came is no HTTP answer"),
+        HttpFault::Status(status) => write!(f, "status {status}"),
+        HttpFault::Route => f.write_str("what came is no answer"),
+        HttpFault::Body { place } => write!(f, "the answer is broken at byte {place}"),
+        HttpFault::TooLong { limit } => write!(f, "the answer has more than {limit} bytes"),
+        HttpFault::Ended { .. } => f.write_str("the connection ended"),
+        HttpFault::Idle => f.write_str("no answer within a minute"),
+        HttpFault::ReadFault => f.write_str("the connection cannot be read"),
+        HttpFault::WriteFault => f.write_str("the connection cannot be written"),
+        HttpFault::Memory => f.write_str("out of memory"),
+    }
+}
+
+#[tactic(auto, unfolding(crate::specs::Words::json_words))]
+fn json_words(fault: JsonFault) -> &'static str
+    ensures { result.now ≡ json_words fault }
+{
+    match fault {
+        JsonFault::NotJson | JsonFault::Unreadable { .. } => "what came cannot be understood",
+        JsonFault::Memory => "out of memory",
+    }
+}
+
+impl Display for Fault {
+    ghost use Rattle.std.specs.Prelude.{Some};
+    ghost use Rattle.ev_words.specs.Words.{words};
+
+    ghost output = { λ fault. Some (words fault) };
+
+    #[tactic(auto, unfolding(crate::specs::Words::words))]
+    fn fmt<W: Write>(&self, f: &mut Formatter<W>) -> fmt::Result {
+        match self {
+            Fault::First => f.write_str("no answer"),
+            Fault::Dial => f.write_str("nobody answers"),
+            Fault::Http(fault) => write_http(*fault, f),
+            Fault::Json(fault) => f.write_str(json_words(*fault)),
+            Fault::Ended => f.write_str("etcd ended it"),
+            Fault::Compacted(rev) => write!(
+                f,
+                "updates before revision {rev} were compacted unread"
+            ),
+            Fault::Gap(expected, found) => {
+                write!(f, "update {expected} is missing, {found} came")
+            }
+            Fault::Damaged => f.write_str("a value is no record of this service"),
+            Fault::NoLine => f.write_str("ten tries in a row gave nothing"),
+            Fault::Memory => f.write_str("out of memory"),
+        }
+    }
+}
