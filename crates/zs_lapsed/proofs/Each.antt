@@ -31,7 +31,11 @@ more-others : (m n : ℤ) (ms : List ℤ) (d also damaged : Bool) (cs own mine l
     → ((rest : Bool) → ReapsEach ms (Ok rest) later → ReapsEach (ms ++ n ∷ []) (Ok (rest || also)) (later ++ own))
     → cs ≡ mine ++ later → Reaps m (Ok damaged) mine → ReapsEach ms others later → Ok d ≡ or_damaged damaged others → ReapsEach (m ∷ (ms ++ n ∷ [])) (Ok (d || also)) (cs ++ own)
 more-others m n ms d also damaged cs own mine later (Ok rest) on is one e same = (
-  Ok damaged, mine, later ++ own, ap (λ (l : List Call). l ++ own) is ∙ append_assoc mine later own, one,
+  Ok damaged,
+  mine,
+  later ++ own,
+  ap (λ (l : List Call). l ++ own) is ∙ append_assoc mine later own,
+  one,
   (Ok (rest || also), on rest e, ap Ok (ap (λ (b : Bool). b || also) (ok-is d (damaged || rest) same) ∙ or_assoc damaged rest also)),
 )
 more-others m n ms d also damaged cs own mine later (Err f) on is one e same = absurd (ok-err d f same)
@@ -50,7 +54,11 @@ cut-others : (m n : ℤ) (ms behind : List ℤ) (d damaged : Bool) (f : TurnFaul
     → ((rest : Bool) → ReapsEach ms (Ok rest) later → ReapsEach (ms ++ n ∷ behind) (Err f) (later ++ own))
     → cs ≡ mine ++ later → Reaps m (Ok damaged) mine → ReapsEach ms others later → Ok d ≡ or_damaged damaged others → ReapsEach (m ∷ (ms ++ n ∷ behind)) (Err f) (cs ++ own)
 cut-others m n ms behind d damaged f cs own mine later (Ok rest) on is one e same = (
-  Ok damaged, mine, later ++ own, ap (λ (l : List Call). l ++ own) is ∙ append_assoc mine later own, one,
+  Ok damaged,
+  mine,
+  later ++ own,
+  ap (λ (l : List Call). l ++ own) is ∙ append_assoc mine later own,
+  one,
   (Err f, on rest e, refl),
 )
 cut-others m n ms behind d damaged f cs own mine later (Err g) on is one e same = absurd (ok-err d g same)
@@ -67,22 +75,22 @@ each-cut (m ∷ ms) n behind d f cs own h r = cut-first m n ms behind d f cs own
 
 -- ---- in the list
 
-next-of : (ns : List ℤ) (at : ℕ) (n : ℤ) → at < length ns → n ≡ get_or ns at n → take (at + 1) ns ≡ take at ns ++ n ∷ []
-next-of ns at n below is = take_more ns at n below ∙ ap (λ (x : ℤ). take at ns ++ x ∷ []) (sym is)
+next-of : (ns : List ℤ) (at : ℕ) (z : ℤ) → at < length ns → take (at + 1) ns ≡ take at ns ++ get_or ns at z ∷ []
+next-of ns at z below = take_more ns at z below
 
-around : (ns : List ℤ) (at : ℕ) (n : ℤ) → at < length ns → n ≡ get_or ns at n → ns ≡ take at ns ++ n ∷ drop (at + 1) ns
-around ns at n below is =
-    sym (take-append-drop (at + 1) ns) ∙ ap (λ (l : List ℤ). l ++ drop (at + 1) ns) (next-of ns at n below is) ∙ append_assoc (take at ns) (n ∷ []) (drop (at + 1) ns)
+around : (ns : List ℤ) (at : ℕ) (z : ℤ) → at < length ns → ns ≡ take at ns ++ get_or ns at z ∷ drop (at + 1) ns
+around ns at z below =
+    sym (take-append-drop (at + 1) ns) ∙ ap (λ (l : List ℤ). l ++ drop (at + 1) ns) (next-of ns at z below) ∙ append_assoc (take at ns) (get_or ns at z ∷ []) (drop (at + 1) ns)
 
 pub each_none : (t : LinkTold) → Makes (ReapsEach [] (Ok false)) t t
 each_none t = no_calls (ReapsEach [] (Ok false)) t (refl, refl)
 
-pub each_more : (ns : List ℤ) (at : ℕ) (n : ℤ) (d also : Bool) (old mid new : LinkTold) → at < length ns → n ≡ get_or ns at n → Makes (ReapsEach (take at ns) (Ok d)) old mid → Makes (Reaps n (Ok also)) mid new → Makes (ReapsEach (take (at + 1) ns) (Ok (d || also))) old new
-each_more ns at n d also old mid new below is m r =
-    subst (λ (l : List ℤ). Makes (ReapsEach l (Ok (d || also))) old new) (sym (next-of ns at n below is))
-    (made_then (ReapsEach (take at ns) (Ok d)) (Reaps n (Ok also)) (ReapsEach (take at ns ++ n ∷ []) (Ok (d || also))) old mid new (λ xs ys. each-more (take at ns) n d also xs ys) m r)
+pub each_more : (ns : List ℤ) (at : ℕ) (z : ℤ) (d also : Bool) (old mid new : LinkTold) → at < length ns → Makes (ReapsEach (take at ns) (Ok d)) old mid → Makes (Reaps (get_or ns at z) (Ok also)) mid new → Makes (ReapsEach (take (at + 1) ns) (Ok (d || also))) old new
+each_more ns at z d also old mid new below m r =
+    subst (λ (l : List ℤ). Makes (ReapsEach l (Ok (d || also))) old new) (sym (next-of ns at z below))
+    (made_then (ReapsEach (take at ns) (Ok d)) (Reaps (get_or ns at z) (Ok also)) (ReapsEach (take at ns ++ get_or ns at z ∷ []) (Ok (d || also))) old mid new (λ xs ys. each-more (take at ns) (get_or ns at z) d also xs ys) m r)
 
-pub each_cut : (ns : List ℤ) (at : ℕ) (n : ℤ) (d : Bool) (f : TurnFault) (old mid new : LinkTold) → at < length ns → n ≡ get_or ns at n → Makes (ReapsEach (take at ns) (Ok d)) old mid → Makes (Reaps n (Err f)) mid new → Makes (ReapsEach ns (Err f)) old new
-each_cut ns at n d f old mid new below is m r =
-    subst (λ (l : List ℤ). Makes (ReapsEach l (Err f)) old new) (sym (around ns at n below is))
-    (made_then (ReapsEach (take at ns) (Ok d)) (Reaps n (Err f)) (ReapsEach (take at ns ++ n ∷ drop (at + 1) ns) (Err f)) old mid new (λ xs ys. each-cut (take at ns) n (drop (at + 1) ns) d f xs ys) m r)
+pub each_cut : (ns : List ℤ) (at : ℕ) (z : ℤ) (d : Bool) (f : TurnFault) (old mid new : LinkTold) → at < length ns → Makes (ReapsEach (take at ns) (Ok d)) old mid → Makes (Reaps (get_or ns at z) (Err f)) mid new → Makes (ReapsEach ns (Err f)) old new
+each_cut ns at z d f old mid new below m r =
+    subst (λ (l : List ℤ). Makes (ReapsEach l (Err f)) old new) (sym (around ns at z below))
+    (made_then (ReapsEach (take at ns) (Ok d)) (Reaps (get_or ns at z) (Err f)) (ReapsEach (take at ns ++ get_or ns at z ∷ drop (at + 1) ns) (Err f)) old mid new (λ xs ys. each-cut (take at ns) (get_or ns at z) (drop (at + 1) ns) d f xs ys) m r)

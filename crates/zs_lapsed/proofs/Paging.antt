@@ -41,8 +41,8 @@ both_damages a b (Err f) = refl
 pub turns_first : (all : ℕ) (t : LinkTold) → Makes (GoesOn all 0 [] false) t t
 turns_first all t = no_calls (GoesOn all 0 [] false) t (record {
   on = λ left others later same rest.
-    let whole : left ≡ all = omega (arith, same) in
-    subst (λ (r : Result Bool TurnFault). Turns all [] r later) (sym (same_with_none others)) (subst (λ (n : ℕ). Turns n [] others later) whole rest);
+      let whole : left ≡ all = omega (arith, same) in
+      subst (λ (r : Result Bool TurnFault). Turns all [] r later) (sym (same_with_none others)) (subst (λ (n : ℕ). Turns n [] others later) whole rest);
 })
 
 -- a page in front of what follows it
@@ -75,9 +75,9 @@ turns_more all made from next damaged page old mid new m p is =
     made_then (GoesOn all made from damaged) (IsPage from (Ok page)) (GoesOn all (made + 1) next (damaged || page.is_damaged)) old mid new
     (λ xs ys g q. record {
       on = λ left others later same rest.
-        let whole = g.on (suc left) (or_damaged page.is_damaged others) (ys ++ later) (more-left made left all same) (page-front left from next page others ys later q is rest) in
-        subst (λ (l : List Call). Turns all [] (or_damaged (damaged || page.is_damaged) others) l) (sym (append_assoc xs ys later))
-        (subst (λ (r : Result Bool TurnFault). Turns all [] r (xs ++ (ys ++ later))) (both_damages damaged page.is_damaged others) whole);
+          let whole = g.on (suc left) (or_damaged page.is_damaged others) (ys ++ later) (more-left made left all same) (page-front left from next page others ys later q is rest) in
+          subst (λ (l : List Call). Turns all [] (or_damaged (damaged || page.is_damaged) others) l) (sym (append_assoc xs ys later))
+          (subst (λ (r : Result Bool TurnFault). Turns all [] r (xs ++ (ys ++ later))) (both_damages damaged page.is_damaged others) whole);
     })
     m p
 

@@ -1,5 +1,6 @@
 //! Steps a reaper.
 
+ghost use Rattle.std.specs.Prelude.{◌≡◌, ◌||◌};
 ghost use Rattle.zs_lapsed.specs.Calling.{Makes, link_told};
 ghost use Rattle.zs_lapsed.specs.Reaping.{Reaps, ReapsEach};
 
@@ -37,6 +38,13 @@ fn reap_one<L: Etcd>(alloc: Global, link: &mut L, session: i64) -> Result<bool, 
     Ok(false)
 }
 
+/// Whether at least one of the two is damaged.
+pub(crate) fn either(one: bool, other: bool) -> bool
+    ensures { result ≡ (one || other) }
+{
+    one || other
+}
+
 /// Ends those of these sessions that have lapsed, one after the other.
 #[tactic(auto, using(crate::proofs::Each::each_none, crate::proofs::Each::each_more, crate::proofs::Each::each_cut))]
 pub(crate) fn reap_each<L: Etcd>(
@@ -49,7 +57,7 @@ pub(crate) fn reap_each<L: Etcd>(
     let mut is_damaged = false;
     'sessions: for session in sessions {
         match reap_one(alloc, link, *session) {
-            Ok(damaged) => is_damaged = is_damaged || damaged,
+            Ok(damaged) => is_damaged = either(is_damaged, damaged),
             Err(fault) => return Err(fault),
         }
     }

@@ -10,7 +10,7 @@ ghost use Rattle.zx_net.specs.Nets.{NetCounts};
 use crate::calling::TurnFault;
 use crate::failure::fault_of;
 use crate::listing::list;
-use crate::reaping::reap_each;
+use crate::reaping::{either, reap_each};
 use ev_call::Etcd;
 use ev_json::{Field, JsonFault};
 use ev_link::HttpLink;
@@ -62,7 +62,7 @@ fn turn<L: Etcd>(alloc: Global, link: &mut L) -> Result<bool, TurnFault>
             Ok(page) => page,
             Err(fault) => return Err(fault),
         };
-        is_damaged = is_damaged || page.is_damaged;
+        is_damaged = either(is_damaged, page.is_damaged);
         match page.next {
             Some(next) => from = next,
             None => return Ok(is_damaged),
