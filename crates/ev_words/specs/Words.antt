@@ -1,5 +1,5 @@
 -- Faults of etcd, and of the way to it, as an operator reads them.
-use Rattle.std.specs.Prelude.{ℕ, List, ◌++◌, codes}
+use Rattle.std.specs.Prelude.{ℕ, ℤ, List, ◌++◌, codes}
 use Rattle.std.specs.Fmt.{decimal, signed_decimal}
 use Rattle.ev_fields.specs.declared.fault.JsonFault.{JsonFault}
 use Rattle.ev_fields.specs.declared.fault.JsonFault.TheVariants as json
@@ -25,6 +25,9 @@ json_words json.NotJson = codes "what came cannot be understood"
 json_words (json.Unreadable field) = codes "what came cannot be understood"
 json_words json.Memory = codes "out of memory"
 
+abbrev pub gap_words : ℤ → ℤ → List ℕ
+gap_words expected found = codes "update " ++ (signed_decimal expected ++ (codes " is missing, " ++ (signed_decimal found ++ codes " came")))
+
 unfoldable pub words : Fault → List ℕ
 words fault.First = codes "no answer"
 words fault.Dial = codes "nobody answers"
@@ -32,7 +35,7 @@ words (fault.Http why) = http_words why
 words (fault.Json why) = json_words why
 words fault.Ended = codes "etcd ended it"
 words (fault.Compacted rev) = codes "updates before revision " ++ (signed_decimal rev ++ codes " were compacted unread")
-words (fault.Gap expected found) = codes "update " ++ (signed_decimal expected ++ (codes " is missing, " ++ (signed_decimal found ++ codes " came")))
+words (fault.Gap expected found) = gap_words expected found
 words fault.Damaged = codes "a value is no record of this service"
 words fault.NoLine = codes "ten tries in a row gave nothing"
 words fault.Memory = codes "out of memory"

@@ -2,7 +2,7 @@
 
 ghost use Rattle.std.specs.Prelude.{◌≡◌, Some};
 ghost use Rattle.std.specs.Fmt.{DisplaysOnOk};
-ghost use Rattle.ev_words.specs.Words.{http_words, json_words, words};
+ghost use Rattle.ev_words.specs.Words.{gap_words, http_words, json_words, words};
 
 use ev_http::HttpFault;
 use ev_json::JsonFault;
@@ -62,6 +62,12 @@ fn json_words(fault: JsonFault) -> &'static str
     }
 }
 
+fn write_gap<W: Write>(expected: i64, found: i64, f: &mut Formatter<W>) -> fmt::Result
+    ensures { DisplaysOnOk W.write_str_gives f.old result (Some (gap_words expected found)) f.new }
+{
+    write!(f, "update {expected} is missing, {found} came")
+}
+
 impl Display for Fault {
     ghost use Rattle.std.specs.Prelude.{Some};
     ghost use Rattle.ev_words.specs.Words.{words};
@@ -80,9 +86,7 @@ impl Display for Fault {
                 f,
                 "updates before revision {rev} were compacted unread"
             ),
-            Fault::Gap(expected, found) => {
-                write!(f, "update {expected} is missing, {found} came")
-            }
+            Fault::Gap(expected, found) => write_gap(*expected, *found, f),
             Fault::Damaged => f.write_str("a value is no record of this service"),
             Fault::NoLine => f.write_str("ten tries in a row gave nothing"),
             Fault::Memory => f.write_str("out of memory"),

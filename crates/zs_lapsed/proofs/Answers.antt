@@ -1,6 +1,6 @@
 -- An answer that fits a transaction is one that a reaper's next step takes.
 use Rattle.std.proofs.Common.{List, [], ◌∷◌}
-use Rattle.std.specs.Prelude.{Some, All}
+use Rattle.std.specs.Prelude.{Some}
 use Rattle.std.proofs.lemmas.List.Elements.{All-cons, All-nil}
 use Rattle.ev_call.specs.Asks.{IsGrantable}
 use Rattle.ev_call.specs.Fitting.{AreCounts, Fits, PartFits, PartsFit}

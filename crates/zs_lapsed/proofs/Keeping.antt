@@ -1,5 +1,5 @@
 -- Which link is kept, and what the net counts.
-use Rattle.std.proofs.Common.{◌≡◌, ℕ, refl, sym, ap, ◌∙◌, subst, arith, inl, inr}
+use Rattle.std.proofs.Common.{◌≡◌, refl, sym, ◌∙◌, subst, arith, inl, inr}
 use Rattle.std.specs.Prelude.{Bool, true, false, [], Option, Some, None, Result, Ok, Err}
 use Rattle.ev_link.specs.declared.failure.LinkFailure.{LinkFailure}
 use Rattle.ev_link.specs.declared.failure.LinkFailure.TheVariants as failure

@@ -1,13 +1,13 @@
 -- Which sessions have lapsed, in words of membership.
-use Rattle.std.proofs.Common.{◌≡◌, ℕ, zero, suc, ◌+◌, ◌<◌, ℤ, List, [], ◌∷◌, length, refl, sym, ap, ◌∙◌, subst, arith, inl, inr}
+use Rattle.std.proofs.Common.{◌≡◌, ℕ, zero, suc, ℤ, List, [], ◌∷◌, refl, sym, ap, ◌∙◌, subst, arith, inl, inr}
 use Rattle.std.specs.Prelude.{◌⊎◌, Bool, true, false, not, cond, Option, Some, None, Contains, Any, filter, codes}
-use Rattle.std.specs.List.{cons_option, list_any}
+use Rattle.std.specs.List.{cons_option}
 use Rattle.std.specs.Ordering.{int_eq}
 use Rattle.std.specs.Cmp.{signed_Decides}
 use Rattle.std.proofs.lemmas.List.Elements.{All-contains, All-contains_itself, All-filter, filter_passes}
 use Rattle.std.proofs.lemmas.List.Folds.{Any-from_list_any, list_any-from_Any}
 use Rattle.ev_types.specs.declared.answer.Kv.{Kv}
-use Rattle.zs_lapsed.specs.Listing.{IsOpen, Lives, is_among, lapsed_of, numbers_in, session_in, without_of}
+use Rattle.zs_lapsed.specs.Listing.{IsOpen, Lives, is_among, lapsed_of, numbers_in, session_in}
 
 -- ---- the elements of a list
 

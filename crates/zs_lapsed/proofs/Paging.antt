@@ -1,6 +1,6 @@
 -- Pages, one after the other.
-use Rattle.std.proofs.Common.{◌≡◌, ℕ, zero, suc, ◌+◌, ◌-◌, ◌<◌, List, [], ◌++◌, refl, sym, ap, ◌∙◌, subst, arith, append_assoc, append-nil}
-use Rattle.std.specs.Prelude.{Bool, true, false, ◌||◌, Option, Some, None, Result, Ok, Err}
+use Rattle.std.proofs.Common.{◌≡◌, ℕ, suc, ◌+◌, ◌-◌, ◌<◌, List, [], ◌++◌, refl, sym, ap, subst, arith, append_assoc, append-nil}
+use Rattle.std.specs.Prelude.{Bool, false, ◌||◌, Option, Some, None, Result, Ok, Err}
 use Rattle.ev_call.specs.Calls.{Call}
 use Rattle.zs_lapsed.specs.declared.calling.TurnFault.{TurnFault}
 use Rattle.zs_lapsed.specs.declared.listing.Listed.{Listed}
@@ -8,7 +8,7 @@ use Rattle.zs_lapsed.specs.declared.turning.Page.{Page}
 use Rattle.zs_lapsed.specs.Calling.{LinkTold, Makes}
 use Rattle.zs_lapsed.specs.Listing.{Lists}
 use Rattle.zs_lapsed.specs.Reaping.{ReapsEach, or_damaged}
-use Rattle.zs_lapsed.specs.Turning.{AfterNext, AfterPage, IsPage, Turns}
+use Rattle.zs_lapsed.specs.Turning.{AfterNext, IsPage, Turns}
 use Rattle.zs_lapsed.proofs.Each.{or_assoc, or_none}
 use Rattle.zs_lapsed.proofs.Making.{made_as, made_then, no_calls}
 

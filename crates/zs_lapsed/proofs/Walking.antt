@@ -1,12 +1,11 @@
 -- How the calls of a reap go on, and how they end.
-use Rattle.std.proofs.Common.{◌≡◌, ℕ, ◌+◌, ℤ, List, [], ◌∷◌, ◌++◌, length, refl, sym, ap, ◌∙◌, subst, arith, inl, inr, length-append}
+use Rattle.std.proofs.Common.{◌≡◌, ℕ, ◌+◌, ℤ, List, [], ◌∷◌, ◌++◌, length, refl, sym, ap, ◌∙◌, subst, inl, inr, length-append}
 use Rattle.std.specs.Prelude.{Bool, Option, Some, None, Result, Ok, Err, true, false}
 use Rattle.ev_types.specs.declared.answer.Answer.{Answer}
 use Rattle.ev_types.specs.declared.ask.Ask.{Ask}
 use Rattle.ev_call.specs.Calls.{Call}
 use Rattle.ev_call.specs.declared.etcd.CallFault.{CallFault}
 use Rattle.ev_call.specs.declared.etcd.CallFault.TheVariants as call
-use Rattle.zs_session.specs.declared.fault.StepFault.{StepFault}
 use Rattle.zs_session.specs.declared.fault.StepFault.TheVariants.{Damaged}
 use Rattle.zs_reap.specs.Steps.{IsReapFault, MayStep, Steps}
 use Rattle.zs_reap.specs.declared.reap.Phase.TheVariants.{Over}
@@ -16,7 +15,7 @@ use Rattle.zs_reap.specs.declared.reap.ReapStep.TheVariants as steps
 use Rattle.zs_lapsed.specs.declared.calling.TurnFault.{TurnFault}
 use Rattle.zs_lapsed.specs.declared.calling.TurnFault.TheVariants as turn
 use Rattle.zs_lapsed.specs.Calling.{Calls, LinkTold, Makes}
-use Rattle.zs_lapsed.specs.Reaping.{IsCalled, IsEnded, IsReapedTo, Reaps, Walks, begun, max_asks}
+use Rattle.zs_lapsed.specs.Reaping.{IsReapedTo, Reaps, Walks, begun, max_asks}
 use Rattle.zs_lapsed.proofs.Listed.{came_failed, came_memory, came_none, came_ok}
 use Rattle.zs_lapsed.proofs.Making.{made_as, made_then, no_calls}
 

@@ -1,4 +1,4 @@
-use Rattle.std.proofs.Common.{◌≡◌, ℤ, [], ◌∷◌, ◌++◌, SFits, w64, sym, ap, ◌∙◌, rules}
+use Rattle.std.proofs.Common.{ℤ, [], ◌∷◌, ◌++◌, SFits, w64, sym, ap, ◌∙◌, rules}
 use Rattle.std.proofs.lemmas.Int.{to_z-of_z}
 use Rattle.zs_lapsed.proofs.Searching.{numbers_more, numbers_same}
 use Rattle.zs_lapsed.proofs.listing.numbers_in.Goals as goal

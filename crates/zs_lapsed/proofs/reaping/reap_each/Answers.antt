@@ -1,5 +1,5 @@
-use Rattle.std.proofs.Common.{◌≡◌, ℤ, pos, ◌+◌, SFits, w64, take, get_or, sym, subst, rules}
-use Rattle.std.specs.Prelude.{Bool, ◌||◌, Ok, Err}
+use Rattle.std.proofs.Common.{ℤ, pos, ◌+◌, SFits, w64, take, get_or, sym, subst, rules}
+use Rattle.std.specs.Prelude.{Bool, Ok, Err}
 use Rattle.std.proofs.lemmas.Int.{to_z-of_z}
 use Rattle.zs_lapsed.specs.Calling.{Makes, link_told}
 use Rattle.zs_lapsed.specs.Reaping.{Reaps, ReapsEach}

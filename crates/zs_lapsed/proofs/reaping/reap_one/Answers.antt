@@ -1,5 +1,5 @@
 use Rattle.std.proofs.Common.{◌≡◌, ℤ, w64, to_z, of_z, subst}
-use Rattle.std.specs.Prelude.{Option, Ok, Err}
+use Rattle.std.specs.Prelude.{Option, Err}
 use Rattle.std.proofs.lemmas.Int.{to_z-of_z}
 use Rattle.ev_types.specs.declared.answer.Answer.{Answer}
 use Rattle.zs_reap.specs.Steps.{Steps}
