@@ -1,0 +1,9 @@
+pub mod Answers
+pub mod Each
+pub mod Lapsing
+pub mod Keeping
+pub mod Listed
+pub mod Making
+pub mod Paging
+pub mod Searching
+pub mod Walking

@@ -1,0 +1,5 @@
+pub mod Calling
+pub mod Listing
+pub mod Reaping
+pub mod Turning
+pub mod Working

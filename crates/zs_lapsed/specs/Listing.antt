@@ -1,0 +1,102 @@
+-- The sessions that have lapsed: those that are open, by the key of their nodes, and have no record of their life (etcd API reference,
+-- "Lease API": where a lease lapses, its keys are removed).
+use Rattle.std.specs.Prelude.{◌≡◌, ◌⊎◌, ℕ, ◌-◌, nat_lt, ℤ, pos, Bool, true, not, List, [], ◌∷◌, ◌++◌, length, take, drop, filter, filter_map, slice_get, bytes_eq, codes, Option, Some, None, option_map, option_and_then, Result, Ok, Err, Contains, if◌then◌else◌}
+use Rattle.std.specs.List.{list_any}
+use Rattle.std.specs.Ordering.{int_eq}
+use Rattle.ev_types.specs.declared.answer.ActAns.{ActAns}
+use Rattle.ev_types.specs.declared.answer.ActAns.TheVariants as part
+use Rattle.ev_types.specs.declared.answer.Answer.{Answer}
+use Rattle.ev_types.specs.declared.answer.Answer.TheVariants as answer
+use Rattle.ev_types.specs.declared.answer.Kv.{Kv}
+use Rattle.ev_types.specs.declared.ask.Act.{Act}
+use Rattle.ev_types.specs.declared.ask.Act.TheVariants as act
+use Rattle.ev_types.specs.declared.ask.Ask.{Ask}
+use Rattle.ev_types.specs.declared.ask.Ask.TheVariants as ask
+use Rattle.ev_call.specs.Calls.{Call}
+use Rattle.ev_call.specs.declared.etcd.CallFault.{CallFault}
+use Rattle.ev_call.specs.declared.etcd.CallFault.TheVariants as call
+use Rattle.zt_text.specs.Scripts.{session_id}
+use Rattle.zs_lapsed.specs.declared.calling.TurnFault.{TurnFault}
+use Rattle.zs_lapsed.specs.declared.calling.TurnFault.TheVariants as turn
+use Rattle.zs_lapsed.specs.declared.listing.Listed.{Listed}
+
+-- ---- what is asked
+
+-- at most so many keys of each kind are listed by one ask
+abbrev pub max_listed : ℕ
+max_listed = 1000
+
+-- the keys of one kind, without their values, from this number on
+abbrev pub names_from : List ℕ → List ℕ → List ℕ → Act
+names_from kind from end = act.Range (record { key = kind ++ from; end = end; revision = pos 0; limit = pos max_listed; keys_only = true })
+
+-- one transaction without guards: the keys of open sessions and those of the sessions that live, from this number on
+abbrev pub list_ask : List ℕ → Ask
+list_ask from = ask.Txn (record {
+  guards = [];
+  success = names_from (codes "zk/s/") from (codes "zk/s0") ∷ names_from (codes "zk/l/") from (codes "zk/l0") ∷ [];
+  failure = [];
+})
+
+-- ---- which sessions have lapsed
+
+-- the session whose key of this kind this is: behind the kind stand its 16 hex digits
+abbrev pub session_in : List ℕ → Kv → Option ℤ
+session_in kind kv = if bytes_eq (take (length kind) kv.key) kind then session_id (drop (length kind) kv.key) else None
+
+abbrev pub numbers_in : List ℕ → List Kv → List ℤ
+numbers_in kind kvs = filter_map (session_in kind) kvs
+
+abbrev pub is_among : List ℤ → ℤ → Bool
+is_among numbers n = list_any (λ m. int_eq m n) numbers
+
+abbrev pub without_of : List ℤ → List ℤ → List ℤ
+without_of numbers living = filter (λ n. not (is_among living n)) numbers
+
+-- the open sessions that are not among the living, in the order of their keys
+abbrev pub lapsed_of : List Kv → List Kv → List ℤ
+lapsed_of opened alive = without_of (numbers_in (codes "zk/s/") opened) (numbers_in (codes "zk/l/") alive)
+
+-- where the next list begins: right behind the last key; nowhere where the list was not full
+abbrev pub next_from : List Kv → Option (List ℕ)
+next_from opened = if nat_lt (length opened) max_listed then None else option_map (λ (kv : Kv). drop 5 kv.key ++ 0 ∷ []) (slice_get opened (length opened - 1))
+
+-- ---- what an answer shows
+
+abbrev pub parts_of : Answer → List ActAns
+parts_of (answer.Txn revision succeeded parts) = parts
+parts_of _ = []
+
+abbrev pub found_in : ActAns → Option (List Kv)
+found_in (part.Range found) = Some found.kvs
+found_in _ = None
+
+-- the keys that the part at this place found
+abbrev pub found_at : List ActAns → ℕ → Option (List Kv)
+found_at parts at = option_and_then found_in (slice_get parts at)
+
+-- Both lists come from one answer, and so from one revision. There is no list where a part is no range's.
+abbrev pub Shows : Answer → Result Listed TurnFault → Type 0
+Shows a (Ok listed) = (opened alive : List Kv) × (found_at (parts_of a) 0 ≡ Some opened) × (found_at (parts_of a) 1 ≡ Some alive) × (listed ≡ record { lapsed = lapsed_of opened alive; next = next_from opened })
+Shows a (Err turn.NoList) = (found_at (parts_of a) 0 ≡ None) ⊎ (found_at (parts_of a) 1 ≡ None)
+Shows a (Err turn.Memory) = Unit {0}
+Shows a (Err turn.Failed) = ⊥
+
+-- ---- one list
+
+-- it is one call, or none where memory was refused; and its answer shows the sessions
+abbrev pub Lists : List ℕ → Result Listed TurnFault → List Call → Type 0
+Lists from (Ok listed) calls = (a : Answer) × (calls ≡ record { ask = list_ask from; result = Ok a } ∷ []) × Shows a (Ok listed)
+Lists from (Err turn.NoList) calls = (a : Answer) × (calls ≡ record { ask = list_ask from; result = Ok a } ∷ []) × Shows a (Err turn.NoList)
+Lists from (Err turn.Failed) calls = calls ≡ record { ask = list_ask from; result = Err call.Failed } ∷ []
+Lists from (Err turn.Memory) calls = (calls ≡ []) ⊎ ((came : Result Answer CallFault) × (calls ≡ record { ask = list_ask from; result = came } ∷ []) × (came ≡ Err call.Failed → ⊥))
+
+-- ---- what this means
+
+-- a session of this number is among the open ones
+abbrev pub IsOpen : List Kv → ℤ → Type 0
+IsOpen opened n = (kv : Kv) × Contains opened kv × (session_in (codes "zk/s/") kv ≡ Some n)
+
+-- the record of its life is among those of the living
+abbrev pub Lives : List Kv → ℤ → Type 0
+Lives alive n = (kv : Kv) × Contains alive kv × (session_in (codes "zk/l/") kv ≡ Some n)

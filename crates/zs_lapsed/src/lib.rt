@@ -1,0 +1,25 @@
+//! Finds the sessions whose lease has lapsed, and ends them with their ephemeral nodes.
+//!
+//! Where a session's lease lapses, etcd removes the record of its life alone, and its nodes are still there. [`reap`] makes a turn
+//! about once a second. A turn lists the keys of all open sessions and of those that live, a thousand of each at a time and without
+//! their values, and steps a [`Reaper`](zs_reap::Reaper) for each that is open and does not live. The list is only a hint: the reaper
+//! looks again, and ends a session by one guarded transaction, so any number of proxies may do this at once.
+//!
+//! In `specs/`: `Listing` (what is asked, and which sessions an answer shows as lapsed), `Reaping` (the calls of one reap), `Turning`
+//! (the calls of a turn, over a link that is kept or dialled anew) and `Working` (what the worker does for as long as it runs).
+//! `Calling` has the words for the calls of a link.
+//!
+//! A turn holds one list at a time, however many sessions there are.
+#![tactic(auto)]
+
+mod calling;
+mod failure;
+mod laws;
+mod listing;
+mod reaping;
+mod turning;
+mod working;
+
+pub use failure::fault_of;
+pub use laws::who_has_lapsed;
+pub use working::{pause_of, reap};
