@@ -1,13 +1,14 @@
 -- Which sessions have lapsed, in words of membership.
-use Rattle.std.proofs.Common.{◌≡◌, ℕ, zero, suc, ℤ, List, [], ◌∷◌, refl, sym, ap, ◌∙◌, subst, arith, inl, inr}
-use Rattle.std.specs.Prelude.{◌⊎◌, Bool, true, false, not, cond, Option, Some, None, Contains, Any, filter, codes}
+use Rattle.std.proofs.Common.{◌≡◌, ℕ, zero, suc, ◌-◌, ℤ, List, [], ◌∷◌, ◌++◌, length, take, drop, append_assoc, refl, sym, ap, ◌∙◌, subst, arith, inl, inr}
+use Rattle.std.specs.Prelude.{◌⊎◌, Bool, true, false, not, cond, nat_lt, Option, Some, None, option_map, slice_get, Contains, Any, filter, codes, if◌then◌else◌}
 use Rattle.std.specs.List.{cons_option}
+use Rattle.std.proofs.lemmas.List.{take-append-drop}
 use Rattle.std.specs.Ordering.{int_eq}
 use Rattle.std.specs.Cmp.{signed_Decides}
 use Rattle.std.proofs.lemmas.List.Elements.{All-contains, All-contains_itself, All-filter, filter_passes}
 use Rattle.std.proofs.lemmas.List.Folds.{Any-from_list_any, list_any-from_Any}
 use Rattle.ev_types.specs.declared.answer.Kv.{Kv}
-use Rattle.zs_lapsed.specs.Listing.{IsOpen, Lives, is_among, lapsed_of, numbers_in, session_in}
+use Rattle.zs_lapsed.specs.Listing.{AreListed, IsLastOpen, IsOpen, Lives, is_among, lapsed_of, numbers_in, max_listed, next_from, session_in}
 
 -- ---- the elements of a list
 
@@ -113,3 +114,76 @@ open_is_lapsed opened alive n there dead =
     let living = numbers_in (codes "zk/l/") alive in
     is-kept (λ m. not (is_among living m)) (numbers_in (codes "zk/s/") opened) n (to-numbers (codes "zk/s/") opened n there.0 there.1 there.2)
     (not-from (is_among living n) (λ said. dead (from-numbers (codes "zk/l/") alive n (among-is living n said))))
+
+-- ---- lists that are cut short
+
+less-place : (k : ℕ) (x : ℤ) (xs : List ℤ) (n : ℤ) → (Contains (take k xs) n → Contains (take (suc k) xs) n) → (x ≡ n) ⊎ Contains (take k xs) n → Contains (take (suc (suc k)) (x ∷ xs)) n
+less-place k x xs n rest (inl same) = subst (λ (y : ℤ). Contains (x ∷ take (suc k) xs) y) same (first x (take (suc k) xs))
+less-place k x xs n rest (inr d) = behind x (take (suc k) xs) n (rest d)
+
+less-is-there : (k : ℕ) (xs : List ℤ) (n : ℤ) → Contains (take k xs) n → Contains (take (suc k) xs) n
+less-is-there zero xs n c = none-in n c
+less-is-there (suc k) [] n c = none-in n c
+less-is-there (suc k) (x ∷ xs) n c = less-place k x xs n (less-is-there k xs n) (one-of x (take k xs) n c)
+
+by-test : (b : Bool) (k : ℕ) (x : ℤ) (xs : List ℤ) (n : ℤ) → Contains (take k xs) n → Contains (take (suc k) (cond b (x ∷ xs) xs)) n
+by-test true k x xs n c = behind x (take k xs) n c
+by-test false k x xs n c = less-is-there k xs n c
+
+passing-place : (p : ℤ → Bool) (k : ℕ) (x : ℤ) (xs : List ℤ) (n : ℤ) → (Contains (take k xs) n → Contains (take k (filter p xs)) n) → p n ≡ true → (x ≡ n) ⊎ Contains (take k xs) n → Contains (take (suc k) (cond (p x) (x ∷ filter p xs) (filter p xs))) n
+passing-place p k x xs n rest passes (inl same) =
+    subst (λ (b : Bool). Contains (take (suc k) (cond b (x ∷ filter p xs) (filter p xs))) n) (sym (ap p same ∙ passes)) (subst (λ (y : ℤ). Contains (x ∷ take k (filter p xs)) y) same (first x (take k (filter p xs))))
+passing-place p k x xs n rest passes (inr d) = by-test (p x) k x (filter p xs) n (rest d)
+
+-- what passes a test, and is among the first of a list, is among as many first ones of those that pass it
+first-pass : (p : ℤ → Bool) (k : ℕ) (xs : List ℤ) (n : ℤ) → Contains (take k xs) n → p n ≡ true → Contains (take k (filter p xs)) n
+first-pass p zero xs n c passes = none-in n c
+first-pass p (suc k) [] n c passes = none-in n c
+first-pass p (suc k) (x ∷ xs) n c passes = passing-place p k x xs n (λ d. first-pass p k xs n d passes) passes (one-of x (take k xs) n c)
+
+not-true : (b : Bool) → (b ≡ true → ⊥) → b ≡ false
+not-true true denied = absurd (denied refl)
+not-true false denied = refl
+
+pub no_living_is_lapsed : (opened alive : List Kv) (most : ℕ) (all : List ℤ) (lives : ℤ → Bool) (n : ℤ) → AreListed opened alive most all lives → Contains (lapsed_of opened alive) n → lives n ≡ false
+no_living_is_lapsed opened alive most all lives n listed c =
+    let living = numbers_in (codes "zk/l/") alive in
+    let numbers = numbers_in (codes "zk/s/") opened in
+    let there : Contains (take most all) n = subst (λ (l : List ℤ). Contains l n) listed.first (kept-was (λ m. not (is_among living m)) numbers n c) in
+    not-true (lives n) (λ passes. no-both (is_among living n) (kept-passes (λ m. not (is_among living m)) numbers n c) (is-among living n (subst (λ (l : List ℤ). Contains l n) (sym listed.living) (first-pass lives most all n there passes))))
+
+-- ---- where the next list begins
+
+abbrev none-of-keys : Option (List ℕ)
+none-of-keys = None
+
+abbrev none-of-kvs : Option Kv
+none-of-kvs = None
+
+abbrev some-keys : List ℕ → Option (List ℕ)
+some-keys a = Some a
+
+abbrev some-kv : Kv → Option Kv
+some-kv a = Some a
+
+same-list : (a b : List ℕ) → some-keys a ≡ some-keys b → a ≡ b
+same-list a b e = cc
+
+same-kv : (a b : Kv) → some-kv a ≡ some-kv b → a ≡ b
+same-kv a b e = cc
+
+none-some : (from : List ℕ) → none-of-keys ≡ Some from → ⊥
+none-some from e = cc
+
+none-last : (last : Kv) → none-of-kvs ≡ Some last → ⊥
+none-last last e = cc
+
+from-last : (full : Bool) (o : Option Kv) (last : Kv) (from : List ℕ) → o ≡ Some last → (if full then None else option_map (λ (kv : Kv). drop 5 kv.key ++ 0 ∷ []) o) ≡ Some from → from ≡ drop 5 last.key ++ 0 ∷ []
+from-last true o last from is e = absurd (none-some from e)
+from-last false None last from is e = absurd (none-last last is)
+from-last false (Some kv) last from is e = sym (same-list (drop 5 kv.key ++ 0 ∷ []) from e) ∙ ap (λ (k : Kv). drop 5 k.key ++ 0 ∷ []) (same-kv kv last is)
+
+pub behind_the_last : (opened : List Kv) (last : Kv) (from : List ℕ) → IsLastOpen opened last → next_from opened ≡ Some from → codes "zk/s/" ++ from ≡ last.key ++ 0 ∷ []
+behind_the_last opened last from is next =
+    let tail = from-last (nat_lt (length opened) max_listed) (slice_get opened (length opened - 1)) last from is.ends next in
+    ap (λ (l : List ℕ). l ++ from) (sym is.kind) ∙ ap (λ (l : List ℕ). take 5 last.key ++ l) tail ∙ sym (append_assoc (take 5 last.key) (drop 5 last.key) (0 ∷ [])) ∙ ap (λ (l : List ℕ). l ++ 0 ∷ []) (take-append-drop 5 last.key)

@@ -100,3 +100,13 @@ IsOpen opened n = (kv : Kv) × Contains opened kv × (session_in (codes "zk/s/")
 -- the record of its life is among those of the living
 abbrev pub Lives : List Kv → ℤ → Type 0
 Lives alive n = (kv : Kv) × Contains alive kv × (session_in (codes "zk/l/") kv ≡ Some n)
+
+-- Of all open sessions, in the order of their keys, the first are listed; and of those that live among all of them, as many.
+pub record AreListed (opened alive : List Kv) (most : ℕ) (all : List ℤ) (lives : ℤ → Bool) : Type 0 where
+  pub first : numbers_in (codes "zk/s/") opened ≡ take most all
+  pub living : numbers_in (codes "zk/l/") alive ≡ take most (filter lives all)
+
+-- this is the last of these keys, and it is one of an open session
+pub record IsLastOpen (opened : List Kv) (last : Kv) : Type 0 where
+  pub ends : slice_get opened (length opened - 1) ≡ Some last
+  pub kind : take 5 last.key ≡ codes "zk/s/"
