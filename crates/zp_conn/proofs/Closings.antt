@@ -1,5 +1,5 @@
 -- How a step closes the connection.
-use Rattle.std.proofs.Common.{◌≡◌, ℕ, ℤ, List, [], ◌∷◌, ◌++◌, false, refl, sym, ap, ◌∙◌, subst, inl, append-nil, map}
+use Rattle.std.proofs.Common.{◌≡◌, ℕ, ℤ, List, [], ◌∷◌, ◌++◌, false, refl, sym, ap, ◌∙◌, subst, inl, append-nil, map, arith}
 use Rattle.std.specs.Prelude.{Option, None, Ok, Contains}
 use Rattle.zk_transcript.specs.declared.transcript.Cause.{Cause}
 use Rattle.zk_transcript.specs.declared.transcript.Cause.TheVariants as cause
@@ -16,17 +16,17 @@ use Rattle.zp_run.specs.Heard.{Heard}
 use Rattle.zp_run.specs.Laws.{IsClosedIn, RunsOn}
 use Rattle.zp_run.proofs.Running.{runs-on}
 use Rattle.zp_run.specs.Notes.{In, Noted, Out, noted_input, notes_in, notes_of, with_note, with_notes}
-use Rattle.zp_run.specs.Runs.{Step, answer_in, entry_in, frame_in, frames_of, said}
+use Rattle.zp_run.specs.Runs.{Step, asks_of, entry_in, frame_in, frames_of, said}
 use Rattle.zp_conn.specs.Answered.{AreAnswered}
 use Rattle.zp_conn.specs.Inboxes.{Holds, InboxState, IsBadAt}
 use Rattle.zp_conn.specs.Handing.{IsSpoken}
-use Rattle.zp_conn.specs.Serving.{AreFirstFrames, IsEndedFor, Told, is_behind_frames}
+use Rattle.zp_conn.specs.Serving.{AreFirstFrames, IsEndedFor, Told, is_behind_frames, outcomes_of}
 use Rattle.zp_conn.specs.Speaking.{joined}
 use Rattle.zp_conn.specs.Turning.{IsHeldFor, IsShownBy, Stood, listed}
 use Rattle.zp_conn.specs.declared.inputs.Next.TheVariants as next
 use Rattle.zp_conn.specs.declared.speaking.Rest.TheVariants as rest
 use Rattle.zp_conn.proofs.Ends.{Last, same-faults}
-use Rattle.zp_conn.proofs.Goings.{drives-push, flat_map-push, held-more, joined-step, notes-on, said-push, step-row}
+use Rattle.zp_conn.proofs.Goings.{drives-push, flat_map-push, held-more, joined-step, notes-on, said-push, step-row, stepped-outcomes}
 use Rattle.zp_conn.proofs.Turning.{filter_map-push, held-front}
 
 -- what the input is, where the cause is one that is handed in
@@ -157,8 +157,13 @@ closes-last fresh old new core core' i x now o o' n why s p = record {
   calls = s.calls;
   called = s.called;
   asked = record {
-    asks = (listed (asked_by p.out), ap (λ l. l ++ listed (asked_by p.out)) (sym (append-nil _) ∙ s.asks) ∙ sym (filter_map-push (λ (t : Step). asked_by t.out) s.steps step));
-    outcomes = inl (filter_map-push (λ (t : Step). answer_in t.input) s.steps step ∙ sym s.outcomes);
+    uncalled = [];
+    asks = s.asks ∙ sym (filter_map-push (λ (t : Step). asked_by t.out) s.steps step ∙ ap (λ q. asks_of s.steps ++ listed q) (p.speaks).1.0 ∙ append-nil _);
+    unheard = [];
+    outcomes = stepped-outcomes s.steps step (outcomes_of s.calls) s.unheard s.outcomes s.wanting;
+    last = omega arith;
+    whole = λ e. refl;
+    heard = inl refl;
   };
   entries = λ e c. s.entries e (subst (λ l. Contains l e) (filter_map-push (λ (t : Step). entry_in t.input) s.steps step) c);
   written = s.written;

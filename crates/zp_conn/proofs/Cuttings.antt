@@ -1,5 +1,5 @@
 -- How the loop ends for want of memory, and at a fault of the sink.
-use Rattle.std.proofs.Common.{◌≡◌, ◌≤◌, ℕ, take, drop, List, [], ◌∷◌, ◌++◌, true, false, refl, sym, ap, ◌∙◌, subst, inl, inr, append-nil, append_assoc, map, arith}
+use Rattle.std.proofs.Common.{◌≡◌, ◌≤◌, ℕ, length, ◌+◌, take, drop, List, [], ◌∷◌, ◌++◌, true, false, refl, sym, ap, ◌∙◌, subst, inl, inr, append-nil, append_assoc, map, arith}
 use Rattle.std.specs.Prelude.{◌⊎◌, Option, Some, None, Result, Ok, Err, Contains}
 use mathlib.Core.List.{IsPrefix}
 use Rattle.std.proofs.lemmas.List.{map-append}
@@ -24,12 +24,12 @@ use Rattle.zp_run.specs.Runs.{Step, answer_in, answers_of, entries_of, entry_in,
 use Rattle.zp_conn.proofs.Answering.{open-answered}
 use Rattle.zp_conn.proofs.Closings.{held-any}
 use Rattle.zp_conn.proofs.Ends.{Last, front-of, same-faults}
-use Rattle.zp_conn.proofs.Goings.{drives-push, flat_map-push, held-more, joined-both, joined-step, note-notes, notes-both, notes-on, said-push, step-row}
-use Rattle.zp_conn.proofs.Turning.{filter_map-push, held-front, rose}
+use Rattle.zp_conn.proofs.Goings.{drives-push, flat_map-push, handed-outcomes, held-more, joined-both, joined-step, note-notes, notes-both, notes-on, said-push, step-row, stepped-outcomes}
+use Rattle.zp_conn.proofs.Turning.{all-heard, filter_map-push, held-front, rose}
 use Rattle.zp_conn.specs.Answered.{AreAnswered}
 use Rattle.zp_conn.specs.Handing.{Hands, IsSpoken}
 use Rattle.zp_conn.specs.Inboxes.{InboxState}
-use Rattle.zp_conn.specs.Serving.{AreFirstFrames, IsUnstepped, SinkTold, Told, is_behind_frames}
+use Rattle.zp_conn.specs.Serving.{AreFirstFrames, IsUnstepped, SinkTold, Told, is_behind_frames, outcomes_of}
 use Rattle.zp_conn.specs.Speaking.{HasSaid, IsCut, joined}
 use Rattle.zp_conn.specs.Turning.{Stood, answers_in, listed}
 use Rattle.zp_conn.specs.Writing.{Flushes}
@@ -60,6 +60,10 @@ fronts : (before done front left later : List Noted) → (before ++ (done ++ fro
 fronts before done front left later =
     append_assoc before (done ++ front) (left ++ later) ∙ ap (λ l. before ++ l) (append_assoc done front (left ++ later) ∙ ap (λ l. done ++ l) (sym (append_assoc front left later)))
 
+one-listed : {A : Type 0} (o : Option A) → length (listed o) + 0 ≤ 1
+one-listed None = omega arith
+one-listed (Some a) = omega arith
+
 -- the step was taken, and memory was refused while its packets were noted and held
 cut-last : (fresh : Fresh) (old new : Told) (core core' : Core) (i : InboxState) (x : Input) (now : ℕ) (o o' : List ℕ) (n : Option (List Noted)) (m : Memory) → Stood fresh old new core i o None (next.Input x)
     → IsSpoken (Err m) x now core core' o o' (with_note new.notes (In (noted_input x) now)) n → Last fresh old (record new { notes = n }) o' cause.Memory
@@ -75,8 +79,13 @@ cut-last fresh old new core core' i x now o o' n m s p = record {
   calls = s.calls;
   called = s.called;
   asked = record {
-    asks = (listed (asked_by p.out), ap (λ l. l ++ listed (asked_by p.out)) (sym (append-nil _) ∙ s.asks) ∙ sym (filter_map-push (λ (t : Step). asked_by t.out) s.steps step));
-    outcomes = inl (filter_map-push (λ (t : Step). answer_in t.input) s.steps step ∙ sym s.outcomes);
+    uncalled = listed (asked_by p.out);
+    asks = ap (λ l. l ++ listed (asked_by p.out)) (sym (append-nil _) ∙ s.asks) ∙ sym (filter_map-push (λ (t : Step). asked_by t.out) s.steps step);
+    unheard = [];
+    outcomes = stepped-outcomes s.steps step (outcomes_of s.calls) s.unheard s.outcomes s.wanting;
+    last = one-listed (asked_by p.out);
+    whole = λ h. absurd (cc);
+    heard = inl refl;
   };
   entries = λ y c. s.entries y (subst (λ l. Contains l y) (filter_map-push (λ (t : Step). entry_in t.input) s.steps step) c);
   written = s.written;
@@ -106,15 +115,10 @@ cut-last fresh old new core core' i x now o o' n m s p = record {
 
 -- ---- memory was refused before the step
 
-refused-outcomes : (x : Input) (steps : List Step) (all : List (Option Answer)) → all ≡ answers_of steps ++ answers_in (next.Input x) → (answers_of steps ≡ all) ⊎ ((cause.Memory ≡ cause.Memory) × ((a : Option Answer) × (answers_of steps ++ a ∷ [] ≡ all)))
-refused-outcomes (input.Answer a) steps all h = inr (refl, (Some a, sym h))
-refused-outcomes input.Failed steps all h = inr (refl, (None, sym h))
-refused-outcomes (input.Frame b) steps all h = inl (sym (append-nil _) ∙ sym h)
-refused-outcomes (input.Entry e) steps all h = inl (sym (append-nil _) ∙ sym h)
-refused-outcomes (input.Lagged was floor) steps all h = inl (sym (append-nil _) ∙ sym h)
-refused-outcomes input.FeedClosed steps all h = inl (sym (append-nil _) ∙ sym h)
-refused-outcomes (input.ClientEnd p) steps all h = inl (sym (append-nil _) ∙ sym h)
-refused-outcomes (input.BadLength p l) steps all h = inl (sym (append-nil _) ∙ sym h)
+-- the answer that was to be handed in, where the input is one
+one-answer : (o : Option (Option Answer)) → 0 + length (map Some (listed o)) ≤ 1
+one-answer None = omega arith
+one-answer (Some a) = omega arith
 
 fewer-frames : (why : Cause) (read : List ℕ) (frames more : List (List ℕ)) → is_behind_frames why ≡ false → AreFirstFrames why read (frames ++ more) → AreFirstFrames why read frames
 fewer-frames why read frames more b h = record { front = h.front; is_front = h.is_front; fully = h.fully; all = h.all; rest = h.rest; framed = h.framed; first = (more ++ (h.first).0, sym (append_assoc frames more (h.first).0) ∙ (h.first).1); whole = λ e. (let n : false ≡ true = sym b ∙ e in absurd (cc)) }
@@ -139,7 +143,15 @@ refused-last fresh old new core i x o o' n tail s same noted front = record {
   answers = open-answered cause.Memory (frames_of s.steps) (said s.steps) refl core.stage s.opened s.answering;
   calls = s.calls;
   called = s.called;
-  asked = record { asks = ([], s.asks); outcomes = refused-outcomes x s.steps _ s.outcomes };
+  asked = record {
+    uncalled = [];
+    asks = s.asks;
+    unheard = map Some (answers_in (next.Input x));
+    outcomes = handed-outcomes (outcomes_of s.calls) (answers_of s.steps) x s.unheard s.outcomes s.wanting ∙ append-nil _ ∙ map-append Some (answers_of s.steps) (answers_in (next.Input x));
+    last = one-answer (answer_in x);
+    whole = λ e. absurd (cc);
+    heard = inr refl;
+  };
   entries = λ e c. s.entries e (Contains-append_left (entries_of s.steps) _ e c);
   written = s.written;
   takes = s.takes;
@@ -181,7 +193,9 @@ module _ (fresh : Fresh) (old new : Told) (core : Core) (i : InboxState) (o o' :
     calls = s.calls;
     called = s.called;
     asks = s.asks;
+    unheard = s.unheard;
     outcomes = s.outcomes;
+    wanting = s.wanting;
     entries = s.entries;
     looked = s.looked;
     written = s.written ++ o;
@@ -190,6 +204,7 @@ module _ (fresh : Fresh) (old new : Told) (core : Core) (i : InboxState) (o o' :
     noted = s.noted;
     grown = record { source = (s.grown).source; sink = (f.0).1 ∙ (s.grown).sink; link = (s.grown).link };
     lags = s.lags;
+    closings = s.closings;
     shown = tt;
   }
 
@@ -205,7 +220,15 @@ module _ (fresh : Fresh) (old new : Told) (core : Core) (i : InboxState) (o o' :
     answers = open-answered cause.WriteFault (frames_of s.steps) (said s.steps) refl core.stage s.opened s.answering;
     calls = s.calls;
     called = s.called;
-    asked = record { asks = (listed asked, s.asks); outcomes = inl (sym (append-nil _) ∙ sym s.outcomes) };
+    asked = record {
+      uncalled = listed asked;
+      asks = s.asks;
+      unheard = [];
+      outcomes = s.outcomes ∙ ap (λ l. map Some (answers_of s.steps ++ []) ++ l) (all-heard s.unheard s.wanting) ∙ ap (λ l. map Some l ++ []) (append-nil _);
+      last = one-listed asked;
+      whole = λ h. absurd (cc);
+      heard = inl refl;
+    };
     entries = λ y c. s.entries y (Contains-append_left (entries_of s.steps) [] y c);
     written = s.written ++ take t.0 o;
     takes = Takes-append s.written (take t.0 o) _ _ _ s.takes t.2;

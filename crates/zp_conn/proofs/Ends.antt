@@ -1,9 +1,10 @@
 -- How the loop ends: what stands then, and what the last write makes of it.
-use Rattle.std.proofs.Common.{◌≡◌, ◌≤◌, ℕ, take, drop, List, [], ◌∷◌, ◌++◌, true, false, refl, sym, ap, ◌∙◌, subst, inl, inr, append-nil, append_assoc, arith}
+use Rattle.std.proofs.Common.{◌≡◌, ◌≤◌, ℕ, take, drop, length, ◌+◌, List, [], ◌∷◌, ◌++◌, true, false, refl, sym, ap, ◌∙◌, subst, inl, inr, append-nil, append_assoc, map, arith}
 use Rattle.std.specs.Prelude.{◌⊎◌, Option, Some, None, Result, Ok, Err, Contains}
 use mathlib.Core.List.{IsPrefix}
 use Rattle.std.proofs.lemmas.List.{take-append-drop}
 use Rattle.std.proofs.lemmas.List.Elements.{Contains-append_left}
+use Rattle.ev_types.specs.declared.answer.Answer.{Answer}
 use Rattle.ev_call.specs.Calls.{Call}
 use Rattle.zk_transcript.specs.declared.transcript.Cause.{Cause}
 use Rattle.zk_transcript.specs.declared.transcript.Cause.TheVariants as cause
@@ -24,7 +25,7 @@ use Rattle.zp_conn.specs.Driving.{Drives}
 use Rattle.zp_conn.specs.Inboxes.{InboxState}
 use Rattle.zp_conn.specs.Serving.{AreCallsOf, AreFirstFrames, AreNotesOf, IsEndedFor, IsWrittenOf, Rose, Serves, SinkTold, Told, is_behind_frames, is_whole, with_calls}
 use Rattle.zp_conn.specs.Speaking.{joined}
-use Rattle.zp_conn.specs.Turning.{Ends, IsShownBy, Stood, cut_short, ended_by, listed}
+use Rattle.zp_conn.specs.Turning.{Ends, IsShownBy, IsUnheard, Stood, cut_short, ended_by}
 use Rattle.zp_conn.specs.Writing.{Flushes, Wrote}
 use Rattle.zp_conn.specs.declared.inputs.Next.TheVariants as next
 use Rattle.zp_conn.specs.declared.writing.WriteFault.{WriteFault}
@@ -165,7 +166,7 @@ module _ (fresh : Fresh) (old new : Told) (o : List ℕ) (why : Cause) (k : Sink
     answers = weaker why cause.WriteFault (frames_of h.steps) (said h.steps) refl h.answers;
     calls = h.calls;
     called = h.called;
-    asked = record { asks = (h.asked).asks; outcomes = outcomes (h.asked).outcomes };
+    asked = record { uncalled = (h.asked).uncalled; asks = (h.asked).asks; unheard = (h.asked).unheard; outcomes = (h.asked).outcomes; last = (h.asked).last; whole = λ b. absurd (cc); heard = fully (h.asked).heard };
     entries = h.entries;
     written = h.written ++ take t.0 o;
     takes = Takes-append h.written (take t.0 o) _ _ _ h.takes t.2;
@@ -179,10 +180,6 @@ module _ (fresh : Fresh) (old new : Told) (o : List ℕ) (why : Cause) (k : Sink
       fully : {A : Type 0} → A ⊎ (why ≡ cause.Memory) → A ⊎ (cause.WriteFault ≡ cause.Memory)
       fully (inl a) = inl a
       fully (inr m) = absurd (is-not m)
-
-      outcomes : {A B : Type 0} → A ⊎ ((why ≡ cause.Memory) × B) → A ⊎ ((cause.WriteFault ≡ cause.Memory) × B)
-      outcomes (inl a) = inl a
-      outcomes (inr m) = absurd (is-not m.0)
 
       noted-front : {A B : Type 0} → A ⊎ ((why ≡ cause.Memory) × B) → A ⊎ ((cause.WriteFault ≡ cause.Memory) × B)
       noted-front (inl a) = inl a
@@ -248,6 +245,15 @@ unanswered old new cause.WriteFault h = absurd h
 unanswered old new cause.Restart h = absurd h
 unanswered old new cause.Memory h = refl
 
+-- one call at most wanted memory
+at-most-one : (why : Cause) (unheard : List (Option (Option Answer))) → IsUnheard (next.Ended why) unheard → 0 + length unheard ≤ 1
+at-most-one why unheard (inl none) = subst (λ (l : List (Option (Option Answer))). 0 + length l ≤ 1) (sym none) (omega arith)
+at-most-one why unheard (inr (is, one)) = subst (λ (l : List (Option (Option Answer))). 0 + length l ≤ 1) (sym one) (omega arith)
+
+unheard-memory : (why : Cause) (unheard : List (Option (Option Answer))) → IsUnheard (next.Ended why) unheard → (unheard ≡ []) ⊎ (why ≡ cause.Memory)
+unheard-memory why unheard (inl none) = inl none
+unheard-memory why unheard (inr (is, one)) = inr (cc)
+
 pub ended-last : (fresh : Fresh) (old new : Told) (core : Core) (i : InboxState) (o : List ℕ) (why : Cause) → Stood fresh old new core i o None (next.Ended why) → Last fresh old new o why
 ended-last fresh old new core i o why s = record {
   steps = s.steps;
@@ -260,7 +266,15 @@ ended-last fresh old new core i o why s = record {
   answers = open-answered why (frames_of s.steps) (said s.steps) (unanswered old new why s.shown) core.stage s.opened s.answering;
   calls = s.calls;
   called = s.called;
-  asked = record { asks = ([], s.asks); outcomes = inl (sym (append-nil _) ∙ sym s.outcomes) };
+  asked = record {
+    uncalled = [];
+    asks = s.asks;
+    unheard = s.unheard;
+    outcomes = s.outcomes ∙ ap (λ l. map Some l ++ s.unheard) (append-nil _);
+    last = at-most-one why s.unheard s.wanting;
+    whole = λ e. refl;
+    heard = unheard-memory why s.unheard s.wanting;
+  };
   entries = λ e c. s.entries e (Contains-append_left (entries_of s.steps) [] e c);
   written = s.written;
   takes = s.takes;

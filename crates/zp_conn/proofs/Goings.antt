@@ -2,6 +2,7 @@
 use Rattle.std.proofs.Common.{◌≡◌, ◌<◌, ◌+◌, ℕ, List, [], ◌∷◌, ◌++◌, true, false, refl, sym, ap, ◌∙◌, subst, inl, inr, append-nil, append_assoc, map}
 use Rattle.std.specs.Prelude.{◌⊎◌, Option, Some, None, Result, Ok, Contains, flat_map}
 use Rattle.std.proofs.lemmas.Grind.{flat_map-append}
+use Rattle.ev_types.specs.declared.answer.Answer.{Answer}
 use Rattle.zk_transcript.specs.declared.transcript.Cause.{Cause}
 use Rattle.zk_transcript.specs.declared.transcript.Cause.TheVariants as cause
 use Rattle.zn_view.specs.declared.plan.Who.{Who}
@@ -18,7 +19,7 @@ use Rattle.zp_laws.specs.Ending.{asked_by, takes_out}
 use Rattle.zp_laws.specs.Walking.{sends}
 use Rattle.zp_run.proofs.Running.{runs-on}
 use Rattle.zp_run.specs.Notes.{In, Noted, Out, noted_input, notes_in, notes_of, with_note, with_notes}
-use Rattle.zp_run.specs.Runs.{Step, answer_in, asks_of, closed_for, entry_in, frame_in, frames_of, said}
+use Rattle.zp_run.specs.Runs.{Step, answer_in, answers_of, asks_of, closed_for, entry_in, frame_in, frames_of, said}
 use Rattle.zp_conn.proofs.After.{rest_is_out}
 use Rattle.zp_conn.proofs.Answering.{Row, step-answers}
 use Rattle.zp_conn.proofs.Turning.{filter_map-push}
@@ -27,9 +28,9 @@ use Rattle.zp_conn.specs.Answered.{HasAnswered}
 use Rattle.zp_conn.specs.Handing.{IsSpoken}
 use Rattle.zp_conn.specs.Inboxes.{Holds, InboxState}
 use Rattle.zp_conn.specs.Driving.{Drives, IsTimely}
-use Rattle.zp_conn.specs.Serving.{Told}
+use Rattle.zp_conn.specs.Serving.{Told, outcomes_of}
 use Rattle.zp_conn.specs.Speaking.{IsRest, joined}
-use Rattle.zp_conn.specs.Turning.{IsHeldFor, Stood, asked_after, lags_in, listed}
+use Rattle.zp_conn.specs.Turning.{IsHeldFor, IsUnheard, Stood, answers_in, asked_after, closings_in, lags_in, listed}
 use Rattle.zp_conn.specs.declared.inputs.Next.TheVariants as next
 use Rattle.zp_conn.specs.declared.speaking.Rest.{Rest}
 use Rattle.zp_conn.specs.declared.speaking.Rest.TheVariants as rest
@@ -123,6 +124,29 @@ lags-after c c' input.FeedClosed now out a b opened h unshut e = e
 lags-after c c' (input.ClientEnd p) now out a b opened h unshut e = e
 lags-after c c' (input.BadLength p n) now out a b opened h unshut e = e
 
+closings-after : (c c' : Core) (x : Input) (now : ℕ) (out : List Action) (a b : ℕ) → is_shut c.stage ≡ false → Steps c x now c' out → closed_for out ≡ None → b ≡ a + closings_in (next.Input x) → b ≡ a + closings_in next.Idle
+closings-after c c' input.FeedClosed now out a b opened h unshut e = absurd (none_some (sym unshut ∙ closes-at c c' input.FeedClosed cause.FeedClosed now out opened h (λ mid first k. k)))
+closings-after c c' (input.Lagged was floor) now out a b opened h unshut e = e
+closings-after c c' (input.Frame x) now out a b opened h unshut e = e
+closings-after c c' (input.Answer x) now out a b opened h unshut e = e
+closings-after c c' input.Failed now out a b opened h unshut e = e
+closings-after c c' (input.Entry x) now out a b opened h unshut e = e
+closings-after c c' (input.ClientEnd p) now out a b opened h unshut e = e
+closings-after c c' (input.BadLength p n) now out a b opened h unshut e = e
+
+-- ---- what came of the calls
+
+-- an input is there, so no call wanted memory
+all-handed : (x : Input) (unheard : List (Option (Option Answer))) → IsUnheard (next.Input x) unheard → unheard ≡ []
+all-handed x unheard (inl none) = none
+all-handed x unheard (inr (is, one)) = absurd (cc)
+
+pub handed-outcomes : (found : List (Option (Option Answer))) (answers : List (Option Answer)) (x : Input) (unheard : List (Option (Option Answer))) → found ≡ map Some (answers ++ answers_in (next.Input x)) ++ unheard → IsUnheard (next.Input x) unheard → found ≡ map Some (answers ++ answers_in (next.Input x)) ++ []
+handed-outcomes found answers x unheard e none = e ∙ ap (λ l. map Some (answers ++ answers_in (next.Input x)) ++ l) (all-handed x unheard none)
+
+pub stepped-outcomes : (steps : List Step) (step : Step) (found : List (Option (Option Answer))) (unheard : List (Option (Option Answer))) → found ≡ map Some (answers_of steps ++ answers_in (next.Input step.input)) ++ unheard → IsUnheard (next.Input step.input) unheard → found ≡ map Some (answers_of (steps ++ step ∷ [])) ++ []
+stepped-outcomes steps step found unheard e none = handed-outcomes found (answers_of steps) step.input unheard e none ∙ ap (λ l. map Some l ++ []) (sym (filter_map-push (λ (t : Step). answer_in t.input) steps step))
+
 -- ---- inputs come in time
 
 pub drives-push : (c c' c'' : Core) (ss : List Step) (s : Step) → Drives c ss c' → IsTimely c' s.input → MayTake c' s.input → Steps c' s.input s.time c'' s.out → Drives c (ss ++ s ∷ []) c''
@@ -164,7 +188,9 @@ module _ (fresh : Fresh) (old new : Told) (core core' : Core) (i : InboxState) (
     calls = s.calls;
     called = s.called;
     asks = ap (λ l. l ++ listed (asked_after r)) (sym (append-nil _) ∙ s.asks) ∙ ap (λ q. asks_of s.steps ++ listed q) (sym (asked-rest p.out r rested)) ∙ sym (filter_map-push (λ (t : Step). asked_by t.out) s.steps step);
-    outcomes = s.outcomes ∙ sym (filter_map-push (λ (t : Step). answer_in t.input) s.steps step) ∙ sym (append-nil _);
+    unheard = [];
+    outcomes = stepped-outcomes s.steps step (outcomes_of s.calls) s.unheard s.outcomes s.wanting ∙ ap (λ l. map Some l ++ []) (sym (append-nil _));
+    wanting = inl refl;
     entries = λ e c. s.entries e (subst (λ l. Contains l e) (append-nil _ ∙ filter_map-push (λ (t : Step). entry_in t.input) s.steps step) c);
     looked = subst (λ l. (l ≡ []) ⊎ (0 < (new.feed).reads)) (sym (append-nil _ ∙ filter_map-push (λ (t : Step). entry_in t.input) s.steps step)) s.looked;
     written = s.written;
@@ -173,6 +199,7 @@ module _ (fresh : Fresh) (old new : Told) (core core' : Core) (i : InboxState) (
     noted = notes-on new.notes _ n old.notes (notes_of s.steps) (In (noted_input x) now) (map Out (sends p.out)) s.noted refl (p.speaks).0.notes ∙ ap (with_notes old.notes) (sym (flat_map-push notes_in s.steps step));
     grown = record { source = (s.grown).source; sink = (s.grown).sink; link = (s.grown).link };
     lags = lags-after core core' x now p.out (old.feed).lags (new.feed).lags s.opened p.stepped unshut s.lags;
+    closings = closings-after core core' x now p.out (old.feed).closings (new.feed).closings s.opened p.stepped unshut s.closings;
     shown = tt;
   }
     where

@@ -60,7 +60,9 @@ starts fresh t i o least holds none = record {
   calls = [];
   called = no-calls (t.link).calls;
   asks = refl;
+  unheard = [];
   outcomes = refl;
+  wanting = inl refl;
   entries = λ e c. absurd (contains-none e c);
   looked = inl refl;
   written = [];
@@ -69,6 +71,7 @@ starts fresh t i o least holds none = record {
   noted = no-notes t.notes;
   grown = record { source = at-least (t.source).faults; sink = refl; link = at-least (t.link).failures };
   lags = and-none (t.feed).lags;
+  closings = and-none (t.feed).closings;
   shown = tt;
 }
 

@@ -1,5 +1,5 @@
 -- A turn of the loop, up to its input.
-use Rattle.std.proofs.Common.{◌≡◌, ℕ, length, take, ◌+◌, ◌<◌, ◌≤◌, ℤ, pos, List, [], ◌∷◌, ◌++◌, true, false, refl, sym, ap, ◌∙◌, subst, inl, inr, append-nil, append_assoc, arith}
+use Rattle.std.proofs.Common.{◌≡◌, ℕ, length, take, ◌+◌, ◌<◌, ◌≤◌, ℤ, pos, List, [], ◌∷◌, ◌++◌, true, false, refl, sym, ap, ◌∙◌, subst, inl, inr, append-nil, append_assoc, map, arith}
 use Rattle.std.specs.Prelude.{◌⊎◌, ◌+ℤ◌, ◌<ℤ◌, Option, Some, None, Result, Ok, Err, IfOk, All, Contains, filter_map, slice_get}
 use Rattle.std.specs.Arc.{arc_value}
 use Rattle.std.proofs.lemmas.List.{map-append}
@@ -31,8 +31,8 @@ use Rattle.zp_step.specs.Steps.{awaits_entry}
 use Rattle.zp_run.specs.Runs.{answers_of, entries_of, frames_of}
 use Rattle.zp_conn.specs.Inboxes.{faults_after, Comes, Holds, InboxState, IsEndedAfter}
 use Rattle.zp_conn.specs.Inputs.{IsAllowed, IsAnswered, IsFedIn, IsInTime}
-use Rattle.zp_conn.specs.Serving.{AreFirstFrames, FeedTold, LinkTold, Rose, SourceTold, Told, is_behind_frames, outcome_of, with_calls}
-use Rattle.zp_conn.specs.Turning.{Asks, Closes, Feeds, Fetches, calls, closes, feeds, looks, IsHeldFor, IsOutFor, IsShownBy, Looks, Stood, answered_by, answers_in, closing_by, come_by, entries_in, fed_by, lags_in, listed}
+use Rattle.zp_conn.specs.Serving.{AreFirstFrames, FeedTold, LinkTold, Rose, SourceTold, Told, is_behind_frames, outcome_of, outcomes_of, with_calls}
+use Rattle.zp_conn.specs.Turning.{Asks, Closes, Feeds, Fetches, calls, closes, feeds, looks, IsHeldFor, IsOutFor, IsShownBy, IsUnheard, Looks, Stood, answered_by, answers_in, closing_by, closings_in, come_by, entries_in, fed_by, lags_in, listed}
 use Rattle.zp_conn.specs.declared.inbox.Came.{Came}
 use Rattle.zp_conn.specs.declared.inbox.Came.TheVariants as came
 use Rattle.zp_conn.specs.declared.inputs.Next.{Next}
@@ -83,10 +83,35 @@ calls-push : (told : Option (List Call)) (cs : List Call) (q : Ask) (r : Result 
 calls-push None cs q r = refl
 calls-push (Some all) cs q r = ap Some (append_assoc all cs _)
 
-outcome-next : (r : Result Answer CallFault) → listed (outcome_of r) ≡ answers_in (answered_by r)
+-- what came of a call, where nothing is to be handed in
+abbrev unheard_of : Result Answer CallFault → List (Option (Option Answer))
+unheard_of (Ok a) = []
+unheard_of (Err fault.Failed) = []
+unheard_of (Err fault.Memory) = None ∷ []
+
+outcome-next : (r : Result Answer CallFault) → outcome_of r ∷ [] ≡ map Some (answers_in (answered_by r)) ++ unheard_of r
 outcome-next (Ok a) = refl
 outcome-next (Err fault.Failed) = refl
 outcome-next (Err fault.Memory) = refl
+
+unheard-next : (r : Result Answer CallFault) → IsUnheard (answered_by r) (unheard_of r)
+unheard-next (Ok a) = inl refl
+unheard-next (Err fault.Failed) = inl refl
+unheard-next (Err fault.Memory) = inr (refl, refl)
+
+pub all-heard : (unheard : List (Option (Option Answer))) → IsUnheard next.Idle unheard → unheard ≡ []
+all-heard unheard (inl none) = none
+all-heard unheard (inr (is, one)) = absurd (cc)
+
+-- where no call wanted memory, and the next input is no answer
+same-outcomes : (found : List (Option (Option Answer))) (answers more : List (Option Answer)) (unheard : List (Option (Option Answer))) → found ≡ map Some (answers ++ []) ++ unheard → IsUnheard next.Idle unheard → more ≡ [] → found ≡ map Some (answers ++ more) ++ []
+same-outcomes found answers more unheard e none m = e ∙ ap (λ l. map Some (answers ++ []) ++ l) (all-heard unheard none) ∙ ap (λ l. map Some (answers ++ l) ++ []) (sym m)
+
+-- one call more
+next-outcomes : (found : List (Option (Option Answer))) (answers : List (Option Answer)) (unheard : List (Option (Option Answer))) (r : Result Answer CallFault) → found ≡ map Some (answers ++ []) ++ unheard → IsUnheard next.Idle unheard → found ++ outcome_of r ∷ [] ≡ map Some (answers ++ answers_in (answered_by r)) ++ unheard_of r
+next-outcomes found answers unheard r e none =
+    ap (λ l. l ++ outcome_of r ∷ []) (e ∙ ap (λ l. map Some (answers ++ []) ++ l) (all-heard unheard none) ∙ append-nil _ ∙ ap (map Some) (append-nil answers))
+    ∙ ap (λ l. map Some answers ++ l) (outcome-next r) ∙ sym (append_assoc (map Some answers) (map Some (answers_in (answered_by r))) (unheard_of r)) ∙ ap (λ l. l ++ unheard_of r) (sym (map-append Some answers (answers_in (answered_by r))))
 
 filter_map-one : {X Y : Type 0} (h : X → Option Y) (x : X) → filter_map h (x ∷ []) ≡ listed (h x)
 filter_map-one h x = go (h x) refl
@@ -132,6 +157,11 @@ link-lags : (r : Result Answer CallFault) → lags_in (answered_by r) ≡ 0
 link-lags (Ok a) = refl
 link-lags (Err fault.Failed) = refl
 link-lags (Err fault.Memory) = refl
+
+link-closings : (r : Result Answer CallFault) → closings_in (answered_by r) ≡ 0
+link-closings (Ok a) = refl
+link-closings (Err fault.Failed) = refl
+link-closings (Err fault.Memory) = refl
 
 -- ---- the feed
 
@@ -208,12 +238,19 @@ feed-lags (fed.Lagged was floor) = refl
 feed-lags (fed.Closed end) = refl
 feed-lags fed.Memory = refl
 
-feed-shown : (cursor : ℤ) (r : Fed) (old new : Told) (lags closings : ℕ) → lags ≡ (old.feed).lags + 0 → IsFed (new.feed).list cursor r → (new.feed).lags ≡ lags + if_lagged r → (new.feed).closings ≡ closings + if_closed r → IsShownBy (fed_by r) old new
-feed-shown cursor (fed.Entry e) old new lags closings g h l k = tt
-feed-shown cursor fed.None old new lags closings g h l k = tt
-feed-shown cursor (fed.Lagged was floor) old new lags closings g h l k = (lags-on (old.feed).lags lags (new.feed).lags 1 1 g l refl, (feed-fed cursor (fed.Lagged was floor) (new.feed).list h).1)
-feed-shown cursor (fed.Closed end) old new lags closings g h l k = subst (λ n. 0 < n) (sym k) (omega arith)
-feed-shown cursor fed.Memory old new lags closings g h l k = tt
+feed-closings : (r : Fed) → closings_in (fed_by r) ≡ if_closed r
+feed-closings (fed.Entry e) = refl
+feed-closings fed.None = refl
+feed-closings (fed.Lagged was floor) = refl
+feed-closings (fed.Closed end) = refl
+feed-closings fed.Memory = refl
+
+feed-shown : (cursor : ℤ) (r : Fed) (old new : Told) (lags closings : ℕ) → lags ≡ (old.feed).lags + 0 → closings ≡ (old.feed).closings + 0 → IsFed (new.feed).list cursor r → (new.feed).lags ≡ lags + if_lagged r → (new.feed).closings ≡ closings + if_closed r → IsShownBy (fed_by r) old new
+feed-shown cursor (fed.Entry e) old new lags closings g j h l k = tt
+feed-shown cursor fed.None old new lags closings g j h l k = tt
+feed-shown cursor (fed.Lagged was floor) old new lags closings g j h l k = (lags-on (old.feed).lags lags (new.feed).lags 1 1 g l refl, (feed-fed cursor (fed.Lagged was floor) (new.feed).list h).1, h.2)
+feed-shown cursor (fed.Closed end) old new lags closings g j h l k = lags-on (old.feed).closings closings (new.feed).closings 1 1 j k refl
+feed-shown cursor fed.Memory old new lags closings g j h l k = tt
 
 -- ---- the feed's end
 
@@ -266,17 +303,24 @@ end-lags (fed.Lagged was floor) = refl
 end-lags (fed.Closed end) = refl
 end-lags fed.Memory = refl
 
+end-closings : (r : Fed) → closings_in (closing_by r) ≡ if_closed r
+end-closings (fed.Entry e) = refl
+end-closings fed.None = refl
+end-closings (fed.Lagged was floor) = refl
+end-closings (fed.Closed end) = refl
+end-closings fed.Memory = refl
+
 end-looked : (r : Fed) (es : List Entry) (before after : ℕ) (was list : Published) → IsOneRead r before after was list → (es ≡ []) ⊎ (0 < before) → (es ≡ []) ⊎ (0 < after)
 end-looked r es before after was list (inl once) h = inr (subst (λ n. 0 < n) (sym once) (omega arith))
 end-looked r es before after was list (inr (memory, same, stays)) (inl none) = inl none
 end-looked r es before after was list (inr (memory, same, stays)) (inr some) = inr (subst (λ n. 0 < n) (sym same) some)
 
-end-shown : (r : Fed) (old new : Told) (closings : ℕ) → (new.feed).closings ≡ closings + if_closed r → IsShownBy (closing_by r) old new
-end-shown (fed.Entry e) old new closings k = tt
-end-shown fed.None old new closings k = tt
-end-shown (fed.Lagged was floor) old new closings k = tt
-end-shown (fed.Closed end) old new closings k = subst (λ n. 0 < n) (sym k) (omega arith)
-end-shown fed.Memory old new closings k = tt
+end-shown : (r : Fed) (old new : Told) (closings : ℕ) → closings ≡ (old.feed).closings + 0 → (new.feed).closings ≡ closings + if_closed r → IsShownBy (closing_by r) old new
+end-shown (fed.Entry e) old new closings j k = tt
+end-shown fed.None old new closings j k = tt
+end-shown (fed.Lagged was floor) old new closings j k = tt
+end-shown (fed.Closed end) old new closings j k = lags-on (old.feed).closings closings (new.feed).closings 1 1 j k refl
+end-shown fed.Memory old new closings j k = tt
 
 -- ---- the source
 
@@ -345,6 +389,14 @@ look-lags came.Nothing = refl
 look-lags came.Failed = refl
 look-lags came.Memory = refl
 
+look-closings : (r : Came) → closings_in (come_by r) ≡ 0
+look-closings (came.Frame b) = refl
+look-closings (came.BadLength p l) = refl
+look-closings (came.End p) = refl
+look-closings came.Nothing = refl
+look-closings came.Failed = refl
+look-closings came.Memory = refl
+
 look-shown : (r : Came) (old new : Told) (mid : ℕ) → (old.source).faults ≤ mid → (new.source).faults ≡ faults_after r mid → IsEndedAfter r (new.source).ended → IsShownBy (come_by r) old new
 look-shown (came.Frame b) old new mid h e ended = tt
 look-shown (came.BadLength p l) old new mid h e ended = tt
@@ -373,7 +425,9 @@ module _ (fresh : Fresh) (old new : Told) (core : Core) (i : InboxState) (o : Li
     calls = s.calls ++ call ∷ [];
     called = a.called ∙ ap (λ t. with_call t q a.result) s.called ∙ calls-push (old.link).calls s.calls q a.result;
     asks = append-nil _ ∙ map-append (λ (c : Call). c.ask) s.calls (call ∷ []) ∙ s.asks;
-    outcomes = filter_map-push (λ (c : Call). outcome_of c.result) s.calls call ∙ ap (λ xs. xs ++ listed (outcome_of a.result)) (s.outcomes ∙ append-nil _) ∙ ap (λ xs. answers_of s.steps ++ xs) (outcome-next a.result);
+    unheard = unheard_of a.result;
+    outcomes = map-append (λ (c : Call). outcome_of c.result) s.calls (call ∷ []) ∙ next-outcomes (outcomes_of s.calls) (answers_of s.steps) s.unheard a.result s.outcomes s.wanting;
+    wanting = unheard-next a.result;
     entries = λ e c. s.entries e (subst (λ xs. Contains (entries_of s.steps ++ xs) e) (no-entry a.result) c);
     looked = subst (λ xs. (entries_of s.steps ++ xs ≡ []) ⊎ (0 < (new.feed).reads)) (sym (no-entry a.result)) s.looked;
     written = s.written;
@@ -382,6 +436,7 @@ module _ (fresh : Fresh) (old new : Told) (core : Core) (i : InboxState) (o : Li
     noted = s.noted;
     grown = record { source = (s.grown).source; sink = (s.grown).sink; link = up _ _ _ (s.grown).link (subst (λ x. (new.link).failures ≤ x) (sym a.failed) (failed-more a.result (new.link).failures)) };
     lags = s.lags ∙ ap (λ x. (old.feed).lags + x) (sym (link-lags a.result));
+    closings = s.closings ∙ ap (λ x. (old.feed).closings + x) (sym (link-closings a.result));
     shown = link-shown a.result old (record new { link = l }) (new.link).failures (s.grown).link a.failed;
   })
     where
@@ -407,7 +462,9 @@ module _ (fresh : Fresh) (old new : Told) (core : Core) (i : InboxState) (o : Li
     calls = s.calls;
     called = s.called;
     asks = s.asks;
-    outcomes = s.outcomes ∙ ap (λ xs. answers_of s.steps ++ xs) (sym (no-answer a.answer));
+    unheard = [];
+    outcomes = same-outcomes (outcomes_of s.calls) (answers_of s.steps) (answers_in (fed_by a.answer)) s.unheard s.outcomes s.wanting (no-answer a.answer);
+    wanting = inl refl;
     entries = λ x c. elim (Contains-append_cases (entries_of s.steps) (entries_in (fed_by a.answer)) x c) [
       | inl before ↦ kept x (entries_of s.steps) (subst (λ xs. (xs ≡ []) ⊎ (0 < (new.feed).reads)) (append-nil (entries_of s.steps)) s.looked) before (s.entries x (Contains-append_left (entries_of s.steps) [] x before))
       | inr now ↦ feed-entry cursor a.answer f.list a.told x now
@@ -419,7 +476,8 @@ module _ (fresh : Fresh) (old new : Told) (core : Core) (i : InboxState) (o : Li
     noted = s.noted;
     grown = record { source = (s.grown).source; sink = (s.grown).sink; link = (s.grown).link };
     lags = lags-on (old.feed).lags (new.feed).lags f.lags (lags_in (fed_by a.answer)) (if_lagged a.answer) s.lags a.lagged (feed-lags a.answer);
-    shown = feed-shown cursor a.answer old (record new { feed = f }) (new.feed).lags (new.feed).closings s.lags a.told a.lagged a.closed;
+    closings = lags-on (old.feed).closings (new.feed).closings f.closings (closings_in (fed_by a.answer)) (if_closed a.answer) s.closings a.closed (feed-closings a.answer);
+    shown = feed-shown cursor a.answer old (record new { feed = f }) (new.feed).lags (new.feed).closings s.lags s.closings a.told a.lagged a.closed;
   })
     where
       kept : (x : Entry) (es : List Entry) → (es ≡ []) ⊎ (0 < (new.feed).reads) → Contains es x → IsAt (new.feed).list x.number x → IsAt f.list x.number x
@@ -445,7 +503,9 @@ module _ (fresh : Fresh) (old new : Told) (core : Core) (i : InboxState) (o : Li
     calls = s.calls;
     called = s.called;
     asks = s.asks;
-    outcomes = s.outcomes ∙ ap (λ xs. answers_of s.steps ++ xs) (sym (end-answer a.answer));
+    unheard = [];
+    outcomes = same-outcomes (outcomes_of s.calls) (answers_of s.steps) (answers_in (closing_by a.answer)) s.unheard s.outcomes s.wanting (end-answer a.answer);
+    wanting = inl refl;
     entries = λ x c. (let before : Contains (entries_of s.steps ++ []) x = subst (λ xs. Contains (entries_of s.steps ++ xs) x) (end-entry a.answer) c in kept x (entries_of s.steps ++ []) s.looked before (s.entries x before));
     looked = subst (λ xs. (entries_of s.steps ++ xs ≡ []) ⊎ (0 < f.reads)) (sym (end-entry a.answer)) (end-looked a.answer (entries_of s.steps ++ []) (new.feed).reads f.reads (new.feed).list f.list a.once s.looked);
     written = s.written;
@@ -454,7 +514,8 @@ module _ (fresh : Fresh) (old new : Told) (core : Core) (i : InboxState) (o : Li
     noted = s.noted;
     grown = record { source = (s.grown).source; sink = (s.grown).sink; link = (s.grown).link };
     lags = a.lagged ∙ s.lags ∙ ap (λ x. (old.feed).lags + x) (sym (end-lags a.answer));
-    shown = end-shown a.answer old (record new { feed = f }) (new.feed).closings a.closed;
+    closings = lags-on (old.feed).closings (new.feed).closings f.closings (closings_in (closing_by a.answer)) (if_closed a.answer) s.closings a.closed (end-closings a.answer);
+    shown = end-shown a.answer old (record new { feed = f }) (new.feed).closings s.closings a.closed;
   })
     where
       kept : (x : Entry) (es : List Entry) → (es ≡ []) ⊎ (0 < (new.feed).reads) → Contains es x → IsAt (new.feed).list x.number x → IsAt f.list x.number x
@@ -480,7 +541,9 @@ module _ (fresh : Fresh) (old new : Told) (core : Core) (i : InboxState) (o : Li
     calls = s.calls;
     called = s.called;
     asks = s.asks;
-    outcomes = s.outcomes ∙ ap (λ xs. answers_of s.steps ++ xs) (sym (look-answer a.came));
+    unheard = [];
+    outcomes = same-outcomes (outcomes_of s.calls) (answers_of s.steps) (answers_in (come_by a.came)) s.unheard s.outcomes s.wanting (look-answer a.came);
+    wanting = inl refl;
     entries = λ x c. s.entries x (subst (λ xs. Contains (entries_of s.steps ++ xs) x) (look-entry a.came) c);
     looked = subst (λ xs. (entries_of s.steps ++ xs ≡ []) ⊎ (0 < (new.feed).reads)) (sym (look-entry a.came)) s.looked;
     written = s.written;
@@ -489,6 +552,7 @@ module _ (fresh : Fresh) (old new : Told) (core : Core) (i : InboxState) (o : Li
     noted = s.noted;
     grown = record { source = up _ _ _ (s.grown).source (subst (λ x. (new.source).faults ≤ x) (sym a.faults) (faults-more a.came (new.source).faults)); sink = (s.grown).sink; link = (s.grown).link };
     lags = s.lags ∙ ap (λ x. (old.feed).lags + x) (sym (look-lags a.came));
+    closings = s.closings ∙ ap (λ x. (old.feed).closings + x) (sym (look-closings a.came));
     shown = look-shown a.came old (record new { source = t }) (new.source).faults (s.grown).source a.faults a.ended;
   })
 

@@ -1,8 +1,9 @@
 -- What one call of `serve_connection` did: a run of one connection's steps, tied to what its source, sink, link, feed and trace
 -- tell; and what shows why it ended.
-use Rattle.std.specs.Prelude.{◌≡◌, ◌⊎◌, ℕ, ℤ, ◌+◌, ◌-◌, ◌^◌, ◌<◌, ◌≤◌, ◌<ℤ◌, Bool, true, false, List, [], ◌∷◌, ◌++◌, length, map, filter_map, flat_map, Option, Some, None, Result, Ok, Err, Contains}
+use Rattle.std.specs.Prelude.{◌≡◌, ◌⊎◌, ℕ, ℤ, ◌+◌, ◌-◌, ◌^◌, ◌<◌, ◌≤◌, ◌<ℤ◌, Bool, true, false, List, [], ◌∷◌, ◌++◌, length, map, flat_map, Option, Some, None, Result, Ok, Err, Contains}
 use mathlib.Core.List.{IsPrefix}
 use Rattle.ev_types.specs.declared.answer.Answer.{Answer}
+use Rattle.ev_types.specs.declared.ask.Ask.{Ask}
 use Rattle.ev_call.specs.Calls.{Call}
 use Rattle.ev_call.specs.declared.etcd.CallFault.{CallFault}
 use Rattle.ev_call.specs.declared.etcd.CallFault.TheVariants as fault
@@ -11,7 +12,7 @@ use Rattle.zk_transcript.specs.declared.transcript.Cause.{Cause}
 use Rattle.zk_transcript.specs.declared.transcript.Cause.TheVariants as cause
 use Rattle.zn_layout.specs.declared.entry.Entry.{Entry}
 use Rattle.zs_session.specs.declared.connect.Fresh.{Fresh}
-use Rattle.zw_hub.specs.Lists.{IsAt}
+use Rattle.zw_hub.specs.Lists.{IsAt, floor as floor_of}
 use Rattle.zw_hub.specs.declared.published.Published.{Published}
 use Rattle.zx_outside.specs.Counts.{OutputCounts}
 use Rattle.zx_outside.specs.Reading.{Gives}
@@ -73,12 +74,19 @@ outcome_of (Ok a) = Some (Some a)
 outcome_of (Err fault.Failed) = Some None
 outcome_of (Err fault.Memory) = None
 
--- the asks of the run were called in order, and each call's outcome was handed in; the last ask may not have been called, a call
--- that wanted memory handed nothing in, and where memory was refused the last outcome may not have been handed in
+abbrev pub outcomes_of : List Call → List (Option (Option Answer))
+outcomes_of calls = map (λ (c : Call). outcome_of c.result) calls
+
+-- The asks of the run were called in order, and what came of each call was handed in, but perhaps for the last ask: where the sink
+-- failed or memory was refused it may not have been called, and where memory was refused what came of it may not have been handed in.
 pub record AreCallsOf (why : Cause) (steps : List Step) (calls : List Call) : Type 0 where
-  pub asks : IsPrefix (map (λ (c : Call). c.ask) calls) (asks_of steps)
-  pub outcomes : (answers_of steps ≡ filter_map (λ (c : Call). outcome_of c.result) calls)
-      ⊎ ((why ≡ cause.Memory) × ((o : Option Answer) × (answers_of steps ++ o ∷ [] ≡ filter_map (λ (c : Call). outcome_of c.result) calls)))
+  pub uncalled : List Ask
+  pub asks : map (λ (c : Call). c.ask) calls ++ uncalled ≡ asks_of steps
+  pub unheard : List (Option (Option Answer))
+  pub outcomes : outcomes_of calls ≡ map Some (answers_of steps) ++ unheard
+  pub last : length uncalled + length unheard ≤ 1
+  pub whole : is_whole why ≡ true → uncalled ≡ []
+  pub heard : (unheard ≡ []) ⊎ (why ≡ cause.Memory)
 
 abbrev pub with_calls : Option (List Call) → List Call → Option (List Call)
 with_calls None cs = None
@@ -138,8 +146,8 @@ abbrev pub IsBackedBy : Told → Told → List ℕ → Cause → Type 0
 IsBackedBy old new read (cause.ClientEnd place) = (place ≡ counted_up (length read)) × ((new.source).ended ≡ true)
 IsBackedBy old new read (cause.BadLength place n) = IsBadLengthIn read place n
 IsBackedBy old new read cause.LinkFault = Rose (old.link).failures (new.link).failures
-IsBackedBy old new read (cause.Lagged cursor floor) = ((new.feed).lags ≡ (old.feed).lags + 1) × (cursor <ℤ floor)
-IsBackedBy old new read cause.FeedClosed = 0 < (new.feed).closings
+IsBackedBy old new read (cause.Lagged cursor floor) = ((new.feed).lags ≡ (old.feed).lags + 1) × (cursor <ℤ floor) × (floor ≡ floor_of (new.feed).list)
+IsBackedBy old new read cause.FeedClosed = (new.feed).closings ≡ (old.feed).closings + 1
 IsBackedBy old new read _ = Unit {0}
 
 -- a fault of reading or writing is its object's; want of memory is free; a restart never comes; any other cause closed the run

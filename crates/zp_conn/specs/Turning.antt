@@ -1,5 +1,5 @@
 -- One turn of the loop: where its input comes from; and how the loop stands, before the turn and once the input is there.
-use Rattle.std.specs.Prelude.{◌≡◌, ◌⊎◌, ℕ, ℤ, ◌+◌, ◌<◌, ◌≤◌, ◌<ℤ◌, true, false, List, [], ◌∷◌, ◌++◌, length, map, filter_map, Option, Some, None, Result, Ok, Err, IfOk, Contains}
+use Rattle.std.specs.Prelude.{◌≡◌, ◌⊎◌, ℕ, ℤ, ◌+◌, ◌<◌, ◌≤◌, ◌<ℤ◌, true, false, List, [], ◌∷◌, ◌++◌, length, map, Option, Some, None, Result, Ok, Err, IfOk, Contains}
 use Rattle.ev_types.specs.declared.answer.Answer.{Answer}
 use Rattle.ev_types.specs.declared.ask.Ask.{Ask}
 use Rattle.ev_call.specs.Calls.{Call, failures_after, with_call}
@@ -12,7 +12,7 @@ use Rattle.zk_transcript.specs.declared.transcript.Cause.TheVariants as cause
 use Rattle.zn_layout.specs.declared.entry.Entry.{Entry}
 use Rattle.zs_session.specs.declared.connect.Fresh.{Fresh}
 use Rattle.zw_hub.specs.Feeds.{IsFed, IsOneRead, if_closed, if_lagged}
-use Rattle.zw_hub.specs.Lists.{Extends, IsAt}
+use Rattle.zw_hub.specs.Lists.{Extends, IsAt, floor as floor_of}
 use Rattle.zw_hub.specs.declared.feed.Fed.{Fed}
 use Rattle.zw_hub.specs.declared.feed.Fed.TheVariants as fed
 use Rattle.zx_outside.specs.Counts.{one_more}
@@ -32,7 +32,7 @@ use Rattle.zp_conn.specs.Answered.{HasAnswered}
 use Rattle.zp_conn.specs.Driving.{Drives}
 use Rattle.zp_conn.specs.Inboxes.{faults_after, Holds, InboxState, IsBadAt, IsEndedAfter, ReadsOn}
 use Rattle.zp_conn.specs.Inputs.{IsAllowed, IsInTime}
-use Rattle.zp_conn.specs.Serving.{AreFirstFrames, FeedTold, InputsTold, LinkTold, Rose, Serves, SinkTold, SourceTold, Told, outcome_of, with_calls}
+use Rattle.zp_conn.specs.Serving.{AreFirstFrames, FeedTold, InputsTold, LinkTold, Rose, Serves, SinkTold, SourceTold, Told, outcomes_of, with_calls}
 use Rattle.zp_conn.specs.Speaking.{joined}
 use Rattle.zp_conn.specs.declared.inbox.Came.{Came}
 use Rattle.zp_conn.specs.declared.inbox.Came.TheVariants as came
@@ -160,8 +160,8 @@ IsOutFor (next.Ended why) core asked = asked ≡ None
 -- what the counts show of the input
 abbrev pub IsShownBy : Next → Told → Told → Type 0
 IsShownBy (next.Input input.Failed) old new = Rose (old.link).failures (new.link).failures
-IsShownBy (next.Input (input.Lagged was floor)) old new = ((new.feed).lags ≡ (old.feed).lags + 1) × (was <ℤ floor)
-IsShownBy (next.Input input.FeedClosed) old new = 0 < (new.feed).closings
+IsShownBy (next.Input (input.Lagged was floor)) old new = ((new.feed).lags ≡ (old.feed).lags + 1) × (was <ℤ floor) × (floor ≡ floor_of (new.feed).list)
+IsShownBy (next.Input input.FeedClosed) old new = (new.feed).closings ≡ (old.feed).closings + 1
 IsShownBy (next.Input (input.ClientEnd place)) old new = (new.source).ended ≡ true
 IsShownBy (next.Ended cause.ReadFault) old new = Rose (old.source).faults (new.source).faults
 IsShownBy (next.Ended cause.Memory) old new = Unit {0}
@@ -178,6 +178,15 @@ pub record HasGrown (old new : Told) : Type 0 where
 abbrev pub lags_in : Next → ℕ
 lags_in (next.Input (input.Lagged was floor)) = 1
 lags_in _ = 0
+
+-- how often it was closed
+abbrev pub closings_in : Next → ℕ
+closings_in (next.Input input.FeedClosed) = 1
+closings_in _ = 0
+
+-- a call that wanted memory gave nothing to hand in, and ends the connection
+abbrev pub IsUnheard : Next → List (Option (Option Answer)) → Type 0
+IsUnheard n unheard = (unheard ≡ []) ⊎ ((n ≡ next.Ended cause.Memory) × (unheard ≡ None ∷ []))
 
 -- Since the call began, where this is to be handed in next; `Idle` is the loop's invariant. `o` is what the outbox holds.
 pub record Stood (fresh : Fresh) (old new : Told) (core : Core) (i : InboxState) (o : List ℕ) (asked : Option Ask) (n : Next) : Type 0 where
@@ -197,7 +206,9 @@ pub record Stood (fresh : Fresh) (old new : Told) (core : Core) (i : InboxState)
   pub calls : List Call
   pub called : (new.link).calls ≡ with_calls (old.link).calls calls
   pub asks : map (λ (c : Call). c.ask) calls ++ listed asked ≡ asks_of steps
-  pub outcomes : filter_map (λ (c : Call). outcome_of c.result) calls ≡ answers_of steps ++ answers_in n
+  pub unheard : List (Option (Option Answer))
+  pub outcomes : outcomes_of calls ≡ map Some (answers_of steps ++ answers_in n) ++ unheard
+  pub wanting : IsUnheard n unheard
   pub entries : (e : Entry) → Contains (entries_of steps ++ entries_in n) e → IsAt (new.feed).list e.number e
   pub looked : (entries_of steps ++ entries_in n ≡ []) ⊎ (0 < (new.feed).reads)
   pub written : List ℕ
@@ -206,6 +217,7 @@ pub record Stood (fresh : Fresh) (old new : Told) (core : Core) (i : InboxState)
   pub noted : new.notes ≡ with_notes old.notes (notes_of steps)
   pub grown : HasGrown old new
   pub lags : (new.feed).lags ≡ (old.feed).lags + lags_in n
+  pub closings : (new.feed).closings ≡ (old.feed).closings + closings_in n
   pub shown : IsShownBy n old new
 
 -- what is out after a step

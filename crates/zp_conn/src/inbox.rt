@@ -106,6 +106,7 @@ impl Inbox {
         ensures comes { ReadsOn result self.old self.new (S.given source.old) (S.given source.new) (S.left source.old) (S.left source.new) }
         ensures faults { (S.counts source.new).faults ≡ faults_after result (S.counts source.old).faults }
         ensures ended { IsEndedAfter result (S.ended source.new) }
+        ensures named { S.name source.new ≡ S.name source.old }
     {
         if let Some(frame) = self.pop() {
             return Came::Frame(frame);
@@ -129,6 +130,7 @@ impl Inbox {
         ensures comes { ReadsFrom result self.old self.new (S.given source.old) (S.given source.new) (S.left source.old) (S.left source.new) }
         ensures faults { (S.counts source.new).faults ≡ faults_after result (S.counts source.old).faults }
         ensures ended { IsEndedAfter result (S.ended source.new) }
+        ensures named { S.name source.new ≡ S.name source.old }
     {
         match source.read(room) {
             Got::Bytes(count) => outcome_of(self.cut(&room[..count])),
@@ -146,6 +148,7 @@ impl Inbox {
         ensures comes { ReadsOn result self.old self.new (S.given source.old) (S.given source.new) (S.left source.old) (S.left source.new) }
         ensures faults { (S.counts source.new).faults ≡ faults_after result (S.counts source.old).faults }
         ensures quiet { IsQuiet result }
+        ensures named { S.name source.new ≡ S.name source.old }
     {
         if self.ahead >= MOST_AHEAD {
             yield_now();

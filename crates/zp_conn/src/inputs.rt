@@ -94,9 +94,10 @@ pub(crate) fn take_in<L: Etcd, F: Feed, S: Source>(
 ) -> Next
     requires room { 0 < length room.old }
     requires granted { IfSome asked IsGrantable }
-    ensures { let t = ⟦<(S, L, F) as TellsInputs>⟧.told in
+    ensures takes { let t = ⟦<(S, L, F) as TellsInputs>⟧.told in
         TakesIn core.now asked result inbox.old inbox.new (t (source.old, link.old, feed.old))
         (t (source.new, link.new, feed.new)) }
+    ensures named { S.name source.new ≡ S.name source.old }
 {
     if let Some(ask) = asked {
         return answer(link, &ask);

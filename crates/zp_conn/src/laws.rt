@@ -1,9 +1,10 @@
 //! A law of connections that were served. The function does nothing, and its contract is the law.
 
-ghost use Rattle.zp_conn.specs.Uncut.{UncutEndBySelves};
+ghost use Rattle.zp_conn.specs.Uncut.{UncutEndSo};
 
-/// A connection whose source, sink and link have no fault, and whose feed neither lags nor is closed, ends by what its client's
-/// bytes show, by their end, by what an answer of etcd shows, or for want of memory.
-pub fn uncut_connections_end_by_themselves()
-    ensures { UncutEndBySelves }
+/// What ends a connection that nobody cuts off. Where its source, sink and link had no fault: what its client's bytes show, their
+/// end, what an answer of etcd shows, that the feed lagged or told its end, or want of memory. Where the feed neither lagged nor told
+/// its end: one of the others.
+pub fn what_ends_uncut_connections()
+    ensures { UncutEndSo }
 {}

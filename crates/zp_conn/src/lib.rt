@@ -36,7 +36,7 @@ mod telling;
 mod writing;
 
 pub use bells::Belled;
-pub use laws::uncut_connections_end_by_themselves;
+pub use laws::what_ends_uncut_connections;
 pub use serving::serve_connection;
 pub use telling::{TellsAll, TellsFeed, TellsInputs, TellsLink, TellsSink, TellsSource};
 pub use zk_transcript::Cause;

@@ -63,7 +63,8 @@ impl Outbox {
     /// Writes what is held, and holds nothing then. After a fault of the sink the rest is not written any more. Much room is given
     /// back, so that a connection that sent a large packet once does not keep its size.
     pub(crate) fn flush<K: Sink>(&mut self, sink: &mut K) -> Result<(), WriteFault>
-        ensures { Flushes result self.old self.new (K.taken sink.old) (K.taken sink.new) (K.counts sink.old) (K.counts sink.new) }
+        ensures flushes { Flushes result self.old self.new (K.taken sink.old) (K.taken sink.new) (K.counts sink.old) (K.counts sink.new) }
+        ensures named { K.name sink.new ≡ K.name sink.old }
     {
         let result = write_all(sink, self.bytes.as_slice());
         if self.bytes.len() > MOST_HELD {

@@ -49,7 +49,8 @@ fn goes_on(handed: Result<Rest, Memory>) -> Result<Option<Ask>, Cause>
 
 /// Writes what is held, where that is due.
 fn flush_if<K: Sink>(due: bool, outbox: &mut Outbox, sink: &mut K) -> Result<(), WriteFault>
-    ensures { FlushesIf due result outbox.old outbox.new (K.taken sink.old) (K.taken sink.new) (K.counts sink.old) (K.counts sink.new) }
+    ensures flushes { FlushesIf due result outbox.old outbox.new (K.taken sink.old) (K.taken sink.new) (K.counts sink.old) (K.counts sink.new) }
+    ensures named { K.name sink.new ≡ K.name sink.old }
 {
     if due { outbox.flush(sink) } else { Ok(()) }
 }
@@ -74,9 +75,11 @@ fn run<W: Wait, L: Etcd, F: Feed, S: Source, K: Sink, C: Clock, T: Trace>(
 ) -> Cause
     requires real { pos 1 ≤ℤ fresh.id }
     requires none { outbox.old ≡ [] }
-    ensures { let t = ⟦<(S, K, L, F, T) as TellsAll>⟧.told in
+    ensures ends { let t = ⟦<(S, K, L, F, T) as TellsAll>⟧.told in
         Ends fresh (t (source.old, sink.old, link.old, feed.old, trace.old))
         (t (source.new, sink.new, link.new, feed.new, trace.new)) outbox.new result }
+    ensures source { S.name source.new ≡ S.name source.old }
+    ensures sink { K.name sink.new ≡ K.name sink.old }
 {
     let mut core = Core::new(alloc, fresh);
     let mut inbox = Inbox::new(alloc);
@@ -141,9 +144,11 @@ pub fn serve_connection<W: Wait, L: Etcd, F: Feed, S: Source, K: Sink, C: Clock,
     trace: &mut T,
 ) -> Cause
     requires { pos 1 ≤ℤ fresh.id }
-    ensures { let t = ⟦<(S, K, L, F, T) as TellsAll>⟧.told in
+    ensures serves { let t = ⟦<(S, K, L, F, T) as TellsAll>⟧.told in
         Serves fresh (t (source.old, sink.old, link.old, feed.old, trace.old))
         (t (source.new, sink.new, link.new, feed.new, trace.new)) result }
+    ensures source { S.name source.new ≡ S.name source.old }
+    ensures sink { K.name sink.new ≡ K.name sink.old }
 {
     let mut outbox = Outbox::new(alloc);
     let why = run(

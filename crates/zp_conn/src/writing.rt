@@ -1,5 +1,6 @@
 //! Writes bytes.
 
+ghost use Rattle.std.specs.Prelude.{◌≡◌};
 ghost use Rattle.zp_conn.specs.Writing.{Wrote};
 
 use zx_outside::{Sink, Took};
@@ -10,7 +11,8 @@ pub(crate) struct WriteFault;
 
 /// Writes all of the bytes, or up to the first fault of the sink.
 pub(crate) fn write_all<K: Sink>(sink: &mut K, bytes: &[u8]) -> Result<(), WriteFault>
-    ensures { Wrote result bytes.now (K.taken sink.old) (K.taken sink.new) (K.counts sink.old) (K.counts sink.new) }
+    ensures wrote { Wrote result bytes.now (K.taken sink.old) (K.taken sink.new) (K.counts sink.old) (K.counts sink.new) }
+    ensures named { K.name sink.new ≡ K.name sink.old }
 {
     let mut at = 0;
     'pieces: while at < bytes.len() {

@@ -1,0 +1,4 @@
+pub mod Carrying
+pub mod Timely
+pub mod Alone
+pub mod Begun
