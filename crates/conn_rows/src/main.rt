@@ -1,27 +1,31 @@
 //! Tries the rows of the file `rows` on one connection over streams in memory, and says on standard error where a row differs.
 //!
-//! The link is to a store of its own, on which the tree was begun at moment 0; the feed is a reader of an open hub without entries;
-//! the clock stands at 1,000; a new session gets the number 17 and a password of 16 bytes aa. Bytes are in hex. A row is
-//! LEFT = RIGHT:
+//! The link is to a store of its own, on which the tree was begun at moment 0; the feed is a reader of an open hub, without entries
+//! where no row says other; the clock stands at 1,000; a new session gets the number 17 and a password of 16 bytes aa. Bytes are in
+//! hex. A row is LEFT = RIGHT:
 //!
 //! | Left side | Right side |
 //! |---|---|
 //! | `serve PIECE BYTES` | why the connection ended, as in a transcript's `close` line, and all that it wrote, where these bytes came in pieces of PIECE bytes, or as many as fit where PIECE is 0 |
 //! | `closed PIECE BYTES` | the same, where the feed was closed before and the client is idle for a turn behind its pieces |
+//! | `fed FIRST COUNT RECORD PIECE BYTES` | the same, where the feed has COUNT entries, the first with the number after FIRST, each by RECORD, the value of the head |
+//! | `trace PIECE BYTES` | what a trace was told: the time and the kind of each input, and the length of each packet |
 //! | `fail WHAT PIECE BYTES` | the same stream is served again and again; each time the next call of WHAT fails, `reads` of the source, `writes` of the sink or `calls` of the link, until one run ends as without a failure. The cause of the runs before and their number; and how many whole packets were written, from which run on. Each wrote a front of what is written without a failure |
 //! | `cut PIECE BYTES` | the same, where the stream is cut before each of its bytes, and at its end |
-//! | `follow NUMBER VERSION ..` | what a follower from this number answers to lines with one head each, of these versions |
+//! | `follow NUMBER LINE ..` | what a follower from this number answers to these lines: `head VERSION VALUE` and `other VERSION VALUE` put the head, and another key; `created`, `compacted` (up to revision 9) and `ended`. Of an entry, its number, its zxid and how many triggers it has |
 //!
 //! `conn_rows time COUNT` serves COUNT pings and then COUNT getDatas that come together, and prints the microseconds of each.
 //! `bench/conn.sh` makes a table of it.
 #![tactic(auto)]
 
 mod failing;
+mod feeding;
 mod following;
 mod serving;
 mod timing;
+mod tracing;
 
-use crate::serving::{CLOSED, NONE};
+use crate::feeding::{CLOSED, Entered, OPEN};
 use crate::timing::print_times;
 use anyhow::Result;
 use row_files::{Rows, Words, bytes_of, status_of, try_file};
@@ -45,6 +49,7 @@ impl<R: Wait> Rows for Connections<'_, R> {
         };
         match word {
             "follow" => following::followed(alloc, words),
+            "fed" => found_with_entries(self.rt, alloc, words),
             "fail" => {
                 let Some(what) = words.word() else {
                     return Ok(None);
@@ -69,13 +74,40 @@ fn found_of<R: Wait>(
     let Some(bytes) = bytes_of(alloc, digits)? else {
         return Ok(None);
     };
-    if what == "serve" {
-        return Ok(Some(serving::shown(rt, alloc, bytes.as_slice(), piece, NONE)?));
+    let bytes = bytes.as_slice();
+    match what {
+        "serve" => Ok(Some(serving::shown(rt, alloc, bytes, piece, OPEN)?)),
+        "closed" => Ok(Some(serving::shown(rt, alloc, bytes, piece, CLOSED)?)),
+        "trace" => Ok(Some(tracing::traced(rt, alloc, bytes, piece)?)),
+        _ => failing::told(rt, alloc, what, bytes, piece),
     }
-    if what == "closed" {
-        return Ok(Some(serving::shown(rt, alloc, bytes.as_slice(), piece, CLOSED)?));
-    }
-    failing::told(rt, alloc, what, bytes.as_slice(), piece)
+}
+
+/// What comes of a stream that is served while the feed has entries.
+fn found_with_entries<R: Wait>(
+    rt: &R,
+    alloc: Global,
+    mut words: Words<'_>,
+) -> Result<Option<String>, Memory> {
+    let (Some(first), Some(count), Some(record), Some(piece), Some(digits)) = (
+        words.number(),
+        words.number(),
+        words.word(),
+        words.number(),
+        words.word(),
+    ) else {
+        return Ok(None);
+    };
+    let (Some(record), Some(bytes)) = (bytes_of(alloc, record)?, bytes_of(alloc, digits)?) else {
+        return Ok(None);
+    };
+    let entered = Entered {
+        first,
+        count,
+        record: record.as_slice(),
+        closed: false,
+    };
+    Ok(Some(serving::shown(rt, alloc, bytes.as_slice(), piece, entered)?))
 }
 
 fn main(rt: HostRuntime) -> Result<ExitCode> {

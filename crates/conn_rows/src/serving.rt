@@ -1,18 +1,18 @@
 //! Serves a stream in memory.
 
+use crate::feeding::{Entered, OPEN, feed_of};
 use ev_shared::StoreLink;
 use ev_store::Store;
 use ev_types::Ask;
 use row_files::{hex_of, push_word};
 use std::alloc::Global;
-use std::sync::Wait;
+use std::sync::{Arc, Wait};
 use zk_transcript::{Ended, TranscriptLine};
 use zn_layout::begin_ask;
-use zp_conn::{Cause, Fresh, NoTrace, serve_connection};
+use zp_conn::{Belled, Cause, Fresh, NoTrace, Trace, serve_connection};
 use zt_text::push_line;
-use zw_hub::{FeedEnd, hub};
 use zx_base::Memory;
-use zx_net::MemClock;
+use zx_net::{MemClock, NoBell};
 use zx_outside::{MemSink, MemSource};
 
 /// What a new session is made with.
@@ -21,14 +21,12 @@ const FRESH: Fresh = Fresh {
     passwd: [0xaa; 16],
 };
 
-/// Which calls fail, counted from 1: 0 for none; and whether the feed has ended.
+/// Which calls fail, counted from 1: 0 for none.
 #[derive(Clone, Copy)]
 pub struct Failing {
     pub read: u64,
     pub write: u64,
     pub call: u64,
-    /// The feed was closed before, and the client is idle for a turn behind the listed pieces.
-    pub feed: bool,
 }
 
 /// Nothing fails.
@@ -36,15 +34,6 @@ pub const NONE: Failing = Failing {
     read: 0,
     write: 0,
     call: 0,
-    feed: false,
-};
-
-/// Nothing fails, and the feed has ended.
-pub const CLOSED: Failing = Failing {
-    read: 0,
-    write: 0,
-    call: 0,
-    feed: true,
 };
 
 /// A connection that ended.
@@ -96,24 +85,22 @@ pub fn stream_of(
     Ok(MemSource::new(copy, pieces, listed(alloc, failing)?))
 }
 
-/// Serves a stream to its end.
-pub fn serve<R: Wait>(
+/// Serves a stream to its end, with what the feed has by then. Where the feed was closed, the client is idle for a turn behind its
+/// pieces.
+pub fn serve_over<R: Wait, T: Trace>(
     rt: &R,
     alloc: Global,
     bytes: &[u8],
     piece: u32,
     failing: Failing,
+    entered: Entered<'_>,
+    trace: &mut T,
 ) -> Result<Served, Memory> {
     let mut link = begun(alloc, failing.call)?;
-    let mut source = stream_of(alloc, bytes, piece, failing.feed, failing.read)?;
+    let mut source = stream_of(alloc, bytes, piece, entered.closed, failing.read)?;
     let mut sink = MemSink::new(alloc, listed(alloc, failing.write)?);
-    let (mut hub, mut readers) = hub(rt, alloc, 1, 1)?;
-    if failing.feed {
-        hub.close(FeedEnd::NoLine)?;
-    }
-    let Some(mut feed) = readers.pop() else {
-        return Err(Memory);
-    };
+    let bell = Arc::new(alloc, NoBell)?;
+    let mut feed = Belled::new(feed_of(rt, alloc, entered)?, bell);
     let cause = serve_connection(
         rt,
         alloc,
@@ -123,9 +110,20 @@ pub fn serve<R: Wait>(
         &mut source,
         &mut sink,
         &mut MemClock::new(1000),
-        &mut NoTrace,
+        trace,
     );
     Ok(Served { cause, sink })
+}
+
+/// The same, over an open feed without entries.
+pub fn serve<R: Wait>(
+    rt: &R,
+    alloc: Global,
+    bytes: &[u8],
+    piece: u32,
+    failing: Failing,
+) -> Result<Served, Memory> {
+    serve_over(rt, alloc, bytes, piece, failing, OPEN, &mut NoTrace)
 }
 
 /// A cause, by the words after `close 1` in a transcript.
@@ -147,9 +145,9 @@ pub fn shown<R: Wait>(
     alloc: Global,
     bytes: &[u8],
     piece: u32,
-    failing: Failing,
+    entered: Entered<'_>,
 ) -> Result<String, Memory> {
-    let served = serve(rt, alloc, bytes, piece, failing)?;
+    let served = serve_over(rt, alloc, bytes, piece, NONE, entered, &mut NoTrace)?;
     let mut found = words_of(alloc, served.cause)?;
     push_word(&mut found, hex_of(alloc, served.sink.bytes())?.as_str())?;
     Ok(found)
