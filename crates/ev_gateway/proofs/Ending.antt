@@ -13,7 +13,7 @@ use Rattle.ev_http.specs.declared.fault.HttpFault.TheVariants as http
 use Rattle.ev_http.specs.Taking.{Told}
 use Rattle.ev_gateway.specs.declared.connection.GatewayEnd.{GatewayEnd}
 use Rattle.ev_gateway.specs.declared.connection.GatewayEnd.TheVariants as ends
-use Rattle.ev_gateway.specs.Serving.{AnswersOr, EndsBy, Receives, Replies, Responds, RespondsOr, Serves, Turns, end_of, unreadable_text}
+use Rattle.ev_gateway.specs.Serving.{AnswersOr, EndsBy, IsCutBy, Receives, Replies, Responds, RespondsOr, Serves, Turns, end_of, unreadable_text}
 use Rattle.ev_gateway.specs.Sinks.{SinkTold}
 use Rattle.ev_gateway.specs.Streaming.{Streams}
 
@@ -69,6 +69,12 @@ turned (Err (ends.Http g)) to body s s' k k' came h = inr (h.0, to, body, came, 
 turned (Err ends.Memory) to body s s' k k' came h = tt
 turned (Err ends.Ended) to body s s' k k' came h = absurd h
 turned (Err ends.Limit) to body s s' k k' came h = absurd h
+
+pub cut : (f : HttpFault) (end : GatewayEnd) (s s' : Told) (k k' : SinkTold) → IsCutBy f end → Receives (Err f) s s' → k' ≡ k → Turns (Err end) s s' k k'
+cut f ends.Ended s s' k k' is came same = (subst (λ (x : HttpFault). Receives (Err x) s s') is came, same)
+cut f (ends.Http g) s s' k k' is came same = inl (subst (λ (x : HttpFault). Receives (Err x) s s') (sym is.0) came, subst (λ (x : HttpFault). IsCutBy x (ends.Http x)) (sym is.0) (refl, is.1, is.2), same)
+cut f ends.Memory s s' k k' is came same = tt
+cut f ends.Limit s s' k k' is came same = absurd is
 
 pub ended : (end : GatewayEnd) (limit n : ℕ) (s here s' : Told) (k there k' : SinkTold) → n < limit → Serves n s here k there → Turns (Err end) here s' there k' → EndsBy end limit s s' k k'
 ended ends.Limit limit n s here s' k there k' lt so_far h = absurd h

@@ -88,13 +88,20 @@ AnswersOr (Err ends.Memory) to body sink sink' = Unit {0}
 AnswersOr (Err ends.Ended) to body sink sink' = ⊥
 AnswersOr (Err ends.Limit) to body sink sink' = ⊥
 
+-- what a fault of a request ends the connection with
+abbrev pub IsCutBy : HttpFault → GatewayEnd → Type 0
+IsCutBy f ends.Ended = f ≡ http.Ended 0
+IsCutBy f ends.Memory = f ≡ http.Memory
+IsCutBy f (ends.Http g) = (g ≡ f) × (f ≢ http.Memory) × (f ≢ http.Ended 0)
+IsCutBy f ends.Limit = ⊥
+
 -- What one turn came to: a request was read and answered; or the source ended between two messages; or there is a fault of the
--- message that came, or of the sink.
+-- message that came, which is neither want of memory nor that end, or of the sink.
 abbrev pub Turns : Result (Unit {0}) GatewayEnd → Told → Told → SinkTold → SinkTold → Type 0
 Turns (Ok _) source source' sink sink' = (to : Route) × (body : Vec ℕ) × Receives (Ok (to, body)) source source' × Answers (Ok tt) to body.items sink sink'
 Turns (Err ends.Ended) source source' sink sink' = Receives (Err (http.Ended 0)) source source' × (sink' ≡ sink)
 Turns (Err (ends.Http f)) source source' sink sink' =
-    (Receives (Err f) source source' × (sink' ≡ sink))
+    (Receives (Err f) source source' × IsCutBy f (ends.Http f) × (sink' ≡ sink))
     ⊎ ((f ≡ http.WriteFault) × (to : Route) × (body : Vec ℕ) × Receives (Ok (to, body)) source source' × Answers (Err http.WriteFault) to body.items sink sink')
 Turns (Err ends.Memory) source source' sink sink' = Unit {0}
 Turns (Err ends.Limit) source source' sink sink' = ⊥

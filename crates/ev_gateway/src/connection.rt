@@ -2,7 +2,7 @@
 
 ghost use Rattle.std.specs.Prelude.{◌≡◌, ◌≢◌};
 ghost use Rattle.ev_http.specs.Taking.{told};
-ghost use Rattle.ev_gateway.specs.Serving.{AnswersOr, EndsBy, Receives, RespondsOr, Turns, end_of, unreadable_text};
+ghost use Rattle.ev_gateway.specs.Serving.{AnswersOr, EndsBy, IsCutBy, Receives, RespondsOr, Turns, end_of, unreadable_text};
 ghost use Rattle.ev_gateway.specs.Sinks.{sink_told};
 ghost use Rattle.ev_types.specs.declared.route.Route.TheVariants as routes;
 
@@ -38,6 +38,23 @@ fn end_of(sent: Result<(), HttpFault>) -> Result<(), GatewayEnd>
         Ok(()) => Ok(()),
         Err(HttpFault::Memory) => Err(GatewayEnd::Memory),
         Err(fault) => Err(GatewayEnd::Http(fault)),
+    }
+}
+
+/// What a fault of a request ends the connection with.
+fn cut_by(fault: HttpFault) -> GatewayEnd
+    ensures { IsCutBy fault result }
+{
+    match fault {
+        HttpFault::Ended { taken } => {
+            if taken == 0 {
+                GatewayEnd::Ended
+            } else {
+                GatewayEnd::Http(fault)
+            }
+        }
+        HttpFault::Memory => GatewayEnd::Memory,
+        _ => GatewayEnd::Http(fault),
     }
 }
 
@@ -133,7 +150,7 @@ fn answer<R: Wait, K: Sink, C: Clock>(
 }
 
 /// Reads the next request and answers it.
-#[tactic(auto, using(crate::proofs::Ending::turned))]
+#[tactic(auto, using(crate::proofs::Ending::turned, crate::proofs::Ending::cut))]
 fn turn<R: Wait, S: Source, K: Sink, C: Clock>(
     rt: &R,
     alloc: Global,
@@ -146,9 +163,7 @@ fn turn<R: Wait, S: Source, K: Sink, C: Clock>(
 {
     match receive(alloc, source) {
         Ok((route, body)) => answer(rt, alloc, store, sink, clock, route, body.as_slice()),
-        Err(HttpFault::Ended { taken: 0 }) => Err(GatewayEnd::Ended),
-        Err(HttpFault::Memory) => Err(GatewayEnd::Memory),
-        Err(fault) => Err(GatewayEnd::Http(fault)),
+        Err(fault) => Err(cut_by(fault)),
     }
 }
 

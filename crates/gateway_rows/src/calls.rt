@@ -4,6 +4,7 @@ ghost use Rattle.std.specs.Prelude.{IfOk};
 ghost use Rattle.ev_call.specs.Addresses.{IsAddress};
 ghost use Rattle.ev_call.specs.Asks.{IsGrantable};
 
+use crate::hosts::OneHost;
 use crate::marks::{push_escaped, unescaped};
 use crate::serving::fault_of;
 use ev_http::HttpFault;
@@ -98,6 +99,35 @@ fn dial(alloc: Global, failing: u64, count: u32, bytes: Vec<u8>) -> Result<Strin
     link.to(host())?;
     push(&mut found, "anew ")?;
     let ask = head_ask(alloc)?;
+    push_result(alloc, &mut found, link.call(&ask))?;
+    push(&mut found, "end")?;
+    Ok(found)
+}
+
+/// What a call of a link that dials came to where only this address can be dialled, and one more after it was told the address `x`.
+pub fn named(alloc: Global, given: &str) -> Result<Option<String>, Memory> {
+    let Some((address, bytes)) = given.split_once(' ') else {
+        return Ok(None);
+    };
+    let bytes = unescaped(alloc, bytes)?;
+    Ok(Some(dial_at(alloc, address, bytes)?))
+}
+
+/// Another address.
+#[tactic(auto, using(crate::proofs::Named::named))]
+fn other_host() -> &'static str
+    ensures { IsAddress result.now }
+{
+    "x"
+}
+
+fn dial_at(alloc: Global, address: &str, bytes: Vec<u8>) -> Result<String, Memory> {
+    let mut link = DialCluster::new(alloc, OneHost::new(alloc, address, bytes));
+    let mut found = String::new(alloc);
+    let ask = head_ask(alloc)?;
+    push_result(alloc, &mut found, link.call(&ask))?;
+    link.to(other_host())?;
+    push(&mut found, "anew ")?;
     push_result(alloc, &mut found, link.call(&ask))?;
     push(&mut found, "end")?;
     Ok(found)

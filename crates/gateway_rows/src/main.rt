@@ -9,10 +9,12 @@
 //! | `gateway LIMIT STEP BYTES` | how the gateway ended, and what it sent, where these bytes came to it; its store is new and closed, so that no watch waits, and its clock goes STEP milliseconds further at each reading |
 //! | `link CALLS BYTES` | what so many calls of a link came to that asked for the key `zk/head`, where these bytes came to it; then why it failed, with the status where it was one, or `open` |
 //! | `dial FAILING CALLS BYTES` | the same of a link that dials, where its first connection gives these bytes and each later one none, and the dial with the number FAILING fails, 0 for none; `anew`; what one more call came to, after it was told its address anew; `end` |
+//! | `named ADDRESS BYTES` | what two calls of a link that dials came to where only this address can be dialled, which gives these bytes: one before it was told an address; `anew`; and one after it was told `x`; `end` |
 //! | `lease STEP SECONDS BEFORE AFTER` | of a lease of so many seconds that a store had before it was shared: the seconds that two keepalives are answered over a link to it, one after BEFORE asks of another lease and one after AFTER more; the clock goes STEP milliseconds further at each ask |
 #![tactic(auto)]
 
 mod calls;
+mod hosts;
 mod leases;
 mod marks;
 mod serving;
@@ -44,6 +46,9 @@ impl<R: Wait + Copy + Drop> Rows for Messages<'_, R> {
         }
         if call == "dial" {
             return calls::dialled(alloc, given);
+        }
+        if call == "named" {
+            return calls::named(alloc, given);
         }
         if call == "lease" {
             return leases::kept(*self.rt, alloc, given);

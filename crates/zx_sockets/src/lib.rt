@@ -22,7 +22,7 @@
 //! # Accepts and dials
 //!
 //! Where an accept fails for a cause that passes (no descriptors or no memory left, a peer that is gone already, a
-//! signal), it is tried again after 50 milliseconds, and no fault is counted. A dial gives each address of a host 5
+//! signal, an error of the network), it is tried again after 50 milliseconds, and no fault is counted. A dial gives each address of a host 5
 //! seconds. A net that [`another`](zx_net::Net::another) gave belongs to a worker that dials again and again, so it
 //! waits before a dial that comes within 10 seconds of its last one: 0.1 seconds, twice as long for each such dial in
 //! a row, at most 6.4.

@@ -29,8 +29,9 @@ const DIAL_WAIT: u64 = 5_000;
 const ACCEPT_PAUSE: u64 = 50;
 
 /// The faults of an accept that pass, by their code (errno of Linux): a signal, no memory, no descriptor left in the system or in
-/// the process, a peer that is gone already, no room for buffers.
-const PASSING: [i32; 6] = [4, 12, 23, 24, 103, 105];
+/// the process, a peer that is gone already, no room for buffers; and the errors of a network that wait on the new stream
+/// (accept(2), "Error handling").
+const PASSING: [i32; 14] = [4, 12, 23, 24, 64, 71, 92, 95, 100, 101, 103, 105, 112, 113];
 
 /// A door of the system: a socket that listens.
 #[derive(Drop)]
@@ -69,7 +70,7 @@ impl<R: SystemNet<Listener = TcpListener, Stream = TcpStream> + SystemClock + Co
 }
 
 /// Has reads and writes wait for their time, and small writes go out at once.
-fn prepare(stream: &TcpStream) -> io::Result<()> {
+pub fn prepare(stream: &TcpStream) -> io::Result<()> {
     stream.set_nodelay(true)?;
     stream.set_read_timeout(Some(Duration::from_millis(READ_WAIT)))?;
     stream.set_write_timeout(Some(Duration::from_millis(WRITE_WAIT)))

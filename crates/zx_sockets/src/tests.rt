@@ -1,6 +1,7 @@
-use crate::net::ends_of;
+use crate::net::{ends_of, prepare};
 use crate::source::Patience;
 use crate::{StdClock, StdNet, ThreadSpawner};
+use std::io::Write;
 use std::net::{TcpListener, TcpStream};
 use std::sync::Arc;
 use std::sync::atomic::{AtomicU64, Ordering};
@@ -41,6 +42,16 @@ fn comes<S: Source>(source: &mut S, wanted: &[u8]) -> bool {
         }
     }
     true
+}
+
+/// Whether a byte comes, over faults too.
+fn comes_late<S: Source>(source: &mut S) -> bool {
+    for _ in 0..TURNS {
+        if let Got::Bytes(_) = turn(source) {
+            return true;
+        }
+    }
+    false
 }
 
 /// What a read answers.
@@ -154,6 +165,32 @@ fn silence_is_a_fault_in_the_end(rt: HostRuntime) -> Result<(), Fail> {
 }
 
 #[test]
+fn a_byte_breaks_the_silence(rt: HostRuntime) -> Result<(), Fail> {
+    let listener = TcpListener::bind(&rt, "127.0.0.1:0")?;
+    let near = TcpStream::connect(&rt, listener.local_addr()?)?;
+    let (far, _) = listener.accept()?;
+    let limit = Duration::from_secs(1);
+    let patience = Patience::new(&rt, limit);
+    let Some((mut source, _sink)) = ends_of(rt, rt.alloc(), far, 7, patience) else {
+        return Err(Fail::from("ends"));
+    };
+    thread::sleep(&rt, limit);
+    // Each byte comes after a silence that is too long. A machine that is too slow to look within the limit is asked again.
+    let mut to_far: &TcpStream = &near;
+    for _ in 0..10u32 {
+        let since = Instant::now(&rt)?;
+        assert!(rt; to_far.write(b"x")? == 1);
+        assert!(rt; comes_late(&mut source));
+        let answer = turn(&mut source);
+        if since.elapsed(&rt)? < limit {
+            assert!(rt; answer == Got::Nothing);
+            return Ok(());
+        }
+    }
+    Ok(())
+}
+
+#[test]
 fn a_worker_waits_between_its_dials(rt: HostRuntime) -> Result<(), Fail> {
     let address = free_address(&rt)?;
     let net = StdNet::new(rt, rt.alloc());
@@ -162,6 +199,37 @@ fn a_worker_waits_between_its_dials(rt: HostRuntime) -> Result<(), Fail> {
     assert!(rt; worker.dial(address.as_str()).is_err());
     assert!(rt; worker.dial(address.as_str()).is_err());
     assert!(rt; since.elapsed(&rt)? >= Duration::from_millis(100));
+    Ok(())
+}
+
+#[test]
+fn a_first_net_dials_at_once(rt: HostRuntime) -> Result<(), Fail> {
+    let address = free_address(&rt)?;
+    let mut net = StdNet::new(rt, rt.alloc());
+    assert!(rt; net.dial(address.as_str()).is_err());
+    // Each dial of a net that waits takes a tenth of a second at least.
+    for _ in 0..8u32 {
+        let since = Instant::now(&rt)?;
+        assert!(rt; net.dial(address.as_str()).is_err());
+        if since.elapsed(&rt)? < Duration::from_millis(100) {
+            return Ok(());
+        }
+    }
+    assert!(rt; false);
+    Ok(())
+}
+
+#[test]
+fn a_stream_is_prepared(rt: HostRuntime) -> Result<(), Fail> {
+    let listener = TcpListener::bind(&rt, "127.0.0.1:0")?;
+    let near = TcpStream::connect(&rt, listener.local_addr()?)?;
+    prepare(&near)?;
+    assert!(rt; near.nodelay()?);
+    // The system rounds a timeout up.
+    let reads = near.read_timeout()?.unwrap_or(Duration::from_secs(0));
+    assert!(rt; reads >= Duration::from_millis(10) && reads < Duration::from_millis(50));
+    let writes = near.write_timeout()?.unwrap_or(Duration::from_secs(0));
+    assert!(rt; writes >= Duration::from_secs(60) && writes < Duration::from_secs(61));
     Ok(())
 }
 
