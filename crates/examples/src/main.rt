@@ -11,7 +11,8 @@
 //! The transcript of each script is judged too, and so is that of each run of a whole script: all of them are lawful. `count` says
 //! how many comparisons there are, so that none gets lost.
 //!
-//! Nothing is written to standard output. What differs is told on standard error, and the status is then 1.
+//! Nothing is written to standard output. What differs is told on standard error, and the status is then 1; `serve` says faults of
+//! its etcd there too.
 #![tactic(auto)]
 
 mod compare;
@@ -23,15 +24,19 @@ use crate::compare::first_difference;
 use crate::files::{bytes_of, exists, names_in, number_of};
 use crate::run::Run;
 use anyhow::{Result, bail};
+use ev_shared::StoreLink;
+use ev_store::Store;
 use std::alloc::Global;
 use std::env;
 use std::process::ExitCode;
 use std::rt::Files;
 use std::sync::Wait;
 use std::thread::Threads;
+use std::time::Clock;
 use zetcd_cmd::{plain, zetcd};
 use zx_net::{InlineSpawner, MemClock, MemNet};
 use zx_outside::{MemSink, MemSource};
+use zx_words::MemRandom;
 
 /// The sizes of the pieces in which an input is handed over, in bytes: the least, a prime, and the most that one read takes.
 const SIZES: [u32; 3] = [1, 7, 65_536];
@@ -256,7 +261,7 @@ fn verdict_of(alloc: Global, status: u8, written: &[u8]) -> Result<Option<String
 }
 
 /// Carries out each run of the folder `runs`.
-fn runs_of<R: Files + Eprint + AllocGlobal + Threads + Wait + Copy + Send + Drop + 'static>(
+fn runs_of<R: Files + Eprint + AllocGlobal + Clock + Threads + Wait + Copy + Send + Drop + 'static>(
     rt: &R,
     root: &str,
     tally: &mut Tally,
@@ -271,10 +276,9 @@ fn runs_of<R: Files + Eprint + AllocGlobal + Threads + Wait + Copy + Send + Drop
 }
 
 /// Carries out one run, and says where its outcome differs.
-fn outcome_of<R: Files + AllocGlobal + Threads + Wait + Copy + Send + Drop + 'static>(
-    rt: &R,
-    path: &str,
-) -> Result<Option<String>> {
+fn outcome_of<
+    R: Files + Eprint + AllocGlobal + Clock + Threads + Wait + Copy + Send + Drop + 'static,
+>(rt: &R, path: &str) -> Result<Option<String>> {
     let alloc = rt.alloc();
     let text = bytes_of(rt, path)?;
     let Run {
@@ -285,6 +289,7 @@ fn outcome_of<R: Files + AllocGlobal + Threads + Wait + Copy + Send + Drop + 'st
         sink_failing,
         net_failing,
         start_failing,
+        call_failing,
         status: wanted,
         output,
     } = Run::read(alloc, text.as_slice())?;
@@ -295,6 +300,10 @@ fn outcome_of<R: Files + AllocGlobal + Threads + Wait + Copy + Send + Drop + 'st
     let mut source = MemSource::new(input, pieces, failing);
     let mut out = MemSink::new(alloc, sink_failing);
     let mut net = MemNet::new(alloc, net_failing, Vec::new(alloc));
+    let Ok(store) = Store::new(alloc) else {
+        bail!("no store");
+    };
+    let mut cluster = StoreLink::new(store, call_failing);
     let mut spawner = InlineSpawner::<R>::new(start_failing);
     let status = zetcd(
         rt,
@@ -303,8 +312,10 @@ fn outcome_of<R: Files + AllocGlobal + Threads + Wait + Copy + Send + Drop + 'st
         &mut source,
         &mut out,
         &mut net,
+        &mut cluster,
         &mut spawner,
         &mut MemClock::new(0),
+        &mut MemRandom::new(Vec::new(alloc)),
     )
     .number();
     if let Some(at) = first_difference(out.bytes(), output.as_slice()) {

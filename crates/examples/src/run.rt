@@ -14,7 +14,9 @@ use std::alloc::Global;
 /// - `pieces N SIZE`: N more reads give SIZE bytes each, or are idle turns where SIZE is 0.
 /// - `fails N`: read number N, from 1, fails. `sink-fails N`: so does write number N.
 /// - `net-fails N`: so does bind or accept number N; `start-fails N`: the start of job number N is refused. The streams that are
-///   accepted end at once, and jobs run in place.
+///   accepted end at once, and jobs run in place: the second job of `serve`, which looks for lapsed sessions, has to be refused, since
+///   in place it does not end.
+/// - `call-fails N`: call number N of the etcd that `serve` asks first fails. Streams that `serve` dials end at once.
 /// - `status N`: the status that is wanted.
 /// - `output TEXT`, `output- TEXT`, `output-repeat N TEXT`, `output-each N TEXT`: what has to be written, as for the input.
 #[derive(Drop)]
@@ -26,6 +28,7 @@ pub struct Run {
     pub sink_failing: Vec<u64>,
     pub net_failing: Vec<u64>,
     pub start_failing: Vec<u64>,
+    pub call_failing: Vec<u64>,
     pub status: u64,
     pub output: Vec<u8>,
 }
@@ -41,6 +44,7 @@ impl Run {
             sink_failing: Vec::new(alloc),
             net_failing: Vec::new(alloc),
             start_failing: Vec::new(alloc),
+            call_failing: Vec::new(alloc),
             status: 0,
             output: Vec::new(alloc),
         };
@@ -84,6 +88,10 @@ impl Run {
             }
             "start-fails" => {
                 self.start_failing.push(number(rest)?)?;
+                Ok(())
+            }
+            "call-fails" => {
+                self.call_failing.push(number(rest)?)?;
                 Ok(())
             }
             "pieces" => self.take_pieces(rest),

@@ -4,9 +4,10 @@ use Rattle.std.proofs.Math.Seq.{take-length}
 use Rattle.std.specs.declared.string.String.{String}
 use denote.Ref.{Bor}
 use Rattle.zetcd_cmd.specs.Outcomes.{IsWord}
+use Rattle.zetcd_cmd.specs.Proxying.{IsServe}
 use Rattle.zetcd_cmd.specs.Serving.{IsEtcd, is_address, limit_in}
 use Rattle.std.specs.Prelude.{true, Some}
-use Rattle.zetcd.specs.Arguments.{IsServing, arguments}
+use Rattle.zetcd.specs.Arguments.{IsProxying, IsServing, arguments}
 
 abbrev pub texts : List (Bor (List ℕ)) → List (List ℕ)
 texts words = map (λ (w : Bor (List ℕ)). w.now) words
@@ -49,3 +50,29 @@ etcd-serving (w ∷ v ∷ []) listen limit is = absurd is
 etcd-serving (w ∷ v ∷ u ∷ []) listen limit is =
     (u.now, ap (λ (t : List ℕ). t ∷ (v.now ∷ (u.now ∷ []))) is.0 ∙ ap (λ (t : List ℕ). codes "etcd" ∷ (t ∷ (u.now ∷ []))) is.1, is.2, is.3)
 etcd-serving (w ∷ v ∷ u ∷ t ∷ words) listen limit is = absurd is
+
+pub proxying-serve : (words : List (Bor (List ℕ))) (listen endpoint : List ℕ) (limit : ℕ) → IsProxying (texts words) listen endpoint limit → IsServe words listen endpoint limit
+proxying-serve [] listen endpoint limit is = absurd cc
+proxying-serve (w ∷ []) listen endpoint limit is = absurd cc
+proxying-serve (w ∷ v ∷ []) listen endpoint limit is = absurd cc
+proxying-serve (w ∷ v ∷ u ∷ []) listen endpoint limit is = absurd cc
+proxying-serve (w ∷ v ∷ u ∷ t ∷ []) listen endpoint limit is =
+    let same : w.now ∷ (v.now ∷ (u.now ∷ (t.now ∷ []))) ≡ codes "serve" ∷ (listen ∷ (endpoint ∷ (is.0 ∷ []))) = is.1 in
+    let fourth : t.now ≡ is.0 = cc in
+    (cc, cc, is.2, cc, is.3, ap limit_in fourth ∙ is.4)
+proxying-serve (w ∷ v ∷ u ∷ t ∷ s ∷ words) listen endpoint limit is = absurd cc
+
+pub serve-proxying : (words : List (Bor (List ℕ))) (listen endpoint : List ℕ) (limit : ℕ) → IsServe words listen endpoint limit → IsProxying (texts words) listen endpoint limit
+serve-proxying [] listen endpoint limit is = absurd is
+serve-proxying (w ∷ []) listen endpoint limit is = absurd is
+serve-proxying (w ∷ v ∷ []) listen endpoint limit is = absurd is
+serve-proxying (w ∷ v ∷ u ∷ []) listen endpoint limit is = absurd is
+serve-proxying (w ∷ v ∷ u ∷ t ∷ []) listen endpoint limit is = (
+  t.now,
+  ap (λ (x : List ℕ). x ∷ (v.now ∷ (u.now ∷ (t.now ∷ [])))) is.0 ∙ ap (λ (x : List ℕ). codes "serve" ∷ (x ∷ (u.now ∷ (t.now ∷ [])))) is.1
+      ∙ ap (λ (x : List ℕ). codes "serve" ∷ (listen ∷ (x ∷ (t.now ∷ [])))) is.3,
+  is.2,
+  is.4,
+  is.5,
+)
+serve-proxying (w ∷ v ∷ u ∷ t ∷ s ∷ words) listen endpoint limit is = absurd is

@@ -11,3 +11,14 @@ arguments words = drop 1 (map string_bytes words)
 abbrev pub IsServing : List (List ℕ) → List ℕ → ℕ → Type 0
 IsServing words listen limit =
     (text : List ℕ) × (words ≡ codes "etcd" ∷ (listen ∷ (text ∷ []))) × (is_address listen ≡ true) × (limit_in text ≡ Some limit)
+
+abbrev pub IsNoServing : List (List ℕ) → Type 0
+IsNoServing words = (listen : List ℕ) (limit : ℕ) → ¬ IsServing words listen limit
+
+-- the words after the program's name are `serve`, these two addresses, and the text of this limit
+abbrev pub IsProxying : List (List ℕ) → List ℕ → List ℕ → ℕ → Type 0
+IsProxying words listen endpoint limit =
+    (text : List ℕ) × (words ≡ codes "serve" ∷ (listen ∷ (endpoint ∷ (text ∷ [])))) × (is_address listen ≡ true) × (is_address endpoint ≡ true) × (limit_in text ≡ Some limit)
+
+abbrev pub IsNoProxying : List (List ℕ) → Type 0
+IsNoProxying words = (listen : List ℕ) (endpoint : List ℕ) (limit : ℕ) → ¬ IsProxying words listen endpoint limit

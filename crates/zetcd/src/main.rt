@@ -1,14 +1,16 @@
-//! zetcd: ZooKeeper's protocol over etcd. The commands `replay`, `show`, `judge` and `etcd` are built.
+//! zetcd: ZooKeeper's protocol over etcd. The commands `serve`, `replay`, `show`, `judge` and `etcd` are built.
 //!
-//! `main` hands the command line, standard input and output, and the system's sockets, threads and clock to [`zetcd_cmd::zetcd`],
-//! says on standard error in words what ended a run that did not come to its end, and ends the process with the status's number.
+//! `main` hands the command line, standard input and output, and the system's sockets, threads, clock and random words to
+//! [`zetcd_cmd::zetcd`], says on standard error in words what ended a run that did not come to its end, and ends the process with the
+//! status's number.
 #![tactic(auto)]
 
 ghost use Rattle.std.specs.Prelude.{◌≡◌, ◌≢◌, ◌⊎◌, List, ℕ, [], ◌∷◌, codes, IfOk};
 ghost use Rattle.std.specs.Process.{exit_status};
 ghost use Rattle.std.specs.Vec.Iter.{into_iter_items};
-ghost use Rattle.zetcd.specs.Arguments.{IsServing, arguments};
+ghost use Rattle.zetcd.specs.Arguments.{IsNoProxying, IsNoServing, IsProxying, IsServing, arguments};
 ghost use Rattle.zetcd_cmd.specs.Outcomes.{number_of, Did, Failed, IsUnharmed, Judges, Refuses, Replays, Shows};
+ghost use Rattle.zetcd_cmd.specs.Proxying.{HasNetCause, Proxies, seen};
 ghost use Rattle.zetcd_cmd.specs.Serving.{Serves};
 ghost use Rattle.zx_outside.specs.Counts.{one_more};
 ghost use Rattle.zx_outside.specs.Writing.{counts_after_write};
@@ -19,23 +21,32 @@ mod words;
 
 use crate::meaning::meaning;
 use crate::words::{lent, words_of};
+use ev_call::Cluster;
+use ev_link::DialCluster;
 use std::alloc::{AllocError, Global};
 use std::env::{self, Args};
 use std::io::ErrorKind;
 use std::process::ExitCode;
 use std::sync::Wait;
+use std::time::Clock as SystemClock;
 use zetcd_cmd::{Status, zetcd};
-use zx_net::{Clock, Net, Spawner};
+use zx_net::{Clock, Net, Spawner, Wakes};
 use zx_outside::{Sink, Source, StdSink, StdSource};
 use zx_sockets::{StdClock, StdNet, ThreadSpawner};
+use zx_words::{HangsUp, RandWord, Random};
 
 fn main(rt: HostRuntime) -> ExitCode {
     let alloc = rt.alloc();
     let mut input = StdSource::new(rt.stdin());
     let mut out = StdSink::new(rt.stdout());
     let mut net = StdNet::new(rt, alloc);
+    let mut cluster = DialCluster::new(alloc, StdNet::new(rt, alloc));
     let mut spawner = ThreadSpawner::new(rt);
     let mut clock = StdClock::new(rt);
+    let Ok(mut random) = RandWord::new(&rt) else {
+        let _told = eprintln!(rt; "zetcd: the system gives no random bytes");
+        return exit(&Status::Memory);
+    };
     let status = match env::args(&rt) {
         Ok(args) => with_words(
             &rt,
@@ -44,8 +55,10 @@ fn main(rt: HostRuntime) -> ExitCode {
             &mut input,
             &mut out,
             &mut net,
+            &mut cluster,
             &mut spawner,
             &mut clock,
+            &mut random,
         )
         .unwrap_or(Status::Memory),
         // A word that is not UTF-8 belongs to no command. The usage line is written, as it is for no words.
@@ -56,21 +69,23 @@ fn main(rt: HostRuntime) -> ExitCode {
             &mut input,
             &mut out,
             &mut net,
+            &mut cluster,
             &mut spawner,
             &mut clock,
+            &mut random,
         ),
         Err(_) => Status::Memory,
     };
-    if let Some(words) = meaning(status) {
+    if let Some(words) = meaning(&status) {
         // Where standard error takes nothing, the exit code still tells.
         let _told = eprintln!(rt; "zetcd: {words}");
     }
-    exit(status)
+    exit(&status)
 }
 
 /// The exit code, which is the status's number.
-fn exit(status: Status) -> ExitCode
-    ensures { exit_status result ≡ number_of status }
+fn exit(status: &Status) -> ExitCode
+    ensures { exit_status result ≡ number_of status.now }
 {
     ExitCode::from(status.number())
 }
@@ -78,12 +93,14 @@ fn exit(status: Status) -> ExitCode
 /// Runs the command that these words name; the first of them is the program's name. An error is want of memory, met before the
 /// command began.
 fn with_words<
-    W: Wait + Copy + Send + Drop + 'static,
+    W: Wait + SystemClock + Eprint + Copy + Send + Drop + 'static,
     I: Source,
     O: Sink,
-    N: Net,
+    N: Net + Send + Drop + 'static,
+    L: Cluster,
     P: Spawner,
     C: Clock + Send + Drop + 'static,
+    R: Random,
 >(
     rt: &W,
     alloc: Global,
@@ -91,17 +108,29 @@ fn with_words<
     input: &mut I,
     out: &mut O,
     net: &mut N,
+    cluster: &mut L,
     spawner: &mut P,
     clock: &mut C,
+    random: &mut R,
 ) -> Result<Status, AllocError>
+where
+    N::In: Wakes + HangsUp,
+    N::Door: Send,
+    requires { (N.counts net.old).accepted ≡ 0 }
     ensures replay { IfOk result (λ s. arguments (into_iter_items args) ≡ codes "replay" ∷ [] → Did (Replays s (I.ended input.new) (I.left input.new)) (I.given input.old) (I.given input.new) (I.left input.old) (I.left input.new) (O.taken out.old) (O.taken out.new)) }
     ensures show { IfOk result (λ s. arguments (into_iter_items args) ≡ codes "show" ∷ [] → Did (Shows s (I.ended input.new) (I.left input.new)) (I.given input.old) (I.given input.new) (I.left input.old) (I.left input.new) (O.taken out.old) (O.taken out.new)) }
     ensures judge { IfOk result (λ s. arguments (into_iter_items args) ≡ codes "judge" ∷ [] → Did (Judges s (I.ended input.new) (I.left input.new)) (I.given input.old) (I.given input.new) (I.left input.old) (I.left input.new) (O.taken out.old) (O.taken out.new)) }
     ensures etcd { IfOk result (λ s. (listen : List ℕ) → (limit : ℕ) → IsServing (arguments (into_iter_items args)) listen limit → Serves s listen limit (N.counts net.old) (N.counts net.new) (O.taken out.old) (O.taken out.new)) }
-    ensures net { IfOk result (λ s. s ≡ Status.Net → (N.counts net.new).door_faults ≡ one_more (N.counts net.old).door_faults) }
+    ensures serve { IfOk result (λ s. (listen : List ℕ) → (endpoint : List ℕ) → (limit : ℕ) → IsProxying (arguments (into_iter_items args)) listen endpoint limit →
+        Proxies s listen limit (L.failures cluster.old) (L.failures cluster.new) (P.refusals spawner.old) (P.refusals spawner.new)
+        (seen (N.counts net.old) (O.taken out.old) (O.counts out.old)) (seen (N.counts net.new) (O.taken out.new) (O.counts out.new))) }
+    ensures net_cause { IfOk result (λ s. s ≡ Status.Net → HasNetCause (L.failures cluster.old) (L.failures cluster.new) (P.refusals spawner.old) (P.refusals spawner.new)
+        (N.counts net.old) (N.counts net.new) (O.taken out.old) (O.taken out.new)) }
+    ensures net { IfOk result (λ s. IsNoProxying (arguments (into_iter_items args)) → s ≡ Status.Net → (N.counts net.new).door_faults ≡ one_more (N.counts net.old).door_faults) }
     ensures unless_net { IfOk result (λ s. s ≢ Status.Net → s ≢ Status.WriteFault → (N.counts net.new).door_faults ≡ (N.counts net.old).door_faults) }
-    ensures offline { IfOk result (λ s. ((listen : List ℕ) (limit : ℕ) → ¬ IsServing (arguments (into_iter_items args)) listen limit) → net.new ≡ net.old) }
-    ensures usage { IfOk result (λ s. ¬ (arguments (into_iter_items args) ≡ codes "replay" ∷ []) → ¬ (arguments (into_iter_items args) ≡ codes "show" ∷ []) → ¬ (arguments (into_iter_items args) ≡ codes "judge" ∷ []) → ((listen : List ℕ) (limit : ℕ) → ¬ IsServing (arguments (into_iter_items args)) listen limit) → Refuses s (O.taken out.old) (O.taken out.new)) }
+    ensures offline { IfOk result (λ s. IsNoServing (arguments (into_iter_items args)) → IsNoProxying (arguments (into_iter_items args)) → net.new ≡ net.old) }
+    ensures unasked { IfOk result (λ s. IsNoProxying (arguments (into_iter_items args)) → (cluster.new ≡ cluster.old) × (random.new ≡ random.old)) }
+    ensures usage { IfOk result (λ s. ¬ (arguments (into_iter_items args) ≡ codes "replay" ∷ []) → ¬ (arguments (into_iter_items args) ≡ codes "show" ∷ []) → ¬ (arguments (into_iter_items args) ≡ codes "judge" ∷ []) → IsNoServing (arguments (into_iter_items args)) → IsNoProxying (arguments (into_iter_items args)) → Refuses s (O.taken out.old) (O.taken out.new)) }
     ensures unread { IfOk result (λ s. ¬ (arguments (into_iter_items args) ≡ codes "replay" ∷ []) → ¬ (arguments (into_iter_items args) ≡ codes "show" ∷ []) → ¬ (arguments (into_iter_items args) ≡ codes "judge" ∷ []) → input.new ≡ input.old) }
     ensures read { IfOk result (λ s. s ≡ Status.ReadFault → Failed (I.counts input.old) (I.counts input.new)) }
     ensures unless_fault { IfOk result (λ s. s ≢ Status.ReadFault → s ≢ Status.WriteFault → s ≢ Status.Memory → IsUnharmed (I.counts input.old) (I.counts input.new)) }
@@ -114,6 +143,17 @@ fn with_words<
     let words = words_of(alloc, args)?;
     let behind_name = words.len().min(1);
     let words = lent(alloc, &words.as_slice()[behind_name..])?;
-    let status = zetcd(rt, alloc, words.as_slice(), input, out, net, spawner, clock);
+    let status = zetcd(
+        rt,
+        alloc,
+        words.as_slice(),
+        input,
+        out,
+        net,
+        cluster,
+        spawner,
+        clock,
+        random,
+    );
     Ok(status)
 }

@@ -3,7 +3,7 @@
 use zetcd_cmd::Status;
 
 /// What a person at a terminal is told of a run that stopped early. `None`: the output says all there is to say.
-pub fn meaning(status: Status) -> Option<&'static str> {
+pub fn meaning(status: &Status) -> Option<&'static str> {
     match status {
         Status::Done | Status::Usage | Status::Unlawful => None,
         Status::Script { .. } => Some("stopped: the last line of the output says where and why"),
@@ -11,7 +11,12 @@ pub fn meaning(status: Status) -> Option<&'static str> {
             "standard input could not be read, or gave nothing at 1,000 reads",
         ),
         Status::WriteFault => Some("standard output could not be written"),
-        Status::Net => Some("the address could not be listened on, or the listening socket broke"),
+        Status::Net => Some(
+            "etcd did not answer, a thread could not be started, the address could not be listened on, or the listening socket broke",
+        ),
         Status::Memory => Some("out of memory: the output is not complete"),
+        Status::Feed(_) => Some(
+            "updates cannot be followed any further: the last line of the output says why",
+        ),
     }
 }

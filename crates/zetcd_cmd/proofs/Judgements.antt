@@ -59,6 +59,7 @@ writes status.ReadFault ended left text output settled finds = absurd finds
 writes status.WriteFault ended left text output settled finds = absurd finds
 writes status.Memory ended left text output settled finds = absurd finds
 writes status.Net ended left text output settled finds = absurd finds
+writes (status.Feed end) ended left text output settled finds = absurd finds
 
 pub Did-judged : (s : Status) (text : List ℕ) (ended : Bool) (given given' left left' taken taken' : Option (List ℕ)) → Gives text given given' left left' →
     IsAtItsEnd ended left' ⊎ (max_script < length text) → Tells s text taken taken' → Did (Judges s ended left') given given' left left' taken taken'
@@ -82,6 +83,7 @@ Did-judged status.Memory text ended given given' left left' taken taken' gives s
 Did-judged status.Usage text ended given given' left left' taken taken' gives settled tells = absurd tells.1
 Did-judged status.ReadFault text ended given given' left left' taken taken' gives settled tells = absurd tells.1
 Did-judged status.Net text ended given given' left left' taken taken' gives settled tells = absurd tells.1
+Did-judged (status.Feed end) text ended given given' left left' taken taken' gives settled tells = absurd tells.1
 
 -- it came whole
 Did-whole : (how : Reading) (s : Status) (text shown : List ℕ) (ended : Bool) (given given' left left' taken taken' : Option (List ℕ)) → how ≡ reading.Whole → shown ≡ text →

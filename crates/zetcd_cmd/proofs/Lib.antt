@@ -4,6 +4,7 @@ pub mod Headlines
 pub mod Judgements
 pub mod Offers
 pub mod Progress
+pub mod Proxyings
 pub mod Reaching
 pub mod Reports
 pub mod ScriptLaws

@@ -11,3 +11,4 @@ pub mod Replayed
 pub mod Judged
 pub mod Judging
 pub mod Serving
+pub mod Proxying

@@ -194,3 +194,4 @@ number_of status.WriteFault = 5
 number_of status.Net = 6
 number_of status.Memory = 7
 number_of status.Unlawful = 8
+number_of (status.Feed end) = 10

@@ -5,6 +5,7 @@ ghost use Rattle.zx_outside.specs.Writing.{counts_after_write};
 ghost use Rattle.zx_outside.specs.declared.sink.Took.TheVariants.{Failed as TookFailed};
 ghost use Rattle.zetcd_cmd.specs.Outcomes.{IsJudge, IsReplay, IsShow, Did, Judges, Replays, Shows, Refuses, Failed, IsUnharmed};
 ghost use Rattle.zetcd_cmd.specs.Commands.{IsCommand};
+ghost use Rattle.zetcd_cmd.specs.Proxying.{NamesServe};
 ghost use Rattle.zetcd_cmd.specs.Serving.{NamesEtcd};
 
 use crate::judge::judge;
@@ -12,7 +13,7 @@ use crate::replay::replay;
 use crate::show::show;
 use crate::status::Status;
 use crate::streams::write_all;
-use crate::words::etcd_words;
+use crate::words::{etcd_words, serve_words};
 use std::alloc::Global;
 use zx_outside::{Sink, Source};
 
@@ -35,7 +36,7 @@ fn refuse<O: Sink>(out: &mut O) -> Status
 /// Runs the command that `words`, the command line without the program's name, are, if it is one that neither waits nor listens:
 /// `replay`, `show` or `judge`. It reads `input` and writes `out`. For words that are no command it writes the usage line. `None`
 /// for the words of a command that listens: nothing was read or written.
-#[tactic(auto, using(crate::proofs::Servings::one_word))]
+#[tactic(auto, using(crate::proofs::Servings::one_word, crate::proofs::Proxyings::one_word))]
 pub fn plain<I: Source, O: Sink>(
     alloc: Global,
     words: &[&str],
@@ -50,14 +51,15 @@ pub fn plain<I: Source, O: Sink>(
     ensures show { IsShow words.now → IfSome result (λ s. Did (Shows s (I.ended input.new) (I.left input.new)) (I.given input.old) (I.given input.new) (I.left input.old) (I.left input.new) (O.taken out.old) (O.taken out.new)) }
     // Of `judge`, by the status: the verdict on the transcript that was read, or its first line that cannot be read.
     ensures judge { IsJudge words.now → IfSome result (λ s. Did (Judges s (I.ended input.new) (I.left input.new)) (I.given input.old) (I.given input.new) (I.left input.old) (I.left input.new) (O.taken out.old) (O.taken out.new)) }
-    // Of `etcd`: no status, nothing was read, and nothing written.
-    ensures none { IsNone result → NamesEtcd words.now }
+    // Of `etcd` and `serve`: no status, nothing was read, and nothing written.
+    ensures none { IsNone result → NamesEtcd words.now ⊎ NamesServe words.now }
     ensures etcd { NamesEtcd words.now → IsNone result }
+    ensures serve { NamesServe words.now → IsNone result }
     ensures untouched { IsNone result → (input.new ≡ input.old) × (out.new ≡ out.old) }
-    // The status of `etcd` for its net never comes.
+    // The status of `etcd` and `serve` for the net never comes.
     ensures never_net { IfSome result (λ s. s ≢ Status.Net) }
     // Of words that are in no row: the usage line was written, or a front of it where the output has a fault.
-    ensures usage { ¬ IsReplay words.now → ¬ IsShow words.now → ¬ IsJudge words.now → ¬ NamesEtcd words.now → IfSome result (λ s. Refuses s (O.taken out.old) (O.taken out.new)) }
+    ensures usage { ¬ IsReplay words.now → ¬ IsShow words.now → ¬ IsJudge words.now → ¬ NamesEtcd words.now → ¬ NamesServe words.now → IfSome result (λ s. Refuses s (O.taken out.old) (O.taken out.new)) }
     // Of words other than these three: nothing was read.
     ensures unread { ¬ IsReplay words.now → ¬ IsShow words.now → ¬ IsJudge words.now → input.new ≡ input.old }
     // Status 4 has its cause in the input: one fault, or 1,000 idle turns.
@@ -80,6 +82,9 @@ pub fn plain<I: Source, O: Sink>(
         Some(Command::Judge) => Some(judge(alloc, input, out)),
         None => {
             if etcd_words(words).is_some() {
+                return None;
+            }
+            if serve_words(words).is_some() {
                 return None;
             }
             Some(refuse(out))

@@ -3,11 +3,16 @@
 ghost use Rattle.std.specs.Prelude.{◌≡◌};
 ghost use Rattle.zetcd_cmd.specs.Outcomes.{number_of};
 
-/// How a command ended. What was read and written then is said by `specs/Outcomes.antt`.
-#[derive(Clone, Copy, PartialEq, Eq)]
+use std::alloc::Global;
+use std::sync::Arc;
+use zw_hub::FeedEnd;
+
+/// How a command ended. What was read and written then is said by `specs/Outcomes.antt`, `specs/Serving.antt` and
+/// `specs/Proxying.antt`.
+#[derive(Drop)]
 pub enum Status {
-    /// The input was read to its end. Of `show`: that is a frame's end. Of `judge`: the verdict is `lawful`. Of `etcd`, which reads
-    /// nothing: as many connections as its limit allows were accepted, and have ended.
+    /// The input was read to its end. Of `show`: that is a frame's end. Of `judge`: the verdict is `lawful`. Of `etcd` and `serve`,
+    /// which read nothing: as many connections as the limit allows were accepted, and have ended.
     Done,
     /// The words name no command that is built.
     Usage,
@@ -18,18 +23,21 @@ pub enum Status {
     ReadFault,
     /// The output had a fault.
     WriteFault,
-    /// Of `etcd`: the address could not be listened on, or the door had a fault.
+    /// Of `etcd` and `serve`: the address could not be listened on, or the door had a fault. Of `serve` also: the etcd did not
+    /// answer the first ask, or a worker could not be started.
     Net,
     /// Memory was refused.
     Memory,
     /// Of `judge`: the verdict is not `lawful`.
     Unlawful,
+    /// Of `serve`: the updates could not be followed any further, for this cause. It is never want of memory.
+    Feed(Arc<FeedEnd, Global>),
 }
 
 impl Status {
     /// The number that the process ends with.
-    pub fn number(self) -> u8
-        ensures { result ≡ number_of self }
+    pub fn number(&self) -> u8
+        ensures { result ≡ number_of self.now }
     {
         match self {
             Status::Done => 0,
@@ -40,6 +48,7 @@ impl Status {
             Status::Net => 6,
             Status::Memory => 7,
             Status::Unlawful => 8,
+            Status::Feed(_) => 10,
         }
     }
 }

@@ -1,7 +1,8 @@
-//! The words of `etcd LISTEN LIMIT`.
+//! The words of the commands that listen: `etcd LISTEN LIMIT` and `serve LISTEN ENDPOINT LIMIT`.
 
 ghost use Rattle.std.specs.Prelude.{◌≡◌, IfSome, IsNone};
 ghost use Rattle.std.specs.List.{list_all};
+ghost use Rattle.zetcd_cmd.specs.Proxying.{IsServe, NamesServe};
 ghost use Rattle.zetcd_cmd.specs.Serving.{IsEtcd, NamesEtcd, digits_number, is_address as is_address_of, is_visible, limit_in};
 
 use zt_text::decimal_digit;
@@ -67,6 +68,41 @@ pub fn etcd_words<'a>(words: &[&'a str]) -> Option<(&'a str, u64)>
     }
     match limit_of(limit.as_bytes()) {
         Some(limit) => Some((listen, limit)),
+        None => None,
+    }
+}
+
+/// What `serve` is to do.
+#[derive(Clone, Copy)]
+pub struct Proxy<'a> {
+    /// The address to listen at.
+    pub listen: &'a str,
+    /// The address of the etcd.
+    pub endpoint: &'a str,
+    /// How many connections are accepted.
+    pub limit: u64,
+}
+
+/// What these words have `serve` do; `None` where they are not those of `serve`.
+pub fn serve_words<'a>(words: &[&'a str]) -> Option<Proxy<'a>>
+    ensures some { IfSome result (λ p. IsServe words.now p.listen.now p.endpoint.now p.limit) }
+    ensures none { IsNone result → ¬ NamesServe words.now }
+{
+    let [word, listen, endpoint, limit] = words else {
+        return None;
+    };
+    if word.as_bytes() != b"serve".as_slice() {
+        return None;
+    }
+    if !is_address(listen.as_bytes()) || !is_address(endpoint.as_bytes()) {
+        return None;
+    }
+    match limit_of(limit.as_bytes()) {
+        Some(limit) => Some(Proxy {
+            listen,
+            endpoint,
+            limit,
+        }),
         None => None,
     }
 }

@@ -9,11 +9,12 @@ use crate::bell::{Ear, SocketBell};
 use std::alloc::{AllocError, Global};
 use std::io;
 use std::io::{ErrorKind, Read};
-use std::net::{Net as SystemNet, TcpStream};
+use std::net::{Net as SystemNet, Shutdown, TcpStream};
 use std::sync::Arc;
 use std::time::{Clock as SystemClock, Duration, Instant};
 use zx_net::Wakes;
 use zx_outside::{Got, Source};
+use zx_words::HangsUp;
 
 /// How many bytes are asked of the system at once.
 const ROOM: usize = 8192;
@@ -233,5 +234,12 @@ impl<R: SystemClock + SystemNet + Copy> Wakes for SocketSource<R> {
         let (ear, bell) = Ear::new(&self.rt, self.alloc, &self.stream)?;
         self.ear = Some(ear);
         Some(bell)
+    }
+}
+
+impl<R: SystemClock + Copy> HangsUp for SocketSource<R> {
+    fn hang_up(&mut self) {
+        // A stream that the peer has ended already cannot be ended again.
+        let _over = self.stream.shutdown(Shutdown::Both);
     }
 }

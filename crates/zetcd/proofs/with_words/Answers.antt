@@ -1,8 +1,9 @@
 use Rattle.std.proofs.Common.{◌≡◌, List, ℕ, ◌∙◌, sym, ap, subst, arith}
 use Rattle.std.specs.Vec.Iter.{into_iter_items}
+use Rattle.zetcd_cmd.specs.Proxying.{NamesServe}
 use Rattle.zetcd_cmd.specs.Serving.{NamesEtcd}
-use Rattle.zetcd.specs.Arguments.{IsServing, arguments}
-use Rattle.zetcd.proofs.Arguments.{texts, is_word-texts, texts-is_word, arguments-behind, serving-etcd, etcd-serving}
+use Rattle.zetcd.specs.Arguments.{IsNoProxying, IsNoServing, IsProxying, IsServing, arguments}
+use Rattle.zetcd.proofs.Arguments.{texts, is_word-texts, texts-is_word, arguments-behind, serving-etcd, etcd-serving, proxying-serve, serve-proxying}
 use Rattle.zetcd.proofs.with_words.Given.{Over}
 use Rattle.zetcd.proofs.with_words.Goals as goal
 
@@ -22,17 +23,25 @@ returns-clause-show g c = λ h. c.zetcd-status.ensures.show (is_word-texts _ _ (
 pub returns-clause-judge : goal.returns-clause-judge
 returns-clause-judge g c = λ h. c.zetcd-status.ensures.judge (is_word-texts _ _ (handed g c ∙ h))
 
--- the words after the name are those of `etcd`, if those that are handed on are
-serving : (g : Over) (c : goal.After-drop-words-3 g) → NamesEtcd c.as_slice-2.result.now → (listen : List ℕ) × (limit : ℕ) × IsServing (arguments (into_iter_items c.args.args)) listen limit
-serving g c names = (names.0, names.1, subst (λ (ws : List (List ℕ)). IsServing ws names.0 names.1) (handed g c) (etcd-serving _ _ _ names.2))
+-- the words that are handed on are those of `etcd` only where the words after the name are
+not_etcd : (g : Over) (c : goal.After-drop-words-3 g) → IsNoServing (arguments (into_iter_items c.args.args)) → NamesEtcd c.as_slice-2.result.now → ⊥
+not_etcd g c none names = none names.0 names.1 (subst (λ (ws : List (List ℕ)). IsServing ws names.0 names.1) (handed g c) (etcd-serving _ _ _ names.2))
+
+-- and so for `serve`
+not_serve : (g : Over) (c : goal.After-drop-words-3 g) → IsNoProxying (arguments (into_iter_items c.args.args)) → NamesServe c.as_slice-2.result.now → ⊥
+not_serve g c none names =
+    none names.0 names.1 names.2 (subst (λ (ws : List (List ℕ)). IsProxying ws names.0 names.1 names.2) (handed g c) (serve-proxying _ _ _ _ names.3))
 
 pub returns-clause-usage : goal.returns-clause-usage
-returns-clause-usage g c = λ h k l m.
+returns-clause-usage g c = λ h k l m n.
     c.zetcd-status.ensures.usage (λ r. h (sym (handed g c) ∙ texts-is_word _ _ r)) (λ s. k (sym (handed g c) ∙ texts-is_word _ _ s)) (λ j. l (sym (handed g c) ∙ texts-is_word _ _ j))
-    (λ names. let is = serving g c names in m is.0 is.1 is.2)
+    (not_etcd g c m) (not_serve g c n)
 
 pub returns-clause-offline : goal.returns-clause-offline
-returns-clause-offline g c = λ m. c.zetcd-status.ensures.offline (λ names. let is = serving g c names in m is.0 is.1 is.2)
+returns-clause-offline g c = λ m n. c.zetcd-status.ensures.offline (not_etcd g c m) (not_serve g c n)
+
+pub returns-clause-unasked : goal.returns-clause-unasked
+returns-clause-unasked g c = λ n. c.zetcd-status.ensures.unasked (not_serve g c n)
 
 pub returns-clause-unread : goal.returns-clause-unread
 returns-clause-unread g c = λ h k l.
@@ -48,8 +57,16 @@ pub returns-clause-etcd : goal.returns-clause-etcd
 returns-clause-etcd g c = λ listen limit is.
     c.zetcd-status.ensures.etcd listen limit (serving-etcd _ listen limit (subst (λ (ws : List (List ℕ)). IsServing ws listen limit) (sym (handed g c)) is))
 
+pub returns-clause-serve : goal.returns-clause-serve
+returns-clause-serve g c = λ listen endpoint limit is.
+    c.zetcd-status.ensures.serve listen endpoint limit
+    (proxying-serve _ listen endpoint limit (subst (λ (ws : List (List ℕ)). IsProxying ws listen endpoint limit) (sym (handed g c)) is))
+
 pub returns-clause-net : goal.returns-clause-net
-returns-clause-net g c = c.zetcd-status.ensures.net
+returns-clause-net g c = λ n. c.zetcd-status.ensures.net (not_serve g c n)
+
+pub returns-clause-net_cause : goal.returns-clause-net_cause
+returns-clause-net_cause g c = c.zetcd-status.ensures.net_cause
 
 pub returns-clause-unless_net : goal.returns-clause-unless_net
 returns-clause-unless_net g c = c.zetcd-status.ensures.unless_net

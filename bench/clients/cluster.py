@@ -1,0 +1,135 @@
+"""An etcd and proxies on the loopback, as processes, for bench/clients.sh and bench/serve.sh."""
+import os
+import random
+import shutil
+import signal
+import socket
+import subprocess
+import time
+import urllib.request
+
+
+PORTS = iter(random.sample(range(20000, 32000), 12000))
+
+
+def free_port():
+    """A port at which nobody listens, below those that the system gives to streams that are dialled."""
+    for port in PORTS:
+        with socket.socket() as it:
+            try:
+                it.bind(("127.0.0.1", port))
+                return port
+            except OSError:
+                pass
+    raise RuntimeError("no port is free")
+
+
+def until(holds, seconds=10.0, pause=0.02):
+    """Whether this comes to hold within so many seconds."""
+    end = time.time() + seconds
+    while time.time() < end:
+        if holds():
+            return True
+        time.sleep(pause)
+    return bool(holds())
+
+
+def answers(port):
+    try:
+        socket.create_connection(("127.0.0.1", port), 0.5).close()
+        return True
+    except OSError:
+        return False
+
+
+class Etcd:
+    def __init__(self, work, *flags):
+        self.port, self.peer, self.flags = free_port(), free_port(), flags
+        self.folder = os.path.join(work, f"etcd-{self.port}")
+        self.address = f"127.0.0.1:{self.port}"
+        self.process = None
+        self.start()
+
+    def start(self):
+        urls = f"http://{self.address}"
+        words = ["etcd", "--data-dir", self.folder, "--listen-client-urls", urls, "--advertise-client-urls", urls,
+                 "--listen-peer-urls", f"http://127.0.0.1:{self.peer}", "--unsafe-no-fsync", *self.flags]
+        log = open(self.folder + ".log", "ab")
+        self.process = subprocess.Popen(words, stdout=log, stderr=log)
+        if not until(self.is_healthy, 20):
+            raise RuntimeError("etcd does not come up")
+
+    def is_healthy(self):
+        try:
+            return b"true" in urllib.request.urlopen(f"http://{self.address}/health", timeout=1).read()
+        except OSError:
+            return False
+
+    def stop(self, how=signal.SIGTERM):
+        self.process.send_signal(how)
+        self.process.wait()
+
+    def end(self):
+        if self.process.poll() is None:
+            self.stop(signal.SIGKILL)
+        shutil.rmtree(self.folder, ignore_errors=True)
+
+    def control(self, *words, value=b""):
+        made = subprocess.run(["etcdctl", "--endpoints", f"http://{self.address}", *words], input=value,
+                              env={**os.environ, "ETCDCTL_API": "3"}, capture_output=True)
+        if made.returncode != 0:
+            raise RuntimeError(made.stderr.decode())
+        return made.stdout
+
+    def revision(self):
+        import json
+        return json.loads(self.control("endpoint", "status", "-w", "json"))[0]["Status"]["header"]["revision"]
+
+
+class MemoryEtcd:
+    """The etcd in memory, `zetcd etcd`."""
+
+    def __init__(self, program, work):
+        self.port = free_port()
+        self.address = f"127.0.0.1:{self.port}"
+        self.process = subprocess.Popen([program, "etcd", self.address, "4294967295"],
+                                        stdout=open(os.path.join(work, f"memory-{self.port}.out"), "wb"))
+        if not until(lambda: answers(self.port), 20):
+            raise RuntimeError("the etcd in memory does not come up")
+
+    def end(self):
+        self.process.kill()
+        self.process.wait()
+
+
+class Proxy:
+    def __init__(self, program, endpoint, work, limit=4294967295, port=None, is_awaited=True, out=None):
+        self.port = port or free_port()
+        self.address = f"127.0.0.1:{self.port}"
+        self.out = out or os.path.join(work, f"proxy-{self.port}-{time.time_ns()}.out")
+        self.err = os.path.join(work, f"proxy-{self.port}-{time.time_ns()}.err")
+        self.process = subprocess.Popen([program, "serve", self.address, endpoint, str(limit)],
+                                        stdout=open(self.out, "wb"), stderr=open(self.err, "wb"))
+        if is_awaited and not until(lambda: self.lines() and self.lines()[0] == f"listening {self.address}", 10):
+            raise RuntimeError(f"the proxy does not listen: {self.lines()} {self.faults()}")
+
+    def lines(self):
+        return open(self.out).read().splitlines() if os.path.isfile(self.out) else []
+
+    def faults(self):
+        return open(self.err).read().splitlines()
+
+    def signal(self, how):
+        self.process.send_signal(how)
+
+    def status(self, seconds=15):
+        """The status with which it ends by itself; None where it does not in this time."""
+        try:
+            return self.process.wait(seconds)
+        except subprocess.TimeoutExpired:
+            return None
+
+    def end(self):
+        if self.process.poll() is None:
+            self.process.kill()
+            self.process.wait()

@@ -1,0 +1,34 @@
+"""The checks of bench/clients.sh: run.py PROGRAM FOLDER [PART..]."""
+import logging
+import sys
+import time
+import traceback
+
+import basics
+import ends
+import faults
+import history
+
+PARTS = {"basics": basics.checks, "faults": faults.checks, "ends": ends.checks, "history": history.checks}
+
+
+def main():
+    logging.disable(logging.CRITICAL)
+    program, work, parts = sys.argv[1], sys.argv[2], sys.argv[3:] or list(PARTS)
+    passed, failed = 0, 0
+    for part in parts:
+        for check in PARTS[part]:
+            name, since = check.__name__.replace("_", " "), time.time()
+            try:
+                check(program, work)
+                passed += 1
+                print(f"ok     {name} ({time.time() - since:.1f} s)", flush=True)
+            except Exception as wrong:  # each check by itself
+                failed += 1
+                print(f"FAILED {name} ({time.time() - since:.1f} s): {type(wrong).__name__} {wrong}", flush=True)
+                traceback.print_exc(file=sys.stderr)
+    print(f"{passed} passed, {failed} failed")
+    return 1 if failed else 0
+
+
+sys.exit(main())

@@ -1,0 +1,99 @@
+"""The measurements of bench/serve.sh: speed.py PROGRAM FOLDER SECONDS."""
+import glob
+import os
+import subprocess
+import sys
+import time
+
+from cluster import Etcd, Proxy, answers, free_port, until
+
+WHAT = ["get", "set", "create", "sequence", "multi"]
+OF_ETCD = ["get", "set", "create"]
+CONNECTIONS = [1, 16, 128]
+
+
+def load(work, port, protocol, what, connections, seconds):
+    made = subprocess.run([f"{work}/load", str(port), protocol, what, str(connections), str(seconds)],
+                          capture_output=True, text=True, timeout=seconds * 4 + 60)
+    if made.returncode != 0:
+        return None
+    return [int(it) for it in made.stdout.split()]
+
+
+def told(rate):
+    return f"{rate[0]:6d} ({rate[1]:6d} {rate[2]:7d})" if rate else "     - (     -       -)"
+
+
+class ZooKeeper:
+    def __init__(self, work):
+        self.port = free_port()
+        folder = os.path.join(work, "zookeeper")
+        os.mkdir(folder)
+        with open(f"{folder}/zoo.cfg", "w") as config:
+            config.write(f"tickTime=2000\ndataDir={folder}\nclientPort={self.port}\nmaxClientCnxns=0\nadmin.enableServer=false\n")
+        jars = ":".join(it for it in glob.glob("/usr/share/java/*.jar") if any(
+            it.startswith(f"/usr/share/java/{name}.") for name in
+            ["zookeeper", "zookeeper-jute", "slf4j-api", "slf4j-nop", "snappy-java", "commons-cli", "jackson-core",
+             "jackson-annotations", "jackson-databind"]) or "/netty-" in it or "/metrics-core" in it or "snappy" in it)
+        self.process = subprocess.Popen(
+            ["java", "-cp", jars, "org.apache.zookeeper.server.ZooKeeperServerMain", f"{folder}/zoo.cfg"],
+            stdout=open(f"{folder}/log", "wb"), stderr=subprocess.STDOUT)
+        self.is_up = until(lambda: answers(self.port), 20)
+
+    def end(self):
+        self.process.kill()
+        self.process.wait()
+
+
+def memory(pid):
+    for line in open(f"/proc/{pid}/status"):
+        if line.startswith("VmRSS:"):
+            return int(line.split()[1])
+
+
+def processor(pid):
+    words = open(f"/proc/{pid}/stat").read().rsplit(")", 1)[1].split()
+    return (int(words[11]) + int(words[12])) / os.sysconf("SC_CLK_TCK")
+
+
+def idle(work, proxy, connections, seconds):
+    """KB a connection, and cores used by so many idle ones that watch."""
+    before = memory(proxy.process.pid)
+    held = subprocess.Popen([f"{work}/load", str(proxy.port), "zk", "hold", str(connections), str(seconds + 3)], stdout=subprocess.PIPE)
+    held.stdout.readline()
+    after, since, used = memory(proxy.process.pid), time.time(), processor(proxy.process.pid)
+    time.sleep(seconds)
+    cores = (processor(proxy.process.pid) - used) / (time.time() - since)
+    held.wait()
+    return (after - before) / connections, cores
+
+
+def main():
+    program, work, seconds = sys.argv[1], sys.argv[2], float(sys.argv[3])
+    etcd = Etcd(work)
+    zookeeper = ZooKeeper(work)
+    proxy = Proxy(program, etcd.address, work)
+    try:
+        print(f"{'':10s} {'connections':>11s}   {'zetcd':^22s}   {'the gateway':^22s}   ratio   {'ZooKeeper':^22s}")
+        for what in WHAT:
+            for connections in CONNECTIONS:
+                # By turns, so that both meet the same moments of a busy machine.
+                ours = load(work, proxy.port, "zk", what, connections, seconds)
+                theirs = load(work, etcd.port, "etcd", what, connections, seconds) if what in OF_ETCD else None
+                real = load(work, zookeeper.port, "zk", what, connections, seconds) if zookeeper.is_up else None
+                ratio = f"{ours[0] / theirs[0]:5.2f}" if ours and theirs else "    -"
+                print(f"{what:10s} {connections:11d}   {told(ours)}   {told(theirs)}   {ratio}   {told(real)}", flush=True)
+        for connections in CONNECTIONS:
+            ours = load(work, proxy.port, "zk", "watch", connections, seconds)
+            real = load(work, zookeeper.port, "zk", "watch", connections, seconds) if zookeeper.is_up else None
+            print(f"{'watch':10s} {connections:11d}   {told(ours)}   {'':22s}           {told(real)}", flush=True)
+        if until(lambda: load(work, proxy.port, "zk", "get", 1, 0.2) is not None):
+            kilobytes, cores = idle(work, proxy, 250, 10)
+            print(f"250 idle watchers: {kilobytes:.0f} KB each, {cores:.3f} cores")
+    finally:
+        proxy.end()
+        zookeeper.end()
+        etcd.end()
+
+
+main()

@@ -1,0 +1,85 @@
+//! Tries the rows of the file `rows` on `serve` and on the follower of its watch worker, and says on standard error where a row
+//! differs. Faults of an etcd are told there too, as `serve` and the follower tell them.
+//!
+//! A row is LEFT = RIGHT:
+//!
+//! | Left side | Right side |
+//! |---|---|
+//! | `follow FROM` | the end of a follower whose dials give streams without a byte, where the word to stop is set from its reading number FROM on |
+//! | `follow FROM LINE` | the same, where the first dial gives a watch's stream of this one line |
+//! | `memory CALL LIMIT` | the end of a server over a net in memory, whose clients end at once and whose dials give streams without a byte, and over an etcd in memory whose call number CALL fails, 0 for none; then the first and the last line that it wrote |
+//! | `two FRAME ..` | the end of a server over the loopback with an etcd in memory in the same process, where two clients each send these frames, in hex and without their lengths; then `listening`, where that is its first line, and its other lines in order. `alone`, where the worker of connection 1, which the gate holds until that of connection 2 has passed, has waited in vain. `other bytes`, where what a connection says that it sent is not what its client received |
+//!
+//! No wait is without an end: what does not come in some half a minute of idle time is said in place of the right side.
+#![tactic(auto)]
+
+mod clients;
+mod follows;
+mod loopback;
+mod memory;
+mod turns;
+
+use anyhow::Result;
+use row_files::{Rows, status_of, try_file};
+use std::alloc::Global;
+use std::net::{Net, TcpListener, TcpStream};
+use std::process::ExitCode;
+use std::random::RandomSource;
+use std::sync::Wait;
+use std::thread::Threads;
+use std::time::Clock;
+use zp_server::ServeEnd;
+use zx_base::Memory;
+
+/// The rows of the file.
+#[derive(Drop)]
+struct Servers<R> {
+    rt: R,
+}
+
+impl<
+    R: Net<Listener = TcpListener, Stream = TcpStream>
+        + Clock
+        + Threads
+        + Wait
+        + Eprint
+        + RandomSource
+        + AllocGlobal
+        + Copy
+        + Send
+        + Drop
+        + 'static,
+> Rows for Servers<R> {
+    fn found(&mut self, alloc: Global, left: &str) -> Result<Option<String>, Memory> {
+        let Some((kind, given)) = left.split_once(' ') else {
+            return Ok(None);
+        };
+        if kind == "follow" {
+            return follows::followed(&self.rt, alloc, given);
+        }
+        if kind == "memory" {
+            return memory::served(self.rt, alloc, given);
+        }
+        if kind == "two" {
+            return loopback::served(self.rt, alloc, given);
+        }
+        Ok(None)
+    }
+}
+
+/// The word for how a server ended.
+fn word_of(end: &ServeEnd) -> &'static str {
+    match end {
+        ServeEnd::Done => "done",
+        ServeEnd::WriteFault => "write",
+        ServeEnd::Net => "net",
+        ServeEnd::Memory => "memory",
+        ServeEnd::Feed(_) => "feed",
+    }
+}
+
+fn main(rt: HostRuntime) -> Result<ExitCode> {
+    let mut servers = Servers { rt };
+    let failed = try_file(&rt, "rows", &mut servers)?;
+    Ok(status_of(failed))
+}

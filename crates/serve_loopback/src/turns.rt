@@ -1,0 +1,79 @@
+//! Holds the worker of the first connection until that of the second has come.
+
+use std::alloc::Global;
+use std::sync::Arc;
+use std::sync::atomic::{AtomicBool, Ordering};
+use std::thread;
+use std::time::{Clock, Duration};
+use zp_server::Gate;
+
+/// How many turns the first worker waits at most.
+const MAX_TURNS: u32 = 10_000_000;
+
+/// How often it is looked whether the server has ended, and how long it is waited each time, in
+/// milliseconds.
+const MAX_LOOKS: u32 = 3000;
+
+const PAUSE: u64 = 10;
+
+/// What is known of a server and its two workers.
+#[derive(Drop)]
+pub struct Watched {
+    second_came: AtomicBool,
+    gave_up: AtomicBool,
+    is_over: AtomicBool,
+}
+
+impl Watched {
+    /// Nobody came yet.
+    pub fn new() -> Watched {
+        Watched {
+            second_came: AtomicBool::new(false),
+            gave_up: AtomicBool::new(false),
+            is_over: AtomicBool::new(false),
+        }
+    }
+
+    /// Whether the first worker waited in vain.
+    pub fn gave_up(&self) -> bool {
+        self.gave_up.load(Ordering::SeqCst)
+    }
+
+    /// Says that the server has ended.
+    pub fn end(&self) {
+        self.is_over.store(true, Ordering::SeqCst);
+    }
+
+    /// Waits until the server has ended, and says whether it did.
+    pub fn await_end<R: Clock>(&self, rt: &R) -> bool {
+        for _ in 0..MAX_LOOKS {
+            if self.is_over.load(Ordering::SeqCst) {
+                return true;
+            }
+            thread::sleep(rt, Duration::from_millis(PAUSE));
+        }
+        false
+    }
+}
+
+/// The gate.
+#[derive(Drop)]
+pub struct Turns {
+    pub watched: Arc<Watched, Global>,
+}
+
+impl Gate for Turns {
+    fn pass(&self, call: u64) {
+        if call != 1 {
+            self.watched.second_came.store(true, Ordering::SeqCst);
+            return;
+        }
+        for _ in 0..MAX_TURNS {
+            if self.watched.second_came.load(Ordering::SeqCst) {
+                return;
+            }
+            thread::yield_now();
+        }
+        self.watched.gave_up.store(true, Ordering::SeqCst);
+    }
+}

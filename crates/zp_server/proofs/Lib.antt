@@ -1,0 +1,12 @@
+pub mod Accepted
+pub mod Counting
+pub mod Ending
+pub mod Halting
+pub mod Heads
+pub mod Keeping
+pub mod Logging
+pub mod Placing
+pub mod Stopping
+pub mod Striking
+pub mod Texts
+pub mod Visible

@@ -1,0 +1,151 @@
+-- What a server does for its clients, one thing after the other.
+use Rattle.std.proofs.Common.{◌≡◌, ℕ, ◌+◌, Bool, true, false, List, [], ◌∷◌, ◌++◌, length, map, filter, filter_map, flat_map, Option, Some, None, refl, sym, ap, ◌∙◌, subst, arith, append_assoc, append-nil, length-append}
+use Rattle.std.specs.Prelude.{IsPermutation}
+use Rattle.std.proofs.lemmas.List.{map-append}
+use Rattle.std.proofs.lemmas.List.Elements.{filter-append, filter_map-append}
+use Rattle.std.proofs.lemmas.Grind.{flat_map-append}
+use Rattle.std.proofs.lemmas.List.Sorted.{IsPermutation-refl, IsPermutation-trans, IsPermutation-append_comm, IsPermutation-append_left, IsPermutation-append_right}
+use Rattle.std.specs.Io.KnownBytes.{append_known}
+use Rattle.zx_outside.specs.Counts.{one_more}
+use Rattle.zx_outside.proofs.Streams.{Takes-append, append_known-nil}
+use Rattle.zp_server.specs.Books.{Ending, with_ending, with_endings}
+use Rattle.zp_server.specs.Lines.{Line, Closed, NoLink, closed_text, ending_of, is_fed, is_feed_closed, no_link_text, number_of, text_of, unlinked}
+use Rattle.zp_server.specs.Telling.{IsWritten, Seen, more}
+use Rattle.zp_server.specs.Logs.{Logs}
+
+-- ---- counts and books
+
+more_none : (count : ℕ) → more 0 count ≡ count
+more_none count = omega arith
+
+more_plus : (n k count : ℕ) → more k (more n count) ≡ more (n + k) count
+more_plus n k count = omega arith
+
+with_none : (book : Option (List Ending)) → book ≡ with_endings book []
+with_none None = refl
+with_none (Some es) = ap Some (sym (append-nil es))
+
+with_one : (book : Option (List Ending)) (e : Ending) → with_ending book e ≡ with_endings book (e ∷ [])
+with_one None e = refl
+with_one (Some es) e = refl
+
+with_more : (book : Option (List Ending)) (es es' : List Ending) → with_endings (with_endings book es) es' ≡ with_endings book (es ++ es')
+with_more None es es' = refl
+with_more (Some all) es es' = ap Some (append_assoc all es es')
+
+-- ---- one step
+
+pub logs_none : (met : Bool) (busy : List ℕ) (t : Seen) → Logs met 0 [] busy busy t t
+logs_none met busy t = record {
+  lines = [];
+  accepted = sym (more_none (t.net).accepted);
+  doors = refl;
+  dials = sym (more_none (t.net).dial_faults);
+  numbers = IsPermutation-refl busy;
+  fed = λ unmet. refl;
+  book = with_none t.book;
+  written = sym (append_known-nil (t.out).taken);
+  unharmed = refl;
+}
+
+-- a client was accepted
+pub logs_accepted : (met : Bool) (busy : List ℕ) (t t' : Seen) → (t'.net).accepted ≡ one_more (t.net).accepted → (t'.net).door_faults ≡ (t.net).door_faults
+    → (t'.net).dial_faults ≡ (t.net).dial_faults → t'.out ≡ t.out → t'.book ≡ t.book → Logs met 1 [] busy busy t t'
+logs_accepted met busy t t' accepted doors dials out book = record {
+  lines = [];
+  accepted = accepted;
+  doors = doors;
+  dials = dials ∙ sym (more_none (t.net).dial_faults);
+  numbers = IsPermutation-refl busy;
+  fed = λ unmet. refl;
+  book = book ∙ with_none t.book;
+  written = ap (λ o. o.taken) out ∙ sym (append_known-nil (t.out).taken);
+  unharmed = ap (λ o. o.counts) out;
+}
+
+-- its worker was started
+pub logs_started : (met : Bool) (number : ℕ) (busy : List ℕ) (t t' : Seen) → t'.net ≡ t.net → t'.out ≡ t.out → t'.book ≡ t.book
+    → Logs met 0 (number ∷ []) busy (busy ++ number ∷ []) t t'
+logs_started met number busy t t' net out book = record {
+  lines = [];
+  accepted = ap (λ n. n.accepted) net ∙ sym (more_none (t.net).accepted);
+  doors = ap (λ n. n.door_faults) net;
+  dials = ap (λ n. n.dial_faults) net ∙ sym (more_none (t.net).dial_faults);
+  numbers = IsPermutation-append_comm busy (number ∷ []);
+  fed = λ unmet. refl;
+  book = book ∙ with_none t.book;
+  written = ap (λ o. o.taken) out ∙ sym (append_known-nil (t.out).taken);
+  unharmed = ap (λ o. o.counts) out;
+}
+
+-- there was no link for it, and that was written
+pub logs_unlinked : (met : Bool) (number : ℕ) (busy : List ℕ) (t t' : Seen) → (t'.net).accepted ≡ (t.net).accepted → (t'.net).door_faults ≡ (t.net).door_faults
+    → (t'.net).dial_faults ≡ one_more (t.net).dial_faults → IsWritten (no_link_text number) t.out t'.out → t'.book ≡ t.book
+    → Logs met 0 (number ∷ []) busy busy t t'
+logs_unlinked met number busy t t' accepted doors dials written book = record {
+  lines = NoLink number ∷ [];
+  accepted = accepted ∙ sym (more_none (t.net).accepted);
+  doors = doors;
+  dials = dials;
+  numbers = IsPermutation-refl (number ∷ busy);
+  fed = λ unmet. refl;
+  book = book ∙ with_none t.book;
+  written = subst (λ (text : List ℕ). (t'.out).taken ≡ append_known (t.out).taken text) (sym (append-nil (no_link_text number))) written.taken;
+  unharmed = written.unharmed;
+}
+
+-- its worker has handed it back, and that was written and given to the book
+pub logs_closed : (met : Bool) (e : Ending) (busy busy' : List ℕ) (t t' : Seen) → (met ≡ false → is_feed_closed e.cause ≡ false) → IsPermutation (e.number ∷ busy') busy
+    → t'.net ≡ t.net → IsWritten (closed_text e.number e.cause) t.out t'.out → t'.book ≡ with_ending t.book e → Logs met 0 [] busy busy' t t'
+logs_closed met e busy busy' t t' fed numbers net written book = record {
+  lines = Closed e ∷ [];
+  accepted = ap (λ n. n.accepted) net ∙ sym (more_none (t.net).accepted);
+  doors = ap (λ n. n.door_faults) net;
+  dials = ap (λ n. n.dial_faults) net ∙ sym (more_none (t.net).dial_faults);
+  numbers = numbers;
+  fed = λ unmet. rw (fed unmet) refl;
+  book = book ∙ with_one t.book e;
+  written = subst (λ (text : List ℕ). (t'.out).taken ≡ append_known (t.out).taken text) (sym (append-nil (closed_text e.number e.cause))) written.taken;
+  unharmed = written.unharmed;
+}
+
+-- ---- steps in a row
+
+numbers_then : (xs ys fresh fresh' busy busy' busy'' : List ℕ) → IsPermutation (xs ++ busy') (fresh ++ busy) → IsPermutation (ys ++ busy'') (fresh' ++ busy')
+    → IsPermutation ((xs ++ ys) ++ busy'') ((fresh' ++ fresh) ++ busy)
+numbers_then xs ys fresh fresh' busy busy' busy'' first then =
+    let far : IsPermutation (xs ++ (ys ++ busy'')) (xs ++ (fresh' ++ busy')) = IsPermutation-append_right xs (ys ++ busy'') (fresh' ++ busy') then in
+    let over : IsPermutation ((xs ++ fresh') ++ busy') ((fresh' ++ xs) ++ busy') = IsPermutation-append_left busy' (xs ++ fresh') (fresh' ++ xs) (IsPermutation-append_comm xs fresh') in
+    let near : IsPermutation (fresh' ++ (xs ++ busy')) (fresh' ++ (fresh ++ busy)) = IsPermutation-append_right fresh' (xs ++ busy') (fresh ++ busy) first in
+    let over' : IsPermutation (xs ++ (fresh' ++ busy')) (fresh' ++ (xs ++ busy')) = rw (append_assoc xs fresh' busy', append_assoc fresh' xs busy') at over in
+    rw (append_assoc xs ys busy'', append_assoc fresh' fresh busy) (IsPermutation-trans _ _ _ far (IsPermutation-trans _ _ _ over' near))
+
+pub logs_then : (met : Bool) (k k' sum : ℕ) (is : sum ≡ k + k') (fresh fresh' busy busy' busy'' : List ℕ) (t t' t'' : Seen) → Logs met k fresh busy busy' t t' → Logs met k' fresh' busy' busy'' t' t''
+    → Logs met sum (fresh' ++ fresh) busy busy'' t t''
+logs_then met k k' sum is fresh fresh' busy busy' busy'' t t' t'' a b = record {
+  lines = a.lines ++ b.lines;
+  accepted = b.accepted ∙ ap (more k') a.accepted ∙ more_plus k k' (t.net).accepted ∙ ap (λ (n : ℕ). more n (t.net).accepted) (sym is);
+  doors = b.doors ∙ a.doors;
+  dials = b.dials ∙ ap (more (length (filter_map unlinked b.lines))) a.dials ∙ more_plus (length (filter_map unlinked a.lines)) (length (filter_map unlinked b.lines)) (t.net).dial_faults
+      ∙ ap (λ (n : ℕ). more n (t.net).dial_faults) (sym (ap length (filter_map-append unlinked a.lines b.lines) ∙ length-append (filter_map unlinked a.lines) (filter_map unlinked b.lines)));
+  numbers = rw (map-append number_of a.lines b.lines) (numbers_then (map number_of a.lines) (map number_of b.lines) fresh fresh' busy busy' busy'' a.numbers b.numbers);
+  fed = λ unmet. filter-append is_fed a.lines b.lines ∙ ap (λ (ls : List Line). ls ++ filter is_fed b.lines) (a.fed unmet) ∙ b.fed unmet;
+  book = b.book ∙ ap (λ (bk : Option (List Ending)). with_endings bk (filter_map ending_of b.lines)) a.book ∙ with_more t.book (filter_map ending_of a.lines) (filter_map ending_of b.lines)
+      ∙ ap (with_endings t.book) (sym (filter_map-append ending_of a.lines b.lines));
+  written = rw (flat_map-append text_of a.lines b.lines) (Takes-append (flat_map text_of a.lines) (flat_map text_of b.lines) (t.out).taken (t'.out).taken (t''.out).taken a.written b.written);
+  unharmed = b.unharmed ∙ a.unharmed;
+}
+
+-- it may be that one met the hub closed
+pub logs_met : (met : Bool) (k : ℕ) (fresh busy busy' : List ℕ) (t t' : Seen) → Logs met k fresh busy busy' t t' → Logs true k fresh busy busy' t t'
+logs_met met k fresh busy busy' t t' a = record {
+  lines = a.lines;
+  accepted = a.accepted;
+  doors = a.doors;
+  dials = a.dials;
+  numbers = a.numbers;
+  fed = λ unmet. absurd (cc);
+  book = a.book;
+  written = a.written;
+  unharmed = a.unharmed;
+}

@@ -1,0 +1,137 @@
+-- How a server ended: by what its net, its cluster, its starter of jobs, its sink and its book tell.
+use Rattle.std.specs.Prelude.{◌≡◌, ◌⊎◌, ℕ, false, true, List, [], Result, Ok, Err}
+use Rattle.std.specs.Arc.{arc_value}
+use Rattle.zw_hub.specs.Ends.{MayBeTold}
+use Rattle.zw_hub.specs.declared.feed.FeedEnd.{FeedEnd}
+use Rattle.zx_outside.specs.Counts.{one_more}
+use Rattle.zp_server.specs.Lines.{Line, fault_text, feed_text, listening_text, text_of}
+use Rattle.zp_server.specs.Telling.{Cuts, DoorFaulted, IsCut, IsWritten, Output, Seen, Tells}
+use Rattle.zp_server.specs.Logs.{AreFew, Leaves, Logs, NetStop, Stops, counting}
+use Rattle.zp_server.specs.declared.ends.Stop.{Stop}
+use Rattle.zp_server.specs.declared.ends.Stop.TheVariants as stop
+use Rattle.zp_server.specs.declared.ends.ServeEnd.{ServeEnd}
+use Rattle.zp_server.specs.declared.ends.ServeEnd.TheVariants as ends
+
+-- ---- the parts
+
+-- it could not listen, or could not say so
+abbrev pub Begun : Result (Unit {0}) Stop → List ℕ → Seen → Seen → Type 0
+Begun (Err stop.Net) listen t t' = DoorFaulted t t'
+Begun (Err stop.Write) listen t t' = Cuts (listening_text listen) t t'
+Begun (Err stop.Memory) listen t t' = t' ≡ t
+Begun _ listen t t' = ⊥
+
+-- it listened, and then no further client was accepted
+pub record Listened (r : Result (Unit {0}) Stop) (listen : List ℕ) (limit : ℕ) (t t' : Seen) : Type 0 where
+  pub first : Seen
+  pub listens : Tells (listening_text listen) t first
+  pub stops : Stops r limit [] first t'
+
+abbrev pub Clients : Result (Unit {0}) Stop → List ℕ → ℕ → Seen → Seen → Type 0
+Clients r listen limit t t' = Begun r listen t t' ⊎ Listened r listen limit t t'
+
+-- a worker could not be started, or memory was refused
+abbrev pub IsRefused : Result (Unit {0}) Stop → ℕ → ℕ → Seen → Seen → Type 0
+IsRefused (Err stop.Net) refusals refusals' t t' = (refusals' ≡ one_more refusals) × (t' ≡ t)
+IsRefused (Err stop.Memory) refusals refusals' t t' = t' ≡ t
+IsRefused _ refusals refusals' t t' = ⊥
+
+abbrev pub ServesFrom : Result (Unit {0}) Stop → List ℕ → ℕ → ℕ → ℕ → Seen → Seen → Type 0
+ServesFrom r listen limit refusals refusals' t t' = IsRefused r refusals refusals' t t' ⊎ Clients r listen limit t t'
+
+-- what is written at the end, and what that comes to
+abbrev pub Finishes : Result (Unit {0}) Stop → ServeEnd → Output → Output → Type 0
+Finishes (Ok _) ends.Done o o' = o' ≡ o
+Finishes (Err stop.Net) ends.Net o o' = IsWritten fault_text o o'
+Finishes (Err stop.Net) ends.WriteFault o o' = IsCut fault_text o o'
+Finishes (Err stop.Write) ends.WriteFault o o' = o' ≡ o
+Finishes (Err stop.Memory) ends.Memory o o' = o' ≡ o
+Finishes (Err (stop.Feed end)) (ends.Feed told) o o' = (told ≡ end) × IsWritten (feed_text (arc_value end)) o o'
+Finishes (Err (stop.Feed end)) ends.WriteFault o o' = IsCut (feed_text (arc_value end)) o o'
+Finishes (Err (stop.Feed end)) ends.Memory o o' = o' ≡ o
+Finishes _ _ o o' = ⊥
+
+-- ---- the whole
+
+-- the server listened, and then these connections have their lines, in order: n of them have numbers, and k clients were accepted
+pub record IsAfterLines (listen : List ℕ) (limit : ℕ) (left : List ℕ) (t t' : Seen) : Type 0 where
+  pub first : Seen
+  pub listens : Tells (listening_text listen) t first
+  pub n : ℕ
+  pub k : ℕ
+  pub few : AreFew n k limit
+  pub logs : Logs true k (counting n) [] left first t'
+
+-- all clients were accepted and have ended, none of them since the hub was closed
+pub record IsDone (listen : List ℕ) (limit : ℕ) (t t' : Seen) : Type 0 where
+  pub first : Seen
+  pub listens : Tells (listening_text listen) t first
+  pub logs : Logs false limit (counting limit) [] [] first t'
+
+-- before it listened: the cluster counts a failure more, or the spawner a refused start
+pub record IsUnstarted (failures failures' refusals refusals' : ℕ) (t t' : Seen) : Type 0 where
+  pub rose : (failures' ≡ one_more failures) ⊎ (refusals' ≡ one_more refusals)
+  pub tells : Tells fault_text t t'
+
+-- it could not listen at its address
+pub record IsUnbound (t t' : Seen) : Type 0 where
+  pub broken : Seen
+  pub faulted : DoorFaulted t broken
+  pub tells : Tells fault_text broken t'
+
+-- the door had a fault after fewer clients than the limit
+pub record IsShut (listen : List ℕ) (limit : ℕ) (t t' : Seen) : Type 0 where
+  pub first : Seen
+  pub listens : Tells (listening_text listen) t first
+  pub broken : Seen
+  pub stopped : NetStop limit first broken
+  pub tells : Tells fault_text broken t'
+
+-- the hub was closed by this end, which may be told, and is told behind the lines of all connections
+pub record FeedTold (end : FeedEnd) (listen : List ℕ) (limit : ℕ) (t t' : Seen) : Type 0 where
+  pub may : MayBeTold end
+  pub between : Seen
+  pub lines : IsAfterLines listen limit [] t between
+  pub tells : Tells (feed_text end) between t'
+
+-- what is written next, and where the server stands then: a line about a connection, or the last line
+abbrev pub IsNext : List ℕ → Seen → Seen → Type 0
+IsNext text between from =
+    ((last : Line) × ((text ≡ text_of last) × (from ≡ between)))
+    ⊎ (((text ≡ fault_text) × DoorFaulted between from)
+    ⊎ ((end : FeedEnd) × ((text ≡ feed_text end) × (from ≡ between))))
+
+pub record IsNextLine (text listen : List ℕ) (limit : ℕ) (t from : Seen) : Type 0 where
+  pub left : List ℕ
+  pub between : Seen
+  pub lines : IsAfterLines listen limit left t between
+  pub is_next : IsNext text between from
+
+-- the first line, or a fault before it, or what is next behind the lines so far
+abbrev pub IsWriting : List ℕ → List ℕ → ℕ → Seen → Seen → Type 0
+IsWriting text listen limit t from =
+    ((text ≡ listening_text listen) × (from ≡ t))
+    ⊎ (((text ≡ fault_text) × ((from ≡ t) ⊎ DoorFaulted t from))
+    ⊎ IsNextLine text listen limit t from)
+
+-- the sink had one fault, and took a front of what was to be written next
+pub record IsUnwritten (listen : List ℕ) (limit : ℕ) (t t' : Seen) : Type 0 where
+  pub text : List ℕ
+  pub from : Seen
+  pub writing : IsWriting text listen limit t from
+  pub cut : Cuts text from t'
+
+-- memory was refused behind the lines so far
+pub record IsStarved (listen : List ℕ) (limit : ℕ) (t t' : Seen) : Type 0 where
+  pub left : List ℕ
+  pub between : Seen
+  pub lines : IsAfterLines listen limit left t between
+  pub leaves : Leaves between t'
+
+-- How it ended: what each end promises, by the failures that the cluster counts and the refused starts that the spawner counts too.
+abbrev pub Ends : ServeEnd → List ℕ → ℕ → ℕ → ℕ → ℕ → ℕ → Seen → Seen → Type 0
+Ends ends.Done listen limit failures failures' refusals refusals' t t' = IsDone listen limit t t' × (failures' ≡ failures)
+Ends ends.Net listen limit failures failures' refusals refusals' t t' = IsUnstarted failures failures' refusals refusals' t t' ⊎ (IsUnbound t t' ⊎ IsShut listen limit t t')
+Ends (ends.Feed end) listen limit failures failures' refusals refusals' t t' = FeedTold (arc_value end) listen limit t t'
+Ends ends.WriteFault listen limit failures failures' refusals refusals' t t' = IsUnwritten listen limit t t'
+Ends ends.Memory listen limit failures failures' refusals refusals' t t' = (t' ≡ t) ⊎ IsStarved listen limit t t'

@@ -1,0 +1,10 @@
+pub mod Addresses
+pub mod Beginning
+pub mod Books
+pub mod Ends
+pub mod Lines
+pub mod Logs
+pub mod Looking
+pub mod Serving
+pub mod Striking
+pub mod Telling

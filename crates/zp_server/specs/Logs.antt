@@ -1,0 +1,144 @@
+-- What a server has done for its clients: which it has accepted, and what it has written and given to its book about each.
+use Rattle.std.specs.Prelude.{◌≡◌, ◌⊎◌, ℕ, zero, suc, ◌+◌, ◌<◌, ◌≤◌, Bool, true, false, List, [], ◌∷◌, ◌++◌, length, map, filter, filter_map, flat_map, Result, Ok, Err, IsPermutation}
+use Rattle.std.specs.Arc.{arc_value}
+use Rattle.zw_hub.specs.Ends.{MayBeTold}
+use Rattle.zw_hub.specs.declared.feed.FeedEnd.{FeedEnd}
+use Rattle.zx_outside.specs.Writing.{Takes}
+use Rattle.zp_server.specs.Books.{with_endings}
+use Rattle.zp_server.specs.Lines.{Line, ending_of, is_fed, number_of, text_of, unlinked}
+use Rattle.zp_server.specs.Telling.{Cuts, DoorFaulted, Seen, more}
+use Rattle.zp_server.specs.declared.ends.Stop.{Stop}
+use Rattle.zp_server.specs.declared.ends.Stop.TheVariants as stop
+
+-- n, .. 2, 1
+abbrev pub counting : ℕ → List ℕ
+counting zero = []
+counting (suc n) = suc n ∷ counting n
+
+-- k clients were accepted. Of the connections that were open before, and of the fresh ones, each has its one line, but for those that
+-- are open still; the book took those that had a worker, in the order of the lines; and each line without one is a dial that failed.
+-- Unless a connection has met the hub closed, none of them ended for that.
+pub record Logs (met : Bool) (k : ℕ) (fresh busy busy' : List ℕ) (t t' : Seen) : Type 0 where
+  pub lines : List Line
+  pub accepted : (t'.net).accepted ≡ more k (t.net).accepted
+  pub doors : (t'.net).door_faults ≡ (t.net).door_faults
+  pub dials : (t'.net).dial_faults ≡ more (length (filter_map unlinked lines)) (t.net).dial_faults
+  pub numbers : IsPermutation (map number_of lines ++ busy') (fresh ++ busy)
+  pub fed : met ≡ false → filter is_fed lines ≡ []
+  pub book : t'.book ≡ with_endings t.book (filter_map ending_of lines)
+  pub written : Takes (flat_map text_of lines) (t.out).taken (t'.out).taken
+  pub unharmed : (t'.out).counts ≡ (t.out).counts
+
+-- perhaps a line was written more, which the book does not know of, and perhaps a dial failed
+pub record Leaves (t t' : Seen) : Type 0 where
+  pub accepted : (t'.net).accepted ≡ (t.net).accepted
+  pub doors : (t'.net).door_faults ≡ (t.net).door_faults
+  pub book : t'.book ≡ t.book
+  pub taken : ((t'.out).taken ≡ (t.out).taken) ⊎ ((last : Line) × Takes (text_of last) (t.out).taken (t'.out).taken)
+  pub unharmed : (t'.out).counts ≡ (t.out).counts
+
+-- ---- up to the next client, of whom at most `most` were accepted
+
+-- the door had a fault
+pub record NetHalt (busy : List ℕ) (t t' : Seen) : Type 0 where
+  pub left : List ℕ
+  pub between : Seen
+  pub logs : Logs false 0 [] busy left t between
+  pub faulted : DoorFaulted between t'
+
+-- the hub was found closed, by an end that may be told
+pub record FeedHalt (end : FeedEnd) (most : ℕ) (busy busy' : List ℕ) (t t' : Seen) : Type 0 where
+  pub may : MayBeTold end
+  pub k : ℕ
+  pub few : k ≤ most
+  pub logs : Logs true k [] busy busy' t t'
+
+-- the sink had a fault in the next line
+pub record WriteHalt (most : ℕ) (busy : List ℕ) (t t' : Seen) : Type 0 where
+  pub k : ℕ
+  pub few : k ≤ most
+  pub left : List ℕ
+  pub between : Seen
+  pub logs : Logs true k [] busy left t between
+  pub last : Line
+  pub cut : Cuts (text_of last) between t'
+
+-- memory was refused
+pub record MemoryHalt (most : ℕ) (busy : List ℕ) (t t' : Seen) : Type 0 where
+  pub k : ℕ
+  pub few : k ≤ most
+  pub left : List ℕ
+  pub between : Seen
+  pub logs : Logs true k [] busy left t between
+  pub leaves : Leaves between t'
+
+-- why no further client is accepted
+abbrev pub Halts : Stop → ℕ → List ℕ → List ℕ → Seen → Seen → Type 0
+Halts stop.Net most busy busy' t t' = (0 < most) × NetHalt busy t t'
+Halts (stop.Feed end) most busy busy' t t' = FeedHalt (arc_value end) most busy busy' t t'
+Halts stop.Write most busy busy' t t' = WriteHalt most busy t t'
+Halts stop.Memory most busy busy' t t' = MemoryHalt most busy t t'
+
+abbrev pub Goes : Result (Unit {0}) Stop → ℕ → List ℕ → List ℕ → List ℕ → Seen → Seen → Type 0
+Goes (Ok _) k fresh busy busy' t t' = Logs false k fresh busy busy' t t'
+Goes (Err why) k fresh busy busy' t t' = Halts why k busy busy' t t'
+
+-- one more was taken back where the hub is known to be closed, so that it is no stop that others found it closed too
+abbrev pub Rests : Result (Unit {0}) Stop → List ℕ → List ℕ → Seen → Seen → Type 0
+Rests (Ok _) busy busy' t t' = Logs true 0 [] busy busy' t t'
+Rests (Err why) busy busy' t t' = Halts why 0 busy [] t t'
+
+-- one more client was accepted, once room was made
+abbrev pub Admits : {E : Type 0} → Result E Stop → List ℕ → List ℕ → Seen → Seen → Type 0
+Admits (Ok ends) busy busy' t t' = Logs false 1 [] busy busy' t t'
+Admits (Err why) busy busy' t t' = Halts why 1 busy busy' t t'
+
+-- ---- all clients
+
+-- n connections have numbers, k clients were accepted, and no more may be than the limit: at most one has no number
+pub record AreFew (n k limit : ℕ) : Type 0 where
+  pub least : n ≤ k
+  pub most : k ≤ n + 1
+  pub within : k ≤ limit
+
+pub record NetStop (limit : ℕ) (t t' : Seen) : Type 0 where
+  pub n : ℕ
+  pub fewer : n < limit
+  pub left : List ℕ
+  pub between : Seen
+  pub logs : Logs false n (counting n) [] left t between
+  pub faulted : DoorFaulted between t'
+
+pub record FeedStop (end : FeedEnd) (limit : ℕ) (busy : List ℕ) (t t' : Seen) : Type 0 where
+  pub may : MayBeTold end
+  pub n : ℕ
+  pub k : ℕ
+  pub few : AreFew n k limit
+  pub logs : Logs true k (counting n) [] busy t t'
+
+pub record WriteStop (limit : ℕ) (t t' : Seen) : Type 0 where
+  pub n : ℕ
+  pub k : ℕ
+  pub few : AreFew n k limit
+  pub left : List ℕ
+  pub between : Seen
+  pub logs : Logs true k (counting n) [] left t between
+  pub last : Line
+  pub cut : Cuts (text_of last) between t'
+
+pub record MemoryStop (limit : ℕ) (t t' : Seen) : Type 0 where
+  pub n : ℕ
+  pub k : ℕ
+  pub few : AreFew n k limit
+  pub left : List ℕ
+  pub between : Seen
+  pub logs : Logs true k (counting n) [] left t between
+  pub leaves : Leaves between t'
+
+-- As many clients were accepted as the limit allows, of which these are served still; or fewer, and why.
+abbrev pub Stops : Result (Unit {0}) Stop → ℕ → List ℕ → Seen → Seen → Type 0
+Stops (Ok _) limit busy t t' = Logs false limit (counting limit) [] busy t t'
+Stops (Err stop.Net) limit busy t t' = NetStop limit t t'
+Stops (Err (stop.Feed end)) limit busy t t' = FeedStop (arc_value end) limit busy t t'
+Stops (Err stop.Write) limit busy t t' = WriteStop limit t t'
+Stops (Err stop.Memory) limit busy t t' = MemoryStop limit t t'

@@ -1,0 +1,61 @@
+//! The proxy as a server: [`serve`] listens at an address, and serves each client that connects there from an etcd cluster.
+//!
+//! # The parts
+//!
+//! - The *listener* is the call of [`serve`] itself. It accepts clients, at most 256 at a time, and starts a worker for each. A
+//!   worker hands back what it served as a [`Served`], which the listener writes a line about and gives to a [`Book`].
+//! - The *worker* of a connection serves one client over a link of its own to etcd, and ends the client's stream.
+//! - The *watch worker* follows the head, the key that each update puts, and publishes an entry for each update at a hub, from
+//!   which the connections read ([`follow`]).
+//! - The *reaper worker* looks for sessions whose lease has lapsed, and removes them with their ephemeral nodes.
+//!
+//! Two proxies share nothing but the etcd cluster.
+//!
+//! # Waking
+//!
+//! A connection waits for its client and for the next entry at once. It reads entries from a feed that arms its client's bell
+//! before each look ([`Belled`](zp_conn::Belled)); the watch worker rings all bells after it has published ([`Bells`]). So no entry
+//! is missed, and an idle connection costs next to nothing.
+//!
+//! # Ends
+//!
+//! A call ends once `limit` clients were accepted and have ended. It ends early where the door is broken, the sink has a fault or
+//! memory is refused; then nobody is waited for. Where the watch worker cannot go on it closes the hub, since clients do better at
+//! another proxy: no further client is accepted, each connection ends within about a second, and the call says why. To wake the
+//! listener, which waits for a client, the watch worker dials the proxy's own address then.
+//!
+//! # What is written
+//!
+//! To the sink: `listening ADDRESS`; `closed N CAUSE` for each connection, once the listener comes to it, which can be only when
+//! the next client connects; and the end. To standard error: a line in words for each fault of etcd or of the way to it, at once.
+#![tactic(auto)]
+
+mod accepting;
+mod address;
+mod admitting;
+mod back;
+mod begin;
+mod bells;
+mod book;
+mod desk;
+mod ends;
+mod fresh;
+mod gate;
+mod house;
+mod lines;
+mod looking;
+mod ready;
+mod served;
+mod serving;
+mod starting;
+mod taking;
+mod working;
+
+pub use address::is_address;
+pub use bells::Bells;
+pub use book::{Book, ListBook, NoBook};
+pub use ends::ServeEnd;
+pub use gate::{Gate, OpenGate};
+pub use served::Served;
+pub use serving::serve;
+pub use zw_follow::follow;

@@ -1,0 +1,36 @@
+//! Whether the hub is closed.
+
+ghost use Rattle.zp_server.specs.Looking.{Closes, Looks};
+
+use crate::ends::Stop;
+use std::sync::Wait;
+use zk_transcript::Cause;
+use zw_hub::{Fed, Feed, HubReader};
+
+/// A cursor above which no entry stands: a look with it tells only whether the list is closed.
+const LAST_CURSOR: i64 = i64::MAX;
+
+/// Whether this reader finds the hub closed.
+pub fn look<R: Wait + Drop>(reader: &mut HubReader<R>) -> Result<(), Stop>
+    ensures { Looks result reader.new.list }
+{
+    match reader.next(LAST_CURSOR) {
+        Fed::Closed(end) => Err(Stop::Feed(end)),
+        Fed::Memory => Err(Stop::Memory),
+        Fed::None | Fed::Entry(_) | Fed::Lagged { .. } => Ok(()),
+    }
+}
+
+/// Why the hub is closed, where a connection ended for that; its reader tells. It is closed for good, so a reader that finds it
+/// open again, which none does, counts as want of memory.
+pub fn closing_of<R: Wait + Drop>(cause: &Cause, reader: &mut HubReader<R>) -> Result<(), Stop>
+    ensures { Closes result cause.now reader.new.list }
+{
+    match cause {
+        Cause::FeedClosed => match look(reader) {
+            Ok(()) => Err(Stop::Memory),
+            Err(stop) => Err(stop),
+        },
+        _ => Ok(()),
+    }
+}

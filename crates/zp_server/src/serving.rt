@@ -1,0 +1,368 @@
+//! The server.
+
+ghost use Rattle.std.specs.Prelude.{◌≡◌, ℕ, [], IfOk, Err};
+ghost use Rattle.ev_call.specs.Addresses.{IsAddress};
+ghost use Rattle.zp_server.specs.Beginning.{IsPlace};
+ghost use Rattle.zp_server.specs.Ends.{Clients, Ends, Finishes, ServesFrom};
+ghost use Rattle.zp_server.specs.Logs.{Stops};
+ghost use Rattle.zp_server.specs.Telling.{Seen};
+ghost use Rattle.zx_net.specs.Nets.{NetCounts};
+
+use crate::accepting::accept_all;
+use crate::begin::begin;
+use crate::book::Book;
+use crate::desk::Desk;
+use crate::ends::{ServeEnd, Stop};
+use crate::gate::Gate;
+use crate::house::House;
+use crate::lines::{NET_FAULT, feed, listening, write_all};
+use crate::starting::{Home, Opened, begin_at, start_reaper, start_watch};
+use crate::taking::{await_all, await_rest};
+use ev_call::Cluster;
+use ev_words::{Fault, tell};
+use std::alloc::Global;
+use std::sync::{Arc, Wait};
+use std::time::Clock as SystemClock;
+use zs_lapsed::pause_of;
+use zw_follow::Place;
+use zw_hub::{FeedEnd, hub};
+use zx_base::Memory;
+use zx_net::{Clock, Net, Spawner, Wakes};
+use zx_outside::{Sink, Source};
+use zx_words::{HangsUp, Random, SharedStop};
+
+/// How many clients are served at once.
+const MAX_CLIENTS: usize = 256;
+
+/// Says that the net had a fault.
+#[tactic(auto, unfolding(crate::specs::Lines::fault_text))]
+fn net_fault<O: Sink>(out: &mut O) -> ServeEnd
+    ensures { Finishes (Err Stop.Net) result (record { taken = O.taken out.old; counts = O.counts out.old }) (record { taken = O.taken out.new; counts = O.counts out.new }) }
+{
+    if write_all(out, NET_FAULT) {
+        ServeEnd::Net
+    } else {
+        ServeEnd::WriteFault
+    }
+}
+
+/// Says why the hub was closed.
+fn feed_end<O: Sink>(alloc: Global, end: Arc<FeedEnd, Global>, out: &mut O) -> ServeEnd
+    ensures { Finishes (Err (Stop.Feed end)) result (record { taken = O.taken out.old; counts = O.counts out.old }) (record { taken = O.taken out.new; counts = O.counts out.new }) }
+{
+    let text = match feed(alloc, &end) {
+        Ok(text) => text,
+        Err(_refused) => return ServeEnd::Memory,
+    };
+    if write_all(out, text.as_slice()) {
+        ServeEnd::Feed(end)
+    } else {
+        ServeEnd::WriteFault
+    }
+}
+
+/// Ends a server that accepts no further client.
+fn finish<O: Sink>(alloc: Global, stopped: Result<(), Stop>, out: &mut O) -> ServeEnd
+    ensures { Finishes stopped result (record { taken = O.taken out.old; counts = O.counts out.old }) (record { taken = O.taken out.new; counts = O.counts out.new }) }
+{
+    match stopped {
+        Ok(()) => ServeEnd::Done,
+        Err(Stop::Net) => net_fault(out),
+        Err(Stop::Write) => ServeEnd::WriteFault,
+        Err(Stop::Memory) => ServeEnd::Memory,
+        Err(Stop::Feed(end)) => feed_end(alloc, end, out),
+    }
+}
+
+/// Why no further client is accepted. Where the hub was found closed, every worker is waited for.
+fn waited_for<
+    W: Wait,
+    I: Source + Wakes + Drop,
+    K: Sink + Drop,
+    R: Wait + Drop,
+    O: Sink,
+    G: Gate + Drop,
+    B: Book<I, K>,
+>(
+    rt: &W,
+    alloc: Global,
+    house: &House<I, K, B::T, R, I::Bell, G>,
+    stop: Stop,
+    desk: &mut Desk<R>,
+    out: &mut O,
+    book: &mut B,
+) -> Stop
+    ensures { (net : NetCounts) (limit : ℕ) (first : Seen) → Stops (Err stop) limit desk.old.busy.items first
+        (record { net = net; out = record { taken = O.taken out.old; counts = O.counts out.old }; book = B.told book.old })
+        → Stops (Err result) limit [] first
+        (record { net = net; out = record { taken = O.taken out.new; counts = O.counts out.new }; book = B.told book.new }) }
+{
+    match stop {
+        Stop::Feed(end) => await_rest(rt, alloc, house, end, desk, out, book),
+        Stop::Net => Stop::Net,
+        Stop::Write => Stop::Write,
+        Stop::Memory => Stop::Memory,
+    }
+}
+
+/// Accepts clients at a door and serves them, until the limit or a stop. Then nobody waits for this server any more.
+fn serve_at<
+    W: Wait + SystemClock + Eprint + Copy + Send + Drop + 'static,
+    N: Net + Send + Drop + 'static,
+    P: Spawner,
+    C: Clock + Send + Drop + 'static,
+    Q: Random,
+    O: Sink,
+    G: Gate + Send + Sync + Drop + 'static,
+    B: Book<N::In, N::Out>,
+>(
+    rt: &W,
+    alloc: Global,
+    house: &Arc<Home<N, B, W, G>, Global>,
+    net: &mut N,
+    door: N::Door,
+    endpoint: &str,
+    limit: u64,
+    spawner: &mut P,
+    clock: &C,
+    random: &mut Q,
+    desk: &mut Desk<W>,
+    out: &mut O,
+    book: &mut B,
+) -> Result<(), Stop>
+where
+    N::In: Wakes + HangsUp,
+    requires address { IsAddress endpoint.now }
+    requires fresh { (N.counts net.old).accepted ≡ 0 }
+    requires idle { desk.old.busy.items ≡ [] }
+    ensures { Stops result limit []
+        (record { net = N.counts net.old; out = record { taken = O.taken out.old; counts = O.counts out.old }; book = B.told book.old })
+        (record { net = N.counts net.new; out = record { taken = O.taken out.new; counts = O.counts out.new }; book = B.told book.new }) }
+{
+    let mut door = door;
+    let accepted = accept_all(
+        rt, alloc, house, net, &mut door, endpoint, limit, spawner, clock, random, desk, out, book,
+    );
+    drop(door);
+    match accepted {
+        Ok(()) => await_all(rt, alloc, house, desk, out, book),
+        Err(stop) => Err(waited_for(rt, alloc, house, stop, desk, out, book)),
+    }
+}
+
+/// Listens, accepts clients and serves them, until the limit or a stop.
+fn serve_clients<
+    W: Wait + SystemClock + Eprint + Copy + Send + Drop + 'static,
+    N: Net + Send + Drop + 'static,
+    P: Spawner,
+    C: Clock + Send + Drop + 'static,
+    Q: Random,
+    O: Sink,
+    G: Gate + Send + Sync + Drop + 'static,
+    B: Book<N::In, N::Out>,
+>(
+    rt: &W,
+    alloc: Global,
+    house: &Arc<Home<N, B, W, G>, Global>,
+    net: &mut N,
+    listen: &str,
+    endpoint: &str,
+    limit: u64,
+    spawner: &mut P,
+    clock: &C,
+    random: &mut Q,
+    desk: &mut Desk<W>,
+    out: &mut O,
+    book: &mut B,
+) -> Result<(), Stop>
+where
+    N::In: Wakes + HangsUp,
+    requires address { IsAddress endpoint.now }
+    requires fresh { (N.counts net.old).accepted ≡ 0 }
+    requires idle { desk.old.busy.items ≡ [] }
+    ensures { Clients result listen.now limit
+        (record { net = N.counts net.old; out = record { taken = O.taken out.old; counts = O.counts out.old }; book = B.told book.old })
+        (record { net = N.counts net.new; out = record { taken = O.taken out.new; counts = O.counts out.new }; book = B.told book.new }) }
+{
+    let text = match listening(alloc, listen) {
+        Ok(text) => text,
+        Err(_refused) => return Err(Stop::Memory),
+    };
+    let door = match net.bind(listen) {
+        Ok(door) => door,
+        Err(_fault) => return Err(Stop::Net),
+    };
+    if !write_all(out, text.as_slice()) {
+        return Err(Stop::Write);
+    }
+    serve_at(
+        rt, alloc, house, net, door, endpoint, limit, spawner, clock, random, desk, out, book,
+    )
+}
+
+/// A hub whose next entry is that after this update, and a desk for its readers at which nobody is served.
+fn open<R: Wait + Copy + Drop>(
+    rt: R,
+    alloc: Global,
+    place: Place,
+) -> Result<(Opened<R>, Desk<R>), Memory>
+    requires { IsPlace place }
+    ensures { IfOk result (λ made. made.1.busy.items ≡ []) }
+{
+    let (list, readers) = hub(rt, alloc, place.number, MAX_CLIENTS + 1)?;
+    let mut free = readers;
+    let busy = Vec::with_capacity(alloc, MAX_CLIENTS)?;
+    match free.pop() {
+        Some(own) => Ok((begin_at(list, place), Desk { own, free, busy })),
+        None => Err(Memory),
+    }
+}
+
+/// What the workers share.
+fn house_of<N: Net, R: Wait + Drop, G: Gate + Drop, B: Book<N::In, N::Out>>(
+    alloc: Global,
+    gate: G,
+    endpoint: &str,
+) -> Result<Arc<Home<N, B, R, G>, Global>, Memory>
+where
+    N::In: Wakes,
+{
+    let house = House::new(alloc, gate, endpoint, MAX_CLIENTS)?;
+    match Arc::new(alloc, house) {
+        Ok(house) => Ok(house),
+        Err(_refused) => Err(Memory),
+    }
+}
+
+/// Starts the workers that serve no client, and serves.
+fn serve_from<
+    W: Wait + SystemClock + Eprint + Copy + Send + Drop + 'static,
+    N: Net + Send + Drop + 'static,
+    P: Spawner,
+    C: Clock + Send + Drop + 'static,
+    Q: Random,
+    O: Sink,
+    G: Gate + Send + Sync + Drop + 'static,
+    B: Book<N::In, N::Out>,
+>(
+    rt: &W,
+    alloc: Global,
+    place: Place,
+    stop: &SharedStop,
+    net: &mut N,
+    listen: &str,
+    endpoint: &str,
+    limit: u64,
+    spawner: &mut P,
+    clock: &C,
+    random: &mut Q,
+    gate: G,
+    out: &mut O,
+    book: &mut B,
+) -> Result<(), Stop>
+where
+    N::In: Wakes + HangsUp,
+    N::Door: Send,
+    requires address { IsAddress endpoint.now }
+    requires place { IsPlace place }
+    requires fresh { (N.counts net.old).accepted ≡ 0 }
+    ensures { ServesFrom result listen.now limit (P.refusals spawner.old) (P.refusals spawner.new)
+        (record { net = N.counts net.old; out = record { taken = O.taken out.old; counts = O.counts out.old }; book = B.told book.old })
+        (record { net = N.counts net.new; out = record { taken = O.taken out.new; counts = O.counts out.new }; book = B.told book.new }) }
+{
+    let house = match house_of::<N, W, G, B>(alloc, gate, endpoint) {
+        Ok(house) => house,
+        Err(_refused) => return Err(Stop::Memory),
+    };
+    let (list, mut desk) = match open(*rt, alloc, place) {
+        Ok(made) => made,
+        Err(_refused) => return Err(Stop::Memory),
+    };
+    match start_watch(
+        *rt,
+        alloc,
+        &house.bells,
+        net,
+        endpoint,
+        list,
+        listen,
+        stop,
+        spawner,
+    ) {
+        Ok(()) => {}
+        Err(refused) => return Err(refused),
+    }
+    let pause = pause_of(random.word());
+    match start_reaper(*rt, alloc, net, endpoint, pause, stop, spawner) {
+        Ok(()) => {}
+        Err(refused) => return Err(refused),
+    }
+    serve_clients(
+        rt, alloc, &house, net, listen, endpoint, limit, spawner, clock, random, &mut desk, out,
+        book,
+    )
+}
+
+/// Serves ZooKeeper clients at `listen` from the etcd cluster whose JSON gateway is at `endpoint`, both `HOST:PORT`, until `limit`
+/// clients were accepted and have ended. The net has accepted no connection before. The ends:
+///
+/// - `Done`: each of the connections 1 to `limit` has one line, and each that had a worker one [`Served`](crate::Served) in the
+///   book;
+/// - `Net`: the cluster's first call failed, a worker could not be started, the address could not be listened on, or the door had a
+///   fault. `net fault` is written behind the lines so far;
+/// - `Feed`: the hub was found closed. Each connection so far has its line, and `feed` with the cause is written behind them;
+/// - `WriteFault`: the sink had a fault, and took a front of what was to be written;
+/// - `Memory`: memory was refused, here or to the watch worker.
+pub fn serve<
+    W: Wait + SystemClock + Eprint + Copy + Send + Drop + 'static,
+    N: Net + Send + Drop + 'static,
+    L: Cluster,
+    P: Spawner,
+    C: Clock + Send + Drop + 'static,
+    Q: Random,
+    O: Sink,
+    G: Gate + Send + Sync + Drop + 'static,
+    B: Book<N::In, N::Out>,
+>(
+    rt: &W,
+    alloc: Global,
+    net: &mut N,
+    cluster: &mut L,
+    spawner: &mut P,
+    clock: &mut C,
+    random: &mut Q,
+    out: &mut O,
+    gate: G,
+    book: &mut B,
+    listen: &str,
+    endpoint: &str,
+    limit: u64,
+) -> ServeEnd
+where
+    N::In: Wakes + HangsUp,
+    N::Door: Send,
+    requires address { IsAddress endpoint.now }
+    requires fresh { (N.counts net.old).accepted ≡ 0 }
+    // What was accepted, written and given to the book, by the end.
+    ensures { Ends result listen.now limit (L.failures cluster.old) (L.failures cluster.new) (P.refusals spawner.old) (P.refusals spawner.new)
+        (record { net = N.counts net.old; out = record { taken = O.taken out.old; counts = O.counts out.old }; book = B.told book.old })
+        (record { net = N.counts net.new; out = record { taken = O.taken out.new; counts = O.counts out.new }; book = B.told book.new }) }
+{
+    let place = match begin(alloc, cluster, clock, endpoint) {
+        Ok(place) => place,
+        Err(stop) => {
+            tell(rt, "first ask of", endpoint, Fault::First);
+            return finish(alloc, Err(stop), out);
+        }
+    };
+    let stop = match SharedStop::new(alloc) {
+        Ok(stop) => stop,
+        Err(_refused) => return ServeEnd::Memory,
+    };
+    let stopped = serve_from(
+        rt, alloc, place, &stop, net, listen, endpoint, limit, spawner, clock, random, gate, out,
+        book,
+    );
+    stop.set();
+    finish(alloc, stopped, out)
+}

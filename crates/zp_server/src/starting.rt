@@ -1,0 +1,153 @@
+//! Starts the workers that serve no client.
+
+ghost use Rattle.std.specs.Prelude.{◌≡◌, string_bytes};
+ghost use Rattle.ev_call.specs.Addresses.{IsAddress};
+ghost use Rattle.zw_follow.specs.Publishing.{IsPlaced};
+ghost use Rattle.zw_hub.specs.Lists.{empty};
+ghost use Rattle.zp_server.specs.Beginning.{IsPlace};
+ghost use Rattle.zp_server.specs.Telling.{Starts};
+
+use crate::bells::Bells;
+use crate::book::Book;
+use crate::ends::Stop;
+use crate::gate::Gate;
+use crate::house::House;
+use std::alloc::Global;
+use std::sync::{Arc, Wait};
+use std::time::Clock as SystemClock;
+use zs_lapsed::reap;
+use zw_follow::{Place, follow_and_ring};
+use zw_hub::Hub;
+use zx_net::{Net, Spawner, Wakes};
+use zx_words::SharedStop;
+
+/// What the workers share, for a net and a book.
+pub type Home<N, B, R, G> = House<
+    <N as Net>::In,
+    <N as Net>::Out,
+    <B as Book<<N as Net>::In, <N as Net>::Out>>::T,
+    R,
+    <<N as Net>::In as Wakes>::Bell,
+    G,
+>;
+
+/// A new hub, and the update where it begins.
+#[derive(Drop)]
+pub struct Opened<R: Wait + Drop> {
+    pub list: Hub<R>,
+    pub place: Place,
+    pub ghost placed: { IsPlaced list.list place },
+}
+
+/// A hub that nothing was published at, and the update where it begins.
+pub fn begin_at<R: Wait + Drop>(list: Hub<R>, place: Place) -> Opened<R>
+    requires new { list.list ≡ empty place.number }
+    requires at { IsPlace place }
+{
+    Opened { list, place }
+}
+
+/// Starts the watch worker. Where it cannot go on, it dials the proxy's own address, so that the listener looks at the hub.
+pub fn start_watch<
+    W: Wait + Eprint + Copy + Send + Drop + 'static,
+    N: Net + Send + Drop + 'static,
+    P: Spawner,
+>(
+    rt: W,
+    alloc: Global,
+    bells: &Arc<Bells<<N::In as Wakes>::Bell>, Global>,
+    net: &N,
+    endpoint: &str,
+    opened: Opened<W>,
+    listen: &str,
+    stop: &SharedStop,
+    spawner: &mut P,
+) -> Result<(), Stop>
+where
+    N::In: Wakes,
+    N::Door: Send,
+    ensures { Starts result (P.refusals spawner.old) (P.refusals spawner.new) }
+{
+    let endpoint = match String::from_str(alloc, endpoint) {
+        Ok(endpoint) => endpoint,
+        Err(_refused) => return Err(Stop::Memory),
+    };
+    let listen = match String::from_str(alloc, listen) {
+        Ok(listen) => listen,
+        Err(_refused) => return Err(Stop::Memory),
+    };
+    let stop = match stop.another() {
+        Ok(stop) => stop,
+        Err(_refused) => return Err(Stop::Memory),
+    };
+    let bells = match Arc::try_clone(bells) {
+        Ok(bells) => bells,
+        Err(_refused) => return Err(Stop::Memory),
+    };
+    let net = net.another();
+    // A job with a clause of its own is proved for whatever may be sent, as a function is.
+    let job = move ||
+        requires { Unit {0} }
+    {
+        let (mut net, opened, mut stop) = (net, opened, stop);
+        let Opened { list, place } = opened;
+        let mut list = list;
+        let ended = follow_and_ring(
+            &rt,
+            alloc,
+            &mut net,
+            endpoint.as_str(),
+            place,
+            &mut list,
+            &mut stop,
+            &*bells,
+        );
+        if ended.is_some() {
+            let _woken = net.dial(listen.as_str());
+        }
+    };
+    match spawner.start(job) {
+        Ok(()) => Ok(()),
+        Err(_job) => Err(Stop::Net),
+    }
+}
+
+/// Starts the reaper worker.
+pub fn start_reaper<
+    W: Wait + SystemClock + Eprint + Copy + Send + Drop + 'static,
+    N: Net + Send + Drop + 'static,
+    P: Spawner,
+>(
+    rt: W,
+    alloc: Global,
+    net: &N,
+    endpoint: &str,
+    pause: u64,
+    stop: &SharedStop,
+    spawner: &mut P,
+) -> Result<(), Stop>
+where
+    N::Door: Send,
+    requires { IsAddress endpoint.now }
+    ensures { Starts result (P.refusals spawner.old) (P.refusals spawner.new) }
+{
+    let endpoint = match String::from_str(alloc, endpoint) {
+        Ok(endpoint) => endpoint,
+        Err(_refused) => return Err(Stop::Memory),
+    };
+    let stop = match stop.another() {
+        Ok(stop) => stop,
+        Err(_refused) => return Err(Stop::Memory),
+    };
+    let net = net.another();
+    let job = move ||
+        requires { IsAddress (string_bytes endpoint) }
+    {
+        let (mut net, mut stop) = (net, stop);
+        reap(&rt, alloc, &mut net, endpoint.as_str(), pause, &mut stop);
+    };
+    match spawner.start(job) {
+        Ok(()) => Ok(()),
+        Err(_job) => Err(Stop::Net),
+    }
+}

@@ -1,0 +1,217 @@
+//! Takes back what workers hand back.
+
+ghost use Rattle.std.specs.Prelude.{◌≡◌, [], OnOk};
+ghost use Rattle.std.specs.Arc.{arc_value};
+ghost use Rattle.zw_hub.specs.Ends.{MayBeTold};
+ghost use Rattle.zx_net.specs.Nets.{NetCounts};
+ghost use Rattle.zp_server.specs.Logs.{Goes, Halts, Rests};
+
+use crate::back::Returned;
+use crate::book::Book;
+use crate::desk::{Desk, strike};
+use crate::ends::Stop;
+use crate::gate::Gate;
+use crate::house::House;
+use crate::lines::say_closed;
+use crate::looking::closing_of;
+use std::alloc::Global;
+use std::sync::{Arc, Wait};
+use zw_hub::FeedEnd;
+use zx_net::Wakes;
+use zx_outside::{Sink, Source};
+
+/// Takes what a worker has handed back: writes its line, and gives it to the book. Its reader is free again.
+pub fn take_back<I: Source + Drop, K: Sink + Drop, R: Wait + Drop, O: Sink, B: Book<I, K>>(
+    alloc: Global,
+    returned: Returned<I, K, B::T, R>,
+    desk: &mut Desk<R>,
+    out: &mut O,
+    book: &mut B,
+) -> Result<(), Stop>
+    ensures { (net : NetCounts) → Goes result 0 [] desk.old.busy.items desk.new.busy.items
+        (record { net = net; out = record { taken = O.taken out.old; counts = O.counts out.old }; book = B.told book.old })
+        (record { net = net; out = record { taken = O.taken out.new; counts = O.counts out.new }; book = B.told book.new }) }
+{
+    let Returned { served, reader } = returned;
+    // A worker hands back its own connection, and that once.
+    if !strike(&mut desk.busy, served.number) {
+        return Err(Stop::Memory);
+    }
+    match say_closed(alloc, served.number, &served.cause, out) {
+        Ok(()) => {}
+        Err(stop) => return Err(stop),
+    }
+    let mut reader = reader;
+    let closing = closing_of(&served.cause, &mut reader);
+    match book.take(served) {
+        Ok(()) => {}
+        Err(_refused) => return Err(Stop::Memory),
+    }
+    match desk.free.push(reader) {
+        Ok(()) => closing,
+        Err(_refused) => Err(Stop::Memory),
+    }
+}
+
+/// Takes all that came back, and then waits until a reader is free.
+pub fn make_room<
+    W: Wait,
+    I: Source + Wakes + Drop,
+    K: Sink + Drop,
+    R: Wait + Drop,
+    O: Sink,
+    G: Gate + Drop,
+    B: Book<I, K>,
+>(
+    rt: &W,
+    alloc: Global,
+    house: &House<I, K, B::T, R, I::Bell, G>,
+    desk: &mut Desk<R>,
+    out: &mut O,
+    book: &mut B,
+) -> Result<(), Stop>
+    ensures { (net : NetCounts) → Goes result 0 [] desk.old.busy.items desk.new.busy.items
+        (record { net = net; out = record { taken = O.taken out.old; counts = O.counts out.old }; book = B.told book.old })
+        (record { net = net; out = record { taken = O.taken out.new; counts = O.counts out.new }; book = B.told book.new }) }
+{
+    'takes: for _ in rt.forever() {
+        let returned = match house.back.next(rt, desk.free.is_empty()) {
+            Ok(Some(returned)) => returned,
+            Ok(None) => return Ok(()),
+            Err(_refused) => return Err(Stop::Memory),
+        };
+        match take_back(alloc, returned, desk, out, book) {
+            Ok(()) => {}
+            Err(stop) => return Err(stop),
+        }
+    }
+    unreachable!()
+}
+
+/// Takes one back where the hub is known to be closed: others may have found it closed too.
+fn take_on<I: Source + Drop, K: Sink + Drop, R: Wait + Drop, O: Sink, B: Book<I, K>>(
+    alloc: Global,
+    returned: Returned<I, K, B::T, R>,
+    desk: &mut Desk<R>,
+    out: &mut O,
+    book: &mut B,
+) -> Result<(), Stop>
+    ensures { (net : NetCounts) → Rests result desk.old.busy.items desk.new.busy.items
+        (record { net = net; out = record { taken = O.taken out.old; counts = O.counts out.old }; book = B.told book.old })
+        (record { net = net; out = record { taken = O.taken out.new; counts = O.counts out.new }; book = B.told book.new }) }
+{
+    match take_back(alloc, returned, desk, out, book) {
+        Ok(()) => Ok(()),
+        Err(Stop::Feed(_)) => Ok(()),
+        Err(Stop::Net) => Err(Stop::Net),
+        Err(Stop::Write) => Err(Stop::Write),
+        Err(Stop::Memory) => Err(Stop::Memory),
+    }
+}
+
+/// Waits until every worker has handed back, since the hub is closed for this end.
+pub fn await_rest<
+    W: Wait,
+    I: Source + Wakes + Drop,
+    K: Sink + Drop,
+    R: Wait + Drop,
+    O: Sink,
+    G: Gate + Drop,
+    B: Book<I, K>,
+>(
+    rt: &W,
+    alloc: Global,
+    house: &House<I, K, B::T, R, I::Bell, G>,
+    end: Arc<FeedEnd, Global>,
+    desk: &mut Desk<R>,
+    out: &mut O,
+    book: &mut B,
+) -> Stop
+    ensures { (net : NetCounts) → MayBeTold (arc_value end) → Halts result 0 desk.old.busy.items []
+        (record { net = net; out = record { taken = O.taken out.old; counts = O.counts out.old }; book = B.told book.old })
+        (record { net = net; out = record { taken = O.taken out.new; counts = O.counts out.new }; book = B.told book.new }) }
+{
+    'takes: for _ in rt.forever() {
+        if desk.is_idle() {
+            return Stop::Feed(end);
+        }
+        let returned = match house.back.wait(rt) {
+            Ok(returned) => returned,
+            Err(_refused) => return Stop::Memory,
+        };
+        match take_on(alloc, returned, desk, out, book) {
+            Ok(()) => {}
+            Err(stop) => return stop,
+        }
+    }
+    unreachable!()
+}
+
+/// Waits until every worker has handed back, or one found the hub closed.
+fn await_first<
+    W: Wait,
+    I: Source + Wakes + Drop,
+    K: Sink + Drop,
+    R: Wait + Drop,
+    O: Sink,
+    G: Gate + Drop,
+    B: Book<I, K>,
+>(
+    rt: &W,
+    alloc: Global,
+    house: &House<I, K, B::T, R, I::Bell, G>,
+    desk: &mut Desk<R>,
+    out: &mut O,
+    book: &mut B,
+) -> Result<(), Stop>
+    ensures goes { (net : NetCounts) → Goes result 0 [] desk.old.busy.items desk.new.busy.items
+        (record { net = net; out = record { taken = O.taken out.old; counts = O.counts out.old }; book = B.told book.old })
+        (record { net = net; out = record { taken = O.taken out.new; counts = O.counts out.new }; book = B.told book.new }) }
+    ensures idle { OnOk result (desk.new.busy.items ≡ []) }
+{
+    'takes: for _ in rt.forever() {
+        if desk.is_idle() {
+            return Ok(());
+        }
+        let returned = match house.back.wait(rt) {
+            Ok(returned) => returned,
+            Err(_refused) => return Err(Stop::Memory),
+        };
+        match take_back(alloc, returned, desk, out, book) {
+            Ok(()) => {}
+            Err(stop) => return Err(stop),
+        }
+    }
+    unreachable!()
+}
+
+/// Waits until every worker has handed back. Where some found the hub closed, that is the stop; the others are waited for all the
+/// same.
+pub fn await_all<
+    W: Wait,
+    I: Source + Wakes + Drop,
+    K: Sink + Drop,
+    R: Wait + Drop,
+    O: Sink,
+    G: Gate + Drop,
+    B: Book<I, K>,
+>(
+    rt: &W,
+    alloc: Global,
+    house: &House<I, K, B::T, R, I::Bell, G>,
+    desk: &mut Desk<R>,
+    out: &mut O,
+    book: &mut B,
+) -> Result<(), Stop>
+    ensures { (net : NetCounts) → Goes result 0 [] desk.old.busy.items []
+        (record { net = net; out = record { taken = O.taken out.old; counts = O.counts out.old }; book = B.told book.old })
+        (record { net = net; out = record { taken = O.taken out.new; counts = O.counts out.new }; book = B.told book.new }) }
+{
+    match await_first(rt, alloc, house, desk, out, book) {
+        Ok(()) => Ok(()),
+        Err(Stop::Feed(end)) => Err(await_rest(rt, alloc, house, end, desk, out, book)),
+        Err(Stop::Net) => Err(Stop::Net),
+        Err(Stop::Write) => Err(Stop::Write),
+        Err(Stop::Memory) => Err(Stop::Memory),
+    }
+}

@@ -1,0 +1,191 @@
+//! The worker of a connection.
+
+ghost use Rattle.std.specs.Prelude.{◌≡◌, ◌<◌};
+ghost use Rattle.zk_transcript.specs.declared.transcript.Cause.TheVariants.{FeedClosed};
+
+use crate::back::Returned;
+use crate::gate::Gate;
+use crate::house::House;
+use crate::ready::Ready;
+use crate::served::Served;
+use ev_words::tell_link;
+use std::alloc::Global;
+use std::sync::{Arc, Wait};
+use zk_transcript::Cause;
+use zp_conn::{Belled, serve_connection};
+use zp_run::Trace;
+use zs_lapsed::fault_of;
+use zw_hub::{Feed, HubReader};
+use zx_net::{Bell, Clock, Spawner, Wakes};
+use zx_outside::{Sink, Source};
+use zx_words::HangsUp;
+
+/// Serves a connection over this feed, and ends its stream.
+fn serve_over<
+    W: Wait,
+    I: Source + HangsUp + Drop,
+    O: Sink + Drop,
+    T: Trace + Drop,
+    C: Clock + Drop,
+    F: Feed,
+>(rt: &W, alloc: Global, ready: Ready<I, O, T, C>, feed: &mut F) -> Served<I, O, T>
+    ensures { result.cause ≡ FeedClosed → 0 < F.closings feed.new }
+{
+    let Ready {
+        number,
+        fresh,
+        source,
+        sink,
+        link,
+        trace,
+        clock,
+    } = ready;
+    let (mut source, mut sink) = (source, sink);
+    let (mut link, mut trace, mut clock) = (link, trace, clock);
+    let cause = serve_connection(
+        rt,
+        alloc,
+        fresh,
+        &mut link,
+        feed,
+        &mut source,
+        &mut sink,
+        &mut clock,
+        &mut trace,
+    );
+    // The listener may come to this connection much later, and the client is to know now.
+    source.hang_up();
+    Served {
+        number,
+        fresh,
+        source,
+        sink,
+        link,
+        trace,
+        cause,
+    }
+}
+
+/// The bell of this connection's source, where there is one.
+fn bell_of<I: Source + Wakes + Drop, O: Sink + Drop, T: Trace + Drop, C: Clock + Drop>(
+    ready: &mut Ready<I, O, T, C>,
+) -> Option<Arc<I::Bell, Global>> {
+    ready.source.bell()
+}
+
+/// Hangs a bell for this connection, where there is one to be had.
+fn hung<
+    W: Wait,
+    I: Source + Wakes + Drop,
+    O: Sink + Drop,
+    T: Trace + Drop,
+    R: Wait + Drop,
+    C: Clock + Drop,
+    G: Gate + Drop,
+>(
+    rt: &W,
+    house: &House<I, O, T, R, I::Bell, G>,
+    ready: &mut Ready<I, O, T, C>,
+) -> Option<Arc<I::Bell, Global>> {
+    let bell = bell_of(ready)?;
+    let Ok(rung) = Arc::try_clone(&bell) else {
+        return None;
+    };
+    match house.bells.add(rt, ready.number, rung) {
+        Ok(()) => Some(bell),
+        Err(_) => None,
+    }
+}
+
+/// Serves a connection, and hands back its reader too. Where it has no bell, whoever waits looks again and again.
+fn serve_by<
+    W: Wait,
+    I: Source + HangsUp + Drop,
+    O: Sink + Drop,
+    T: Trace + Drop,
+    R: Wait + Drop,
+    C: Clock + Drop,
+    B: Bell + Drop,
+>(
+    rt: &W,
+    alloc: Global,
+    ready: Ready<I, O, T, C>,
+    reader: HubReader<R>,
+    bell: Option<Arc<B, Global>>,
+) -> Returned<I, O, T, R> {
+    let Some(bell) = bell else {
+        let mut reader = reader;
+        let served = serve_over(rt, alloc, ready, &mut reader);
+        return Returned { served, reader };
+    };
+    let mut feed = Belled::new(reader, bell);
+    let served = serve_over(rt, alloc, ready, &mut feed);
+    let reader = feed.into_feed();
+    Returned { served, reader }
+}
+
+/// Tells the operator of a link that failed.
+fn tell_of<R: Eprint, I: Source + Drop, O: Sink + Drop, T: Trace + Drop>(
+    rt: &R,
+    endpoint: &str,
+    served: &Served<I, O, T>,
+) {
+    if let Cause::LinkFault = served.cause {
+        tell_link(rt, served.number, endpoint, fault_of(&served.link));
+    }
+}
+
+/// Serves a connection to its end, and hands back what it served.
+fn work<
+    W: Wait + Eprint,
+    I: Source + HangsUp + Drop,
+    O: Sink + Drop,
+    T: Trace + Drop,
+    R: Wait + Drop,
+    C: Clock + Drop,
+    G: Gate + Drop,
+    B: Bell + Drop,
+>(
+    rt: &W,
+    alloc: Global,
+    house: &House<I, O, T, R, B, G>,
+    ready: Ready<I, O, T, C>,
+    reader: HubReader<R>,
+    bell: Option<Arc<B, Global>>,
+) {
+    let number = ready.number;
+    house.gate.pass(number);
+    let returned = serve_by(rt, alloc, ready, reader, bell);
+    house.bells.remove(rt, number);
+    tell_of(rt, house.endpoint.as_str(), &returned.served);
+    house.back.put(rt, returned);
+}
+
+/// Has a connection served by a worker of its own, or in place where the job is handed back. Its bell hangs before it is served.
+pub fn start_work<
+    W: Wait + Eprint + Copy + Send + Drop + 'static,
+    I: Source + Wakes + HangsUp + Send + Drop + 'static,
+    O: Sink + Send + Drop + 'static,
+    T: Trace + Send + Drop + 'static,
+    R: Wait + Send + Drop + 'static,
+    C: Clock + Send + Drop + 'static,
+    G: Gate + Send + Sync + Drop + 'static,
+    P: Spawner,
+>(
+    rt: W,
+    alloc: Global,
+    spawner: &mut P,
+    house: Arc<House<I, O, T, R, I::Bell, G>, Global>,
+    ready: Ready<I, O, T, C>,
+    reader: HubReader<R>,
+) {
+    let mut ready = ready;
+    let bell = hung(&rt, &house, &mut ready);
+    let job = move || {
+        let (ready, reader, bell) = (ready, reader, bell);
+        work(&rt, alloc, &house, ready, reader, bell);
+    };
+    if let Err(job) = spawner.start(job) {
+        job();
+    }
+}
