@@ -1,4 +1,5 @@
 pub mod Accepted
+pub mod Booking
 pub mod Counting
 pub mod Ending
 pub mod Halting

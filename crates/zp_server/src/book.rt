@@ -34,13 +34,15 @@ pub trait Book<I: Source + Drop, O: Sink + Drop> {
 pub struct NoBook;
 
 impl<I: Source + Drop, O: Sink + Drop> Book<I, O> for NoBook {
-    ghost use Rattle.std.specs.Prelude.{◌≡◌, None, Ok};
+    ghost use Rattle.std.specs.Prelude.{◌≡◌, None, Ok, IsOk};
 
     type T = NoTrace;
 
     ghost told = { λ _. None };
 
-    fn trace(&mut self) -> Result<NoTrace, Memory> {
+    fn trace(&mut self) -> Result<NoTrace, Memory>
+        ensures gave { IsOk result }
+    {
         Ok(NoTrace)
     }
 
