@@ -15,7 +15,7 @@ const MAX_TURNS: u32 = 3000;
 const MAX_DIALS: u32 = 9;
 
 /// Sends all of it.
-fn ask<K: Sink>(sink: &mut K, asked: &[u8]) -> Result<()> {
+pub fn ask<K: Sink>(sink: &mut K, asked: &[u8]) -> Result<()> {
     let mut rest = asked;
     for _ in 0..asked.len() {
         if rest.is_empty() {
@@ -67,6 +67,41 @@ pub fn await_listener<
     let mut net = StdNet::new(*rt, rt.alloc()).another();
     connect(&mut net, address)?;
     Ok(())
+}
+
+/// Reads what is asked, until nothing more comes for a moment.
+pub fn hear_ask<S: Source>(source: &mut S) {
+    let mut room = [0u8; 256];
+    let mut was_asked = false;
+    for _ in 0..MAX_TURNS {
+        match source.read(&mut room) {
+            Got::Bytes(_) => was_asked = true,
+            Got::Nothing if was_asked => return,
+            Got::Nothing => {}
+            Got::End | Got::Failed => return,
+        }
+    }
+}
+
+/// Has so many clients ask this, each once the stream of the one before has ended, and gives what each received.
+pub fn talk_in_turn<
+    R: SystemNet<Listener = TcpListener, Stream = TcpStream>
+        + Clock
+        + AllocGlobal
+        + Copy
+        + Send
+        + Drop
+        + 'static,
+>(rt: &R, address: &str, asked: &[u8], clients: u64) -> Result<Vec<Vec<u8>>> {
+    let alloc = rt.alloc();
+    let mut net = StdNet::new(*rt, alloc).another();
+    let mut received = Vec::new(alloc);
+    for _ in 0..clients {
+        let (mut source, mut sink) = connect(&mut net, address)?;
+        ask(&mut sink, asked)?;
+        received.push(hear(alloc, &mut source)?)?;
+    }
+    Ok(received)
 }
 
 /// Has two clients ask this, and gives what each received, in the order in which they connected.

@@ -33,7 +33,7 @@ fn end_of(alloc: Global, end: Option<FeedEnd>) -> Result<Option<String>, Memory>
 }
 
 /// A watch's stream of one line.
-fn stream_of(alloc: Global, line: &str) -> Result<Vec<u8>, Memory> {
+pub fn stream_of(alloc: Global, line: &str) -> Result<Vec<u8>, Memory> {
     let head = joined(
         alloc,
         &[

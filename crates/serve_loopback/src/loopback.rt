@@ -1,9 +1,10 @@
 //! A server over the loopback, with an etcd in memory in the same process.
 
-use crate::clients::{await_listener, talk};
+use crate::clients::{await_listener, talk, talk_in_turn};
 use crate::turns::{Turns, Watched};
 use crate::word_of;
 use anyhow::{Result, bail};
+use ev_call::Cluster;
 use ev_link::DialCluster;
 use row_files::bytes_of;
 use std::alloc::Global;
@@ -34,7 +35,7 @@ const PORTS: u64 = 6000;
 
 /// An address of the loopback at which nobody listens: one of the ports from the first one on, of which none is given to a stream that
 /// is dialled.
-fn free_address<R: Net<Listener = TcpListener, Stream = TcpStream> + AllocGlobal>(
+pub fn free_address<R: Net<Listener = TcpListener, Stream = TcpStream> + AllocGlobal>(
     rt: &R,
     random: &mut RandWord,
     first: u64,
@@ -80,15 +81,15 @@ fn run_etcd<
 
 /// What a server did.
 #[derive(Drop)]
-struct Outcome {
-    end: &'static str,
-    written: Vec<u8>,
+pub struct Outcome {
+    pub end: &'static str,
+    pub written: Vec<u8>,
     /// What it says that it sent, by the connections' numbers.
     sent: Vec<(u64, Vec<u8>)>,
 }
 
-/// Serves two clients.
-fn run_serve<
+/// Serves so many clients. The first ask goes to this cluster.
+pub fn run_serve<
     R: Net<Listener = TcpListener, Stream = TcpStream>
         + Clock
         + Threads
@@ -100,11 +101,18 @@ fn run_serve<
         + Send
         + Drop
         + 'static,
->(rt: R, listen: &str, endpoint: &str, turns: Turns) -> Result<Outcome> {
+    L: Cluster,
+>(
+    rt: R,
+    cluster: &mut L,
+    listen: &str,
+    endpoint: &str,
+    limit: u64,
+    turns: Turns,
+) -> Result<Outcome> {
     let alloc = rt.alloc();
     let mut out = MemSink::new(alloc, Vec::new(alloc));
     let mut net = StdNet::new(rt, alloc);
-    let mut cluster = DialCluster::new(alloc, StdNet::new(rt, alloc));
     let mut spawner = ThreadSpawner::new(rt);
     let mut clock = StdClock::new(rt);
     let mut random = RandWord::new(&rt)?;
@@ -116,7 +124,7 @@ fn run_serve<
         &rt,
         alloc,
         &mut net,
-        &mut cluster,
+        cluster,
         &mut spawner,
         &mut clock,
         &mut random,
@@ -125,7 +133,7 @@ fn run_serve<
         &mut book,
         listen,
         endpoint,
-        CLIENTS,
+        limit,
     );
     let mut sent = Vec::new(alloc);
     for served in book.served() {
@@ -162,7 +170,7 @@ fn are_same(sent: &[(u64, Vec<u8>)], received: &[Vec<u8>]) -> bool {
 }
 
 /// Adds `listening`, where that is the first line, and the other lines in order.
-fn add_lines(alloc: Global, text: &mut String, written: &[u8], listen: &str) -> Result<()> {
+pub fn add_lines(alloc: Global, text: &mut String, written: &[u8], listen: &str) -> Result<()> {
     let first = format!(in alloc; "listening {listen}\n")?;
     let Some(later) = str::from_utf8(written)?.strip_prefix(first.as_str()) else {
         bail!("the first line is another");
@@ -190,6 +198,9 @@ fn text_of(
 ) -> Result<String> {
     let mut text = String::from_str(alloc, served.end)?;
     add_lines(alloc, &mut text, served.written.as_slice(), listen)?;
+    if !watched.both_came() {
+        text.push_str("; no gate")?;
+    }
     if watched.gave_up() {
         text.push_str("; alone")?;
     }
@@ -199,7 +210,7 @@ fn text_of(
     Ok(text)
 }
 
-/// Has two clients send this to a server.
+/// Has two clients send this to a server: both at once, or in turn.
 fn run<
     R: Net<Listener = TcpListener, Stream = TcpStream>
         + Clock
@@ -212,7 +223,7 @@ fn run<
         + Send
         + Drop
         + 'static,
->(rt: R, asked: &[u8]) -> Result<String> {
+>(rt: R, asked: &[u8], is_in_turn: bool) -> Result<String> {
     let alloc = rt.alloc();
     let mut random = RandWord::new(&rt)?;
     let listen = free_address(&rt, &mut random, 20_000)?;
@@ -222,21 +233,34 @@ fn run<
         bail!("no thread");
     };
     await_listener(&rt, endpoint.as_str())?;
-    let watched = Arc::new(alloc, Watched::new())?;
+    let watched = Arc::new(alloc, Watched::new(!is_in_turn))?;
     let theirs = Arc::try_clone(&watched)?;
     let turns = Turns {
         watched: Arc::try_clone(&watched)?,
     };
     let at = listen.clone()?;
     let job = move || {
-        let served = run_serve(rt, at.as_str(), endpoint.as_str(), turns);
+        let alloc = rt.alloc();
+        let mut cluster = DialCluster::new(alloc, StdNet::new(rt, alloc));
+        let served = run_serve(
+            rt,
+            &mut cluster,
+            at.as_str(),
+            endpoint.as_str(),
+            CLIENTS,
+            turns,
+        );
         theirs.end();
         served
     };
     let Ok(server) = thread::spawn(&rt, job) else {
         bail!("no thread");
     };
-    let received = talk(&rt, listen.as_str(), asked)?;
+    let received = if is_in_turn {
+        talk_in_turn(&rt, listen.as_str(), asked, CLIENTS)?
+    } else {
+        talk(&rt, listen.as_str(), asked)?
+    };
     if !watched.await_end(&rt) {
         bail!("the server does not end");
     }
@@ -266,7 +290,7 @@ fn frames_of(alloc: Global, given: &str) -> Result<Option<Vec<u8>>, Memory> {
     Ok(Some(bytes))
 }
 
-/// What came of two clients that each send these frames.
+/// What came of two clients that each send these frames, both at once or in turn.
 pub fn served<
     R: Net<Listener = TcpListener, Stream = TcpStream>
         + Clock
@@ -279,11 +303,11 @@ pub fn served<
         + Send
         + Drop
         + 'static,
->(rt: R, alloc: Global, given: &str) -> Result<Option<String>, Memory> {
+>(rt: R, alloc: Global, given: &str, is_in_turn: bool) -> Result<Option<String>, Memory> {
     let Some(asked) = frames_of(alloc, given)? else {
         return Ok(None);
     };
-    match run(rt, asked.as_slice()) {
+    match run(rt, asked.as_slice(), is_in_turn) {
         Ok(text) => Ok(Some(text)),
         Err(error) => Ok(Some(format!(in alloc; "{error}")?)),
     }

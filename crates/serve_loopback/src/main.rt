@@ -8,17 +8,23 @@
 //! | `follow FROM` | the end of a follower whose dials give streams without a byte, where the word to stop is set from its reading number FROM on |
 //! | `follow FROM LINE` | the same, where the first dial gives a watch's stream of this one line |
 //! | `memory CALL LIMIT` | the end of a server over a net in memory, whose clients end at once and whose dials give streams without a byte, and over an etcd in memory whose call number CALL fails, 0 for none; then the first and the last line that it wrote |
-//! | `two FRAME ..` | the end of a server over the loopback with an etcd in memory in the same process, where two clients each send these frames, in hex and without their lengths; then `listening`, where that is its first line, and its other lines in order. `alone`, where the worker of connection 1, which the gate holds until that of connection 2 has passed, has waited in vain. `other bytes`, where what a connection says that it sent is not what its client received |
+//! | `line LINE` | the end of a server over the loopback whose etcd has the root, and after the first ask gives this line to each who asks, and to which nobody connects; then `listening`, where that is its first line, and its other lines in order |
+//! | `late LINE` | the same of a server of one client, which connects and sends nothing, where the etcd gives the line once a worker serves it |
+//! | `gone 2` | the same of a server whose etcd is gone after the first ask, and to which two clients connect, one after the other |
+//! | `turn FRAME ..` | as `two`, but the second client connects once the stream of the first has ended, and the gate holds nobody |
+//! | `two FRAME ..` | the end of a server over the loopback with an etcd in memory in the same process, where two clients each send these frames, in hex and without their lengths; then `listening`, where that is its first line, and its other lines in order. `alone`, where the worker of connection 1, which the gate holds until that of connection 2 has passed, has waited in vain. `no gate`, where one of them did not come to the gate. `other bytes`, where what a connection says that it sent is not what its client received |
 //!
 //! No wait is without an end: what does not come in some half a minute of idle time is said in place of the right side.
 #![tactic(auto)]
 
 mod clients;
+mod deserted;
 mod follows;
 mod loopback;
 mod memory;
 mod turns;
 
+use crate::deserted::Later;
 use anyhow::Result;
 use row_files::{Rows, status_of, try_file};
 use std::alloc::Global;
@@ -61,7 +67,19 @@ impl<
             return memory::served(self.rt, alloc, given);
         }
         if kind == "two" {
-            return loopback::served(self.rt, alloc, given);
+            return loopback::served(self.rt, alloc, given, false);
+        }
+        if kind == "turn" {
+            return loopback::served(self.rt, alloc, given, true);
+        }
+        if kind == "line" {
+            return deserted::served(self.rt, alloc, Later::Says(given));
+        }
+        if kind == "late" {
+            return deserted::served(self.rt, alloc, Later::SaysLate(given));
+        }
+        if left == "gone 2" {
+            return deserted::served(self.rt, alloc, Later::Gone);
         }
         Ok(None)
     }

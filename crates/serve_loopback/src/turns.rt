@@ -1,4 +1,4 @@
-//! Holds the worker of the first connection until that of the second has come.
+//! Holds the worker of the first connection until that of the second has come, or notes alone who came.
 
 use std::alloc::Global;
 use std::sync::Arc;
@@ -19,15 +19,20 @@ const PAUSE: u64 = 10;
 /// What is known of a server and its two workers.
 #[derive(Drop)]
 pub struct Watched {
+    /// The first worker is held.
+    is_held: bool,
+    first_came: AtomicBool,
     second_came: AtomicBool,
     gave_up: AtomicBool,
     is_over: AtomicBool,
 }
 
 impl Watched {
-    /// Nobody came yet.
-    pub fn new() -> Watched {
+    /// Nobody came yet. The first worker is held, or it is not.
+    pub fn new(is_held: bool) -> Watched {
         Watched {
+            is_held,
+            first_came: AtomicBool::new(false),
             second_came: AtomicBool::new(false),
             gave_up: AtomicBool::new(false),
             is_over: AtomicBool::new(false),
@@ -37,6 +42,21 @@ impl Watched {
     /// Whether the first worker waited in vain.
     pub fn gave_up(&self) -> bool {
         self.gave_up.load(Ordering::SeqCst)
+    }
+
+    /// Whether both workers came to the gate.
+    pub fn both_came(&self) -> bool {
+        self.first_came.load(Ordering::SeqCst) && self.second_came.load(Ordering::SeqCst)
+    }
+
+    /// Waits until the worker of connection 1 has come, at most about as long as for a server's end.
+    pub fn await_first<R: Clock>(&self, rt: &R) {
+        for _ in 0..MAX_LOOKS {
+            if self.first_came.load(Ordering::SeqCst) {
+                return;
+            }
+            thread::sleep(rt, Duration::from_millis(PAUSE));
+        }
     }
 
     /// Says that the server has ended.
@@ -66,6 +86,10 @@ impl Gate for Turns {
     fn pass(&self, call: u64) {
         if call != 1 {
             self.watched.second_came.store(true, Ordering::SeqCst);
+            return;
+        }
+        self.watched.first_came.store(true, Ordering::SeqCst);
+        if !self.watched.is_held {
             return;
         }
         for _ in 0..MAX_TURNS {
