@@ -184,6 +184,7 @@ IsLeftBy id v (Some changes) p next = MatchOption (form_refusal p) (PartLeaves i
 -- ---- all parts
 
 -- what these parts leave, of which the latest comes first: the changes that they make, or None where one of them is not carried out
+-- or the view does not tell yet
 abbrev pub IsLeft : ℤ → View → List Part → Option (List TreeChange) → Type 0
 IsLeft id v [] left = left ≡ Some []
 IsLeft id v (p ∷ before) left = (old : Option (List TreeChange)) × IsLeft id v before old × IsLeftBy id v old p left

@@ -46,7 +46,8 @@ abbrev pub Settles : ℕ → ℕ → World → World → Type 0
 Settles zero c w w' = w' ≡ w
 Settles (suc n) c w w' = elim (settling c w) [ None ↦ w' ≡ w | Some h ↦ (mid : World) × Does w h mid × Settles n c mid w' ]
 
--- at most so many asks are to come: 64 for each frame, and one for each path that a frame may name, which takes a byte or more
+-- the asks that are to come are reckoned as 64 for each frame, and one for each path that a frame may name, which takes a byte or
+-- more; that no frame takes more is not proved
 abbrev pub asks_at : Option Conn → ℕ
 asks_at None = 0
 asks_at (Some x) = 64 * (x.frames + 1) + x.stream.place
