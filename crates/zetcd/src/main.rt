@@ -5,7 +5,7 @@
 //! status's number.
 #![tactic(auto)]
 
-ghost use Rattle.std.specs.Prelude.{◌≡◌, ◌≢◌, ◌⊎◌, List, ℕ, [], ◌∷◌, codes, IfOk};
+ghost use Rattle.std.specs.Prelude.{◌≡◌, ◌≢◌, ◌⊎◌, List, ℕ, [], ◌∷◌, codes, IfErr, IfOk};
 ghost use Rattle.std.specs.Process.{exit_status};
 ghost use Rattle.std.specs.Vec.Iter.{into_iter_items};
 ghost use Rattle.zetcd.specs.Arguments.{IsNoProxying, IsNoServing, IsProxying, IsServing, arguments};
@@ -117,6 +117,7 @@ where
     N::In: Wakes + HangsUp,
     N::Door: Send,
     requires { (N.counts net.old).accepted ≡ 0 }
+    ensures untouched { IfErr result (λ e. (input.new ≡ input.old) × (out.new ≡ out.old) × (net.new ≡ net.old)) }
     ensures replay { IfOk result (λ s. arguments (into_iter_items args) ≡ codes "replay" ∷ [] → Did (Replays s (I.ended input.new) (I.left input.new)) (I.given input.old) (I.given input.new) (I.left input.old) (I.left input.new) (O.taken out.old) (O.taken out.new)) }
     ensures show { IfOk result (λ s. arguments (into_iter_items args) ≡ codes "show" ∷ [] → Did (Shows s (I.ended input.new) (I.left input.new)) (I.given input.old) (I.given input.new) (I.left input.old) (I.left input.new) (O.taken out.old) (O.taken out.new)) }
     ensures judge { IfOk result (λ s. arguments (into_iter_items args) ≡ codes "judge" ∷ [] → Did (Judges s (I.ended input.new) (I.left input.new)) (I.given input.old) (I.given input.new) (I.left input.old) (I.left input.new) (O.taken out.old) (O.taken out.new)) }
