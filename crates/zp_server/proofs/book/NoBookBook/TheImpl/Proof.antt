@@ -46,9 +46,9 @@ bound = λ γ x x' I O lI lO gI sI gO sO eI eO M 𝓤 𝓛 𝓜 𝓡 mI mO nI nO
       trace = λ d d' d''.
           let at = Syntax.method D 0 (Param.layouts List.[] tt) in
           let E = trace.ended Self I O T (TheImpl.ghosts I O gI sI gO sO eI eO)
-              D TheImpl'.ghosts TheImpl'.dict gI sI gO sO d d' d'' in
+          D TheImpl'.ghosts TheImpl'.dict gI sI gO sO d d' d'' in
           let C = trace.clauses Self I O T (TheImpl.ghosts I O gI sI gO sO eI eO)
-              D TheImpl'.ghosts TheImpl'.dict gI sI gO sO d d' d'' 𝓛 𝓜.mem 𝓡.returns in
+          D TheImpl'.ghosts TheImpl'.dict gI sI gO sO d d' d'' 𝓛 𝓜.mem 𝓡.returns in
           let E' = trace'.ended I O gI sI gO sO eI eO in
           let C' = trace'.clauses I O gI sI gO sO eI eO 𝓛 𝓜.mem 𝓡.returns in
           Impl.implements 𝓛 E'.signature 5 E.signature.outlives own _ (Table.run_framed 𝓤 𝓛.H 𝓜 𝓡 (γ at))
@@ -58,21 +58,21 @@ bound = λ γ x x' I O lI lO gI sI gO sO eI eO M 𝓤 𝓛 𝓜 𝓡 mI mO nI nO
           (λ τs h. ((BorrowLft.⊑_refl τs.0, (h.1.1.0, (h.1.1.1.0, tt))), tt))
           (λ τs a y. y)
           (λ τs h a y. Logic.via 𝓤 (Logic.emp 𝓤) (Logic.snd∗ 𝓤 static (Logic.emp 𝓤))
-              (Carry.insides_in 𝓤 2 (I.lives, (O.lives, tt)) (I.lives, (O.lives, tt)) (Logic.emp 𝓤)
-              (BorrowLft.⊑_refl I.lives, (BorrowLft.⊑_refl O.lives, tt))))
+          (Carry.insides_in 𝓤 2 (I.lives, (O.lives, tt)) (I.lives, (O.lives, tt)) (Logic.emp 𝓤)
+          (BorrowLft.⊑_refl I.lives, (BorrowLft.⊑_refl O.lives, tt))))
           (λ τs a y r. Impl.hidden 3 (own τs) 𝓛 E'.signature.params E'.kept (Bool.true, tt) a
-              (λ ws. (C' (own τs) a).ensures y r (End.outs {n = 3} (own τs) E'.signature.params E'.kept a ws))
-              (λ ws. (C τs a).ensures y r (End.outs {n = 5} τs E.signature.params E.kept a ws))
-              λ ws. facts_give 𝓤 (List.◌∷◌ _ List.[]) (List.◌∷◌ _ (List.◌∷◌ _ List.[]))
-                  (λ q. (if_ok r (λ t. tt), Path'.refl)))
+          (λ ws. (C' (own τs) a).ensures y r (End.outs {n = 3} (own τs) E'.signature.params E'.kept a ws))
+          (λ ws. (C τs a).ensures y r (End.outs {n = 5} τs E.signature.params E.kept a ws))
+          λ ws. facts_give 𝓤 (List.◌∷◌ _ List.[]) (List.◌∷◌ _ (List.◌∷◌ _ List.[]))
+          (λ q. (if_ok r (λ t. tt), Path'.refl)))
           (Table.widened 𝓤 𝓛.H _ 𝓜 𝓡 γ _ _ (Symbol'.as_method γ x at Path'.refl)
-              (Met'.met 𝓤 𝓛 𝓜 (Running.within 𝓤 𝓛.H 𝓜 𝓡 γ) x I O lI lO gI sI gO sO eI eO mI mO nI nO));
+          (Met'.met 𝓤 𝓛 𝓜 (Running.within 𝓤 𝓛.H 𝓜 𝓡 γ) x I O lI lO gI sI gO sO eI eO mI mO nI nO));
       take = λ d d' d''.
           let at = Syntax.method D 1 (Param.layouts List.[] tt) in
           let E = take.ended Self I O T (TheImpl.ghosts I O gI sI gO sO eI eO)
-              D TheImpl'.ghosts TheImpl'.dict gI sI gO sO d d' d'' in
+          D TheImpl'.ghosts TheImpl'.dict gI sI gO sO d d' d'' in
           let C = take.clauses Self I O T (TheImpl.ghosts I O gI sI gO sO eI eO)
-              D TheImpl'.ghosts TheImpl'.dict gI sI gO sO d d' d'' 𝓛 𝓜.mem 𝓡.returns in
+          D TheImpl'.ghosts TheImpl'.dict gI sI gO sO d d' d'' 𝓛 𝓜.mem 𝓡.returns in
           let E' = take'.ended I O gI sI gO sO eI eO in
           let C' = take'.clauses I O gI sI gO sO eI eO 𝓛 𝓜.mem 𝓡.returns in
           Impl.implements 𝓛 E'.signature 5 E.signature.outlives own _ (Table.run_framed 𝓤 𝓛.H 𝓜 𝓡 (γ at))
@@ -82,18 +82,18 @@ bound = λ γ x x' I O lI lO gI sI gO sO eI eO M 𝓤 𝓛 𝓜 𝓡 mI mO nI nO
           (λ τs h. ((BorrowLft.⊑_refl τs.0, (h.1.1.0, (h.1.1.1.0, tt))), tt))
           (λ τs a y. y)
           (λ τs h a y. Logic.via 𝓤 (Logic.emp 𝓤) (Logic.snd∗ 𝓤 static (Logic.emp 𝓤))
-              (Carry.insides_in 𝓤 2 (I.lives, (O.lives, tt)) (I.lives, (O.lives, tt)) (Logic.emp 𝓤)
-              (BorrowLft.⊑_refl I.lives, (BorrowLft.⊑_refl O.lives, tt))))
+          (Carry.insides_in 𝓤 2 (I.lives, (O.lives, tt)) (I.lives, (O.lives, tt)) (Logic.emp 𝓤)
+          (BorrowLft.⊑_refl I.lives, (BorrowLft.⊑_refl O.lives, tt))))
           (λ τs a y r. Logic.via 𝓤 _
-              (Impl.hidden 3 (own τs) 𝓛 E'.signature.params E'.kept (Bool.true, (Bool.false, tt)) a
-              (λ ws. (C' (own τs) a).ensures y r (End.outs {n = 3} (own τs) E'.signature.params E'.kept a ws))
-              (λ ws. (C τs a).ensures y r (End.outs {n = 5} τs E.signature.params E.kept a
-                  (Impl.back 5 τs E.signature.params E.kept (Bool.true, (Bool.false, tt)) a ws)))
-              λ ws. facts_give 𝓤 (List.◌∷◌ _ List.[]) (List.◌∷◌ _ (List.◌∷◌ _ List.[]))
-                  (λ q. (on_ok r Path'.refl, on_err r Path'.refl)))
-              (Impl.shown 5 τs 𝓛 E.signature.params E.kept (Bool.true, (Bool.false, tt)) a
-              (λ ws. (C τs a).ensures y r (End.outs {n = 5} τs E.signature.params E.kept a ws))
-              (tt, (quiet I O T gI gO TheImpl'.ghosts, tt))))
+          (Impl.hidden 3 (own τs) 𝓛 E'.signature.params E'.kept (Bool.true, (Bool.false, tt)) a
+          (λ ws. (C' (own τs) a).ensures y r (End.outs {n = 3} (own τs) E'.signature.params E'.kept a ws))
+          (λ ws. (C τs a).ensures y r (End.outs {n = 5} τs E.signature.params E.kept a
+          (Impl.back 5 τs E.signature.params E.kept (Bool.true, (Bool.false, tt)) a ws)))
+          λ ws. facts_give 𝓤 (List.◌∷◌ _ List.[]) (List.◌∷◌ _ (List.◌∷◌ _ List.[]))
+          (λ q. (on_ok r Path'.refl, on_err r Path'.refl)))
+          (Impl.shown 5 τs 𝓛 E.signature.params E.kept (Bool.true, (Bool.false, tt)) a
+          (λ ws. (C τs a).ensures y r (End.outs {n = 5} τs E.signature.params E.kept a ws))
+          (tt, (quiet I O T gI gO TheImpl'.ghosts, tt))))
           (Table.widened 𝓤 𝓛.H _ 𝓜 𝓡 γ _ _ (Symbol.as_method γ x' at Path'.refl)
-              (Met.met 𝓤 𝓛 𝓜 (Running.within 𝓤 𝓛.H 𝓜 𝓡 γ) x' I O lI lO gI sI gO sO eI eO mI mO nI nO));
+          (Met.met 𝓤 𝓛 𝓜 (Running.within 𝓤 𝓛.H 𝓜 𝓡 γ) x' I O lI lO gI sI gO sO eI eO mI mO nI nO));
     }
