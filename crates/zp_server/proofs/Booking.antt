@@ -1,4 +1,6 @@
 -- What the blocks of the two books share.
+use Rattle.ev_link.specs.contracts.http_link.HttpLink as HttpLink
+use Rattle.zk_transcript.specs.contracts.transcript.Cause as Cause
 use Rattle.zx_outside.specs.declared.sink.Sink as Sink
 use Rattle.zx_outside.specs.declared.source.Source as Source
 use Rattle.zp_run.specs.declared.trace.Trace as Trace
@@ -14,17 +16,91 @@ use borrow.Fn.Claims.{AllOf}
 use borrow.Fn.Refines.{facts, facts_out, facts_in}
 use contract.BorrowLft.{◌⊑◌, ⊑_trans}
 use contract.Monad.{fact_use}
+use denote.Enum.Declared.{variants}
 use denote.Exit.{no}
 use denote.Param.{param}
-use denote.Param.Mute.{Mute, Mute-flat}
+use denote.Param.Mute.{Mute, Mute-flat, Mute-seen, Mute-still, Mute-fields, Mute-variants, struct-Mute}
 use denote.RattleType.{RattleType}
+use denote.Struct.Declared.{fields}
 use mathlib.Core.Path.{◌≡◌, refl}
 use seplogic.Ra.Ura.{Ura}
 
--- what was served leaves nothing to say once it is taken
+-- What was served leaves nothing to say once it is taken, since none of its fields does.
+
+link : (I O : RattleType) → Mute ((HttpLink.the_field (param 1 I) (param 2 O)).row.exit no)
+link I O = Mute-fields no (fields (HttpLink.the_type (param 1 I) (param 2 O))) (
+  Mute-seen (λ x. tt),
+  (
+    Mute-seen (λ x. tt),
+    (
+      Mute-flat (λ x w. refl) (λ x. tt),
+      (
+        Mute-still,
+        (
+          Mute-still,
+          (
+            Mute-still,
+            (Mute-flat (λ x w. refl) (λ x. tt), (Mute-flat (λ x w. refl) (λ x. tt), tt)),
+          ),
+        ),
+      ),
+    ),
+  ),
+)
+
+-- by what each cause holds: nothing, one number, two numbers or two texts
+cause : Mute (Cause.the_field.row.exit no)
+cause = Mute-variants no (variants Cause.the_type) (
+  tt,
+  (
+    (Mute-still, tt),
+    (
+      tt,
+      (
+        tt,
+        (
+          (Mute-still, (Mute-still, tt)),
+          (
+            (Mute-still, tt),
+            (
+              tt,
+              (
+                tt,
+                (
+                  (Mute-still, (Mute-still, tt)),
+                  (
+                    (Mute-still, tt),
+                    (
+                      (Mute-still, tt),
+                      (
+                        (Mute-still, (Mute-still, tt)),
+                        (
+                          tt,
+                          (
+                            (Mute-still, (Mute-still, tt)),
+                            (
+                              tt,
+                              ((Mute-flat (λ x w. refl) (λ x. tt), (Mute-flat (λ x w. refl) (λ x. tt), tt)), (tt, (tt, tt))),
+                            ),
+                          ),
+                        ),
+                      ),
+                    ),
+                  ),
+                ),
+              ),
+            ),
+          ),
+        ),
+      ),
+    ),
+  ),
+)
+
 pub quiet : (I O T : RattleType) (g : Source.Ghosts I.Denot) (g' : Sink.Ghosts O.Denot) (g'' : Trace.Ghosts T.Denot)
     → Mute ((Row.the_row (param 1 I) (param 2 O) (param 3 T) g g' g'').exit no)
-quiet I O T g g' g'' = Mute-flat (λ x w. refl) (λ x. tt)
+quiet I O T g g' g'' = struct-Mute (Row.the_type (param 1 I) (param 2 O) (param 3 T) g g' g'') no
+    (Mute-still, (Mute-still, (Mute-seen (λ x. tt), (Mute-seen (λ x. tt), (link I O, (Mute-seen (λ x. tt), (cause, tt)))))))
 
 -- facts that follow from others
 pub facts_give : {M : Type 1} (𝓤 : Ura M) (Φ Ψ : List (Type 0)) → (AllOf Φ → AllOf Ψ)
