@@ -8,7 +8,7 @@
 //! | `follow FROM` | the end of a follower whose dials give streams without a byte, where the word to stop is set from its reading number FROM on |
 //! | `follow FROM LINE` | the same, where the first dial gives a watch's stream of this one line |
 //! | `memory CALL LIMIT` | the end of a server over a net in memory, whose clients end at once and whose dials give streams without a byte, and over an etcd in memory whose call number CALL fails, 0 for none; then the first and the last line that it wrote |
-//! | `line LINE` | the end of a server over the loopback whose etcd has the root, and after the first ask gives this line to each who asks, and to which nobody connects; then `listening`, where that is its first line, and its other lines in order |
+//! | `line LINE` | the end of a server over the loopback whose etcd is new, and after the first ask, which makes the root, gives this line to each who asks, and to which nobody connects; then `listening`, where that is its first line, and its other lines in order |
 //! | `late LINE` | the same of a server of one client, which connects and sends nothing, where the etcd gives the line once a worker serves it |
 //! | `gone 2` | the same of a server whose etcd is gone after the first ask, and to which two clients connect, one after the other |
 //! | `turn FRAME ..` | as `two`, but the second client connects once the stream of the first has ended, and the gate holds nobody |
@@ -25,9 +25,10 @@ mod memory;
 mod turns;
 
 use crate::deserted::Later;
-use anyhow::Result;
-use row_files::{Rows, status_of, try_file};
+use anyhow::{Context, Result, bail};
+use row_files::status_of;
 use std::alloc::Global;
+use std::fs;
 use std::net::{Net, TcpListener, TcpStream};
 use std::process::ExitCode;
 use std::random::RandomSource;
@@ -37,13 +38,8 @@ use std::time::Clock;
 use zp_server::ServeEnd;
 use zx_base::Memory;
 
-/// The rows of the file.
-#[derive(Drop)]
-struct Servers<R> {
-    rt: R,
-}
-
-impl<
+/// What comes of the left side of a row; `None` where it cannot be read.
+fn found<
     R: Net<Listener = TcpListener, Stream = TcpStream>
         + Clock
         + Threads
@@ -55,34 +51,97 @@ impl<
         + Send
         + Drop
         + 'static,
-> Rows for Servers<R> {
-    fn found(&mut self, alloc: Global, left: &str) -> Result<Option<String>, Memory> {
-        let Some((kind, given)) = left.split_once(' ') else {
-            return Ok(None);
-        };
-        if kind == "follow" {
-            return follows::followed(&self.rt, alloc, given);
-        }
-        if kind == "memory" {
-            return memory::served(self.rt, alloc, given);
-        }
-        if kind == "two" {
-            return loopback::served(self.rt, alloc, given, false);
-        }
-        if kind == "turn" {
-            return loopback::served(self.rt, alloc, given, true);
-        }
-        if kind == "line" {
-            return deserted::served(self.rt, alloc, Later::Says(given));
-        }
-        if kind == "late" {
-            return deserted::served(self.rt, alloc, Later::SaysLate(given));
-        }
-        if left == "gone 2" {
-            return deserted::served(self.rt, alloc, Later::Gone);
-        }
-        Ok(None)
+>(rt: R, alloc: Global, left: &str) -> Result<Option<String>, Memory> {
+    let Some((kind, given)) = left.split_once(' ') else {
+        return Ok(None);
+    };
+    if kind == "follow" {
+        return follows::followed(&rt, alloc, given);
     }
+    if kind == "memory" {
+        return memory::served(rt, alloc, given);
+    }
+    if kind == "two" {
+        return loopback::served(rt, alloc, given, false);
+    }
+    if kind == "turn" {
+        return loopback::served(rt, alloc, given, true);
+    }
+    if kind == "line" {
+        return deserted::served(rt, alloc, Later::Says(given));
+    }
+    if kind == "late" {
+        return deserted::served(rt, alloc, Later::SaysLate(given));
+    }
+    if left == "gone 2" {
+        return deserted::served(rt, alloc, Later::Gone);
+    }
+    Ok(None)
+}
+
+/// Whether a row passes. Says on standard error what came of its left side, where it does not.
+fn passes<
+    R: Net<Listener = TcpListener, Stream = TcpStream>
+        + Clock
+        + Threads
+        + Wait
+        + Eprint
+        + RandomSource
+        + AllocGlobal
+        + Copy
+        + Send
+        + Drop
+        + 'static,
+>(rt: R, row: &str) -> Result<bool> {
+    let Some((left, right)) = row.split_once(" = ") else {
+        eprintln!(rt; "no row: {row}")?;
+        return Ok(false);
+    };
+    match found(rt, rt.alloc(), left) {
+        Ok(Some(found)) => {
+            let same = found.as_str() == right;
+            if !same {
+                eprintln!(rt; "differs: {row}: {found}")?;
+            }
+            Ok(same)
+        }
+        Ok(None) => {
+            eprintln!(rt; "unreadable: {row}")?;
+            Ok(false)
+        }
+        Err(Memory) => bail!("out of memory"),
+    }
+}
+
+/// How many rows of a text differ, and one more where there is none.
+fn differing<
+    R: Net<Listener = TcpListener, Stream = TcpStream>
+        + Clock
+        + Threads
+        + Wait
+        + Eprint
+        + RandomSource
+        + AllocGlobal
+        + Copy
+        + Send
+        + Drop
+        + 'static,
+>(rt: R, text: &str) -> Result<u64> {
+    let (mut tried, mut failed) = (0u64, 0u64);
+    for line in text.lines() {
+        if line.is_empty() || line.starts_with('#') {
+            continue;
+        }
+        tried = tried.saturating_add(1);
+        if !passes(rt, line)? {
+            failed = failed.saturating_add(1);
+        }
+    }
+    if tried == 0 {
+        eprintln!(rt; "there is no row")?;
+        return Ok(1);
+    }
+    Ok(failed)
 }
 
 /// The word for how a server ended.
@@ -97,7 +156,6 @@ fn word_of(end: &ServeEnd) -> &'static str {
 }
 
 fn main(rt: HostRuntime) -> Result<ExitCode> {
-    let mut servers = Servers { rt };
-    let failed = try_file(&rt, "rows", &mut servers)?;
-    Ok(status_of(failed))
+    let text = fs::read_to_string(&rt, "rows").context("reading the rows")?;
+    Ok(status_of(differing(rt, text.as_str())?))
 }
