@@ -13,7 +13,7 @@ use Rattle.zw_hub.specs.declared.feed.FeedEnd.{FeedEnd}
 use Rattle.zw_hub.specs.declared.feed.FeedEnd.TheVariants as ends
 use Rattle.zw_hub.specs.declared.published.Published.{Published}
 use Rattle.zx_outside.specs.Counts.{one_more}
-use Rattle.zw_follow.specs.Dials.{Answers, AreBarren, AreDials, AreOver, Comes, Dial, DialsOnce, EndBarren, Followed, Follows, GivesUp, IsBetween, IsDial, IsOverBefore, IsOverDial, NetTold, Opens, OpensNone, Stops, Telling, WasRead, barren_after, entries_of, said_of}
+use Rattle.zw_follow.specs.Dials.{Answers, AreBarren, AreDials, AreFewEnough, Comes, CountsTo, Dial, DialsOnce, EndBarren, Followed, Follows, GivesUp, IsBetween, IsDial, IsOverDial, NetTold, Opens, OpensNone, Stops, Telling, WasRead, barren_after, entries_of, said_of}
 use Rattle.zw_follow.specs.Publishing.{Explains, IsPlaced, Publishes, Said, heads_of, zxid_after}
 use Rattle.zw_follow.specs.Streams.{GoesOn, IsOver, IsUnsentBy, ReadsStream}
 use Rattle.zw_follow.specs.declared.place.Place.{Place}
@@ -131,24 +131,21 @@ entries_push : (ds : List Dial) (d : Dial) → entries_of (ds ++ d ∷ []) ≡ e
 entries_push [] d = append-nil d.entries
 entries_push (first ∷ ds) d = ap (λ (es : List Entry). first.entries ++ es) (entries_push ds d) ∙ sym (append_assoc first.entries (entries_of ds) d.entries)
 
-over_before : {In Out : Type 0} (tells : Telling In Out) (host : List ℕ) (d : Dial) (ds : List Dial) → (barren : Bool) × IsOverDial tells host d barren → IsOverBefore tells host d ds
-over_before tells host d [] over = tt
-over_before tells host d (next ∷ ds) over = over
+dials_push : {In Out : Type 0} (tells : Telling In Out) (host : List ℕ) (net now : NetTold) (zxid : ℤ) (ds : List Dial) (d : Dial) → AreDials tells host net zxid ds now → d.before ≡ now → d.zxid ≡ zxid_after zxid (entries_of ds) → IsDial tells host d
+    → AreDials tells host net zxid (ds ++ d ∷ []) d.after
+dials_push tells host net now zxid [] d dials starts asks is = (starts ∙ dials, asks, is, refl)
+dials_push tells host net now zxid (first ∷ ds) d dials starts asks is =
+    (dials.0, dials.1, dials.2, dials_push tells host first.after now (zxid_after zxid first.entries) ds d dials.3 starts (asks ∙ zxid_join zxid first.entries (entries_of ds)) is)
 
-dials_push : {In Out : Type 0} (tells : Telling In Out) (host : List ℕ) (net now : NetTold) (zxid : ℤ) (ds : List Dial) (d : Dial) → AreDials tells host net zxid ds now → AreOver tells host ds → d.before ≡ now → d.zxid ≡ zxid_after zxid (entries_of ds)
-    → IsDial tells host d → AreDials tells host net zxid (ds ++ d ∷ []) d.after
-dials_push tells host net now zxid [] d dials over starts asks is = (starts ∙ dials, asks, is, tt, refl)
-dials_push tells host net now zxid (first ∷ ds) d dials over starts asks is = (
-  dials.0,
-  dials.1,
-  dials.2,
-  over_before tells host first (ds ++ d ∷ []) over.0,
-  dials_push tells host first.after now (zxid_after zxid first.entries) ds d dials.4 over.1 starts (asks ∙ zxid_join zxid first.entries (entries_of ds)) is,
-)
+counts_push : {In Out : Type 0} (tells : Telling In Out) (host : List ℕ) (n m : ℕ) (ds : List Dial) (d : Dial) (barren : Bool) → CountsTo tells host n ds m → m < 10 → IsOverDial tells host d barren → CountsTo tells host n (ds ++ d ∷ []) (barren_after barren m)
+counts_push tells host n m [] d barren h small over = (subst (λ (k : ℕ). k < 10) h small, barren, over, ap (barren_after barren) h)
+counts_push tells host n m (first ∷ ds) d barren h small over = (h.0, h.1, h.2, counts_push tells host (barren_after h.1 n) m ds d barren h.3 small over)
 
-over_push : {In Out : Type 0} (tells : Telling In Out) (host : List ℕ) (ds : List Dial) (d : Dial) → AreOver tells host ds → (barren : Bool) × IsOverDial tells host d barren → AreOver tells host (ds ++ d ∷ [])
-over_push tells host [] d h over = (over, tt)
-over_push tells host (first ∷ ds) d h over = (h.0, over_push tells host ds d h.1 over)
+-- a dial was made where fewer than ten in a row had given no line
+few_push : {In Out : Type 0} (tells : Telling In Out) (host : List ℕ) (n m : ℕ) (ds : List Dial) (d : Dial) → CountsTo tells host n ds m → m < 10 → AreFewEnough tells host n (ds ++ d ∷ [])
+few_push tells host n m [] d h small = subst (λ (k : ℕ). k < 10) h small
+few_push tells host n m (first ∷ []) d h small = (h.0, h.1, h.2, few_push tells host (barren_after h.1 n) m [] d h.3 small)
+few_push tells host n m (first ∷ second ∷ ds) d h small = (h.0, h.1, h.2, few_push tells host (barren_after h.1 n) m (second ∷ ds) d h.3 small)
 
 barren_push : {In Out : Type 0} (tells : Telling In Out) (host : List ℕ) (ds : List Dial) (d : Dial) → AreBarren tells host ds → IsOverDial tells host d true → AreBarren tells host (ds ++ d ∷ [])
 barren_push tells host [] d h over = (over, tt)
@@ -165,10 +162,11 @@ end_barren tells host n ds d true h over = record {
 end_barren tells host n ds d false h over = record { earlier = ds ++ d ∷ []; last = []; split = sym (append-nil (ds ++ d ∷ [])); count = refl; barren = tt }
 
 followed_push : {In Out : Type 0} (tells : Telling In Out) (host : List ℕ) (end : StreamEnd) (net now net' : NetTold) (zxid zxid' zxid'' : ℤ) (before list after : Published) (barren n n' : ℕ)
-    → (b : IsBetween tells host net now zxid before list zxid' barren) → (o : DialsOnce tells host end now net' list after zxid' zxid'' n n') → Followed tells host net net' zxid (b.dials ++ o.dial ∷ []) o.left before after
-followed_push tells host end net now net' zxid zxid' zxid'' before list after barren n n' b o = record {
+    → (b : IsBetween tells host net now zxid before list zxid' barren) → barren < 10 → (o : DialsOnce tells host end now net' list after zxid' zxid'' n n') → Followed tells host net net' zxid (b.dials ++ o.dial ∷ []) o.left before after
+followed_push tells host end net now net' zxid zxid' zxid'' before list after barren n n' b small o = record {
   dials = subst (AreDials tells host net zxid (b.dials ++ o.dial ∷ [])) o.stops
-      (dials_push tells host net now zxid b.dials o.dial (b.followed).dials b.over o.starts (o.asks ∙ b.asks) o.is);
+      (dials_push tells host net now zxid b.dials o.dial (b.followed).dials o.starts (o.asks ∙ b.asks) o.is);
+  few = few_push tells host 0 barren b.dials o.dial b.counts small;
   publishes = subst (λ (es : List Entry). Publishes (heads_of (said_of (b.dials ++ o.dial ∷ []))) es o.left before after) (sym (entries_push b.dials o.dial))
       (subst (λ (heads : List Kv). Publishes heads (entries_of b.dials ++ (o.dial).entries) o.left before after) (sym (ap heads_of (said_push b.dials o.dial) ∙ heads_join (said_of b.dials) (o.dial).said))
       (publishes_join (heads_of (said_of b.dials)) (heads_of (o.dial).said) (entries_of b.dials) (o.dial).entries o.left before list after (b.followed).publishes o.publishes));
@@ -179,19 +177,19 @@ followed_push tells host end net now net' zxid zxid' zxid'' before list after ba
 pub between_starts : {In Out : Type 0} (tells : Telling In Out) (host : List ℕ) (net : NetTold) (zxid : ℤ) (list : Published) → IsBetween tells host net net zxid list list zxid 0
 between_starts tells host net zxid list = record {
   dials = [];
-  followed = record { dials = refl; publishes = publishes_nothing list };
-  over = tt;
+  followed = record { dials = refl; few = tt; publishes = publishes_nothing list };
+  counts = refl;
   asks = refl;
   none = record { earlier = []; last = []; split = refl; count = refl; barren = tt };
 }
 
 pub between_goes : {In Out : Type 0} (tells : Telling In Out) (host : List ℕ) (why : Fault) (is_barren : Bool) (net now net' : NetTold) (zxid zxid' zxid'' : ℤ) (before list after : Published) (barren barren' n n' : ℕ)
-    → IsBetween tells host net now zxid before list zxid' barren → DialsOnce tells host (stream.Over why is_barren) now net' list after zxid' zxid'' n n' → barren' ≡ barren_after is_barren barren → IsBetween tells host net net' zxid before after zxid'' barren'
-between_goes tells host why is_barren net now net' zxid zxid' zxid'' before list after barren barren' n n' b o counted = record {
+    → IsBetween tells host net now zxid before list zxid' barren → barren < 10 → DialsOnce tells host (stream.Over why is_barren) now net' list after zxid' zxid'' n n' → barren' ≡ barren_after is_barren barren → IsBetween tells host net net' zxid before after zxid'' barren'
+between_goes tells host why is_barren net now net' zxid zxid' zxid'' before list after barren barren' n n' b small o counted = record {
   dials = b.dials ++ o.dial ∷ [];
   followed = subst (λ (left : List Kv). Followed tells host net net' zxid (b.dials ++ o.dial ∷ []) left before after) (o.comes).0
-      (followed_push tells host (stream.Over why is_barren) net now net' zxid zxid' zxid'' before list after barren n n' b o);
-  over = over_push tells host b.dials o.dial b.over (is_barren, (o.comes).2);
+      (followed_push tells host (stream.Over why is_barren) net now net' zxid zxid' zxid'' before list after barren n n' b small o);
+  counts = subst (λ (k : ℕ). CountsTo tells host 0 (b.dials ++ o.dial ∷ []) k) (sym counted) (counts_push tells host 0 barren b.dials o.dial is_barren b.counts small (o.comes).2);
   asks = o.zxid_is ∙ ap (λ (z : ℤ). zxid_after z (o.dial).entries) b.asks ∙ sym (zxid_join zxid (entries_of b.dials) (o.dial).entries) ∙ ap (zxid_after zxid) (sym (entries_push b.dials o.dial));
   none = subst (λ (k : ℕ). EndBarren tells host k (b.dials ++ o.dial ∷ [])) (sym counted) (end_barren tells host barren b.dials o.dial is_barren b.none (o.comes).2);
 }
@@ -202,14 +200,14 @@ pub stops_between : {In Out : Type 0} (tells : Telling In Out) (host : List ℕ)
 stops_between tells host net now zxid zxid' before list barren n n' b is_open counted = (is_open, counted, b.dials, b.followed)
 
 -- the word to stop was set while a stream was read
-pub stops_within : {In Out : Type 0} (tells : Telling In Out) (host : List ℕ) (net now net' : NetTold) (zxid zxid' zxid'' : ℤ) (before list after : Published) (barren first n n' : ℕ) → IsBetween tells host net now zxid before list zxid' barren
+pub stops_within : {In Out : Type 0} (tells : Telling In Out) (host : List ℕ) (net now net' : NetTold) (zxid zxid' zxid'' : ℤ) (before list after : Published) (barren first n n' : ℕ) → IsBetween tells host net now zxid before list zxid' barren → barren < 10
     → DialsOnce tells host stream.Stopped now net' list after zxid' zxid'' n n' → after.end ≡ None → n ≡ first → Stops tells host None net net' zxid before after first n'
-stops_within tells host net now net' zxid zxid' zxid'' before list after barren first n n' b o is_open unset = (
+stops_within tells host net now net' zxid zxid' zxid'' before list after barren first n n' b small o is_open unset = (
   is_open,
   (o.comes).1 ∙ ap one_more unset,
   b.dials ++ o.dial ∷ [],
   subst (λ (left : List Kv). Followed tells host net net' zxid (b.dials ++ o.dial ∷ []) left before after) (o.comes).0
-      (followed_push tells host stream.Stopped net now net' zxid zxid' zxid'' before list after barren n n' b o),
+      (followed_push tells host stream.Stopped net now net' zxid zxid' zxid'' before list after barren n n' b small o),
 )
 
 gives_up : {In Out : Type 0} (tells : Telling In Out) (host : List ℕ) (end : FeedEnd) (list : Published) (ds : List Dial) (d : Dial) (left : List Kv) → Explains end list d.said left → GivesUp tells host end list (ds ++ d ∷ []) left
@@ -220,15 +218,15 @@ gives_up tells host ends.NoLine list ds d left why = absurd why.4
 gives_up tells host ends.Memory list ds d left why = (ds, d, refl, why)
 
 -- the updates cannot be followed any further
-pub closes : {In Out : Type 0} (tells : Telling In Out) (host : List ℕ) (end : FeedEnd) (net now net' : NetTold) (zxid zxid' zxid'' : ℤ) (before list after : Published) (barren first n n' : ℕ) → IsBetween tells host net now zxid before list zxid' barren
+pub closes : {In Out : Type 0} (tells : Telling In Out) (host : List ℕ) (end : FeedEnd) (net now net' : NetTold) (zxid zxid' zxid'' : ℤ) (before list after : Published) (barren first n n' : ℕ) → IsBetween tells host net now zxid before list zxid' barren → barren < 10
     → DialsOnce tells host (stream.Closes end) now net' list after zxid' zxid'' n n' → after.end ≡ None → n ≡ first → Stops tells host (Some end) net net' zxid before after first n'
-closes tells host end net now net' zxid zxid' zxid'' before list after barren first n n' b o is_open unset = (
+closes tells host end net now net' zxid zxid' zxid'' before list after barren first n n' b small o is_open unset = (
   is_open,
   (o.comes).2 ∙ unset,
   (o.comes).0,
   b.dials ++ o.dial ∷ [],
   o.left,
-  followed_push tells host (stream.Closes end) net now net' zxid zxid' zxid'' before list after barren n n' b o,
+  followed_push tells host (stream.Closes end) net now net' zxid zxid' zxid'' before list after barren n n' b small o,
   gives_up tells host end after b.dials o.dial o.left (o.comes).1,
 )
 

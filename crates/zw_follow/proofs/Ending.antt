@@ -15,7 +15,7 @@ use Rattle.zx_outside.specs.Counts.{one_more}
 use Rattle.zx_words.specs.Words.{readings_after}
 use Rattle.zx_outside.proofs.Streams.{Gives-nil}
 use Rattle.zw_follow.specs.Publishing.{IsPlaced, IsShown, Said, Stands, TakesLine, zxid_after}
-use Rattle.zw_follow.specs.Streams.{EndsBy, GoesOn, IsBrokenBy, IsFollowing, IsReadTo, IsTaken, ReadsOn, ReadsStream, spelled, taken_after}
+use Rattle.zw_follow.specs.Streams.{EndsBy, GoesOn, IsBrokenBy, IsFollowing, IsReadTo, ReadsOn, ReadsStream, is_barren, spelled, taken_after}
 use Rattle.zw_follow.specs.declared.place.Place.{Place}
 use Rattle.zw_follow.specs.declared.stream.StreamEnd.{StreamEnd}
 use Rattle.zw_follow.specs.declared.stream.StreamEnd.TheVariants as stream
@@ -101,7 +101,7 @@ following_goes tells dialled lines lines' before now next zxid place place' foll
       publishes = publishes_line h.said read.0 l h.entries takes.0 [] before now next read.1 h.publishes takes.1;
       zxid_is = takes.2 ∙ ap (λ (z : ℤ). zxid_after z takes.0) h.zxid_is ∙ sym (zxid_join zxid h.entries takes.0);
       stands = stands;
-      is = subst (λ (t : Taken). IsTaken t (h.said ++ read.0 ∷ [])) (sym counted) (taken_push gave h.said read.0 l read.1 h.is);
+      is = counted ∙ taken_push gave h.said read.0 l read.1 h.is;
     }
 
 -- ---- its end
@@ -130,7 +130,7 @@ stream_breaks tells dialled lines lines' before now zxid place follower gave why
   left = [];
   publishes = h.publishes;
   zxid_is = h.zxid_is;
-  ends = (refl, counted, inl (record { gave = gave; is = h.is; why = why; stops = stops; http = broken.1; json = broken.2; counts = broken.0 }));
+  ends = (refl, counted, inl (record { why = why; stops = stops; http = broken.1; json = broken.2; counts = broken.0 ∙ ap (is_barren why) h.is }));
 }
 stream_breaks tells dialled lines lines' before now zxid place follower gave why (stream.Closes end) n n' h stops broken counted = record {
   said = h.said;

@@ -20,7 +20,7 @@ use Rattle.ev_words.specs.declared.fault.Fault.TheVariants as fault
 use Rattle.zx_outside.specs.Counts.{one_more}
 use Rattle.zx_outside.proofs.Streams.{Gives-append}
 use Rattle.zw_follow.specs.Publishing.{Said}
-use Rattle.zw_follow.specs.Streams.{AreCreated, GivesNone, IsMissed, IsReadTo, IsTaken, ReadsOn, StopsAt, spelled, taken_after}
+use Rattle.zw_follow.specs.Streams.{GivesNone, IsMissed, IsReadTo, ReadsOn, StopsAt, spelled, taken_after, taken_of}
 use Rattle.zw_follow.specs.declared.stream.Taken.{Taken}
 use Rattle.zw_follow.specs.declared.stream.Taken.TheVariants as taken
 
@@ -110,14 +110,27 @@ line_is_unreadable tells dialled lines lines' said text why c broken h =
 
 -- ---- what a stream gave
 
-created_push : (said : List Said) (s : Said) → AreCreated said → s.line ≡ line.Created → AreCreated (said ++ s ∷ [])
-created_push [] s h is = (is, tt)
-created_push (first ∷ said) s h is = (h.0, created_push said s h.1 is)
+after_swap : (l m : Line) (gave : Taken) → taken_after l (taken_after m gave) ≡ taken_after m (taken_after l gave)
+after_swap line.Created line.Created gave = refl
+after_swap line.Created (line.Events revision kvs) gave = refl
+after_swap line.Created (line.Compacted rev) gave = refl
+after_swap line.Created line.Ended gave = refl
+after_swap (line.Events revision kvs) line.Created gave = refl
+after_swap (line.Events revision kvs) (line.Events revision' kvs') gave = refl
+after_swap (line.Events revision kvs) (line.Compacted rev) gave = refl
+after_swap (line.Events revision kvs) line.Ended gave = refl
+after_swap (line.Compacted rev) line.Created gave = refl
+after_swap (line.Compacted rev) (line.Events revision kvs) gave = refl
+after_swap (line.Compacted rev) (line.Compacted rev') gave = refl
+after_swap (line.Compacted rev) line.Ended gave = refl
+after_swap line.Ended line.Created gave = refl
+after_swap line.Ended (line.Events revision kvs) gave = refl
+after_swap line.Ended (line.Compacted rev) gave = refl
+after_swap line.Ended line.Ended gave = refl
 
-pub taken_push : (gave : Taken) (said : List Said) (s : Said) (l : Line) → s.line ≡ l → IsTaken gave said → IsTaken (taken_after l gave) (said ++ s ∷ [])
-taken_push taken.Nothing said s line.Created is h = created_push said s (subst AreCreated (sym h) tt) is
-taken_push taken.Created said s line.Created is h = created_push said s h is
-taken_push taken.Events said s line.Created is h = tt
-taken_push gave said s (line.Events revision kvs) is h = tt
-taken_push gave said s (line.Compacted rev) is h = tt
-taken_push gave said s line.Ended is h = tt
+taken_of_push : (said : List Said) (s : Said) → taken_of (said ++ s ∷ []) ≡ taken_after s.line (taken_of said)
+taken_of_push [] s = refl
+taken_of_push (first ∷ said) s = ap (taken_after first.line) (taken_of_push said s) ∙ after_swap first.line s.line (taken_of said)
+
+pub taken_push : (gave : Taken) (said : List Said) (s : Said) (l : Line) → s.line ≡ l → gave ≡ taken_of said → taken_after l gave ≡ taken_of (said ++ s ∷ [])
+taken_push gave said s l is h = ap (taken_after l) h ∙ ap (λ (m : Line). taken_after m (taken_of said)) (sym is) ∙ sym (taken_of_push said s)

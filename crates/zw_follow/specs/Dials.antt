@@ -1,5 +1,5 @@
 -- What a worker that follows the head comes to, over all the streams that it dials.
-use Rattle.std.specs.Prelude.{◌≡◌, ◌⊎◌, ℕ, ◌+◌, ℤ, pos, ◌+ℤ◌, Bool, true, false, List, [], ◌∷◌, ◌++◌, length, codes, Option, Some, None, Result, Ok, Err}
+use Rattle.std.specs.Prelude.{◌≡◌, ◌⊎◌, ℕ, ◌+◌, ◌<◌, ℤ, pos, ◌+ℤ◌, Bool, true, false, List, [], ◌∷◌, ◌++◌, length, codes, Option, Some, None, Result, Ok, Err}
 use Rattle.ev_types.specs.declared.answer.Kv.{Kv}
 use Rattle.ev_types.specs.declared.route.Route.TheVariants as route
 use Rattle.ev_json.specs.Messages.{watch_text}
@@ -110,15 +110,22 @@ abbrev pub entries_of : List Dial → List Entry
 entries_of [] = []
 entries_of (d ∷ ds) = d.entries ++ entries_of ds
 
--- only a dial that is over is followed by another
-abbrev pub IsOverBefore : {In Out : Type 0} → Telling In Out → List ℕ → Dial → List Dial → Type 0
-IsOverBefore tells host d [] = Unit {0}
-IsOverBefore tells host d (next ∷ ds) = (barren : Bool) × IsOverDial tells host d barren
-
 -- Dials in a row, each of which asks from behind the last entry that was published before it.
 abbrev pub AreDials : {In Out : Type 0} → Telling In Out → List ℕ → NetTold → ℤ → List Dial → NetTold → Type 0
 AreDials tells host net zxid [] net' = net' ≡ net
-AreDials tells host net zxid (d ∷ ds) net' = (d.before ≡ net) × (d.zxid ≡ zxid) × IsDial tells host d × IsOverBefore tells host d ds × AreDials tells host d.after (zxid_after zxid d.entries) ds net'
+AreDials tells host net zxid (d ∷ ds) net' = (d.before ≡ net) × (d.zxid ≡ zxid) × IsDial tells host d × AreDials tells host d.after (zxid_after zxid d.entries) ds net'
+
+-- how many dials in a row gave no line, with one more: one that gave a line starts the count anew
+abbrev pub barren_after : Bool → ℕ → ℕ
+barren_after true n = n + 1
+barren_after false n = 0
+
+-- Only a dial that is over is followed by another, and none follows on ten in a row that gave no line. So many in a row gave none before
+-- these.
+abbrev pub AreFewEnough : {In Out : Type 0} → Telling In Out → List ℕ → ℕ → List Dial → Type 0
+AreFewEnough tells host n [] = Unit {0}
+AreFewEnough tells host n (d ∷ []) = n < 10
+AreFewEnough tells host n (d ∷ next ∷ ds) = (n < 10) × (barren : Bool) × IsOverDial tells host d barren × AreFewEnough tells host (barren_after barren n) (next ∷ ds)
 
 -- each of them counts as one that gave no line
 abbrev pub AreBarren : {In Out : Type 0} → Telling In Out → List ℕ → List Dial → Type 0
@@ -139,6 +146,7 @@ pub record EndBarren {In Out : Type 0} (tells : Telling In Out) (host : List ℕ
 -- heads are left.
 pub record Followed {In Out : Type 0} (tells : Telling In Out) (host : List ℕ) (net net' : NetTold) (zxid : ℤ) (ds : List Dial) (left : List Kv) (before after : Published) : Type 0 where
   pub dials : AreDials tells host net zxid ds net'
+  pub few : AreFewEnough tells host 0 ds
   pub publishes : Publishes (heads_of (said_of ds)) (entries_of ds) left before after
 
 -- why the updates cannot be followed any further: the last ten dials in a row gave no line; or the last line of the last dial shows it
@@ -184,20 +192,16 @@ pub record DialsOnce {In Out : Type 0} (tells : Telling In Out) (host : List ℕ
   pub zxid_is : zxid' ≡ zxid_after zxid dial.entries
   pub comes : Comes tells host end dial left after n n'
 
--- how many dials in a row gave no line, with one more
-abbrev pub barren_after : Bool → ℕ → ℕ
-barren_after true n = n + 1
-barren_after false n = 0
-
--- all of them are over
-abbrev pub AreOver : {In Out : Type 0} → Telling In Out → List ℕ → List Dial → Type 0
-AreOver tells host [] = Unit {0}
-AreOver tells host (d ∷ ds) = ((barren : Bool) × IsOverDial tells host d barren) × AreOver tells host ds
+-- All of them are over, each was made where fewer than ten in a row had given no line, and so many in a row gave none before these, and
+-- with these.
+abbrev pub CountsTo : {In Out : Type 0} → Telling In Out → List ℕ → ℕ → List Dial → ℕ → Type 0
+CountsTo tells host n [] n' = n' ≡ n
+CountsTo tells host n (d ∷ ds) n' = (n < 10) × (barren : Bool) × IsOverDial tells host d barren × CountsTo tells host (barren_after barren n) ds n'
 
 -- some dials were made, and are over
 pub record IsBetween {In Out : Type 0} (tells : Telling In Out) (host : List ℕ) (net now : NetTold) (zxid : ℤ) (before list : Published) (zxid' : ℤ) (barren : ℕ) : Type 0 where
   pub dials : List Dial
   pub followed : Followed tells host net now zxid dials [] before list
-  pub over : AreOver tells host dials
+  pub counts : CountsTo tells host 0 dials barren
   pub asks : zxid' ≡ zxid_after zxid (entries_of dials)
   pub none : EndBarren tells host barren dials

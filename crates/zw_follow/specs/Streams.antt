@@ -70,16 +70,19 @@ StopsAt tells dialled given _ = ⊥
 
 -- ---- streams without a line
 
--- they say nothing but that the watch was created
-abbrev pub AreCreated : List Said → Type 0
-AreCreated [] = Unit {0}
-AreCreated (s ∷ said) = (s.line ≡ line.Created) × AreCreated said
+-- what a stream gave, with this line too
+abbrev pub taken_after : Line → Taken → Taken
+taken_after line.Created taken.Nothing = taken.Created
+taken_after line.Created taken.Created = taken.Created
+taken_after line.Created taken.Events = taken.Events
+taken_after (line.Events revision kvs) before = taken.Events
+taken_after (line.Compacted rev) before = taken.Events
+taken_after line.Ended before = taken.Events
 
--- what these lines are, together
-abbrev pub IsTaken : Taken → List Said → Type 0
-IsTaken taken.Nothing said = said ≡ []
-IsTaken taken.Created said = AreCreated said
-IsTaken taken.Events said = Unit {0}
+-- what these lines are, together: none, that the watch was created and nothing else, or more than that
+abbrev pub taken_of : List Said → Taken
+taken_of [] = taken.Nothing
+taken_of (s ∷ said) = taken_after s.line (taken_of said)
 
 abbrev pub is_nothing : Taken → Bool
 is_nothing taken.Nothing = true
@@ -116,13 +119,11 @@ is_barren _ gave = false
 -- The stream gave these lines, and then nothing that can be read, for a reason other than want of memory; and whether it counts as one
 -- that gave no line.
 pub record BreaksOff {In : Type 0} (tells : In → Told) (dialled : In) (said : List Said) (barren : Bool) : Type 0 where
-  pub gave : Taken
-  pub is : IsTaken gave said
   pub why : Fault
   pub stops : StopsAt tells dialled (spelled said) why
   pub http : why ≢ fault.Http http.Memory
   pub json : why ≢ fault.Json json.Memory
-  pub counts : barren ≡ is_barren why gave
+  pub counts : barren ≡ is_barren why (taken_of said)
 
 -- the last of the lines says that etcd ended the watch
 abbrev pub IsEnded : List Said → Type 0
@@ -183,15 +184,6 @@ IsBrokenBy why gave (stream.Over told barren) = (barren ≡ is_barren why gave) 
 IsBrokenBy why gave (stream.Closes end) = end ≡ ends.Memory
 IsBrokenBy why gave stream.Stopped = ⊥
 
--- what a stream gave, with this line too
-abbrev pub taken_after : Line → Taken → Taken
-taken_after line.Created taken.Nothing = taken.Created
-taken_after line.Created taken.Created = taken.Created
-taken_after line.Created taken.Events = taken.Events
-taken_after (line.Events revision kvs) before = taken.Events
-taken_after (line.Compacted rev) before = taken.Events
-taken_after line.Ended before = taken.Events
-
 -- a stream is read up to here: its lines so far, and what they added to the list
 pub record IsFollowing {In : Type 0} (tells : In → Told) (dialled : In) (lines : Lines In) (before now : Published) (zxid : ℤ) (place : Place) (follower : FollowerState) (gave : Taken) : Type 0 where
   pub said : List Said
@@ -200,4 +192,4 @@ pub record IsFollowing {In : Type 0} (tells : In → Told) (dialled : In) (lines
   pub publishes : Publishes (heads_of said) entries [] before now
   pub zxid_is : place.zxid ≡ zxid_after zxid entries
   pub stands : Stands now follower place
-  pub is : IsTaken gave said
+  pub is : gave ≡ taken_of said
