@@ -129,16 +129,16 @@ shut_doors listen limit t t' shut =
     ∙ ap one_more (shut.stopped.logs.doors ∙ ap (λ (c : NetCounts). c.door_faults) shut.listens.net)
 
 -- what was there when the next line was to be written
-next_counts : (text : List ℕ) (between from : Seen) → IsNext text between from → (from.out).counts ≡ (between.out).counts
-next_counts text between from (inl line) = ap (λ (s : Seen). (s.out).counts) line.1.1
-next_counts text between from (inr (inl fault)) = ap (λ (o : Output). o.counts) fault.1.out
-next_counts text between from (inr (inr end)) = ap (λ (s : Seen). (s.out).counts) end.1.1
+next_counts : (text : List ℕ) (n k : ℕ) (left : List ℕ) (between from : Seen) → IsNext text n k left between from → (from.out).counts ≡ (between.out).counts
+next_counts text n k left between from (inl line) = ap (λ (s : Seen). (s.out).counts) line.1.1
+next_counts text n k left between from (inr (inl fault)) = ap (λ (o : Output). o.counts) fault.1.out
+next_counts text n k left between from (inr (inr end)) = ap (λ (s : Seen). (s.out).counts) end.1.1
 
 writing_counts : (text listen : List ℕ) (limit : ℕ) (t from : Seen) → IsWriting text listen limit t from → (from.out).counts ≡ (t.out).counts
 writing_counts text listen limit t from (inl first) = ap (λ (s : Seen). (s.out).counts) first.1
 writing_counts text listen limit t from (inr (inl (_, inl none))) = ap (λ (s : Seen). (s.out).counts) none
 writing_counts text listen limit t from (inr (inl (_, inr door))) = ap (λ (o : Output). o.counts) door.out
-writing_counts text listen limit t from (inr (inr next)) = next_counts text next.between from next.is_next ∙ lines_counts listen limit next.left t next.between next.lines
+writing_counts text listen limit t from (inr (inr next)) = next_counts text next.lines.n next.lines.k next.left next.between from next.is_next ∙ lines_counts listen limit next.left t next.between next.lines
 
 -- ---- the causes
 

@@ -50,7 +50,8 @@ fn status_of_serve(end: ServeEnd) -> Status
 /// that are no command it writes the usage line. `etcd` and `serve` listen by `net`, have each connection served by a job that
 /// `spawner` starts, and take the time from `clock`. `serve` asks the etcd first by `cluster` and then by links that `net` dials, and
 /// gives a new session a number and a password of `random`'s words; on standard error it says each fault of the etcd. No other
-/// command uses these.
+/// command uses these. The net has accepted no connection before, since it names connections by how many it has accepted, and the
+/// lines of `serve` count them from 1. Addresses of other bytes than visible ASCII are in no row of the usage line.
 #[tactic(auto, using(crate::proofs::Servings::one_word, crate::proofs::Proxyings::one_word, crate::proofs::Proxyings::not_both, crate::proofs::Proxyings::only_serve))]
 pub fn zetcd<
     W: Wait + SystemClock + Eprint + Copy + Send + Drop + 'static,

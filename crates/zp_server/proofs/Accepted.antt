@@ -6,9 +6,8 @@ use Rattle.zx_outside.specs.Counts.{one_more}
 use Rattle.zp_server.specs.Books.{Ending}
 use Rattle.zp_server.specs.Lines.{no_link_text}
 use Rattle.zp_server.specs.Telling.{Output, Says, Seen}
-use Rattle.zp_server.specs.Logs.{Goes, Halts, Logs}
+use Rattle.zp_server.specs.Logs.{Goes, Logs, MemoryHalt}
 use Rattle.zp_server.specs.declared.ends.Stop.{Stop}
-use Rattle.zp_server.specs.declared.ends.Stop.TheVariants as stop
 use Rattle.zp_server.proofs.Logging.{logs_started}
 use Rattle.zp_server.proofs.Halting.{starved, unlinked_said}
 use Rattle.zp_server.proofs.Stopping.{one_later, one_on}
@@ -22,7 +21,7 @@ started number busy busy' n n' o book book' net now_busy booked =
 
 -- memory was refused for it
 pub unstarted : (busy busy' : List ℕ) (n n' : NetCounts) (o : Output) (book book' : Option (List Ending)) → n' ≡ n → book' ≡ book →
-    Halts stop.Memory 0 busy busy' (record { net = n; out = o; book = book }) (record { net = n'; out = o; book = book' })
+    MemoryHalt 0 busy (record { net = n; out = o; book = book }) (record { net = n'; out = o; book = book' })
 unstarted busy busy' n n' o book book' net booked =
     starved 0 busy busy' (record { net = n; out = o; book = book }) (record { net = n'; out = o; book = book' }) (ap (λ (m : NetCounts). m.accepted) net) (ap (λ (m : NetCounts). m.door_faults) net) refl booked
 
@@ -35,4 +34,4 @@ undialled r number busy n n' o o' book net said =
 -- it was let in, and then served or not
 pub one_served : (r : Result (Unit {0}) Stop) (number : ℕ) (busy busy' busy'' : List ℕ) (t t' t'' : Seen) → Logs false 1 [] busy busy' t t' → Goes r 0 (number ∷ []) busy' busy'' t' t'' → Goes r 1 (number ∷ []) busy busy'' t t''
 one_served (Ok u) number busy busy' busy'' t t' t'' first goes = one_on number busy busy' busy'' t t' t'' first goes
-one_served (Err why) number busy busy' busy'' t t' t'' first halts = one_later why busy busy' busy'' t t' t'' first halts
+one_served (Err why) number busy busy' busy'' t t' t'' first halts = one_later why (number ∷ []) busy busy' busy'' t t' t'' first halts

@@ -12,7 +12,7 @@ use Rattle.zp_server.specs.Books.{Ending}
 use Rattle.zp_server.specs.Lines.{fault_text, feed_text, listening_text, text_of}
 use Rattle.zp_server.specs.Telling.{Cuts, IsCut, IsWritten, Output, Seen, Starts, Tells}
 use Rattle.zp_server.specs.Logs.{AreFew, Leaves, Logs, NetStop, Stops, counting}
-use Rattle.zp_server.specs.Beginning.{Begins}
+use Rattle.zp_server.specs.Beginning.{Begins, ClusterTold}
 use Rattle.zp_server.specs.Ends.{Begun, Clients, Ends, FeedTold, Finishes, IsAfterLines, IsDone, IsNext, IsNextLine, IsRefused, IsShut, IsStarved, IsUnbound, IsUnstarted, IsUnwritten, IsWriting, Listened, ServesFrom}
 use Rattle.zp_server.specs.declared.ends.Stop.{Stop}
 use Rattle.zp_server.specs.declared.ends.Stop.TheVariants as stop
@@ -97,7 +97,7 @@ unwritten listen limit refusals refusals' t s t' same (inr (inr h)) = record {
     left = (h.stops).left;
     between = (h.stops).between;
     lines = record { first = h.first; listens = h.listens; n = (h.stops).n; k = (h.stops).k; few = (h.stops).few; logs = (h.stops).logs };
-    is_next = inl ((h.stops).last, (refl, refl));
+    is_next = inl ((h.stops).last, ((refl, (h.stops).owed), refl));
   }));
   cut = subst (Cuts (text_of (h.stops).last) (h.stops).between) (sym same) (h.stops).cut;
 }
@@ -111,7 +111,7 @@ starved listen limit refusals refusals' t s t' same (inr (inr h)) = inr (record 
   left = (h.stops).left;
   between = (h.stops).between;
   lines = record { first = h.first; listens = h.listens; n = (h.stops).n; k = (h.stops).k; few = (h.stops).few; logs = (h.stops).logs };
-  leaves = subst (Leaves (h.stops).between) (sym same) (h.stops).leaves;
+  leaves = subst (Leaves (h.stops).left (h.stops).between) (sym same) (h.stops).leaves;
 })
 
 -- ---- the hub was closed
@@ -154,7 +154,7 @@ ended (Err (stop.Feed end)) ends.Memory listen limit failures failures' refusals
       left = [];
       between = s;
       lines = lines.1;
-      leaves = subst (Leaves s) (sym (seen_is s t' net fin book)) (record { accepted = refl; doors = refl; book = refl; taken = inl refl; unharmed = refl });
+      leaves = subst (Leaves [] s) (sym (seen_is s t' net fin book)) (record { accepted = refl; doors = refl; book = refl; taken = inl refl; unharmed = refl });
     })
 ended (Ok u) ends.WriteFault listen limit failures failures' refusals refusals' t s t' asked from net book fin = absurd fin
 ended (Ok u) ends.Net listen limit failures failures' refusals refusals' t s t' asked from net book fin = absurd fin
@@ -175,21 +175,21 @@ ended (Err (stop.Feed end)) ends.Done listen limit failures failures' refusals r
 ended (Err (stop.Feed end)) ends.Net listen limit failures failures' refusals refusals' t s t' asked from net book fin = absurd fin
 
 -- the first ask failed, or memory was refused for it
-pub unasked : (why : Stop) (end : ServeEnd) (listen : List ℕ) (limit failures failures' refusals refusals' : ℕ) (t t' : Seen) → Begins (Err why) failures failures'
-    → t'.net ≡ t.net → t'.book ≡ t.book → Finishes (Err why) end t.out t'.out → Ends end listen limit failures failures' refusals refusals' t t'
-unasked stop.Net ends.Net listen limit failures failures' refusals refusals' t t' begins net book fin = inl (record { rose = inl begins; tells = record { net = net; out = fin; book = book } })
-unasked stop.Net ends.WriteFault listen limit failures failures' refusals refusals' t t' begins net book fin =
+pub unasked : (why : Stop) (end : ServeEnd) (listen : List ℕ) (limit refusals refusals' : ℕ) (c c' : ClusterTold) (t t' : Seen) → Begins (Err why) c c'
+    → t'.net ≡ t.net → t'.book ≡ t.book → Finishes (Err why) end t.out t'.out → Ends end listen limit c.failures c'.failures refusals refusals' t t'
+unasked stop.Net ends.Net listen limit refusals refusals' c c' t t' begins net book fin = inl (record { rose = inl begins.failures; tells = record { net = net; out = fin; book = book } })
+unasked stop.Net ends.WriteFault listen limit refusals refusals' c c' t t' begins net book fin =
     record { text = fault_text; from = t; writing = inr (inl (refl, inl refl)); cut = cuts_of fault_text t t' net book fin }
-unasked stop.Memory ends.Memory listen limit failures failures' refusals refusals' t t' begins net book fin = inl (seen_is t t' net fin book)
-unasked stop.Net ends.Done listen limit failures failures' refusals refusals' t t' begins net book fin = absurd fin
-unasked stop.Net ends.Memory listen limit failures failures' refusals refusals' t t' begins net book fin = absurd fin
-unasked stop.Net (ends.Feed told) listen limit failures failures' refusals refusals' t t' begins net book fin = absurd fin
-unasked stop.Memory ends.Done listen limit failures failures' refusals refusals' t t' begins net book fin = absurd fin
-unasked stop.Memory ends.WriteFault listen limit failures failures' refusals refusals' t t' begins net book fin = absurd fin
-unasked stop.Memory ends.Net listen limit failures failures' refusals refusals' t t' begins net book fin = absurd fin
-unasked stop.Memory (ends.Feed told) listen limit failures failures' refusals refusals' t t' begins net book fin = absurd fin
-unasked stop.Write end listen limit failures failures' refusals refusals' t t' begins net book fin = absurd begins
-unasked (stop.Feed e) end listen limit failures failures' refusals refusals' t t' begins net book fin = absurd begins
+unasked stop.Memory ends.Memory listen limit refusals refusals' c c' t t' begins net book fin = inl (seen_is t t' net fin book)
+unasked stop.Net ends.Done listen limit refusals refusals' c c' t t' begins net book fin = absurd fin
+unasked stop.Net ends.Memory listen limit refusals refusals' c c' t t' begins net book fin = absurd fin
+unasked stop.Net (ends.Feed told) listen limit refusals refusals' c c' t t' begins net book fin = absurd fin
+unasked stop.Memory ends.Done listen limit refusals refusals' c c' t t' begins net book fin = absurd fin
+unasked stop.Memory ends.WriteFault listen limit refusals refusals' c c' t t' begins net book fin = absurd fin
+unasked stop.Memory ends.Net listen limit refusals refusals' c c' t t' begins net book fin = absurd fin
+unasked stop.Memory (ends.Feed told) listen limit refusals refusals' c c' t t' begins net book fin = absurd fin
+unasked stop.Write end listen limit refusals refusals' c c' t t' begins net book fin = absurd begins
+unasked (stop.Feed e) end listen limit refusals refusals' c c' t t' begins net book fin = absurd begins
 
 -- ---- what the calls make of these
 

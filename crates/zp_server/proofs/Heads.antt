@@ -1,6 +1,6 @@
--- The numbers of the key that the first ask finds.
-use Rattle.std.proofs.Common.{◌≡◌, ℕ, Bor, List, [], ◌∷◌, Option, Some, None, option_copied, subst, sym, ap, ◌∙◌, arith}
-use Rattle.std.specs.Prelude.{ℤ, Bool, All, IfSome, slice_get}
+-- The head that the first ask finds.
+use Rattle.std.proofs.Common.{◌≡◌, ℕ, zero, suc, ◌-◌, List, [], ◌∷◌, Option, Some, None, Ok, Err, refl, subst, sym, ap, ◌∙◌, arith}
+use Rattle.std.specs.Prelude.{ℤ, All, IfSome, length, slice_get}
 use Rattle.std.proofs.lemmas.Int.{ints}
 use Rattle.ev_types.specs.Store.{chosen}
 use Rattle.ev_types.specs.declared.answer.ActAns.{ActAns}
@@ -14,47 +14,91 @@ use Rattle.ev_types.specs.declared.ask.Act.TheVariants as act
 use Rattle.ev_types.specs.declared.ask.Ask.{Ask}
 use Rattle.ev_types.specs.declared.ask.Ask.TheVariants as ask
 use Rattle.ev_call.specs.Asks.{IsGrantable}
-use Rattle.ev_call.specs.Fitting.{AreCounts, Fits, IsCount, IsFoundWithin, PartsFit}
+use Rattle.ev_call.specs.Calls.{Call, failures_after, with_call}
+use Rattle.ev_call.specs.Fitting.{AreCounts, Fits, IsCount, IsFoundWithin, PartFits, PartsFit}
+use Rattle.ev_call.specs.declared.etcd.CallFault.TheVariants as fault
 use Rattle.zn_layout.specs.Begin.{begin_ask}
-use Rattle.zp_server.specs.Beginning.{IsPlace}
+use Rattle.zw_follow.specs.declared.place.Place.{Place}
+use Rattle.zp_server.specs.Beginning.{BeginFailed, Began, IsPlace, first_of, found_by, last_part, place_at, place_in}
+use Rattle.zx_outside.specs.Counts.{one_more}
 use Rattle.zx_base.proofs.Options.{none_some, some_is}
 
-first_fits : (acts : List Act) (found : RangeAns) (parts : List ActAns) → PartsFit acts (part.Range found ∷ parts) → IsFoundWithin found
-first_fits [] found parts fits = absurd fits
-first_fits (act.Put k v lease ∷ acts) found parts fits = absurd fits.0
-first_fits (act.Delete k ∷ acts) found parts fits = absurd fits.0
-first_fits (act.Range q ∷ acts) found parts fits = fits.0
+-- ---- what an answer that fits finds
 
-part_fits : (acts : List Act) (parts : List ActAns) (found : RangeAns) → PartsFit acts parts → slice_get parts 0 ≡ Some (part.Range found) → IsFoundWithin found
-part_fits acts [] found fits at = absurd (none_some at)
-part_fits acts (p ∷ parts) found fits at = first_fits acts found parts (subst (λ (x : ActAns). PartsFit acts (x ∷ parts)) (some_is at) fits)
+part_fit : (a : Act) (p : ActAns) (found : RangeAns) → PartFits a p → found_by (Some p) ≡ Some found → IsFoundWithin found
+part_fit (act.Range q) (part.Range r) found fits is = subst IsFoundWithin (some_is is) fits
+part_fit (act.Range q) part.Put found fits is = absurd fits
+part_fit (act.Range q) (part.Deleted n) found fits is = absurd fits
+part_fit (act.Put k v lease) part.Put found fits is = absurd (none_some is)
+part_fit (act.Put k v lease) (part.Deleted n) found fits is = absurd fits
+part_fit (act.Put k v lease) (part.Range r) found fits is = absurd fits
+part_fit (act.Delete k) part.Put found fits is = absurd fits
+part_fit (act.Delete k) (part.Deleted n) found fits is = absurd (none_some is)
+part_fit (act.Delete k) (part.Range r) found fits is = absurd fits
 
-first_of : (P : Kv → Type 0) (xs : List Kv) (x : Kv) → All P xs → slice_get xs 0 ≡ Some x → P x
-first_of P [] x all at = absurd (none_some at)
-first_of P (y ∷ ys) x all at = subst P (some_is at) (all 0 y (omega arith))
+parts_fit : (acts : List Act) (parts : List ActAns) (at : ℕ) (found : RangeAns) → PartsFit acts parts → found_by (slice_get parts at) ≡ Some found → IsFoundWithin found
+parts_fit acts [] at found fits is = absurd (none_some is)
+parts_fit [] (p ∷ parts) at found fits is = absurd fits
+parts_fit (a ∷ acts) (p ∷ parts) zero found fits is = part_fit a p found fits.0 is
+parts_fit (a ∷ acts) (p ∷ parts) (suc at) found fits is = parts_fit acts parts at found fits.1 is
 
-found_first : (q : Ask) (revision : ℤ) (succeeded : Bool) (parts : List ActAns) (found : RangeAns) → Fits q (answer.Txn revision succeeded parts) → slice_get parts 0 ≡ Some (part.Range found) → IsFoundWithin found
-found_first (ask.Txn t) revision succeeded parts found fits at = part_fits (chosen succeeded t) parts found fits.1 at
-found_first (ask.Range q) revision succeeded parts found fits at = absurd fits
-found_first (ask.Grant id ttl) revision succeeded parts found fits at = absurd fits
-found_first (ask.Alive id) revision succeeded parts found fits at = absurd fits
+if_some : {A : Type 0} {P : A → Type 0} (o : Option A) → ((x : A) → o ≡ Some x → P x) → IfSome o P
+if_some None h = tt
+if_some (Some x) h = h x refl
 
--- by what is read of the answer
-pub found_there : (q : Ask) (a : Answer) (revision : ℤ) (succeeded : Bool) (parts slice : List ActAns) (r : Option (Bor ActAns)) (b : Bor ActAns) (found : RangeAns) → Fits q a → a ≡ answer.Txn revision succeeded parts → slice ≡ parts
-    → option_copied r ≡ slice_get slice 0 → r ≡ Some b → b.now ≡ part.Range found → IsFoundWithin found
-found_there q a revision succeeded parts slice r b found fits is same first there shape =
-    found_first q revision succeeded parts found (subst (Fits q) is fits) (ap (λ (xs : List ActAns). slice_get xs 0) (sym same) ∙ sym first ∙ ap option_copied there ∙ ap Some shape)
+found_fits : (q : Ask) (a : Answer) → Fits q a → IfSome (found_by (last_part a)) IsFoundWithin
+found_fits (ask.Txn t) (answer.Txn revision succeeded parts) fits = if_some (found_by (slice_get parts (length parts - 1))) (λ found is. parts_fit (chosen succeeded t) parts (length parts - 1) found fits.1 is)
+found_fits (ask.Range q) (answer.Txn revision succeeded parts) fits = absurd fits
+found_fits (ask.Grant id ttl) (answer.Txn revision succeeded parts) fits = absurd fits
+found_fits (ask.Alive id) (answer.Txn revision succeeded parts) fits = absurd fits
+found_fits q (answer.Range revision found) fits = tt
+found_fits q (answer.Granted revision id ttl) fits = tt
+found_fits q (answer.Alive revision id ttl) fits = tt
 
-pub counted_first : (kvs : List Kv) (r : Option (Bor Kv)) → All AreCounts kvs → option_copied r ≡ slice_get kvs 0 → IfSome r (λ kv. AreCounts kv.now)
-counted_first kvs None all is = tt
-counted_first kvs (Some kv) all is = first_of AreCounts kvs kv.now all (sym is)
+first_counts : (kvs : List Kv) → All AreCounts kvs → IfSome (slice_get kvs 0) AreCounts
+first_counts [] all = tt
+first_counts (kv ∷ kvs) all = all 0 kv (omega arith)
+
+head_counts : (r : Option RangeAns) → IfSome r IsFoundWithin → IfSome (first_of r) AreCounts
+head_counts None within = tt
+head_counts (Some found) within = first_counts found.kvs within
 
 -- its number and its zxid are in range
-pub is_place : (version revision : ℤ) → IsCount version → IsCount revision → IsPlace (record { number = version; zxid = revision })
+is_place : (version revision : ℤ) → IsCount version → IsCount revision → IsPlace (record { number = version; zxid = revision })
 is_place version revision v r = let v0 = v.least in let v1 = v.most in let r0 = r.least in let r1 = r.most in
     record { number_least = v0; number_most = omega (arith, ints); zxid_least = r0; zxid_most = omega (arith, ints) }
 
--- the first ask may be asked
+place_counts : (head : Option Kv) → IfSome head AreCounts → IsPlace (place_at head)
+place_counts (Some kv) counts = is_place kv.version kv.mod_revision counts.version counts.revision
+place_counts None counts = record { number_least = omega (arith, ints); number_most = omega (arith, ints); zxid_least = omega (arith, ints); zxid_most = omega (arith, ints) }
+
+place_fits : (q : Ask) (a : Answer) → Fits q a → IsPlace (place_in a)
+place_fits q a fits = place_counts (first_of (found_by (last_part a))) (head_counts (found_by (last_part a)) (found_fits q a fits))
+
+-- ---- the first ask
+
+-- it may be asked
 pub first_grantable : (now : ℕ) (q : Ask) → q ≡ begin_ask now → IsGrantable q
 unfolding begin_ask
 first_grantable now q is = subst IsGrantable (sym is) tt
+
+-- it was answered
+pub began : (p : Place) (q : Ask) (a : Answer) (time f f' f'' : ℕ) (calls calls' calls'' : Option (List Call)) → f' ≡ f → calls' ≡ calls → q ≡ begin_ask time → Fits q a → f'' ≡ failures_after (Ok a) f' → calls'' ≡ with_call calls' q (Ok a) → p ≡ place_in a
+    → Began p (record { failures = f; calls = calls }) (record { failures = f''; calls = calls'' })
+began p q a time f f' f'' calls calls' calls'' unfailed untold is fits counted told shown = record {
+  is_place = subst IsPlace (sym shown) (place_fits q a fits);
+  failures = counted ∙ unfailed;
+  at = time;
+  given = a;
+  asked = told ∙ ap (λ (cs : Option (List Call)). with_call cs q (Ok a)) untold ∙ ap (λ (x : Ask). with_call calls x (Ok a)) is;
+  shown = shown;
+}
+
+-- it failed
+pub begin_failed : (q : Ask) (time f f' f'' : ℕ) (calls calls' calls'' : Option (List Call)) → f' ≡ f → calls' ≡ calls → q ≡ begin_ask time → f'' ≡ failures_after (Err fault.Failed) f' → calls'' ≡ with_call calls' q (Err fault.Failed)
+    → BeginFailed (record { failures = f; calls = calls }) (record { failures = f''; calls = calls'' })
+begin_failed q time f f' f'' calls calls' calls'' unfailed untold is counted told = record {
+  failures = counted ∙ ap one_more unfailed;
+  at = time;
+  asked = told ∙ ap (λ (cs : Option (List Call)). with_call cs q (Err fault.Failed)) untold ∙ ap (λ (x : Ask). with_call calls x (Err fault.Failed)) is;
+}

@@ -6,6 +6,7 @@ pub mod Halting
 pub mod Heads
 pub mod Keeping
 pub mod Logging
+pub mod Looks
 pub mod Placing
 pub mod Stopping
 pub mod Striking

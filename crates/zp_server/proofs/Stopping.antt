@@ -1,16 +1,17 @@
 -- A client that is let in, and a server that accepts no more.
-use Rattle.std.proofs.Common.{◌≡◌, ℕ, ◌+◌, ◌≤◌, true, false, List, [], ◌∷◌, Option, refl, ap, arith}
+use Rattle.std.proofs.Common.{◌≡◌, ℕ, ◌+◌, ◌≤◌, true, false, List, [], ◌∷◌, Option, refl, ap, inl, arith}
 use Rattle.std.specs.Prelude.{Err}
 use Rattle.zx_outside.specs.Counts.{one_more}
 use Rattle.zw_hub.specs.declared.feed.FeedEnd.{FeedEnd}
 use Rattle.zx_net.specs.Nets.{NetCounts}
 use Rattle.zp_server.specs.Books.{Ending}
+use Rattle.zp_server.specs.Lines.{number_of}
 use Rattle.zp_server.specs.Telling.{DoorFaulted, Output, Seen}
 use Rattle.zp_server.specs.Logs.{AreFew, FeedStop, Halts, Logs, Stops, counting}
 use Rattle.zp_server.specs.declared.ends.Stop.{Stop}
 use Rattle.zp_server.specs.declared.ends.Stop.TheVariants as stop
 use Rattle.zp_server.proofs.Logging.{logs_accepted, logs_met, logs_then}
-use Rattle.zp_server.proofs.Halting.{halts_later}
+use Rattle.zp_server.proofs.Halting.{halts_later, owed_open}
 
 -- ---- one client
 
@@ -21,7 +22,7 @@ admitted busy busy' t t' t'' logs accepted doors dials out book =
     logs_then false 0 1 1 (omega arith) [] [] busy busy' busy' t t' t'' logs (logs_accepted false busy' t' t'' accepted doors dials out book)
 
 -- the door had a fault, once room was made
-pub shut : (busy busy' busy'' : List ℕ) (t t' t'' : Seen) → Logs false 0 [] busy busy' t t' → DoorFaulted t' t'' → Halts stop.Net 1 busy busy'' t t''
+pub shut : (busy busy' busy'' : List ℕ) (t t' t'' : Seen) → Logs false 0 [] busy busy' t t' → DoorFaulted t' t'' → Halts stop.Net 1 [] busy busy'' t t''
 shut busy busy' busy'' t t' t'' logs faulted = (omega arith, record { left = busy'; between = t'; logs = logs; faulted = faulted })
 
 door_faulted : (n n' : NetCounts) (o : Output) (book : Option (List Ending)) → n' ≡ record n { door_faults = one_more n.door_faults } → DoorFaulted (record { net = n; out = o; book = book }) (record { net = n'; out = o; book = book })
@@ -40,7 +41,7 @@ let_in busy busy' n n' o o' book book' logs is =
     admitted busy busy' _ (record { net = n; out = o'; book = book' }) _ logs (ap (λ (m : NetCounts). m.accepted) is) (ap (λ (m : NetCounts). m.door_faults) is) (ap (λ (m : NetCounts). m.dial_faults) is) refl refl
 
 pub shut_out : (busy busy' busy'' : List ℕ) (n n' : NetCounts) (o o' : Output) (book book' : Option (List Ending)) → Logs false 0 [] busy busy' (record { net = n; out = o; book = book }) (record { net = n; out = o'; book = book' })
-    → n' ≡ record n { door_faults = one_more n.door_faults } → Halts stop.Net 1 busy busy'' (record { net = n; out = o; book = book }) (record { net = n'; out = o'; book = book' })
+    → n' ≡ record n { door_faults = one_more n.door_faults } → Halts stop.Net 1 [] busy busy'' (record { net = n; out = o; book = book }) (record { net = n'; out = o'; book = book' })
 shut_out busy busy' busy'' n n' o o' book book' logs is = shut busy busy' busy'' _ (record { net = n; out = o'; book = book' }) _ logs (door_faulted n n' o' book' is)
 
 -- it was let in, and then served
@@ -48,8 +49,8 @@ pub one_on : (number : ℕ) (busy busy' busy'' : List ℕ) (t t' t'' : Seen) →
 one_on number busy busy' busy'' t t' t'' first then = logs_then false 1 0 1 (omega arith) [] (number ∷ []) busy busy' busy'' t t' t'' first then
 
 -- it was let in, and could not be served
-pub one_later : (why : Stop) (busy busy' busy'' : List ℕ) (t t' t'' : Seen) → Logs false 1 [] busy busy' t t' → Halts why 0 busy' busy'' t' t'' → Halts why 1 busy busy'' t t''
-one_later why busy busy' busy'' t t' t'' first h = halts_later why 1 0 busy busy' busy'' t t' t'' (omega arith) first h
+pub one_later : (why : Stop) (fresh busy busy' busy'' : List ℕ) (t t' t'' : Seen) → Logs false 1 [] busy busy' t t' → Halts why 0 fresh busy' busy'' t' t'' → Halts why 1 fresh busy busy'' t t''
+one_later why fresh busy busy' busy'' t t' t'' first h = halts_later why 1 0 fresh busy busy' busy'' t t' t'' (omega arith) first h
 
 -- ---- all clients
 
@@ -64,7 +65,7 @@ pub stops_done : (limit : ℕ) (busy : List ℕ) (t t' t'' : Seen) → Logs fals
 stops_done limit busy t t' t'' first then = logs_then false limit 0 limit (omega arith) (counting limit) [] [] busy [] t t' t'' first then
 
 -- all were accepted, and something went wrong while the last were waited for
-pub stops_last : (why : Stop) (limit : ℕ) (busy busy' : List ℕ) (t t' t'' : Seen) → Logs false limit (counting limit) [] busy t t' → Halts why 0 busy busy' t' t'' → Stops (Err why) limit busy' t t''
+pub stops_last : (why : Stop) (limit : ℕ) (busy busy' : List ℕ) (t t' t'' : Seen) → Logs false limit (counting limit) [] busy t t' → Halts why 0 [] busy busy' t' t'' → Stops (Err why) limit busy' t t''
 stops_last stop.Net limit busy busy' t t' t'' logs h = absurd (omega (arith, h.0))
 stops_last (stop.Feed end) limit busy busy' t t' t'' logs h = record {
   may = h.may;
@@ -81,6 +82,7 @@ stops_last stop.Write limit busy busy' t t' t'' logs h = record {
   between = h.between;
   logs = logs_then true limit h.k (limit + h.k) (omega arith) (counting limit) [] [] busy h.left t t' h.between (logs_met false limit (counting limit) [] busy t t' logs) h.logs;
   last = h.last;
+  owed = inl (owed_open (number_of h.last) h.left h.owed);
   cut = h.cut;
 }
 stops_last stop.Memory limit busy busy' t t' t'' logs h = record {
@@ -94,7 +96,7 @@ stops_last stop.Memory limit busy busy' t t' t'' logs h = record {
 }
 
 -- the hub was found closed, and this is what became of the others
-pub stops_rest : (end : FeedEnd) (why : Stop) (limit : ℕ) (busy busy' : List ℕ) (t t' t'' : Seen) → FeedStop end limit busy t t' → Halts why 0 busy busy' t' t'' → Stops (Err why) limit busy' t t''
+pub stops_rest : (end : FeedEnd) (why : Stop) (limit : ℕ) (busy busy' : List ℕ) (t t' t'' : Seen) → FeedStop end limit busy t t' → Halts why 0 [] busy busy' t' t'' → Stops (Err why) limit busy' t t''
 stops_rest end stop.Net limit busy busy' t t' t'' f h = absurd (omega (arith, h.0))
 stops_rest end (stop.Feed last) limit busy busy' t t' t'' f h = record {
   may = h.may;
@@ -111,6 +113,7 @@ stops_rest end stop.Write limit busy busy' t t' t'' f h = record {
   between = h.between;
   logs = logs_then true f.k h.k (f.k + h.k) (omega arith) (counting f.n) [] [] busy h.left t t' h.between f.logs h.logs;
   last = h.last;
+  owed = inl (owed_open (number_of h.last) h.left h.owed);
   cut = h.cut;
 }
 stops_rest end stop.Memory limit busy busy' t t' t'' f h = record {

@@ -6,7 +6,7 @@ use Rattle.zw_hub.specs.declared.feed.FeedEnd.{FeedEnd}
 use Rattle.zx_outside.specs.Counts.{one_more}
 use Rattle.zp_server.specs.Lines.{Line, fault_text, feed_text, listening_text, text_of}
 use Rattle.zp_server.specs.Telling.{Cuts, DoorFaulted, IsCut, IsWritten, Output, Seen, Tells}
-use Rattle.zp_server.specs.Logs.{AreFew, Leaves, Logs, NetStop, Stops, counting}
+use Rattle.zp_server.specs.Logs.{AreFew, IsOwed, Leaves, Logs, NetStop, Stops, counting}
 use Rattle.zp_server.specs.declared.ends.Stop.{Stop}
 use Rattle.zp_server.specs.declared.ends.Stop.TheVariants as stop
 use Rattle.zp_server.specs.declared.ends.ServeEnd.{ServeEnd}
@@ -87,17 +87,17 @@ pub record IsShut (listen : List ℕ) (limit : ℕ) (t t' : Seen) : Type 0 where
   pub stopped : NetStop limit first broken
   pub tells : Tells fault_text broken t'
 
--- the hub was closed by this end, which may be told, and is told behind the lines of all connections
+-- the hub was closed by this end, which may be told, and is told behind the lines of all connections that have numbers
 pub record FeedTold (end : FeedEnd) (listen : List ℕ) (limit : ℕ) (t t' : Seen) : Type 0 where
   pub may : MayBeTold end
   pub between : Seen
   pub lines : IsAfterLines listen limit [] t between
   pub tells : Tells (feed_text end) between t'
 
--- what is written next, and where the server stands then: a line about a connection, or the last line
-abbrev pub IsNext : List ℕ → Seen → Seen → Type 0
-IsNext text between from =
-    ((last : Line) × ((text ≡ text_of last) × (from ≡ between)))
+-- What is written next, and where the server stands then: a line that is still to come, or the last line.
+abbrev pub IsNext : List ℕ → ℕ → ℕ → List ℕ → Seen → Seen → Type 0
+IsNext text n k left between from =
+    ((last : Line) × (((text ≡ text_of last) × IsOwed last n k left) × (from ≡ between)))
     ⊎ (((text ≡ fault_text) × DoorFaulted between from)
     ⊎ ((end : FeedEnd) × ((text ≡ feed_text end) × (from ≡ between))))
 
@@ -105,7 +105,7 @@ pub record IsNextLine (text listen : List ℕ) (limit : ℕ) (t from : Seen) : T
   pub left : List ℕ
   pub between : Seen
   pub lines : IsAfterLines listen limit left t between
-  pub is_next : IsNext text between from
+  pub is_next : IsNext text lines.n lines.k left between from
 
 -- the first line, or a fault before it, or what is next behind the lines so far
 abbrev pub IsWriting : List ℕ → List ℕ → ℕ → Seen → Seen → Type 0
@@ -126,7 +126,7 @@ pub record IsStarved (listen : List ℕ) (limit : ℕ) (t t' : Seen) : Type 0 wh
   pub left : List ℕ
   pub between : Seen
   pub lines : IsAfterLines listen limit left t between
-  pub leaves : Leaves between t'
+  pub leaves : Leaves left between t'
 
 -- How it ended: what each end promises, by the failures that the cluster counts and the refused starts that the spawner counts too.
 abbrev pub Ends : ServeEnd → List ℕ → ℕ → ℕ → ℕ → ℕ → ℕ → Seen → Seen → Type 0

@@ -29,12 +29,16 @@ pub record Logs (met : Bool) (k : ℕ) (fresh busy busy' : List ℕ) (t t' : See
   pub written : Takes (flat_map text_of lines) (t.out).taken (t'.out).taken
   pub unharmed : (t'.out).counts ≡ (t.out).counts
 
--- perhaps a line was written more, which the book does not know of, and perhaps a dial failed
-pub record Leaves (t t' : Seen) : Type 0 where
+-- the number is one of these
+abbrev pub IsAmong : ℕ → List ℕ → Type 0
+IsAmong number numbers = (others : List ℕ) × IsPermutation (number ∷ others) numbers
+
+-- perhaps a line was written more, of one of these connections, which the book does not know of, and perhaps a dial failed
+pub record Leaves (left : List ℕ) (t t' : Seen) : Type 0 where
   pub accepted : (t'.net).accepted ≡ (t.net).accepted
   pub doors : (t'.net).door_faults ≡ (t.net).door_faults
   pub book : t'.book ≡ t.book
-  pub taken : ((t'.out).taken ≡ (t.out).taken) ⊎ ((last : Line) × Takes (text_of last) (t.out).taken (t'.out).taken)
+  pub taken : ((t'.out).taken ≡ (t.out).taken) ⊎ ((last : Line) × IsAmong (number_of last) left × Takes (text_of last) (t.out).taken (t'.out).taken)
   pub unharmed : (t'.out).counts ≡ (t.out).counts
 
 -- ---- up to the next client, of whom at most `most` were accepted
@@ -53,14 +57,15 @@ pub record FeedHalt (end : FeedEnd) (most : ℕ) (busy busy' : List ℕ) (t t' :
   pub few : k ≤ most
   pub logs : Logs true k [] busy busy' t t'
 
--- the sink had a fault in the next line
-pub record WriteHalt (most : ℕ) (busy : List ℕ) (t t' : Seen) : Type 0 where
+-- the sink had a fault in the next line: that of a connection that is open, or of the fresh one, where all that may be were accepted
+pub record WriteHalt (most : ℕ) (fresh busy : List ℕ) (t t' : Seen) : Type 0 where
   pub k : ℕ
   pub few : k ≤ most
   pub left : List ℕ
   pub between : Seen
   pub logs : Logs true k [] busy left t between
   pub last : Line
+  pub owed : IsAmong (number_of last) left ⊎ ((fresh ≡ number_of last ∷ []) × (most ≤ k))
   pub cut : Cuts (text_of last) between t'
 
 -- memory was refused
@@ -70,32 +75,33 @@ pub record MemoryHalt (most : ℕ) (busy : List ℕ) (t t' : Seen) : Type 0 wher
   pub left : List ℕ
   pub between : Seen
   pub logs : Logs true k [] busy left t between
-  pub leaves : Leaves between t'
+  pub leaves : Leaves left between t'
 
 -- why no further client is accepted
-abbrev pub Halts : Stop → ℕ → List ℕ → List ℕ → Seen → Seen → Type 0
-Halts stop.Net most busy busy' t t' = (0 < most) × NetHalt busy t t'
-Halts (stop.Feed end) most busy busy' t t' = FeedHalt (arc_value end) most busy busy' t t'
-Halts stop.Write most busy busy' t t' = WriteHalt most busy t t'
-Halts stop.Memory most busy busy' t t' = MemoryHalt most busy t t'
+abbrev pub Halts : Stop → ℕ → List ℕ → List ℕ → List ℕ → Seen → Seen → Type 0
+Halts stop.Net most fresh busy busy' t t' = (0 < most) × NetHalt busy t t'
+Halts (stop.Feed end) most fresh busy busy' t t' = FeedHalt (arc_value end) most busy busy' t t'
+Halts stop.Write most fresh busy busy' t t' = WriteHalt most fresh busy t t'
+Halts stop.Memory most fresh busy busy' t t' = MemoryHalt most busy t t'
 
 abbrev pub Goes : Result (Unit {0}) Stop → ℕ → List ℕ → List ℕ → List ℕ → Seen → Seen → Type 0
 Goes (Ok _) k fresh busy busy' t t' = Logs false k fresh busy busy' t t'
-Goes (Err why) k fresh busy busy' t t' = Halts why k busy busy' t t'
+Goes (Err why) k fresh busy busy' t t' = Halts why k fresh busy busy' t t'
 
 -- one more was taken back where the hub is known to be closed, so that it is no stop that others found it closed too
 abbrev pub Rests : Result (Unit {0}) Stop → List ℕ → List ℕ → Seen → Seen → Type 0
 Rests (Ok _) busy busy' t t' = Logs true 0 [] busy busy' t t'
-Rests (Err why) busy busy' t t' = Halts why 0 busy [] t t'
+Rests (Err why) busy busy' t t' = Halts why 0 [] busy [] t t'
 
 -- one more client was accepted, once room was made
 abbrev pub Admits : {E : Type 0} → Result E Stop → List ℕ → List ℕ → Seen → Seen → Type 0
 Admits (Ok ends) busy busy' t t' = Logs false 1 [] busy busy' t t'
-Admits (Err why) busy busy' t t' = Halts why 1 busy busy' t t'
+Admits (Err why) busy busy' t t' = Halts why 1 [] busy busy' t t'
 
 -- ---- all clients
 
--- n connections have numbers, k clients were accepted, and no more may be than the limit: at most one has no number
+-- n connections have numbers, k clients were accepted, and no more may be than the limit. At most one has no number: the last, who was
+-- accepted and not served.
 pub record AreFew (n k limit : ℕ) : Type 0 where
   pub least : n ≤ k
   pub most : k ≤ n + 1
@@ -116,6 +122,10 @@ pub record FeedStop (end : FeedEnd) (limit : ℕ) (busy : List ℕ) (t t' : Seen
   pub few : AreFew n k limit
   pub logs : Logs true k (counting n) [] busy t t'
 
+-- A line that is still to come: of a connection that is open, or of the last client, who was accepted and has no number yet.
+abbrev pub IsOwed : Line → ℕ → ℕ → List ℕ → Type 0
+IsOwed last n k left = IsAmong (number_of last) left ⊎ ((number_of last ≡ n + 1) × (k ≡ n + 1))
+
 pub record WriteStop (limit : ℕ) (t t' : Seen) : Type 0 where
   pub n : ℕ
   pub k : ℕ
@@ -124,6 +134,7 @@ pub record WriteStop (limit : ℕ) (t t' : Seen) : Type 0 where
   pub between : Seen
   pub logs : Logs true k (counting n) [] left t between
   pub last : Line
+  pub owed : IsOwed last n k left
   pub cut : Cuts (text_of last) between t'
 
 pub record MemoryStop (limit : ℕ) (t t' : Seen) : Type 0 where
@@ -133,7 +144,7 @@ pub record MemoryStop (limit : ℕ) (t t' : Seen) : Type 0 where
   pub left : List ℕ
   pub between : Seen
   pub logs : Logs true k (counting n) [] left t between
-  pub leaves : Leaves between t'
+  pub leaves : Leaves left between t'
 
 -- As many clients were accepted as the limit allows, of which these are served still; or fewer, and why.
 abbrev pub Stops : Result (Unit {0}) Stop → ℕ → List ℕ → Seen → Seen → Type 0

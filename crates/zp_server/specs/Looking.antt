@@ -1,21 +1,38 @@
 -- What a look at the hub tells.
-use Rattle.std.specs.Prelude.{◌≡◌, false, Some, Result, Ok, Err}
+use Rattle.std.specs.Prelude.{◌≡◌, ℕ, ◌+◌, ◌*◌, false, Some, None, Result, Ok, Err}
 use Rattle.std.specs.Arc.{arc_value}
 use Rattle.zk_transcript.specs.declared.transcript.Cause.{Cause}
 use Rattle.zw_hub.specs.Ends.{MayBeTold}
-use Rattle.zw_hub.specs.declared.published.Published.{Published}
+use Rattle.zw_hub.specs.Readers.{ReaderState}
 use Rattle.zp_server.specs.Lines.{is_feed_closed}
 use Rattle.zp_server.specs.declared.ends.Stop.{Stop}
 use Rattle.zp_server.specs.declared.ends.Stop.TheVariants as stop
 
--- the list that was read is closed by this end, which may be told; or memory was refused; or the server goes on
-abbrev pub Looks : Result (Unit {0}) Stop → Published → Type 0
-Looks (Ok _) list = Unit {0}
-Looks (Err (stop.Feed end)) list = (list.end ≡ Some (arc_value end)) × MayBeTold (arc_value end)
-Looks (Err stop.Memory) list = Unit {0}
-Looks (Err _) list = ⊥
+-- the reader read the list once more, and the list was open
+pub record FindsOpen (s s' : ReaderState) : Type 0 where
+  pub once : s'.reads ≡ s.reads + 1
+  pub unclosed : s'.closings ≡ s.closings
+  pub is_open : (s'.list).end ≡ None
+
+-- the list that was read is open; or it is closed by this end, which may be told; or memory was refused
+abbrev pub Looks : Result (Unit {0}) Stop → ReaderState → ReaderState → Type 0
+Looks (Ok _) s s' = FindsOpen s s'
+Looks (Err (stop.Feed end)) s s' = ((s'.list).end ≡ Some (arc_value end)) × MayBeTold (arc_value end)
+Looks (Err stop.Memory) s s' = Unit {0}
+Looks (Err _) s s' = ⊥
 
 -- the server goes on only where a connection did not end since the hub is closed
-abbrev pub Closes : Result (Unit {0}) Stop → Cause → Published → Type 0
-Closes (Ok _) why list = is_feed_closed why ≡ false
-Closes (Err e) why list = Looks (Err e) list
+abbrev pub Closes : Result (Unit {0}) Stop → Cause → ReaderState → ReaderState → Type 0
+Closes (Ok _) why s s' = is_feed_closed why ≡ false
+Closes (Err e) why s s' = Looks (Err e) s s'
+
+-- ---- before and after an accept
+
+-- the list was found open at two reads, one after the other
+abbrev pub FindsOpenTwice : ReaderState → ReaderState → Type 0
+FindsOpenTwice s s' = (between : ReaderState) × FindsOpen s between × FindsOpen between s'
+
+-- so many times two reads, and the list was open at each
+pub record FindsOpenFor (clients : ℕ) (s s' : ReaderState) : Type 0 where
+  pub reads : s'.reads ≡ s.reads + 2 * clients
+  pub unclosed : s'.closings ≡ s.closings

@@ -5,6 +5,7 @@ ghost use Rattle.ev_call.specs.Addresses.{IsAddress};
 ghost use Rattle.ev_call.specs.Calls.{calls_of};
 ghost use Rattle.zx_net.specs.Nets.{IsFreshSink, IsFreshSource};
 ghost use Rattle.zp_server.specs.Logs.{Goes, Stops};
+ghost use Rattle.zp_server.specs.Looking.{FindsOpenFor, FindsOpenTwice};
 
 use crate::admitting::{NoLink, admit, link_to};
 use crate::book::Book;
@@ -57,6 +58,7 @@ where
     requires asks { calls_of link.asks.items link.results.items ≡ [] }
     ensures busy { OnOk result (desk.new.busy.items ≡ desk.old.busy.items ++ number ∷ []) }
     ensures book { B.told book.new ≡ B.told book.old }
+    ensures own { desk.new.own ≡ desk.old.own }
 {
     let trace = match book.trace() {
         Ok(trace) => trace,
@@ -110,9 +112,10 @@ where
     requires address { IsAddress endpoint.now }
     requires source { IsFreshSource (N.In.given ends.0) (N.In.counts ends.0) (N.In.ended ends.0) (N.In.name ends.0) number }
     requires sink { IsFreshSink (N.Out.taken ends.1) (N.Out.counts ends.1) (N.Out.name ends.1) number }
-    ensures { Goes result 0 (number ∷ []) desk.old.busy.items desk.new.busy.items
+    ensures goes { Goes result 0 (number ∷ []) desk.old.busy.items desk.new.busy.items
         (record { net = N.counts net.old; out = record { taken = O.taken out.old; counts = O.counts out.old }; book = B.told book.old })
         (record { net = N.counts net.new; out = record { taken = O.taken out.new; counts = O.counts out.new }; book = B.told book.new }) }
+    ensures own { desk.new.own ≡ desk.old.own }
 {
     match link_to(alloc, net, endpoint) {
         Ok(link) => {
@@ -163,9 +166,10 @@ where
     requires address { IsAddress endpoint.now }
     requires accepted { (N.counts net.old).accepted ≡ before }
     requires few { before + 1 < 2 ^ 64 }
-    ensures { Goes result 1 ((before + 1) ∷ []) desk.old.busy.items desk.new.busy.items
+    ensures goes { Goes result 1 ((before + 1) ∷ []) desk.old.busy.items desk.new.busy.items
         (record { net = N.counts net.old; out = record { taken = O.taken out.old; counts = O.counts out.old }; book = B.told book.old })
         (record { net = N.counts net.new; out = record { taken = O.taken out.new; counts = O.counts out.new }; book = B.told book.new }) }
+    ensures looked { OnOk result (FindsOpenTwice desk.old.own desk.new.own) }
 {
     match admit(rt, alloc, house, net, door, desk, out, book) {
         Ok(ends) => serve_one(
@@ -187,7 +191,7 @@ where
     }
 }
 
-/// Accepts as many clients as the limit allows, and has each served.
+/// Accepts as many clients as the limit allows, and has each served. The hub is looked at before and after each accept.
 pub fn accept_all<
     W: Wait + Eprint + Copy + Send + Drop + 'static,
     N: Net,
@@ -218,9 +222,10 @@ where
     requires address { IsAddress endpoint.now }
     requires fresh { (N.counts net.old).accepted ≡ 0 }
     requires idle { desk.old.busy.items ≡ [] }
-    ensures { Stops result limit desk.new.busy.items
+    ensures stops { Stops result limit desk.new.busy.items
         (record { net = N.counts net.old; out = record { taken = O.taken out.old; counts = O.counts out.old }; book = B.told book.old })
         (record { net = N.counts net.new; out = record { taken = O.taken out.new; counts = O.counts out.new }; book = B.told book.new }) }
+    ensures looked { OnOk result (FindsOpenFor limit desk.old.own desk.new.own) }
 {
     'clients: for before in 0..limit {
         match accept_one(

@@ -5,6 +5,7 @@ ghost use Rattle.ev_call.specs.Addresses.{IsAddress};
 ghost use Rattle.ev_call.specs.Calls.{calls_of};
 ghost use Rattle.zx_net.specs.Nets.{IsFreshSink, IsFreshSource};
 ghost use Rattle.zp_server.specs.Logs.{Admits};
+ghost use Rattle.zp_server.specs.Looking.{FindsOpenTwice};
 ghost use Rattle.zp_server.specs.Telling.{Dials};
 
 use crate::book::Book;
@@ -68,6 +69,8 @@ where
         (record { net = N.counts net.new; out = record { taken = O.taken out.new; counts = O.counts out.new }; book = B.told book.new }) }
     ensures source { IfOk result (λ ends. IsFreshSource (N.In.given ends.0) (N.In.counts ends.0) (N.In.ended ends.0) (N.In.name ends.0) (N.counts net.new).accepted) }
     ensures sink { IfOk result (λ ends. IsFreshSink (N.Out.taken ends.1) (N.Out.counts ends.1) (N.Out.name ends.1) (N.counts net.new).accepted) }
+    // The server's own reader found the hub open at two looks, before the client was accepted and after it.
+    ensures looked { IfOk result (λ ends. FindsOpenTwice desk.old.own desk.new.own) }
 {
     match make_room(rt, alloc, house, desk, out, book) {
         Ok(()) => {}

@@ -1,13 +1,12 @@
 //! The first ask.
 
-ghost use Rattle.std.specs.Prelude.{IfSome};
+ghost use Rattle.std.specs.Prelude.{◌≡◌, Some, option_copied};
 ghost use Rattle.ev_call.specs.Addresses.{IsAddress};
-ghost use Rattle.ev_call.specs.Fitting.{AreCounts, Fits, IsFoundWithin};
-ghost use Rattle.zp_server.specs.Beginning.{Begins, IsPlace};
+ghost use Rattle.zp_server.specs.Beginning.{Begins, found_by, head_in, last_part, place_in};
 
 use crate::ends::Stop;
 use ev_call::{CallFault, Cluster};
-use ev_types::{ActAns, Answer, Ask, Kv, RangeAns};
+use ev_types::{ActAns, Answer, Kv, RangeAns};
 use std::alloc::Global;
 use zn_layout::begin_ask;
 use zw_follow::Place;
@@ -16,50 +15,48 @@ use zx_net::Clock;
 /// Where the updates stand before the first.
 const NOWHERE: Place = Place { number: 0, zxid: 0 };
 
-/// What the first part of the answer found, if that is there.
-fn found_in<'a>(ask: &Ask, answer: &'a Answer) -> Option<&'a RangeAns>
-    requires { Fits ask.now answer.now }
-    ensures { IfSome result (λ found. IsFoundWithin found.now) }
+/// The last part of a transaction's answer, if there is one.
+fn last_part(answer: &Answer) -> Option<&ActAns>
+    ensures { option_copied result ≡ last_part answer.now }
 {
     match answer {
-        Answer::Txn { parts, .. } => match parts.as_slice().first() {
-            Some(ActAns::Range(found)) => Some(found),
-            _ => None,
-        },
-        _ => None,
+        Answer::Txn { parts, .. } => parts.as_slice().last(),
+        Answer::Range { .. } | Answer::Granted { .. } | Answer::Alive { .. } => None,
     }
 }
 
-/// The first key of these, if there is one.
-#[tactic(auto, using(crate::proofs::Heads::counted_first))]
-fn first_of(found: &RangeAns) -> Option<&Kv>
-    requires { IsFoundWithin found.now }
-    ensures { IfSome result (λ kv. AreCounts kv.now) }
+/// What this part found, if it is that of a read.
+fn found_by(part: &ActAns) -> Option<&RangeAns>
+    ensures { option_copied result ≡ found_by (Some part.now) }
 {
-    found.kvs.as_slice().first()
+    match part {
+        ActAns::Range(found) => Some(found),
+        ActAns::Put | ActAns::Deleted(_) => None,
+    }
 }
 
-/// Where the updates stand, by the head.
-#[tactic(auto, using(crate::proofs::Heads::is_place))]
-fn place_at(head: &Kv) -> Place
-    requires { AreCounts head.now }
-    ensures { IsPlace result }
+/// The head, where the answer of the first ask shows it. Whether or not the root was made, the last of what is asked is to read it.
+fn head_in(answer: &Answer) -> Option<&Kv>
+    ensures { option_copied result ≡ head_in answer.now }
 {
-    Place {
-        number: head.version,
-        zxid: head.mod_revision,
+    let part = match last_part(answer) {
+        Some(part) => part,
+        None => return None,
+    };
+    match found_by(part) {
+        Some(found) => found.kvs.as_slice().first(),
+        None => None,
     }
 }
 
 /// Where the updates stand, by the answer of the first ask. Where it shows no head, there was no update.
-fn place_of(ask: &Ask, answer: &Answer) -> Place
-    requires { Fits ask.now answer.now }
-    ensures { IsPlace result }
+fn place_in(answer: &Answer) -> Place
+    ensures { result ≡ place_in answer.now }
 {
-    match found_in(ask, answer) {
-        Some(found) => match first_of(found) {
-            Some(head) => place_at(head),
-            None => NOWHERE,
+    match head_in(answer) {
+        Some(head) => Place {
+            number: head.version,
+            zxid: head.mod_revision,
         },
         None => NOWHERE,
     }
@@ -73,7 +70,9 @@ pub fn begin<L: Cluster, C: Clock>(
     endpoint: &str,
 ) -> Result<Place, Stop>
     requires { IsAddress endpoint.now }
-    ensures { Begins result (L.failures cluster.old) (L.failures cluster.new) }
+    ensures { Begins result
+        (record { failures = L.failures cluster.old; calls = L.told cluster.old })
+        (record { failures = L.failures cluster.new; calls = L.told cluster.new }) }
 {
     match cluster.to(endpoint) {
         Ok(()) => {}
@@ -84,7 +83,7 @@ pub fn begin<L: Cluster, C: Clock>(
         Err(_refused) => return Err(Stop::Memory),
     };
     match cluster.call(&ask) {
-        Ok(answer) => Ok(place_of(&ask, &answer)),
+        Ok(answer) => Ok(place_in(&answer)),
         Err(CallFault::Failed) => Err(Stop::Net),
         Err(CallFault::Memory) => Err(Stop::Memory),
     }

@@ -22,12 +22,14 @@
 //! A call ends once `limit` clients were accepted and have ended. It ends early where the door is broken, the sink has a fault or
 //! memory is refused; then nobody is waited for. Where the watch worker cannot go on it closes the hub, since clients do better at
 //! another proxy: no further client is accepted, each connection ends within about a second, and the call says why. To wake the
-//! listener, which waits for a client, the watch worker dials the proxy's own address then.
+//! listener, which waits for a client, the watch worker dials the proxy's own address then, after as long a pause as before any of
+//! its dials. The listener looks at the hub before each accept and after it.
 //!
 //! # What is written
 //!
 //! To the sink: `listening ADDRESS`; `closed N CAUSE` for each connection, once the listener comes to it, which can be only when
-//! the next client connects; and the end. To standard error: a line in words for each fault of etcd or of the way to it, at once.
+//! the next client connects; and the end. Until then the link of a connection that has ended stays open. To standard error: a line
+//! in words for each fault of etcd or of the way to it, at once.
 #![tactic(auto)]
 
 mod accepting;

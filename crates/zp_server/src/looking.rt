@@ -10,21 +10,22 @@ use zw_hub::{Fed, Feed, HubReader};
 /// A cursor above which no entry stands: a look with it tells only whether the list is closed.
 const LAST_CURSOR: i64 = i64::MAX;
 
-/// Whether this reader finds the hub closed.
+/// Whether this reader finds the hub closed. No entry stands above the cursor, so one that is found there, or lacking there, counts as
+/// want of memory.
 pub fn look<R: Wait + Drop>(reader: &mut HubReader<R>) -> Result<(), Stop>
-    ensures { Looks result reader.new.list }
+    ensures { Looks result reader.old reader.new }
 {
     match reader.next(LAST_CURSOR) {
+        Fed::None => Ok(()),
         Fed::Closed(end) => Err(Stop::Feed(end)),
-        Fed::Memory => Err(Stop::Memory),
-        Fed::None | Fed::Entry(_) | Fed::Lagged { .. } => Ok(()),
+        Fed::Memory | Fed::Entry(_) | Fed::Lagged { .. } => Err(Stop::Memory),
     }
 }
 
 /// Why the hub is closed, where a connection ended for that; its reader tells. It is closed for good, so a reader that finds it
 /// open again, which none does, counts as want of memory.
 pub fn closing_of<R: Wait + Drop>(cause: &Cause, reader: &mut HubReader<R>) -> Result<(), Stop>
-    ensures { Closes result cause.now reader.new.list }
+    ensures { Closes result cause.now reader.old reader.new }
 {
     match cause {
         Cause::FeedClosed => match look(reader) {

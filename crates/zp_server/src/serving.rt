@@ -304,15 +304,19 @@ where
 }
 
 /// Serves ZooKeeper clients at `listen` from the etcd cluster whose JSON gateway is at `endpoint`, both `HOST:PORT`, until `limit`
-/// clients were accepted and have ended. The net has accepted no connection before. The ends:
+/// clients were accepted and have ended. `endpoint` is one or more bytes of visible ASCII, since each request to etcd names it as its
+/// host; [`is_address`](crate::is_address) tells. The net has accepted no connection before, since it names the ends of a connection
+/// by how many it has accepted, and the lines count connections from 1. The ends:
 ///
 /// - `Done`: each of the connections 1 to `limit` has one line, and each that had a worker one [`Served`](crate::Served) in the
 ///   book;
 /// - `Net`: the cluster's first call failed, a worker could not be started, the address could not be listened on, or the door had a
 ///   fault. `net fault` is written behind the lines so far;
-/// - `Feed`: the hub was found closed. Each connection so far has its line, and `feed` with the cause is written behind them;
-/// - `WriteFault`: the sink had a fault, and took a front of what was to be written;
-/// - `Memory`: memory was refused, here or to the watch worker.
+/// - `Feed`: the hub was found closed. Each connection so far has its line, and `feed` with the cause is written behind them. Where
+///   it was found closed right after an accept, whom that let in is dropped, and has no number and no line;
+/// - `WriteFault`: the sink had a fault, and took a front of what was to be written next. Where that is a line of a connection, it is
+///   one that has none yet;
+/// - `Memory`: memory was refused, here or to the watch worker. The lines so far are written, and perhaps that of one connection more.
 pub fn serve<
     W: Wait + SystemClock + Eprint + Copy + Send + Drop + 'static,
     N: Net + Send + Drop + 'static,

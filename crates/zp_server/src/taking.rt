@@ -28,9 +28,10 @@ pub fn take_back<I: Source + Drop, K: Sink + Drop, R: Wait + Drop, O: Sink, B: B
     out: &mut O,
     book: &mut B,
 ) -> Result<(), Stop>
-    ensures { (net : NetCounts) → Goes result 0 [] desk.old.busy.items desk.new.busy.items
+    ensures goes { (net : NetCounts) → Goes result 0 [] desk.old.busy.items desk.new.busy.items
         (record { net = net; out = record { taken = O.taken out.old; counts = O.counts out.old }; book = B.told book.old })
         (record { net = net; out = record { taken = O.taken out.new; counts = O.counts out.new }; book = B.told book.new }) }
+    ensures own { desk.new.own ≡ desk.old.own }
 {
     let Returned { served, reader } = returned;
     // A worker hands back its own connection, and that once.
@@ -70,9 +71,10 @@ pub fn make_room<
     out: &mut O,
     book: &mut B,
 ) -> Result<(), Stop>
-    ensures { (net : NetCounts) → Goes result 0 [] desk.old.busy.items desk.new.busy.items
+    ensures goes { (net : NetCounts) → Goes result 0 [] desk.old.busy.items desk.new.busy.items
         (record { net = net; out = record { taken = O.taken out.old; counts = O.counts out.old }; book = B.told book.old })
         (record { net = net; out = record { taken = O.taken out.new; counts = O.counts out.new }; book = B.told book.new }) }
+    ensures own { desk.new.own ≡ desk.old.own }
 {
     'takes: for _ in rt.forever() {
         let returned = match house.back.next(rt, desk.free.is_empty()) {
@@ -127,7 +129,7 @@ pub fn await_rest<
     out: &mut O,
     book: &mut B,
 ) -> Stop
-    ensures { (net : NetCounts) → MayBeTold (arc_value end) → Halts result 0 desk.old.busy.items []
+    ensures { (net : NetCounts) → MayBeTold (arc_value end) → Halts result 0 [] desk.old.busy.items []
         (record { net = net; out = record { taken = O.taken out.old; counts = O.counts out.old }; book = B.told book.old })
         (record { net = net; out = record { taken = O.taken out.new; counts = O.counts out.new }; book = B.told book.new }) }
 {

@@ -2,14 +2,14 @@ use Rattle.std.proofs.Common.{[], refl}
 use Rattle.zp_server.proofs.Accepted.{started, undialled, unstarted}
 use Rattle.zp_server.proofs.accepting.serve_one.Goals as goal
 
-pub returns-in-Ok-start_one : goal.returns-in-Ok-start_one
-returns-in-Ok-start_one g c = started _ _ _ _ _ _ _ _ c.in-Ok.ensures.dials c.in-Ok-start_one.ensures.busy c.in-Ok-start_one.ensures.book
+pub returns-in-Ok-start_one-clause-goes : goal.returns-in-Ok-start_one-clause-goes
+returns-in-Ok-start_one-clause-goes g c = started _ _ _ _ _ _ _ _ c.in-Ok.ensures.dials c.in-Ok-start_one.ensures.busy c.in-Ok-start_one.ensures.book
 
-pub returns-in-Ok : goal.returns-in-Ok
-returns-in-Ok g c = unstarted _ [] _ _ _ _ _ c.in-Ok.ensures.dials c.in-Err.ensures.book
+pub returns-in-Ok-clause-goes : goal.returns-in-Ok-clause-goes
+returns-in-Ok-clause-goes g c = unstarted _ [] _ _ _ _ _ c.in-Ok.ensures.dials c.in-Err.ensures.book
 
-pub returns-in-Err-Dial : goal.returns-in-Err-Dial
-returns-in-Err-Dial g c = undialled c.say_no_link.result _ _ _ _ _ _ _ (rw c.in-Err-Dial.field-0-is at c.in-Err-Dial.ensures).dials c.say_no_link.ensures
+pub returns-in-Err-Dial-clause-goes : goal.returns-in-Err-Dial-clause-goes
+returns-in-Err-Dial-clause-goes g c = undialled c.say_no_link.result _ _ _ _ _ _ _ (rw c.in-Err-Dial.field-0-is at c.in-Err-Dial.ensures).dials c.say_no_link.ensures
 
-pub returns : goal.returns
-returns g c = unstarted _ [] _ _ _ _ _ (rw c.in-Err-Memory.field-0-is at c.in-Err-Memory.ensures).dials refl
+pub returns-clause-goes : goal.returns-clause-goes
+returns-clause-goes g c = unstarted _ [] _ _ _ _ _ (rw c.in-Err-Memory.field-0-is at c.in-Err-Memory.ensures).dials refl

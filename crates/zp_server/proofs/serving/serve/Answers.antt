@@ -9,4 +9,4 @@ pub returns-in-Err-new : goal.returns-in-Err-new
 returns-in-Err-new g c = inl refl
 
 pub returns : goal.returns
-returns g c = ended c.serve_from-stopped.result c.finish-2.result _ _ _ _ _ _ _ _ _ c.in-Ok.ensures.1 c.serve_from-stopped.ensures refl refl c.finish-2.ensures
+returns g c = ended c.serve_from-stopped.result c.finish-2.result _ _ _ _ _ _ _ _ _ c.in-Ok.ensures.failures c.serve_from-stopped.ensures refl refl c.finish-2.ensures

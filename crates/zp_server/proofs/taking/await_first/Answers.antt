@@ -13,7 +13,7 @@ pub returns-in-Err-clause-goes : goal.returns-in-Err-clause-goes
 returns-in-Err-clause-goes g c = λ net. starves_later 0 _ _ [] _ _ (c.takes.invariant.2 net)
 
 pub takes-preserved : goal.takes-preserved
-takes-preserved g c = (tt, tt, λ net. goes_on _ _ _ _ _ _ (c.takes.invariant.2 net) (c.in-Ok-take_back.ensures net))
+takes-preserved g c = (tt, tt, λ net. goes_on _ _ _ _ _ _ (c.takes.invariant.2 net) (c.in-Ok-take_back.ensures.goes net))
 
 pub returns-in-Err-take_back-clause-goes : goal.returns-in-Err-take_back-clause-goes
-returns-in-Err-take_back-clause-goes g c = λ net. goes_later c.in-Err-take_back.stop 0 _ _ _ _ _ _ (omega arith) (c.takes.invariant.2 net) (c.in-Err-take_back.ensures net)
+returns-in-Err-take_back-clause-goes g c = λ net. goes_later c.in-Err-take_back.stop 0 _ _ _ _ _ _ (omega arith) (c.takes.invariant.2 net) (c.in-Err-take_back.ensures.goes net)

@@ -2,17 +2,17 @@ use Rattle.std.proofs.Common.{[]}
 use Rattle.zp_server.proofs.Halting.{not_open, taken_closed, unbooked_closed, unclosed, unkept_closed}
 use Rattle.zp_server.proofs.taking.take_back.Goals as goal
 
-pub returns-then-not-strike : goal.returns-then-not-strike
-returns-then-not-strike g c = λ net. not_open _ [] net _ _
+pub returns-then-not-strike-clause-goes : goal.returns-then-not-strike-clause-goes
+returns-then-not-strike-clause-goes g c = λ net. not_open _ [] net _ _
 
-pub returns-in-Err : goal.returns-in-Err
-returns-in-Err g c = λ net. unclosed c.in-Err.stop _ _ _ _ net _ _ _ c.in-Err.ensures
+pub returns-in-Err-clause-goes : goal.returns-in-Err-clause-goes
+returns-in-Err-clause-goes g c = λ net. unclosed c.in-Err.stop _ _ _ _ net _ _ _ (rw c.if-not-strike.false at c.strike.ensures) c.in-Err.ensures
 
-pub returns-in-Err-take : goal.returns-in-Err-take
-returns-in-Err-take g c = λ net. unbooked_closed _ _ _ [] net _ _ _ _ c.in-Ok.ensures c.in-Err-take.ensures.err
+pub returns-in-Err-take-clause-goes : goal.returns-in-Err-take-clause-goes
+returns-in-Err-take-clause-goes g c = λ net. unbooked_closed _ _ _ _ net _ _ _ _ (rw c.if-not-strike.false at c.strike.ensures) c.in-Ok.ensures c.in-Err-take.ensures.err
 
-pub returns-in-Ok-push : goal.returns-in-Ok-push
-returns-in-Ok-push g c = λ net. taken_closed c.closing_of-closing.result _ _ _ _ _ net _ _ _ _ c.closing_of-closing.ensures (rw c.if-not-strike.false at c.strike.ensures) c.in-Ok.ensures c.in-Ok-take.ensures.ok
+pub returns-in-Ok-push-clause-goes : goal.returns-in-Ok-push-clause-goes
+returns-in-Ok-push-clause-goes g c = λ net. taken_closed c.closing_of-closing.result _ _ _ _ _ _ net _ _ _ _ c.closing_of-closing.ensures (rw c.if-not-strike.false at c.strike.ensures) c.in-Ok.ensures c.in-Ok-take.ensures.ok
 
-pub returns-in-Err-push : goal.returns-in-Err-push
-returns-in-Err-push g c = λ net. unkept_closed _ _ _ _ net _ _ _ _ (rw c.if-not-strike.false at c.strike.ensures) c.in-Ok.ensures c.in-Ok-take.ensures.ok
+pub returns-in-Err-push-clause-goes : goal.returns-in-Err-push-clause-goes
+returns-in-Err-push-clause-goes g c = λ net. unkept_closed _ _ _ _ net _ _ _ _ (rw c.if-not-strike.false at c.strike.ensures) c.in-Ok.ensures c.in-Ok-take.ensures.ok
