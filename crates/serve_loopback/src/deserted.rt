@@ -5,7 +5,6 @@ use crate::follows::stream_of;
 use crate::loopback::{Outcome, add_lines, free_address, run_serve};
 use crate::turns::{Turns, Watched};
 use anyhow::{Result, bail};
-use ev_call::Etcd;
 use ev_shared::StoreLink;
 use ev_store::Store;
 use std::alloc::Global;
@@ -14,7 +13,6 @@ use std::random::RandomSource;
 use std::sync::{Arc, Wait};
 use std::thread::{self, Threads};
 use std::time::Clock;
-use zn_layout::begin_ask;
 use zx_base::Memory;
 use zx_net::Net as Streams;
 use zx_sockets::StdNet;
@@ -26,7 +24,7 @@ const STREAMS: u64 = 1000;
 /// How many clients a server would take that is to end before.
 const MANY: u64 = 1_000_000;
 
-/// A server that asks an etcd in memory first, which has the root already, and then whoever listens at `endpoint`.
+/// A server that asks a new etcd in memory first, where it makes the root, and then whoever listens at `endpoint`.
 fn serve_on<
     R: Net<Listener = TcpListener, Stream = TcpStream>
         + Clock
@@ -45,12 +43,6 @@ fn serve_on<
         bail!("no memory");
     };
     let mut cluster = StoreLink::new(store, Vec::new(alloc));
-    let Ok(ask) = begin_ask(alloc, 0) else {
-        bail!("no memory");
-    };
-    if cluster.call(&ask).is_err() {
-        bail!("there is no root");
-    }
     run_serve(rt, &mut cluster, listen, endpoint, limit, turns)
 }
 

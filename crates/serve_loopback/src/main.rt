@@ -8,7 +8,7 @@
 //! | `follow FROM` | the end of a follower whose dials give streams without a byte, where the word to stop is set from its reading number FROM on |
 //! | `follow FROM LINE` | the same, where the first dial gives a watch's stream of this one line |
 //! | `memory CALL LIMIT` | the end of a server over a net in memory, whose clients end at once and whose dials give streams without a byte, and over an etcd in memory whose call number CALL fails, 0 for none; then the first and the last line that it wrote |
-//! | `line LINE` | the end of a server over the loopback whose etcd has the root, and after the first ask gives this line to each who asks, and to which nobody connects; then `listening`, where that is its first line, and its other lines in order |
+//! | `line LINE` | the end of a server over the loopback whose etcd is new, and after the first ask, which makes the root, gives this line to each who asks, and to which nobody connects; then `listening`, where that is its first line, and its other lines in order |
 //! | `late LINE` | the same of a server of one client, which connects and sends nothing, where the etcd gives the line once a worker serves it |
 //! | `gone 2` | the same of a server whose etcd is gone after the first ask, and to which two clients connect, one after the other |
 //! | `turn FRAME ..` | as `two`, but the second client connects once the stream of the first has ended, and the gate holds nobody |
