@@ -1,4 +1,4 @@
-"""The checks of bench/hostile.sh: run.py PROGRAM FOLDER [PART..]."""
+"""The checks of bench/hostile.sh: run.py PROGRAM FOLDER [PART | CHECK].."""
 import resource
 import signal
 import sys
