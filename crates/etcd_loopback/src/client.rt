@@ -24,6 +24,7 @@ pub enum Tried {
     NoWatch,
     NoAnswer,
     NoTransaction,
+    StillListens,
     NotTold,
     NotEnded,
 }
@@ -37,7 +38,9 @@ impl Tried {
             Tried::NoMemory => "memory was refused",
             Tried::NoWatch => "the watch was not created",
             Tried::NoAnswer => "the first ask was not answered",
-            Tried::NoTransaction => "the transaction was not carried out",
+            Tried::NoTransaction =>
+                "the transaction was not carried out as the first of a new store",
+            Tried::StillListens => "the server listens after its last connection",
             Tried::NotTold => "the watch was not told of the transaction",
             Tried::NotEnded => "the watch was not ended",
         }
@@ -53,10 +56,19 @@ impl From<Memory> for Tried {
 /// The key that is put and watched.
 const KEY: &[u8] = b"a";
 
+/// The revision of the first transaction that changes a new store.
+const FIRST: i64 = 2;
+
 /// How often the server is dialled until it listens, and the pause before the next time, in milliseconds.
 const DIALS: u32 = 500;
 
 const PAUSE: u64 = 10;
+
+/// How often the server is dialled until it listens no more, and the pause before the next time, in milliseconds. The system keeps this
+/// many connections for a door at which nobody accepts (listen(2)); with more a dial fails too, as if nobody listened.
+const LOOKS: u32 = 100;
+
+const LOOK_PAUSE: u64 = 100;
 
 /// What each request names as its host.
 #[tactic(auto, using(ev_link::proofs::Local::local))]
@@ -75,6 +87,17 @@ fn connect<R: Clock, N: Net>(rt: &R, net: &mut N, address: &str) -> Result<(N::I
         thread::sleep(rt, Duration::from_millis(PAUSE));
     }
     Err(Tried::NoConnection)
+}
+
+/// Whether the server goes on listening. Until it closes its door the system takes connections for it.
+fn listens<R: Clock, N: Net>(rt: &R, net: &mut N, address: &str) -> bool {
+    for _ in 0..LOOKS {
+        if net.dial(address).is_err() {
+            return false;
+        }
+        thread::sleep(rt, Duration::from_millis(LOOK_PAUSE));
+    }
+    true
 }
 
 /// The transaction that puts the key.
@@ -113,13 +136,14 @@ fn is_told<S: Source>(alloc: Global, lines: &mut Lines<S>, at: i64) -> bool {
     }
 }
 
-/// Carries out a transaction that puts the key, on a connection of its own that had an ask before, and gives its revision.
+/// Carries out a transaction that puts the key, the first of the store, on a connection of its own that had an ask before. While that
+/// connection, the server's last, is open, nobody else can connect.
 fn put_it<R: Clock, N: Net>(
     rt: &R,
     alloc: Global,
     net: &mut N,
     address: &str,
-) -> Result<i64, Tried> {
+) -> Result<(), Tried> {
     let (source, sink) = connect(rt, net, address)?;
     let mut link = HttpLink::new(alloc, source, sink, host())?;
     if link.call(&Ask::Alive { id: 1 }).is_err() {
@@ -133,9 +157,13 @@ fn put_it<R: Clock, N: Net>(
                 succeeded: true,
                 ..
             },
-        ) => Ok(revision),
-        _ => Err(Tried::NoTransaction),
+        ) if revision == FIRST => {}
+        _ => return Err(Tried::NoTransaction),
     }
+    if listens(rt, net, address) {
+        return Err(Tried::StillListens);
+    }
+    Ok(())
 }
 
 /// Watches the key, puts it, and sees that the watch is told and then ended.
@@ -154,8 +182,8 @@ fn watch_and_put<R: Clock, N: Net>(
     if !is_created(alloc, &mut lines) {
         return Err(Tried::NoWatch);
     }
-    let revision = put_it(rt, alloc, net, address)?;
-    if !is_told(alloc, &mut lines, revision) {
+    put_it(rt, alloc, net, address)?;
+    if !is_told(alloc, &mut lines, FIRST) {
         return Err(Tried::NotTold);
     }
     if lines.next().is_ok() {
