@@ -1,0 +1,5 @@
+pub mod Turning
+pub mod Outcome
+pub mod Storing
+pub mod Parts
+pub mod Placing

@@ -1,0 +1,7 @@
+pub mod Reading
+pub mod Endpoints
+pub mod Turns
+pub mod Theorem
+pub mod Memory
+pub mod Addresses
+pub mod Dialling
