@@ -1,5 +1,5 @@
 -- Endpoints in memory: what is told of a call, and when the store denies.
-use Rattle.std.proofs.Common.{◌≡◌, ℕ, List, [], ◌∷◌, ◌++◌, length, true, false, refl, ap, inl, inr, arith}
+use Rattle.std.proofs.Common.{◌≡◌, ℕ, List, [], ◌∷◌, ◌++◌, length, true, false, refl, sym, ap, subst, inl, inr, arith}
 use Rattle.std.specs.Prelude.{Option, Some, None, Result, Ok, Err}
 use Rattle.ev_types.specs.Denials.{carry}
 use Rattle.ev_types.specs.declared.answer.Answer.{Answer}
@@ -16,12 +16,19 @@ sent_push [] (y ∷ qs) e q same = absurd (omega (arith, same))
 sent_push (x ∷ es) [] e q same = absurd (omega (arith, same))
 sent_push (x ∷ es) (y ∷ qs) e q same = ap (λ l. record { endpoint = x; ask = y } ∷ l) (sent_push es qs e q (omega (arith, same)))
 
-pub is_told : (es : List ℕ) (qs : List Ask) (e : ℕ) (q : Ask) (r : Result Answer EndFault) → length es ≡ length qs → is_sent r ≡ true
+is_told : (es : List ℕ) (qs : List Ask) (e : ℕ) (q : Ask) (r : Result Answer EndFault) → length es ≡ length qs → is_sent r ≡ true
     → IsSentBy r e q (Some (sent_of es qs)) (Some (sent_of (es ++ e ∷ []) (qs ++ q ∷ [])))
 is_told es qs e q (Ok a) same sent = ap Some (sent_push es qs e q same)
 is_told es qs e q (Err fault.NotSent) same sent = absurd (cc)
 is_told es qs e q (Err fault.Failed) same sent = ap Some (sent_push es qs e q same)
 is_told es qs e q (Err fault.Memory) same sent = inr (ap Some (sent_push es qs e q same))
+
+-- the same, where the lists are known by equations
+pub is_told_in : (es more : List ℕ) (qs later : List Ask) (e : ℕ) (q : Ask) (r : Result Answer EndFault) → more ≡ es ++ e ∷ [] → later ≡ qs ++ q ∷ [] → length es ≡ length qs → is_sent r ≡ true
+    → IsSentBy r e q (Some (sent_of es qs)) (Some (sent_of more later))
+is_told_in es more qs later e q r to asks same sent =
+    subst (λ (l : List ℕ). IsSentBy r e q (Some (sent_of es qs)) (Some (sent_of l later))) (sym to)
+    (subst (λ (l : List Ask). IsSentBy r e q (Some (sent_of es qs)) (Some (sent_of (es ++ e ∷ []) l))) (sym asks) (is_told es qs e q r same sent))
 
 pub not_told : (s : Option (List Sent)) (e : ℕ) (q : Ask) (r : Result Answer EndFault) → is_sent r ≡ false → IsSentBy r e q s s
 not_told s e q (Ok a) sent = absurd (cc)

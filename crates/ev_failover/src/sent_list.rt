@@ -30,15 +30,15 @@ impl SentList {
     }
 
     /// Notes a call that came to this, unless it was not sent.
-    #[tactic(auto, using(crate::proofs::Storing::is_told, crate::proofs::Storing::not_told))]
+    #[tactic(auto, using(crate::proofs::Storing::is_told_in, crate::proofs::Storing::not_told))]
     pub fn note(&mut self, endpoint: u32, ask: &Ask, came: &Result<Answer, EndFault>)
         ensures { IsSentBy came.now endpoint ask.now (Some (sent_of self.old.to.items self.old.asks.items)) (Some (sent_of self.new.to.items self.new.asks.items)) }
     {
-        if !is_sent(came) {
+        if is_sent(came) {
+            self.to = self.to.and(&endpoint);
+            self.asks = self.asks.and(ask);
             return;
         }
-        self.to = self.to.and(&endpoint);
-        self.asks = self.asks.and(ask);
     }
 }
 
