@@ -1,5 +1,3 @@
 pub mod Turning
 pub mod Outcome
 pub mod Storing
-pub mod Parts
-pub mod Placing

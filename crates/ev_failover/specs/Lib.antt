@@ -3,5 +3,3 @@ pub mod Endpoints
 pub mod Turns
 pub mod Theorem
 pub mod Memory
-pub mod Addresses
-pub mod Dialling
