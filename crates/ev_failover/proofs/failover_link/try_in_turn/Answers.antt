@@ -14,7 +14,7 @@ ends-preserved g c =
       fits = c.try_one-came-in-ends.ensures.fits;
       tries = tries_on g.E.Endpoints.came g.E.Endpoints.sent _ _ _ _ _ _ _ _ _ _ c.and.ensures c.ends.invariant.tries c.ends.invariant.place c.try_one-came-in-ends.ensures.came c.try_one-came-in-ends.ensures.sent;
       place = places_on _ _ _ _ _ _ _ c.and.ensures c.ends.invariant.place c.try_one-came-in-ends.ensures.place;
-      went_on = went_on_more _ _ _ _ c.and.ensures c.ends.invariant.went_on (sym c.goes_on.ensures ∙ c.if-goes_on.true);
+      went_on = went_on_more c.args.ask.now c.ends.earlier.items c.and.result.items c.ends.came c.and.ensures c.ends.invariant.went_on (sym c.goes_on.ensures ∙ c.if-goes_on.true);
       tried = omega arith;
       once = omega arith;
     }
