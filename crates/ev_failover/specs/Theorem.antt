@@ -36,3 +36,7 @@ FailsOnly q size tries =
 abbrev pub CarriesEnd : Store → Ask → Result Answer EndFault → Store → Type 0
 CarriesEnd s q (Ok a) t = carry s q ≡ Some (t, a)
 CarriesEnd s q (Err e) t = t ≡ s
+
+-- each call of an endpoint does so, by what the endpoints came to and by the store that they have
+abbrev pub AreOfOneStore : {E : Type 0} → (E → ℕ → Ask → Result Answer EndFault → E → Type 0) → (E → Store) → Ask → Type 0
+AreOfOneStore {E} came store q = (a b : E) (e : ℕ) (r : Result Answer EndFault) → came a e q r b → CarriesEnd (store a) q r (store b)

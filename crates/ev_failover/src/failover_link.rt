@@ -164,16 +164,14 @@ fn counted(failures: u64, came: &Result<Answer, CallFault>) -> u64
 }
 
 impl<E: Endpoints + Drop> Etcd for FailoverLink<E> {
-    ghost use Rattle.std.specs.Prelude.{◌≡◌, ℕ, false, All, Some, Err, Result, IfOk};
+    ghost use Rattle.std.specs.Prelude.{◌≡◌, false, All, Some, Err, IfOk};
     ghost use Rattle.ev_types.specs.Store.{Store};
-    ghost use Rattle.ev_types.specs.declared.answer.Answer.{Answer as SomeAnswer};
     ghost use Rattle.ev_call.specs.Asks.{IsGrantable};
     ghost use Rattle.ev_call.specs.Calls.{calls_of, failures_after, with_call};
     ghost use Rattle.ev_call.specs.Fitting.{Fits};
     ghost use Rattle.ev_call.specs.Honest.{CarriesCall, IsHonestAnswer};
-    ghost use Rattle.ev_failover.specs.declared.endpoints.EndFault.{EndFault as SomeFault};
     ghost use Rattle.ev_failover.specs.Reading.{is_reading};
-    ghost use Rattle.ev_failover.specs.Theorem.{CarriesEnd, FailsOnly, NoneTwice, SendsOnce};
+    ghost use Rattle.ev_failover.specs.Theorem.{AreOfOneStore, FailsOnly, NoneTwice, SendsOnce};
     ghost use Rattle.ev_failover.specs.Turns.{IsCall, Tries, places, places_after};
 
     ghost failures = { λ l. l.failures };
@@ -200,7 +198,7 @@ impl<E: Endpoints + Drop> Etcd for FailoverLink<E> {
         // An answer is as honest as the endpoints' are.
         ensures honest { (s t : Store) → All (λ r. IfOk r (IsHonestAnswer s t ask.now)) self.new.tries.items → IfOk result (IsHonestAnswer s t ask.now) }
         // Over endpoints of one store that nobody else changes, so is the link.
-        ensures alone { (store : E → Store) → ((a b : E) (e : ℕ) (r : Result SomeAnswer SomeFault) → E.came a e ask.now r b → CarriesEnd (store a) ask.now r (store b)) → CarriesCall (store self.old.ends) ask.now result (store self.new.ends) }
+        ensures alone { (store : E → Store) → AreOfOneStore E.came store ask.now → CarriesCall (store self.old.ends) ask.now result (store self.new.ends) }
     {
         let mut earlier = GhostHistory::new();
         let last = try_in_turn(&mut self.ends, &mut self.current, ask, &mut earlier);
