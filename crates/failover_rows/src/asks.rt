@@ -61,7 +61,10 @@ fn ask_of(alloc: Global, name: &str) -> Result<Option<Ask>, Memory>
         return Ok(Some(transaction(alloc, read, Some(put))?));
     }
     if name == "begin" {
-        return Ok(Some(begin_ask(alloc, 0)?));
+        let Ask::Txn(first) = begin_ask(alloc, 0)? else {
+            return Ok(None);
+        };
+        return Ok(Some(Ask::Txn(first)));
     }
     if name == "range" {
         return Ok(Some(Ask::Range(head_range(alloc)?)));
