@@ -1,0 +1,5 @@
+pub mod Reading
+pub mod Endpoints
+pub mod Turns
+pub mod Theorem
+pub mod Memory

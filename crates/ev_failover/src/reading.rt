@@ -1,0 +1,36 @@
+//! Asks that only read.
+
+ghost use Rattle.std.specs.Prelude.{◌≡◌, ◌&&◌};
+ghost use Rattle.std.specs.List.{list_all};
+ghost use Rattle.ev_failover.specs.Reading.{are_reads, is_read, is_reading};
+
+use ev_types::{Act, Ask};
+
+/// Whether an operation of a transaction is a range.
+fn is_read(act: &Act) -> bool
+    ensures { result ≡ is_read act.now }
+{
+    match act {
+        Act::Range(_) => true,
+        Act::Put { .. } | Act::Delete { .. } => false,
+    }
+}
+
+/// Whether each operation of a list is a range.
+fn are_reads(acts: &[Act]) -> bool
+    ensures { result ≡ are_reads acts.now }
+{
+    acts.iter().all(is_read)
+}
+
+/// Whether an ask can be carried out twice and it is as if it was carried out once: a range, a keepalive, or a transaction whose two
+/// lists put and delete nothing.
+pub fn is_reading(ask: &Ask) -> bool
+    ensures { result ≡ is_reading ask.now }
+{
+    match ask {
+        Ask::Range(_) | Ask::Alive { .. } => true,
+        Ask::Grant { .. } => false,
+        Ask::Txn(txn) => are_reads(txn.success.as_slice()) && are_reads(txn.failure.as_slice()),
+    }
+}

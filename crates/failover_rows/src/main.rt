@@ -1,0 +1,44 @@
+//! Tries the rows of the file `rows` on a link over several endpoints, and says on standard error where a row differs.
+//!
+//! A row is LEFT = RIGHT. Its right side is by hand from the rule: an ask that only reads is tried at each endpoint until one answers;
+//! any other goes on to the next only where it was not sent.
+//!
+//! | Left side | Right side |
+//! |---|---|
+//! | `mem SIZE UNSENT FAILING ASK ..` | what these asks came to, one after the other, over so many endpoints of one new store: `ok` with the revision, `failed` or `memory`, and then each try, as its endpoint's number with `ok`, `unsent`, `failed` or `memory`; at last `next` and the endpoint that is asked next. UNSENT and FAILING are the numbers, from 1, of the calls that are not sent and of those that fail, with commas, `-` for none |
+//!
+//! An ask is `head` (a transaction that reads one key), `begin` (the first transaction of a new store), `range`, `alive`, `grant`, or
+//! `else` (a transaction whose failure list puts).
+#![tactic(auto)]
+
+mod asks;
+mod memory;
+mod noted;
+
+use anyhow::Result;
+use row_files::{Rows, status_of, try_file};
+use std::alloc::Global;
+use std::process::ExitCode;
+use zx_base::Memory;
+
+/// The rows of the file.
+#[derive(Clone, Copy)]
+struct Calls;
+
+impl Rows for Calls {
+    fn found(&mut self, alloc: Global, left: &str) -> Result<Option<String>, Memory> {
+        let Some((kind, given)) = left.split_once(' ') else {
+            return Ok(None);
+        };
+        if kind == "mem" {
+            return memory::called(alloc, given);
+        }
+        Ok(None)
+    }
+}
+
+fn main(rt: HostRuntime) -> Result<ExitCode> {
+    let mut calls = Calls;
+    let failed = try_file(&rt, "rows", &mut calls)?;
+    Ok(status_of(failed))
+}
