@@ -1,8 +1,10 @@
 -- How the stream of a watch is written, piece by piece.
 use Rattle.std.proofs.Common.{◌≡◌, ◌∙◌, ℕ, ◌+◌, ◌≤◌, List, [], ◌∷◌, ◌++◌, length, take, inl, inr, refl, sym, ap, subst, arith, append-nil, append_assoc, length-append}
 use Rattle.std.proofs.lemmas.List.{take-append-le}
-use Rattle.std.specs.Prelude.{⊤, ℤ, pos, nat_abs, ◌≤ℤ◌, ◌<ℤ◌, Option, Result, Ok, Err}
+use Rattle.std.proofs.Math.Seq.{take-append-add}
+use Rattle.std.specs.Prelude.{ℤ, pos, nat_abs, ◌≤ℤ◌, ◌<ℤ◌, Option, Result, Ok, Err}
 use Rattle.zx_outside.specs.Writing.{TakesFront, Takes}
+use Rattle.zx_outside.proofs.Streams.{Takes-append, append_known-nil}
 use Rattle.ev_types.specs.declared.answer.Kv.{Kv}
 use Rattle.ev_json.specs.Messages.{canceled_text}
 use Rattle.ev_http.specs.declared.fault.HttpFault.{HttpFault}
@@ -10,12 +12,16 @@ use Rattle.ev_http.specs.declared.fault.HttpFault.TheVariants as http
 use Rattle.ev_http.specs.Chunked.{last_chunk}
 use Rattle.ev_http.specs.Sending.{Sends, Wrote}
 use Rattle.ev_http.proofs.Sending.{wrote_both}
-use Rattle.ev_gateway.specs.Sinks.{SinkTold}
+use Rattle.ev_gateway.specs.Sinks.{Rests, SinkTold}
 use Rattle.ev_gateway.specs.Streaming.{IsEnding, IsPut, Rise, Streams, WroteFront, begun, line_chunk, put_line, put_lines}
+
+-- nothing at all is a front
+pub starves : (bytes : List ℕ) (k k' : SinkTold) → Rests k k' → WroteFront (Err http.Memory) bytes k k'
+starves bytes k k' h = ((0, omega (arith), h.0 ∙ sym (append_known-nil k.taken)), h.1, h.2)
 
 pub by_wrote : (r : Result (Unit {0}) HttpFault) (bytes : List ℕ) (k k' : SinkTold) → Wrote r bytes k.taken k'.taken k.counts k'.counts k.name k'.name → WroteFront r bytes k k'
 by_wrote (Ok u) bytes k k' h = h
-by_wrote (Err http.Memory) bytes k k' h = tt
+by_wrote (Err http.Memory) bytes k k' h = absurd h
 by_wrote (Err http.WriteFault) bytes k k' h = h
 by_wrote (Err http.Head) bytes k k' h = h
 by_wrote (Err (http.Status n)) bytes k k' h = h
@@ -28,7 +34,7 @@ by_wrote (Err http.ReadFault) bytes k k' h = h
 
 pub by_sent : (r : Result (Unit {0}) HttpFault) (bytes : List ℕ) (k k' : SinkTold) → Sends r bytes k.taken k'.taken k.counts k'.counts k.name k'.name → WroteFront r bytes k k'
 by_sent (Ok u) bytes k k' h = h
-by_sent (Err http.Memory) bytes k k' h = tt
+by_sent (Err http.Memory) bytes k k' h = starves bytes k k' h
 by_sent (Err http.WriteFault) bytes k k' h = h
 by_sent (Err http.Head) bytes k k' h = h
 by_sent (Err (http.Status n)) bytes k k' h = h
@@ -42,7 +48,11 @@ by_sent (Err http.ReadFault) bytes k k' h = h
 -- one piece that was written whole, and then another or a front of it
 pub both : (r : Result (Unit {0}) HttpFault) (a b : List ℕ) (k m k' : SinkTold) → WroteFront (Ok tt) a k m → WroteFront r b m k' → WroteFront r (a ++ b) k k'
 both (Ok u) a b k m k' early late = wrote_both (Ok u) a b k.taken m.taken k'.taken k.counts m.counts k'.counts k.name m.name k'.name early late
-both (Err http.Memory) a b k m k' early late = tt
+both (Err http.Memory) a b k m k' early late = (
+  (length a + late.0.0, omega (arith, late.0.1, length-append a b), subst (λ (x : List ℕ). Takes x k.taken k'.taken) (sym (take-append-add a b late.0.0)) (Takes-append a (take late.0.0 b) k.taken m.taken k'.taken early.0 late.0.2)),
+  late.1 ∙ early.1,
+  late.2 ∙ early.2,
+)
 both (Err http.WriteFault) a b k m k' early late = wrote_both (Err http.WriteFault) a b k.taken m.taken k'.taken k.counts m.counts k'.counts k.name m.name k'.name early late
 both (Err http.Head) a b k m k' early late = absurd late
 both (Err (http.Status n)) a b k m k' early late = absurd late
@@ -59,7 +69,7 @@ longer a b taken taken' front =
 
 -- a front of a piece is a front of more
 pub cut : (f : HttpFault) (a b : List ℕ) (k k' : SinkTold) → WroteFront (Err f) a k k' → WroteFront (Err f) (a ++ b) k k'
-cut http.Memory a b k k' h = tt
+cut http.Memory a b k k' h = (longer a b k.taken k'.taken h.0, h.1, h.2)
 cut http.WriteFault a b k k' h = (longer a b k.taken k'.taken h.0, h.1, h.2)
 cut http.Head a b k k' h = absurd h
 cut (http.Status n) a b k k' h = absurd h
@@ -153,5 +163,5 @@ pub starved : (key : List ℕ) (from next : ℕ) (k m : SinkTold) → Came key f
 starved key from next k m came = record {
   bytes = so_far came.created came.puts ++ last_chunk;
   stream = record { created = came.created; puts = came.puts; next = next; ending = last_chunk; rise = came.rise; ends = inl refl; bytes_are = refl };
-  wrote = tt;
+  wrote = both (Err http.Memory) (so_far came.created came.puts) last_chunk k m m came.wrote (starves last_chunk m m (refl, refl, refl));
 }

@@ -17,7 +17,7 @@ use Rattle.ev_http.specs.declared.taking.Tally.{Tally}
 use Rattle.ev_http.specs.Messages.{HoldsRequest, ReadsRequestBody, RequestAnswer}
 use Rattle.ev_http.specs.Sending.{Sends, response_head}
 use Rattle.ev_http.specs.Taking.{Told, Took, failed, fresh}
-use Rattle.ev_gateway.specs.Sinks.{SinkTold}
+use Rattle.ev_gateway.specs.Sinks.{Rests, SinkTold}
 use Rattle.ev_gateway.specs.Streaming.{Streams}
 use Rattle.ev_gateway.specs.declared.connection.GatewayEnd.{GatewayEnd}
 use Rattle.ev_gateway.specs.declared.connection.GatewayEnd.TheVariants as ends
@@ -80,11 +80,12 @@ AnswersWatch result to body sink sink' =
 abbrev pub Answers : Result (Unit {0}) HttpFault → Route → List ℕ → SinkTold → SinkTold → Type 0
 Answers result to body sink sink' = AnswersOnce result to body sink sink' ⊎ AnswersWatch result to body sink sink'
 
--- the request is answered, or the answer was not sent
+-- the request is answered, or the answer was not sent; where memory ran out, nothing was, or a front of a watch's stream
 abbrev pub AnswersOr : Result (Unit {0}) GatewayEnd → Route → List ℕ → SinkTold → SinkTold → Type 0
 AnswersOr (Ok _) to body sink sink' = Answers (Ok tt) to body sink sink'
 AnswersOr (Err (ends.Http f)) to body sink sink' = (f ≡ http.WriteFault) × Answers (Err http.WriteFault) to body sink sink'
-AnswersOr (Err ends.Memory) to body sink sink' = Unit {0}
+AnswersOr (Err ends.Memory) to body sink sink' =
+    Rests sink sink' ⊎ ((to ≡ route.Watch) × (from : ℤ) × (key : List ℕ) × reads_watch body from key × Streams (Err http.Memory) key (nat_abs from) sink sink')
 AnswersOr (Err ends.Ended) to body sink sink' = ⊥
 AnswersOr (Err ends.Limit) to body sink sink' = ⊥
 
@@ -96,14 +97,17 @@ IsCutBy f (ends.Http g) = (g ≡ f) × (f ≢ http.Memory) × (f ≢ http.Ended 
 IsCutBy f ends.Limit = ⊥
 
 -- What one turn came to: a request was read and answered; or the source ended between two messages; or there is a fault of the
--- message that came, which is neither want of memory nor that end, or of the sink.
+-- message that came, which is neither want of memory nor that end, or of the sink; or memory ran out while a request was read, or
+-- was answered.
 abbrev pub Turns : Result (Unit {0}) GatewayEnd → Told → Told → SinkTold → SinkTold → Type 0
 Turns (Ok _) source source' sink sink' = (to : Route) × (body : Vec ℕ) × Receives (Ok (to, body)) source source' × Answers (Ok tt) to body.items sink sink'
 Turns (Err ends.Ended) source source' sink sink' = Receives (Err (http.Ended 0)) source source' × (sink' ≡ sink)
 Turns (Err (ends.Http f)) source source' sink sink' =
     (Receives (Err f) source source' × IsCutBy f (ends.Http f) × (sink' ≡ sink))
     ⊎ ((f ≡ http.WriteFault) × (to : Route) × (body : Vec ℕ) × Receives (Ok (to, body)) source source' × Answers (Err http.WriteFault) to body.items sink sink')
-Turns (Err ends.Memory) source source' sink sink' = Unit {0}
+Turns (Err ends.Memory) source source' sink sink' =
+    (Receives (Err http.Memory) source source' × (sink' ≡ sink))
+    ⊎ ((to : Route) × (body : Vec ℕ) × Receives (Ok (to, body)) source source' × AnswersOr (Err ends.Memory) to body.items sink sink')
 Turns (Err ends.Limit) source source' sink sink' = ⊥
 
 -- So many requests were read and answered, one after the other.
@@ -122,10 +126,10 @@ end_of (Ok _) = Ok tt
 end_of (Err http.Memory) = Err ends.Memory
 end_of (Err f) = Err (ends.Http f)
 
--- a response was sent, or a front of it up to a fault of the sink
+-- a response was sent, or a front of it up to a fault of the sink, or nothing for want of memory
 abbrev pub RespondsOr : Result (Unit {0}) GatewayEnd → ℕ → List ℕ → SinkTold → SinkTold → Type 0
 RespondsOr (Ok _) status text sink sink' = Responds (Ok tt) status text sink sink'
 RespondsOr (Err (ends.Http f)) status text sink sink' = (f ≡ http.WriteFault) × Responds (Err http.WriteFault) status text sink sink'
-RespondsOr (Err ends.Memory) status text sink sink' = Unit {0}
+RespondsOr (Err ends.Memory) status text sink sink' = Rests sink sink'
 RespondsOr (Err ends.Ended) status text sink sink' = ⊥
 RespondsOr (Err ends.Limit) status text sink sink' = ⊥

@@ -1,7 +1,8 @@
 -- The stream that a watch is answered by (etcd API reference, "Watch"; RFC 9112, section 7.1).
-use Rattle.std.specs.Prelude.{◌≡◌, ◌⊎◌, ⊤, ℕ, ◌+◌, ◌^◌, ℤ, pos, nat_abs, ◌≤ℤ◌, ◌<ℤ◌, List, [], ◌∷◌, ◌++◌, Result, Ok, Err}
+use Rattle.std.specs.Prelude.{◌≡◌, ◌⊎◌, ℕ, ◌+◌, ◌^◌, ℤ, pos, nat_abs, ◌≤ℤ◌, ◌<ℤ◌, List, [], ◌∷◌, ◌++◌, Result, Ok, Err}
 use Rattle.ev_types.specs.declared.answer.Kv.{Kv}
 use Rattle.ev_json.specs.Messages.{canceled_text, line_text}
+use Rattle.zx_outside.specs.Writing.{TakesFront}
 use Rattle.ev_http.specs.declared.fault.HttpFault.{HttpFault}
 use Rattle.ev_http.specs.declared.fault.HttpFault.TheVariants as http
 use Rattle.ev_http.specs.Chunked.{chunk, last_chunk, stream_head}
@@ -49,12 +50,12 @@ pub record IsStream (key : List ℕ) (from : ℕ) (bytes : List ℕ) : Type 0 wh
   pub ends : IsEnding next ending
   pub bytes_are : bytes ≡ (begun created ++ put_lines puts) ++ ending
 
--- These bytes were written, or a front of them up to a fault of the sink. Nothing is said where memory ran out.
+-- These bytes were written; or a front of them, up to a fault of the sink or until memory ran out.
 abbrev pub WroteFront : Result (Unit {0}) HttpFault → List ℕ → SinkTold → SinkTold → Type 0
-WroteFront (Err http.Memory) bytes sink sink' = ⊤
+WroteFront (Err http.Memory) bytes sink sink' = TakesFront bytes sink.taken sink'.taken × (sink'.counts ≡ sink.counts) × (sink'.name ≡ sink.name)
 WroteFront result bytes sink sink' = Wrote result bytes sink.taken sink'.taken sink.counts sink'.counts sink.name sink'.name
 
--- A stream of this key from this revision on was written, or a front of one up to a fault of the sink.
+-- A stream of this key from this revision on was written; or a front of one, up to a fault of the sink or until memory ran out.
 pub record Streams (result : Result (Unit {0}) HttpFault) (key : List ℕ) (from : ℕ) (sink sink' : SinkTold) : Type 0 where
   pub bytes : List ℕ
   pub stream : IsStream key from bytes

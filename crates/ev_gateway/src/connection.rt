@@ -77,7 +77,7 @@ fn refuse<K: Sink>(alloc: Global, sink: &mut K) -> Result<(), GatewayEnd>
 }
 
 /// Answers a request to watch a key.
-#[tactic(auto, using(crate::proofs::Ending::watched, crate::proofs::Ending::refused, crate::proofs::Reading::watchable))]
+#[tactic(auto, using(crate::proofs::Ending::watched, crate::proofs::Ending::refused, crate::proofs::Ending::unsent, crate::proofs::Reading::watchable))]
 fn answer_watch<R: Wait, K: Sink>(
     rt: &R,
     alloc: Global,
@@ -101,7 +101,7 @@ fn answer_watch<R: Wait, K: Sink>(
 }
 
 /// Answers a request that is no watch.
-#[tactic(auto, using(crate::proofs::Ending::asked))]
+#[tactic(auto, using(crate::proofs::Ending::asked, crate::proofs::Ending::unsent))]
 fn answer_ask<R: Wait, K: Sink>(
     rt: &R,
     alloc: Global,

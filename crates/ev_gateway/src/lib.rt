@@ -9,8 +9,9 @@
 //!
 //! # Limits
 //!
-//! What is no HTTP request ends the connection, as does want of memory. A watch holds its connection until the store is closed, a
-//! write fails, or its revision was compacted; it notices a peer that went away when it writes the next line.
+//! What is no HTTP request ends the connection, as does want of memory: then nothing of an answer was sent, or a front of a watch's
+//! stream. A watch holds its connection until the store is closed, a write fails, or its revision was compacted; it notices a peer
+//! that went away when it writes the next line.
 #![tactic(auto)]
 
 mod connection;

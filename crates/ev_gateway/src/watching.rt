@@ -25,7 +25,7 @@ fn with_feed(line: Vec<u8>) -> Result<Vec<u8>, Memory>
 }
 
 /// Sends a line as one chunk.
-#[tactic(auto, using(crate::proofs::Streaming::by_sent))]
+#[tactic(auto, using(crate::proofs::Streaming::by_sent, crate::proofs::Streaming::starves))]
 fn send_line<K: Sink>(alloc: Global, sink: &mut K, line: Vec<u8>) -> Result<(), HttpFault>
     ensures { WroteFront result (line_chunk line.items) (sink_told K.taken K.counts K.name sink.old) (sink_told K.taken K.counts K.name sink.new) }
 {
@@ -36,6 +36,7 @@ fn send_line<K: Sink>(alloc: Global, sink: &mut K, line: Vec<u8>) -> Result<(), 
 }
 
 /// Sends the line of one put.
+#[tactic(auto, using(crate::proofs::Streaming::starves))]
 fn send_put<K: Sink>(alloc: Global, sink: &mut K, kv: Kv) -> Result<(), HttpFault>
     ensures { WroteFront result (put_line kv) (sink_told K.taken K.counts K.name sink.old) (sink_told K.taken K.counts K.name sink.new) }
 {
@@ -48,6 +49,7 @@ fn send_put<K: Sink>(alloc: Global, sink: &mut K, kv: Kv) -> Result<(), HttpFaul
 }
 
 /// Sends the line that says that the watch was created.
+#[tactic(auto, using(crate::proofs::Streaming::starves))]
 fn send_created<K: Sink>(alloc: Global, sink: &mut K, revision: i64) -> Result<(), HttpFault>
     ensures { WroteFront result (line_chunk (line_text [] revision)) (sink_told K.taken K.counts K.name sink.old) (sink_told K.taken K.counts K.name sink.new) }
 {
@@ -69,6 +71,7 @@ fn begin<K: Sink>(alloc: Global, sink: &mut K, revision: i64) -> Result<(), Http
 }
 
 /// Says that the revision to go on from was compacted.
+#[tactic(auto, using(crate::proofs::Streaming::starves))]
 fn send_canceled<K: Sink>(
     alloc: Global,
     sink: &mut K,
