@@ -19,7 +19,7 @@ fi
 [ -x "$program" ] || { echo "no program at $program: build it, or name one by ZETCD" >&2; exit 2; }
 
 work=$(mktemp -d)
-trap 'rm -rf "$work"' EXIT
+. "$here/bench/group.sh"
 jars=/usr/share/java/zookeeper.jar:/usr/share/java/zookeeper-jute.jar:/usr/share/java/zookeeper-recipes-lock.jar
 jars=$jars:/usr/share/java/zookeeper-recipes-election.jar:/usr/share/java/slf4j-api.jar:/usr/share/java/slf4j-nop.jar
 for jar in /usr/share/java/netty-*.jar /usr/share/java/metrics-core.jar /usr/share/java/snappy-java.jar; do
@@ -29,4 +29,4 @@ javac -nowarn -cp "$jars" -d "$work" "$here/bench/clients/Clients.java" 2>/dev/n
 gcc -O1 -DTHREADED -o "$work/clients" "$here/bench/clients/clients.c" -lzookeeper_mt
 export CLASSPATH=$work:$jars
 # Debian's Python has kazoo; another one before it on the path may not.
-/usr/bin/python3 "$here/bench/clients/run.py" "$program" "$work" "$@"
+in_group /usr/bin/python3 "$here/bench/clients/run.py" "$program" "$work" "$@"

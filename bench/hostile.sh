@@ -22,22 +22,6 @@ fi
 [ -x "$program" ] || { echo "no program at $program: build it, or name one by ZETCD" >&2; exit 2; }
 
 work=$(mktemp -d /dev/shm/zetcd-hostile.XXXXXX)
-checks=
-# What was started is one group of processes, which ends with this script, however that ends.
-finish() {
-  trap - EXIT INT TERM HUP
-  if [ -n "$checks" ]; then
-    kill -TERM -- "-$checks" 2>/dev/null || true
-    for _ in $(seq 50); do kill -0 -- "-$checks" 2>/dev/null || break; sleep 0.1; done
-    kill -KILL -- "-$checks" 2>/dev/null || true
-  fi
-  rm -rf "$work"
-}
-trap finish EXIT
-trap 'finish; exit 130' INT TERM HUP
-set -m
-PYTHONDONTWRITEBYTECODE=1 PYTHONPATH="$here/bench/clients" /usr/bin/python3 "$here/bench/hostile/run.py" "$program" "$work" "$@" &
-checks=$!
-status=0
-wait "$checks" || status=$?
-exit "$status"
+. "$here/bench/group.sh"
+export PYTHONDONTWRITEBYTECODE=1 PYTHONPATH="$here/bench/clients"
+in_group /usr/bin/python3 "$here/bench/hostile/run.py" "$program" "$work" "$@"

@@ -18,6 +18,6 @@ if [ -n "$missing" ]; then
 fi
 [ -x "$program" ] || { echo "no program at $program: build it, or name one by ZETCD" >&2; exit 2; }
 work=$(mktemp -d /dev/shm/zetcd-bench.XXXXXX)
-trap 'rm -rf "$work"' EXIT
+. "$here/bench/group.sh"
 gcc -O2 -o "$work/load" "$here/bench/clients/load.c" -lpthread
-/usr/bin/python3 "$here/bench/clients/speed.py" "$program" "$work" "${1:-3}"
+in_group /usr/bin/python3 "$here/bench/clients/speed.py" "$program" "$work" "${1:-3}"

@@ -1,5 +1,6 @@
 """The checks of bench/clients.sh: run.py PROGRAM FOLDER [PART..]."""
 import logging
+import signal
 import sys
 import time
 import traceback
@@ -14,6 +15,8 @@ PARTS = {"basics": basics.checks, "faults": faults.checks, "ends": ends.checks, 
 
 def main():
     logging.disable(logging.CRITICAL)
+    for it in (signal.SIGTERM, signal.SIGHUP):
+        signal.signal(it, lambda *_: sys.exit(130))
     program, work, parts = sys.argv[1], sys.argv[2], sys.argv[3:] or list(PARTS)
     passed, failed = 0, 0
     for part in parts:

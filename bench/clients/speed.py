@@ -1,6 +1,7 @@
 """The measurements of bench/serve.sh: speed.py PROGRAM FOLDER SECONDS."""
 import glob
 import os
+import signal
 import subprocess
 import sys
 import time
@@ -69,6 +70,8 @@ def idle(work, proxy, connections, seconds):
 
 
 def main():
+    for it in (signal.SIGTERM, signal.SIGHUP):
+        signal.signal(it, lambda *_: sys.exit(130))
     program, work, seconds = sys.argv[1], sys.argv[2], float(sys.argv[3])
     etcd = Etcd(work)
     zookeeper = ZooKeeper(work)

@@ -218,9 +218,9 @@ def an_answer_that_shows_nothing(program, work):
 
 
 def ended_by_watch(program, work, line_rule, fault, end, seconds, megabytes, cores=1.5):
-    """A proxy over an etcd whose watch gives what this rule sends ends with this last line, and says this fault before."""
+    """A proxy over an etcd whose watch gives what this rule sends ends with this last line, and says this fault before. The other client
+    has no watch, and goes on until then."""
     with staged(program, work, lambda port: Relay(port, line_rule=line_rule)) as it:
-        it.other.is_over.set()
         since = time.time()
         status = it.proxy.status(seconds)
         took = time.time() - since
@@ -276,29 +276,47 @@ def a_watch_with_a_byte_a_second(program, work):
         return it.told(f"{cores:.2f} processors")
 
 
+def left_by_16(it):
+    """16 clients that have a watch armed make an update, whose reply waits for the watch, and go away. Gives how many processors the
+    proxy takes while they wait, and after they left."""
+    waiting = [Client(it.port) for _ in range(16)]
+    for number, client in enumerate(waiting):
+        client.ask(EXISTS, read(b"/never", True))
+        client.send(CREATE, create(b"/waits-%d" % number))
+    time.sleep(5)
+    since = time.time()
+    time.sleep(10)
+    before = it.meter.cores(since)
+    for client in waiting:
+        client.end()
+    time.sleep(2)
+    since = time.time()
+    time.sleep(20)
+    return before, it.meter.cores(since)
+
+
+def silent(port):
+    """A relay whose watch gives nothing after its first line."""
+    return Relay(port, line_rule=lambda line, out: b'"created":true' not in line)
+
+
 def a_watch_that_falls_silent(program, work):
-    """The watch gives nothing after its first line. 16 clients that have a watch armed make an update, whose reply waits for it, and go
-    away."""
-    with staged(program, work, lambda port: Relay(port, line_rule=lambda line, out: b'"created":true' not in line)) as it:
-        waiting = [Client(it.port) for _ in range(16)]
-        for number, client in enumerate(waiting):
-            client.ask(EXISTS, read(b"/never", True))
-            client.send(CREATE, create(b"/waits-%d" % number))
-        time.sleep(5)
-        since = time.time()
-        time.sleep(10)
-        before = it.meter.cores(since)
-        for client in waiting:
-            client.end()
-        time.sleep(2)
-        since = time.time()
-        time.sleep(20)
-        after, causes = it.meter.cores(since), it.causes(range(2, 18), 2)
+    """Those who wait for it, and those who left, cost next to nothing."""
+    with staged(program, work, silent) as it:
+        before, after = left_by_16(it)
         it.bounds(20)
         text = it.told(f"{before:.2f} processors while 16 wait, {after:.2f} after they left")
-        assert before < 0.5 and after < 0.5, text
-        assert all(cause and cause.startswith("client") for cause in causes), (text, causes)
+        assert before < 0.2 and after < 0.2, text
         return text
+
+
+def clients_that_leave_a_silent_watch(program, work):
+    """Each gives up its place soon after it left."""
+    with staged(program, work, silent) as it:
+        left_by_16(it)
+        causes = it.causes(range(2, 18), 2)
+        assert all(cause and cause.startswith("client") for cause in causes), causes
+        return it.told()
 
 
 def a_watch_that_never_stops(program, work):
@@ -363,5 +381,5 @@ def an_etcd_whose_door_is_full(program, work):
 
 checks = [answers_that_come_slowly, answers_that_never_come, answers_of_8_MB, answers_that_are_too_long, answers_of_another,
           a_watch_with_a_line_of_8_MB_and_a_byte, a_watch_with_a_line_of_garbage_a_second, a_watch_with_a_byte_a_second,
-          a_watch_that_never_stops, an_etcd_that_says_nothing_at_first, an_etcd_whose_door_is_full]
-unmet = [a_watch_that_falls_silent, an_answer_that_shows_nothing]
+          a_watch_that_falls_silent, a_watch_that_never_stops, an_etcd_that_says_nothing_at_first, an_etcd_whose_door_is_full]
+unmet = [clients_that_leave_a_silent_watch, an_answer_that_shows_nothing]

@@ -200,5 +200,4 @@ def is_listening(port):
         return False
 
 
-checks = [dials_that_close, dials_that_are_silent, a_proxy_with_few_descriptors]
-unmet = [clients_that_keep_a_proxy_from_its_end]
+checks = [dials_that_close, dials_that_are_silent, a_proxy_with_few_descriptors, clients_that_keep_a_proxy_from_its_end]

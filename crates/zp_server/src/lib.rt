@@ -21,9 +21,10 @@
 //!
 //! A call ends once `limit` clients were accepted and have ended. It ends early where the door is broken, the sink has a fault or
 //! memory is refused; then nobody is waited for. Where the watch worker cannot go on it closes the hub, since clients do better at
-//! another proxy: no further client is accepted, each connection ends within about a second, and the call says why. To wake the
-//! listener, which waits for a client, the watch worker dials the proxy's own address then, after as long a pause as before any of
-//! its dials. The listener looks at the hub before each accept and after it.
+//! another proxy: no further client is accepted, each connection ends, and the call says why. A connection ends at its next idle
+//! turn. Over sockets that is its next read once the watch worker has rung, or comes within about a second, but for one that is in a
+//! write or waits for etcd then. To wake the listener, which waits for a client, the watch worker dials the proxy's own address, after
+//! as long a pause as before any of its dials. The listener looks at the hub before each accept and after it.
 //!
 //! # What is written
 //!

@@ -24,6 +24,15 @@ const LONGEST_WAIT: u64 = 1000;
 pub struct SocketBell {
     waker: Waker,
     is_armed: AtomicBool,
+    /// It was rung, armed or not, or was just hung; and no idle turn came since.
+    is_rung: AtomicBool,
+}
+
+impl SocketBell {
+    /// Whether an idle turn is due. The caller answers one, which is after each ring so far.
+    fn was_rung(&self) -> bool {
+        self.is_rung.swap(false, Ordering::SeqCst)
+    }
 }
 
 impl Bell for SocketBell {
@@ -32,6 +41,7 @@ impl Bell for SocketBell {
     }
 
     fn ring(&self) {
+        self.is_rung.store(true, Ordering::SeqCst);
         if self.is_armed.swap(false, Ordering::SeqCst) {
             let _ = self.waker.wake();
         }
@@ -43,6 +53,7 @@ impl Bell for SocketBell {
 pub struct Ear {
     poll: Poll,
     events: Events,
+    bell: Arc<SocketBell, Global>,
     /// The system reported a change of the stream only if it came after the last read found nothing more.
     is_drained: bool,
     /// The peer sends no more, or the stream broke: a read answers at once.
@@ -63,18 +74,26 @@ impl Ear {
             .register(&mut SourceFd(&fd), PEER, Interest::READABLE)
             .ok()?;
         let events = Events::with_capacity(alloc, 4).ok()?;
+        // Who hangs a bell may have missed the rings before.
         let bell = SocketBell {
             waker,
             is_armed: AtomicBool::new(false),
+            is_rung: AtomicBool::new(true),
         };
         let bell = Arc::new(alloc, bell).ok()?;
         let ear = Ear {
             poll,
             events,
+            bell: Arc::try_clone(&bell).ok()?,
             is_drained: false,
             is_closing: false,
         };
         Some((ear, bell))
+    }
+
+    /// Whether the bell was rung since the last idle turn, so that the next one is due.
+    pub fn was_rung(&self) -> bool {
+        self.bell.was_rung()
     }
 
     /// Waits for a byte or the bell, and says whether it is worth reading now.
@@ -96,7 +115,19 @@ impl Ear {
                 self.is_closing = event.is_read_closed() || event.is_error();
             }
         }
+        if !hears {
+            // The idle turn that follows is the one that was due.
+            let _due = self.was_rung();
+        }
         hears
+    }
+
+    /// Waits for the bell, where the peer has ended.
+    pub fn rest(&mut self) {
+        if !self.was_rung() {
+            let longest = Duration::from_millis(LONGEST_WAIT);
+            let _woken = self.poll.poll(&mut self.events, Some(longest));
+        }
     }
 
     /// Notes whether the last read took all that there was.

@@ -6,7 +6,8 @@
 //! Both ends of a TCP stream share one descriptor. What is written goes out at once (`TCP_NODELAY`). A read waits at
 //! most 10 milliseconds for a byte, or what the system makes of them, and then answers an idle turn. A source reads
 //! the system's bytes into a buffer of its own and hands them out from there, so reading byte by byte is cheap. After
-//! the peer's end the system is not asked again. A write that takes no byte within 60 seconds is a fault.
+//! the peer's end the system is not asked again, and each read waits before it answers the end: for the bell, at most a second, or
+//! 10 milliseconds where there is none. A write that takes no byte within 60 seconds is a fault.
 //!
 //! A peer that was accepted and says nothing does not hold its place for good: where 60 seconds passed since its last
 //! byte, an idle turn is a fault instead. A stream that was dialled has no such limit.
@@ -18,6 +19,10 @@
 //! no turns in between. The reader arms the bell before it looks at what the other thread gives, and the other thread
 //! rings after it gave: so a ring between the look and the wait ends the wait, and none is lost. A bell costs the
 //! source two descriptors more.
+//!
+//! A reader that looks in its idle turns alone gets one after each ring, armed or not, whatever its peer sends: the next
+//! read that would ask the system for bytes is idle. So is the first one after the bell was hung. Where there is no bell,
+//! 100 reads in a row that gave bytes are followed by an idle turn.
 //!
 //! # Accepts and dials
 //!

@@ -7,17 +7,23 @@ ghost use Rattle.zx_sockets.specs.Refilling.{Refilled};
 
 use crate::bell::{Ear, SocketBell};
 use std::alloc::{AllocError, Global};
-use std::io;
 use std::io::{ErrorKind, Read};
 use std::net::{Net as SystemNet, Shutdown, TcpStream};
 use std::sync::Arc;
 use std::time::{Clock as SystemClock, Duration, Instant};
+use std::{io, thread};
 use zx_net::Wakes;
 use zx_outside::{Got, Source};
 use zx_words::HangsUp;
 
 /// How many bytes are asked of the system at once.
 const ROOM: usize = 8192;
+
+/// Without a bell, so many reads in a row that give bytes are followed by an idle turn.
+const MOST_IN_A_ROW: u32 = 100;
+
+/// Without a bell, the wait before the end is answered again, in milliseconds.
+const END_WAIT: u64 = 10;
 
 /// The source end of a TCP stream.
 #[derive(Drop)]
@@ -32,6 +38,8 @@ pub struct SocketSource<R> {
     faults: u64,
     idles: u64,
     name: u64,
+    /// How many reads of the system in a row gave bytes, at most 2^32 - 1.
+    row: u32,
     /// How long the peer may say nothing, and since when it does; `None`: for ever.
     patience: Option<Patience>,
     ear: Option<Ear>,
@@ -99,6 +107,22 @@ fn hears(ear: &mut Option<Ear>) -> bool {
     }
 }
 
+/// Whether an idle turn is due, whatever the peer sends, after so many reads in a row that gave bytes.
+fn is_due(ear: &Option<Ear>, row: u32) -> bool {
+    match ear {
+        None => row >= MOST_IN_A_ROW,
+        Some(ear) => ear.was_rung(),
+    }
+}
+
+/// Waits for the bell, or a moment where there is none.
+fn rest<R: SystemClock>(rt: &R, ear: &mut Option<Ear>) {
+    match ear {
+        None => thread::sleep(rt, Duration::from_millis(END_WAIT)),
+        Some(ear) => ear.rest(),
+    }
+}
+
 /// Notes whether the last read took all that there was.
 fn note(ear: &mut Option<Ear>, is_drained: bool) {
     if let Some(ear) = ear {
@@ -129,9 +153,24 @@ impl<R: SystemClock + Copy> SocketSource<R> {
             faults: 0,
             idles: 0,
             name,
+            row: 0,
             patience,
             ear: None,
         })
+    }
+
+    /// Counts an idle turn.
+    fn idle_turn(&mut self) -> Got
+        requires empty { self.old.at ≡ self.old.end }
+        requires open { self.old.ended ≡ false }
+        ensures filled { Refilled result self.new.at self.new.end }
+        ensures counts { record { faults = self.new.faults; idles = self.new.idles } ≡ counts_after_read result (record { faults = self.old.faults; idles = self.old.idles }) }
+        ensures end { EndsForGood result self.old.ended self.new.ended }
+        ensures named { self.new.name ≡ self.old.name }
+    {
+        self.row = 0;
+        self.idles = self.idles.saturating_add(1);
+        Got::Nothing
     }
 
     /// Counts a turn in which no byte came: an idle turn, or a fault where the peer has said nothing for too long.
@@ -147,11 +186,11 @@ impl<R: SystemClock + Copy> SocketSource<R> {
             self.faults = self.faults.saturating_add(1);
             return Got::Failed;
         }
-        self.idles = self.idles.saturating_add(1);
-        Got::Nothing
+        self.idle_turn()
     }
 
-    /// Asks the system for bytes once.
+    /// Asks the system for bytes once. Where the peer has ended it waits instead, and where an idle turn is due it does neither:
+    /// nobody knows then whether the peer has said something.
     fn refill(&mut self) -> Got
         requires { self.old.at ≡ self.old.end }
         ensures filled { Refilled result self.new.at self.new.end }
@@ -160,7 +199,11 @@ impl<R: SystemClock + Copy> SocketSource<R> {
         ensures named { self.new.name ≡ self.old.name }
     {
         if self.ended {
+            rest(&self.rt, &mut self.ear);
             return Got::End;
+        }
+        if is_due(&self.ear, self.row) {
+            return self.idle_turn();
         }
         if !hears(&mut self.ear) {
             return self.pass_turn();
@@ -171,6 +214,7 @@ impl<R: SystemClock + Copy> SocketSource<R> {
             Got::Bytes(count) => {
                 self.at = 0;
                 self.end = count;
+                self.row = self.row.saturating_add(1);
                 note(&mut self.ear, count < self.room.len());
                 self.patience = renewed(&self.rt, &self.patience);
                 answer

@@ -1,6 +1,7 @@
 use crate::net::{ends_of, prepare};
 use crate::source::Patience;
-use crate::{StdClock, StdNet, ThreadSpawner};
+use crate::{SocketBell, SocketSink, SocketSource, StdClock, StdNet, ThreadSpawner};
+use std::alloc::Global;
 use std::io::Write;
 use std::net::{TcpListener, TcpStream};
 use std::sync::Arc;
@@ -14,11 +15,31 @@ use zx_outside::{Got, Sink, Source, Took};
 /// How many turns a test waits at most for what has to come.
 const TURNS: u32 = 6000;
 
+/// A source and a sink.
+type Ends = (SocketSource<HostRuntime>, SocketSink);
+
 /// An address of the loopback at which nobody listens.
 fn free_address(rt: &HostRuntime) -> Result<String, Fail> {
     let listener = TcpListener::bind(rt, "127.0.0.1:0")?;
     let port = listener.local_addr()?.port();
     Ok(format!(in rt.alloc(); "127.0.0.1:{port}")?)
+}
+
+/// Both ends of a stream that was dialled, and both ends of it as it was accepted.
+fn ends_of_a_stream(rt: HostRuntime) -> Result<(Ends, Ends), Fail> {
+    let address = free_address(&rt)?;
+    let mut net = StdNet::new(rt, rt.alloc());
+    let Ok(mut door) = net.bind(address.as_str()) else {
+        return Err(Fail::from("bind"));
+    };
+    // The dialled stream waits at the door, so one thread is enough.
+    let Ok(near) = net.dial(address.as_str()) else {
+        return Err(Fail::from("dial"));
+    };
+    let Ok(far) = net.accept(&mut door) else {
+        return Err(Fail::from("accept"));
+    };
+    Ok((near, far))
 }
 
 /// The next byte that comes.
@@ -60,6 +81,23 @@ fn turn<S: Source>(source: &mut S) -> Got {
     source.read(&mut one)
 }
 
+/// Has another thread ring a little later.
+fn ring_soon(
+    rt: HostRuntime,
+    spawner: &mut ThreadSpawner<HostRuntime>,
+    bell: &Arc<SocketBell, Global>,
+) -> Result<(), Fail> {
+    let theirs = Arc::try_clone(bell)?;
+    let job = move || {
+        thread::sleep(&rt, Duration::from_millis(100));
+        theirs.ring();
+    };
+    if spawner.start(job).is_err() {
+        return Err(Fail::from("start"));
+    }
+    Ok(())
+}
+
 #[test]
 fn the_clock_tells_the_time(rt: HostRuntime) {
     let mut clock = StdClock::new(rt);
@@ -89,18 +127,7 @@ fn a_job_runs_in_a_thread(rt: HostRuntime) -> Result<(), Fail> {
 
 #[test]
 fn bytes_pass_both_ways(rt: HostRuntime) -> Result<(), Fail> {
-    let address = free_address(&rt)?;
-    let mut net = StdNet::new(rt, rt.alloc());
-    let Ok(mut door) = net.bind(address.as_str()) else {
-        return Err(Fail::from("bind"));
-    };
-    // The dialled stream waits at the door, so one thread is enough.
-    let Ok((mut near, mut to_far)) = net.dial(address.as_str()) else {
-        return Err(Fail::from("dial"));
-    };
-    let Ok((mut far, mut to_near)) = net.accept(&mut door) else {
-        return Err(Fail::from("accept"));
-    };
+    let ((mut near, mut to_far), (mut far, mut to_near)) = ends_of_a_stream(rt)?;
     assert!(rt; turn(&mut far) == Got::Nothing);
     assert!(rt; to_far.write(b"ping") == Took::Bytes(4));
     assert!(rt; comes(&mut far, b"ping"));
@@ -115,31 +142,33 @@ fn bytes_pass_both_ways(rt: HostRuntime) -> Result<(), Fail> {
 
 #[test]
 fn a_bell_ends_a_wait(rt: HostRuntime) -> Result<(), Fail> {
-    let address = free_address(&rt)?;
-    let mut net = StdNet::new(rt, rt.alloc());
-    let Ok(mut door) = net.bind(address.as_str()) else {
-        return Err(Fail::from("bind"));
-    };
-    let Ok((near, mut to_far)) = net.dial(address.as_str()) else {
-        return Err(Fail::from("dial"));
-    };
-    let Ok((mut far, _to_near)) = net.accept(&mut door) else {
-        return Err(Fail::from("accept"));
-    };
+    let ((near, mut to_far), (mut far, _to_near)) = ends_of_a_stream(rt)?;
     let Some(bell) = far.bell() else {
         return Err(Fail::from("bell"));
     };
-    // The first turn asks the system, and finds nothing.
+    // A bell that was just hung makes the first turn idle, and the second asks the system, which has nothing.
     assert!(rt; turn(&mut far) == Got::Nothing);
-    // A bell that was rung before the wait ends it; one that is lost takes a second each time.
-    let mut was_woken = false;
+    assert!(rt; turn(&mut far) == Got::Nothing);
+    // A ring before the wait or in it ends it; one that is lost takes a second each time.
+    let mut spawner = ThreadSpawner::new(rt);
+    let (mut was_kept, mut was_woken) = (false, false);
     for _ in 0..10u32 {
         bell.arm();
         bell.ring();
         let since = Instant::now(&rt)?;
         assert!(rt; turn(&mut far) == Got::Nothing);
-        was_woken = was_woken || since.elapsed(&rt)? < Duration::from_millis(900);
+        was_kept = was_kept || since.elapsed(&rt)? < Duration::from_millis(900);
+        // What is left of that wake ends one more wait.
+        assert!(rt; turn(&mut far) == Got::Nothing);
+        bell.arm();
+        let since = Instant::now(&rt)?;
+        ring_soon(rt, &mut spawner, &bell)?;
+        assert!(rt; turn(&mut far) == Got::Nothing);
+        let took = since.elapsed(&rt)?;
+        was_woken = was_woken
+            || (took >= Duration::from_millis(100) && took < Duration::from_millis(900));
     }
+    assert!(rt; was_kept);
     assert!(rt; was_woken);
     assert!(rt; to_far.write(b"ping") == Took::Bytes(4));
     assert!(rt; comes(&mut far, b"ping"));
@@ -147,6 +176,77 @@ fn a_bell_ends_a_wait(rt: HostRuntime) -> Result<(), Fail> {
     drop(near);
     assert!(rt; next_byte(&mut far) == None);
     assert!(rt; turn(&mut far) == Got::End);
+    Ok(())
+}
+
+#[test]
+fn a_ring_makes_the_next_turn_idle(rt: HostRuntime) -> Result<(), Fail> {
+    let ((_near, mut to_far), (mut far, _to_near)) = ends_of_a_stream(rt)?;
+    let Some(bell) = far.bell() else {
+        return Err(Fail::from("bell"));
+    };
+    // Nobody arms the bell, and bytes are there each time: without the ring the turn would give them.
+    for round in 0..10u32 {
+        assert!(rt; to_far.write(b"ping") == Took::Bytes(4));
+        if round > 0 {
+            bell.ring();
+        }
+        assert!(rt; turn(&mut far) == Got::Nothing);
+        assert!(rt; comes(&mut far, b"ping"));
+    }
+    Ok(())
+}
+
+#[test]
+fn a_peer_that_never_pauses_leaves_idle_turns(rt: HostRuntime) -> Result<(), Fail> {
+    let ((_near, mut to_far), (mut far, _to_near)) = ends_of_a_stream(rt)?;
+    // Each byte is there before it is asked for, and goes through the system by itself.
+    let (mut idles, mut bytes) = (0u32, 0u32);
+    for _ in 0..300u32 {
+        assert!(rt; to_far.write(b"x") == Took::Bytes(1));
+        match turn(&mut far) {
+            Got::Bytes(_) => bytes += 1,
+            Got::Nothing => {
+                idles += 1;
+                assert!(rt; comes(&mut far, b"x"));
+            }
+            Got::End | Got::Failed => return Err(Fail::from("read")),
+        }
+    }
+    assert!(rt; idles >= 2);
+    assert!(rt; bytes > 0);
+    Ok(())
+}
+
+#[test]
+fn an_end_is_answered_again_after_a_wait(rt: HostRuntime) -> Result<(), Fail> {
+    let ((near, to_far), (mut far, _to_near)) = ends_of_a_stream(rt)?;
+    drop(to_far);
+    drop(near);
+    assert!(rt; next_byte(&mut far) == None);
+    let since = Instant::now(&rt)?;
+    for _ in 0..10u32 {
+        assert!(rt; turn(&mut far) == Got::End);
+    }
+    assert!(rt; since.elapsed(&rt)? >= Duration::from_millis(100));
+    let Some(bell) = far.bell() else {
+        return Err(Fail::from("bell"));
+    };
+    // The new bell counts as rung, and the peer's end may end one wait. Each further wait takes a second unless the bell is rung.
+    let since = Instant::now(&rt)?;
+    for _ in 0..4u32 {
+        assert!(rt; turn(&mut far) == Got::End);
+    }
+    assert!(rt; since.elapsed(&rt)? >= Duration::from_millis(900));
+    let mut was_woken = false;
+    for _ in 0..10u32 {
+        bell.arm();
+        bell.ring();
+        let since = Instant::now(&rt)?;
+        assert!(rt; turn(&mut far) == Got::End);
+        was_woken = was_woken || since.elapsed(&rt)? < Duration::from_millis(900);
+    }
+    assert!(rt; was_woken);
     Ok(())
 }
 
