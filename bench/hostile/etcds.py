@@ -6,7 +6,7 @@ from clients import crowd
 from cluster import Proxy, free_port, until
 from relay import Over, Relay, chunk, head
 from stage import Meter, staged
-from wire import CREATE, EXISTS, GET, SET, Client, Closed, create, dial, is_cut, put, read
+from wire import CREATE, EXISTS, GET, PING, SET, Client, Closed, create, dial, is_cut, put, read
 
 MOST_BODY = 8_388_608
 SPOILT = b"/spoilt"
@@ -319,6 +319,28 @@ def clients_that_leave_a_silent_watch(program, work):
         return it.told()
 
 
+def a_watch_whose_peer_is_gone(program, work):
+    """The stream of the watch is gone without a word. It is dialled again soon after a minute, and who waits is told of what was
+    missed."""
+    with staged(program, work, lambda port: Relay(port)) as it:
+        waiting, maker = Client(it.port, seconds=180), Client(it.port)
+        waiting.ask(EXISTS, read(b"/missed", True))
+        it.relay.forget()
+        since = time.time()
+        maker.does(CREATE, create(b"/missed"))
+        maker.end()
+        frame = b""
+        while b"/missed" not in frame and time.time() < since + 150:
+            waiting.send(PING, xid=-2)
+            frame = waiting.receive()
+            time.sleep(0.5)
+        took = time.time() - since
+        assert b"/missed" in frame, "nothing is told"
+        assert it.says("watch of"), it.proxy.faults()
+        it.bounds(20)
+        return it.told(f"told after {took:.0f} s")
+
+
 def a_watch_that_never_stops(program, work):
     """The watch gives lines without updates as fast as they can be read."""
     def rule(line, out):
@@ -381,5 +403,6 @@ def an_etcd_whose_door_is_full(program, work):
 
 checks = [answers_that_come_slowly, answers_that_never_come, answers_of_8_MB, answers_that_are_too_long, answers_of_another,
           a_watch_with_a_line_of_8_MB_and_a_byte, a_watch_with_a_line_of_garbage_a_second, a_watch_with_a_byte_a_second,
-          a_watch_that_falls_silent, a_watch_that_never_stops, an_etcd_that_says_nothing_at_first, an_etcd_whose_door_is_full]
+          a_watch_that_falls_silent, a_watch_whose_peer_is_gone, a_watch_that_never_stops, an_etcd_that_says_nothing_at_first,
+          an_etcd_whose_door_is_full]
 unmet = [clients_that_leave_a_silent_watch, an_answer_that_shows_nothing]

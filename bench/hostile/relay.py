@@ -2,10 +2,14 @@
 import base64
 import http.client
 import json
+import os
 import socket
 import threading
 
 from cluster import free_port
+
+
+TCP_REPAIR = 19  # of linux/tcp.h: a socket that is closed so sends nothing
 
 
 class Over(Exception):
@@ -47,7 +51,7 @@ class Relay:
         self.etcd, self.rule, self.line_rule = port, rule or (lambda *_: False), line_rule
         self.port = free_port()
         self.address = f"127.0.0.1:{self.port}"
-        self.streams, self.is_over, self.is_full = [], threading.Event(), False
+        self.streams, self.watches, self.is_over, self.is_full = [], [], threading.Event(), False
         self.listener = socket.socket()
         self.listener.setsockopt(socket.SOL_SOCKET, socket.SO_REUSEADDR, 1)
         self.listener.bind(("127.0.0.1", self.port))
@@ -96,11 +100,19 @@ class Relay:
             text = answer.read()
             stream.sendall(head(len(text), b"%d OK" % answer.status) + text)
             return
+        self.watches.append(stream)
         stream.sendall(head())
         while line := answer.readline():
             if not (self.line_rule and self.line_rule(line, stream)):
                 stream.sendall(chunk(line))
         raise Over()
+
+    def forget(self):
+        """The streams of watches are gone without a word, as where a host has lost its power: nothing is sent, and nobody answers."""
+        for it in self.watches:
+            it.setsockopt(socket.IPPROTO_TCP, TCP_REPAIR, 1)
+            os.close(it.detach())
+        self.watches.clear()
 
     def fill(self):
         """From now on a dial gets no answer, not even a refusal: nobody accepts, and the queue is full."""

@@ -10,7 +10,9 @@
 //! 10 milliseconds where there is none. A write that takes no byte within 60 seconds is a fault.
 //!
 //! A peer that was accepted and says nothing does not hold its place for good: where 60 seconds passed since its last
-//! byte, an idle turn is a fault instead. A stream that was dialled has no such limit.
+//! byte, a turn in which the system has none is a fault instead. A stream that was dialled has no such limit. The system
+//! asks its peer's system for a sign of life after each minute without a byte (TCP's keepalive), and the stream is broken
+//! where six such asks, each 10 seconds after the last, got no answer.
 //!
 //! # Bells
 //!
@@ -40,6 +42,7 @@
 
 mod bell;
 mod clock;
+mod keeping;
 mod net;
 mod pauses;
 mod sink;

@@ -3,6 +3,7 @@
 ghost use Rattle.std.specs.Prelude.{◌≡◌, false, IfSome};
 ghost use Rattle.zx_sockets.specs.Nets.{is_passing};
 
+use crate::keeping::keep_watch;
 use crate::pauses::Pauses;
 use crate::sink::SocketSink;
 use crate::source::{Patience, SocketSource};
@@ -139,7 +140,7 @@ fn next_ends<R: SystemClock + Copy>(
 }
 
 /// Connects to the first address of a host that answers.
-fn connect<R: SystemNet<Stream = TcpStream>>(rt: &R, address: &str) -> Option<TcpStream> {
+pub fn connect<R: SystemNet<Stream = TcpStream>>(rt: &R, address: &str) -> Option<TcpStream> {
     let Ok(found) = address.to_socket_addrs(rt) else {
         return None;
     };
@@ -149,6 +150,8 @@ fn connect<R: SystemNet<Stream = TcpStream>>(rt: &R, address: &str) -> Option<Tc
             &address,
             Duration::from_millis(DIAL_WAIT),
         ) {
+            // A stream that the system does not watch over serves all the same.
+            let _is_watched = keep_watch(&stream);
             return Some(stream);
         }
     }

@@ -1,9 +1,11 @@
-use crate::net::{ends_of, prepare};
+use crate::net::{connect, ends_of, prepare};
 use crate::source::Patience;
 use crate::{SocketBell, SocketSink, SocketSource, StdClock, StdNet, ThreadSpawner};
+use libc::net as c;
 use std::alloc::Global;
 use std::io::Write;
 use std::net::{TcpListener, TcpStream};
+use std::os::fd::AsRawFd;
 use std::sync::Arc;
 use std::sync::atomic::{AtomicU64, Ordering};
 use std::test::Fail;
@@ -330,6 +332,37 @@ fn a_stream_is_prepared(rt: HostRuntime) -> Result<(), Fail> {
     assert!(rt; reads >= Duration::from_millis(10) && reads < Duration::from_millis(50));
     let writes = near.write_timeout()?.unwrap_or(Duration::from_secs(0));
     assert!(rt; writes >= Duration::from_secs(60) && writes < Duration::from_secs(61));
+    Ok(())
+}
+
+/// An option of a stream that is a number.
+fn option(stream: &TcpStream, is_asked: bool) -> Option<i32> {
+    let (mut value, mut length) = ([0u8; 16], 4u32);
+    let fd = stream.as_raw_fd();
+    let status = unsafe {
+        if is_asked {
+            c::getsockopt(fd, c::IPPROTO_TCP, c::TCP_KEEPIDLE, &mut value, &mut length)
+        } else {
+            c::getsockopt(fd, c::SOL_SOCKET, c::SO_KEEPALIVE, &mut value, &mut length)
+        }
+    };
+    if status == 0 {
+        Some(i32::from_ne_bytes([value[0], value[1], value[2], value[3]]))
+    } else {
+        None
+    }
+}
+
+#[test]
+fn a_dialled_stream_is_watched_over(rt: HostRuntime) -> Result<(), Fail> {
+    let listener = TcpListener::bind(&rt, "127.0.0.1:0")?;
+    let port = listener.local_addr()?.port();
+    let address = format!(in rt.alloc(); "127.0.0.1:{port}")?;
+    let Some(near) = connect(&rt, address.as_str()) else {
+        return Err(Fail::from("connect"));
+    };
+    assert!(rt; option(&near, false) == Some(1));
+    assert!(rt; option(&near, true) == Some(60));
     Ok(())
 }
 
