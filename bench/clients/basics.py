@@ -173,9 +173,10 @@ def the_c_client_reads_writes_watches_and_elects(program, work):
         runs(f"{work}/clients", proxies[0].address, proxies[1].address)
 
 
-def zkcli_reads_and_writes(program, work):
+def zkcli_reads_writes_and_watches(program, work):
     commands = """create /cli x
 get -s /cli
+get -w /cli
 set /cli y
 get /cli
 create -s -e /cli/n- z
@@ -193,8 +194,8 @@ quit
         made = subprocess.run(["java", "org.apache.zookeeper.ZooKeeperMain", "-server", proxies[0].address],
                               input=commands, capture_output=True, text=True, timeout=60)
         text = made.stdout + made.stderr
-        for wanted in ("Created /cli", "Created /cli/n-0000000000", "[n-0000000000]", "dataVersion = 1", "version No is not valid",
-                       "'world,'anyone"):
+        for wanted in ("Created /cli", "Created /cli/n-0000000000", "[n-0000000000]", "type:NodeDataChanged path:/cli", "dataVersion = 1",
+                       "version No is not valid", "'world,'anyone"):
             assert wanted in text, f"no {wanted!r} in {text[-1500:]}"
         with kazoos(proxies[1].address) as (a,):
             assert a.get_children("/") == []
@@ -264,5 +265,5 @@ def connections_that_end_are_told(program, work):
 
 checks = [kazoo_reads_writes_and_watches, kazoo_holds_a_lock, kazoo_elects_a_leader, kazoo_has_its_other_recipes,
           the_java_client_reads_writes_and_watches, the_java_client_holds_a_lock, the_java_client_elects_a_leader,
-          the_c_client_reads_writes_watches_and_elects, zkcli_reads_and_writes, large_nodes_and_long_listings,
+          the_c_client_reads_writes_watches_and_elects, zkcli_reads_writes_and_watches, large_nodes_and_long_listings,
           many_requests_at_once, an_etcd_in_memory_does_as_well, connections_that_end_are_told]

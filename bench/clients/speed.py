@@ -57,6 +57,13 @@ def processor(pid):
     return (int(words[11]) + int(words[12])) / os.sysconf("SC_CLK_TCK")
 
 
+def costs(ours, before, after, seconds):
+    """The processor time of each process for a request, in microseconds."""
+    if not ours or ours[0] == 0:
+        return "     -      -"
+    return " ".join(f"{(now - then) * 1e6 / (ours[0] * seconds):6.0f}" for then, now in zip(before, after))
+
+
 def idle(work, proxy, connections, seconds):
     """KB a connection, and cores used by so many idle ones that watch."""
     before = memory(proxy.process.pid)
@@ -77,15 +84,17 @@ def main():
     zookeeper = ZooKeeper(work)
     proxy = Proxy(program, etcd.address, work)
     try:
-        print(f"{'':10s} {'connections':>11s}   {'zetcd':^22s}   {'the gateway':^22s}   ratio   {'ZooKeeper':^22s}")
+        print(f"{'':10s} {'connections':>11s}   {'zetcd':^22s}   {'the gateway':^22s}   ratio   {'ZooKeeper':^22s}   us of zetcd and etcd")
         for what in WHAT:
             for connections in CONNECTIONS:
                 # By turns, so that both meet the same moments of a busy machine.
+                before = [processor(it.process.pid) for it in (proxy, etcd)]
                 ours = load(work, proxy.port, "zk", what, connections, seconds)
+                used = costs(ours, before, [processor(it.process.pid) for it in (proxy, etcd)], seconds)
                 theirs = load(work, etcd.port, "etcd", what, connections, seconds) if what in OF_ETCD else None
                 real = load(work, zookeeper.port, "zk", what, connections, seconds) if zookeeper.is_up else None
                 ratio = f"{ours[0] / theirs[0]:5.2f}" if ours and theirs else "    -"
-                print(f"{what:10s} {connections:11d}   {told(ours)}   {told(theirs)}   {ratio}   {told(real)}", flush=True)
+                print(f"{what:10s} {connections:11d}   {told(ours)}   {told(theirs)}   {ratio}   {told(real)}   {used}", flush=True)
         for connections in CONNECTIONS:
             ours = load(work, proxy.port, "zk", "watch", connections, seconds)
             real = load(work, zookeeper.port, "zk", "watch", connections, seconds) if zookeeper.is_up else None
