@@ -74,6 +74,14 @@ fn finish<O: Sink>(alloc: Global, stopped: Result<(), Stop>, out: &mut O) -> Ser
     }
 }
 
+/// What an operator is told where the first ask came to nothing.
+fn first_fault(stop: &Stop) -> Fault {
+    match stop {
+        Stop::Memory => Fault::Memory,
+        Stop::Net | Stop::Write | Stop::Feed(_) => Fault::First,
+    }
+}
+
 /// Why no further client is accepted. Where the hub was found closed, every worker is waited for.
 fn waited_for<
     W: Wait,
@@ -355,7 +363,7 @@ where
     let place = match begin(alloc, cluster, clock, endpoint) {
         Ok(place) => place,
         Err(stop) => {
-            tell(rt, "first ask of", endpoint, Fault::First);
+            tell(rt, "first ask of", endpoint, first_fault(&stop));
             return finish(alloc, Err(stop), out);
         }
     };
