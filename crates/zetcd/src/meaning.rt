@@ -1,9 +1,14 @@
 //! What ended a run, in words.
 
+ghost use Rattle.std.specs.Prelude.{◌≡◌, is_some};
+ghost use Rattle.zetcd.specs.Stopping.{has_stopped};
+
 use zetcd_cmd::Status;
 
 /// What a person at a terminal is told of a run that stopped early. `None`: the output says all there is to say.
-pub fn meaning(status: &Status) -> Option<&'static str> {
+pub fn meaning(status: &Status) -> Option<&'static str>
+    ensures { is_some result ≡ has_stopped status.now }
+{
     match status {
         Status::Done | Status::Usage | Status::Unlawful => None,
         Status::Script { .. } => Some("stopped: the last line of the output says where and why"),
