@@ -10,6 +10,7 @@
 //! | `closed PIECE BYTES` | the same, where the feed was closed before and the client is idle for a turn behind its pieces |
 //! | `fed FIRST COUNT RECORD PIECE BYTES` | the same, where the feed has COUNT entries, the first with the number after FIRST, each by RECORD, the value of the head |
 //! | `trace PIECE BYTES` | what a trace was told: the time and the kind of each input, and the length of each packet |
+//! | `ticks STEP PIECE BYTES` | the same, where the clock goes on by STEP milliseconds with each reading |
 //! | `fail WHAT PIECE BYTES` | the same stream is served again and again; each time the next call of WHAT fails, `reads` of the source, `writes` of the sink or `calls` of the link, until one run ends as without a failure. The cause of the runs before and their number; and how many whole packets were written, from which run on. Each wrote a front of what is written without a failure |
 //! | `cut PIECE BYTES` | the same, where the stream is cut before each of its bytes, and at its end |
 //! | `follow NUMBER LINE ..` | what a follower from this number answers to these lines: `head VERSION VALUE` and `other VERSION VALUE` put the head, and another key; `created`, `compacted` (up to revision 9) and `ended`. Of an entry, its number, its zxid and how many triggers it has |
@@ -22,6 +23,7 @@ mod failing;
 mod feeding;
 mod following;
 mod serving;
+mod ticking;
 mod timing;
 mod tracing;
 
@@ -50,6 +52,7 @@ impl<R: Wait> Rows for Connections<'_, R> {
         match word {
             "follow" => following::followed(alloc, words),
             "fed" => found_with_entries(self.rt, alloc, words),
+            "ticks" => found_by_ticks(self.rt, alloc, words),
             "fail" => {
                 let Some(what) = words.word() else {
                     return Ok(None);
@@ -78,9 +81,25 @@ fn found_of<R: Wait>(
     match what {
         "serve" => Ok(Some(serving::shown(rt, alloc, bytes, piece, OPEN)?)),
         "closed" => Ok(Some(serving::shown(rt, alloc, bytes, piece, CLOSED)?)),
-        "trace" => Ok(Some(tracing::traced(rt, alloc, bytes, piece)?)),
+        "trace" => Ok(Some(tracing::traced(rt, alloc, bytes, piece, 0)?)),
         _ => failing::told(rt, alloc, what, bytes, piece),
     }
+}
+
+/// What a trace is told of a stream that is served by a clock which goes on.
+fn found_by_ticks<R: Wait>(
+    rt: &R,
+    alloc: Global,
+    mut words: Words<'_>,
+) -> Result<Option<String>, Memory> {
+    let (Some(step), Some(piece), Some(digits)) = (words.place(), words.number(), words.word())
+    else {
+        return Ok(None);
+    };
+    let Some(bytes) = bytes_of(alloc, digits)? else {
+        return Ok(None);
+    };
+    Ok(Some(tracing::traced(rt, alloc, bytes.as_slice(), piece, step)?))
 }
 
 /// What comes of a stream that is served while the feed has entries.

@@ -12,7 +12,7 @@ use zn_layout::begin_ask;
 use zp_conn::{Belled, Cause, Fresh, NoTrace, Trace, serve_connection};
 use zt_text::push_line;
 use zx_base::Memory;
-use zx_net::{MemClock, NoBell};
+use zx_net::{Clock, MemClock, NoBell};
 use zx_outside::{MemSink, MemSource};
 
 /// What a new session is made with.
@@ -85,15 +85,16 @@ pub fn stream_of(
     Ok(MemSource::new(copy, pieces, listed(alloc, failing)?))
 }
 
-/// Serves a stream to its end, with what the feed has by then. Where the feed was closed, the client is idle for a turn behind its
-/// pieces.
-pub fn serve_over<R: Wait, T: Trace>(
+/// Serves a stream to its end by this clock, with what the feed has by then. Where the feed was closed, the client is idle for a turn
+/// behind its pieces.
+pub fn serve_by<R: Wait, C: Clock, T: Trace>(
     rt: &R,
     alloc: Global,
     bytes: &[u8],
     piece: u32,
     failing: Failing,
     entered: Entered<'_>,
+    clock: &mut C,
     trace: &mut T,
 ) -> Result<Served, Memory> {
     let mut link = begun(alloc, failing.call)?;
@@ -109,10 +110,24 @@ pub fn serve_over<R: Wait, T: Trace>(
         &mut feed,
         &mut source,
         &mut sink,
-        &mut MemClock::new(1000),
+        clock,
         trace,
     );
     Ok(Served { cause, sink })
+}
+
+/// The same, by a clock that stands at 1,000.
+pub fn serve_over<R: Wait, T: Trace>(
+    rt: &R,
+    alloc: Global,
+    bytes: &[u8],
+    piece: u32,
+    failing: Failing,
+    entered: Entered<'_>,
+    trace: &mut T,
+) -> Result<Served, Memory> {
+    let mut clock = MemClock::new(1000);
+    serve_by(rt, alloc, bytes, piece, failing, entered, &mut clock, trace)
 }
 
 /// The same, over an open feed without entries.

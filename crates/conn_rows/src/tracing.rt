@@ -1,7 +1,8 @@
 //! What a trace is told of a connection.
 
 use crate::feeding::OPEN;
-use crate::serving::{NONE, serve_over};
+use crate::serving::{NONE, serve_by};
+use crate::ticking::Ticking;
 use row_files::{push, push_number, push_word};
 use std::alloc::Global;
 use std::sync::Wait;
@@ -34,10 +35,18 @@ fn push_event(alloc: Global, found: &mut String, event: &Event) -> Result<(), Me
     }
 }
 
-/// What a trace was told while a stream was served, in order.
-pub fn traced<R: Wait>(rt: &R, alloc: Global, bytes: &[u8], piece: u32) -> Result<String, Memory> {
+/// What a trace was told while a stream was served, in order, by a clock that stands at 1,000 first and goes on by so many
+/// milliseconds with each reading.
+pub fn traced<R: Wait>(
+    rt: &R,
+    alloc: Global,
+    bytes: &[u8],
+    piece: u32,
+    step: u64,
+) -> Result<String, Memory> {
+    let mut clock = Ticking { now: 1000, step };
     let mut trace = ListTrace::new(alloc);
-    let _served = serve_over(rt, alloc, bytes, piece, NONE, OPEN, &mut trace)?;
+    let _served = serve_by(rt, alloc, bytes, piece, NONE, OPEN, &mut clock, &mut trace)?;
     let mut found = String::new(alloc);
     for event in trace.events() {
         if !found.is_empty() {

@@ -45,7 +45,7 @@ fn hear<S: Source>(alloc: Global, source: &mut S) -> Result<Vec<u8>> {
 }
 
 /// Both ends of a stream to this address, once somebody listens there.
-fn connect<N: Net>(net: &mut N, address: &str) -> Result<(N::In, N::Out)> {
+pub fn connect<N: Net>(net: &mut N, address: &str) -> Result<(N::In, N::Out)> {
     for _ in 0..MAX_DIALS {
         if let Ok(ends) = net.dial(address) {
             return Ok(ends);

@@ -43,7 +43,16 @@ fn serve_on<
         bail!("no memory");
     };
     let mut cluster = StoreLink::new(store, Vec::new(alloc));
-    run_serve(rt, &mut cluster, listen, endpoint, limit, turns)
+    let mut random = RandWord::new(&rt)?;
+    run_serve(
+        rt,
+        &mut cluster,
+        &mut random,
+        listen,
+        endpoint,
+        limit,
+        turns,
+    )
 }
 
 /// What an etcd does after the first ask.

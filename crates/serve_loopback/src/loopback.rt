@@ -85,7 +85,7 @@ pub struct Outcome {
     pub end: &'static str,
     pub written: Vec<u8>,
     /// What it says that it sent, by the connections' numbers.
-    sent: Vec<(u64, Vec<u8>)>,
+    pub sent: Vec<(u64, Vec<u8>)>,
 }
 
 /// Serves so many clients. The first ask goes to this cluster.
@@ -102,9 +102,11 @@ pub fn run_serve<
         + Drop
         + 'static,
     L: Cluster,
+    Q: Random,
 >(
     rt: R,
     cluster: &mut L,
+    random: &mut Q,
     listen: &str,
     endpoint: &str,
     limit: u64,
@@ -115,7 +117,6 @@ pub fn run_serve<
     let mut net = StdNet::new(rt, alloc);
     let mut spawner = ThreadSpawner::new(rt);
     let mut clock = StdClock::new(rt);
-    let mut random = RandWord::new(&rt)?;
     let mut book = ListBook::new(alloc);
     if !is_address(endpoint) {
         bail!("no address");
@@ -127,7 +128,7 @@ pub fn run_serve<
         cluster,
         &mut spawner,
         &mut clock,
-        &mut random,
+        random,
         &mut out,
         turns,
         &mut book,
@@ -210,6 +211,53 @@ fn text_of(
     Ok(text)
 }
 
+/// Starts an etcd in memory at this address, and waits until it listens.
+pub fn start_etcd<
+    R: Net<Listener = TcpListener, Stream = TcpStream>
+        + Clock
+        + Threads
+        + Wait
+        + AllocGlobal
+        + Copy
+        + Send
+        + Drop
+        + 'static,
+>(rt: R, address: &str) -> Result<()> {
+    let at = String::from_str(rt.alloc(), address)?;
+    let Ok(_etcd) = thread::spawn(&rt, move || run_etcd(rt, at.as_str())) else {
+        bail!("no thread");
+    };
+    await_listener(&rt, address)
+}
+
+/// Serves the clients. The first ask goes to the same etcd.
+fn serve_clients<
+    R: Net<Listener = TcpListener, Stream = TcpStream>
+        + Clock
+        + Threads
+        + Wait
+        + Eprint
+        + RandomSource
+        + AllocGlobal
+        + Copy
+        + Send
+        + Drop
+        + 'static,
+>(rt: R, listen: &str, endpoint: &str, turns: Turns) -> Result<Outcome> {
+    let alloc = rt.alloc();
+    let mut cluster = DialCluster::new(alloc, StdNet::new(rt, alloc));
+    let mut random = RandWord::new(&rt)?;
+    run_serve(
+        rt,
+        &mut cluster,
+        &mut random,
+        listen,
+        endpoint,
+        CLIENTS,
+        turns,
+    )
+}
+
 /// Has two clients send this to a server: both at once, or in turn.
 fn run<
     R: Net<Listener = TcpListener, Stream = TcpStream>
@@ -228,11 +276,7 @@ fn run<
     let mut random = RandWord::new(&rt)?;
     let listen = free_address(&rt, &mut random, 20_000)?;
     let endpoint = free_address(&rt, &mut random, 26_000)?;
-    let at = endpoint.clone()?;
-    let Ok(_etcd) = thread::spawn(&rt, move || run_etcd(rt, at.as_str())) else {
-        bail!("no thread");
-    };
-    await_listener(&rt, endpoint.as_str())?;
+    start_etcd(rt, endpoint.as_str())?;
     let watched = Arc::new(alloc, Watched::new(!is_in_turn))?;
     let theirs = Arc::try_clone(&watched)?;
     let turns = Turns {
@@ -240,16 +284,7 @@ fn run<
     };
     let at = listen.clone()?;
     let job = move || {
-        let alloc = rt.alloc();
-        let mut cluster = DialCluster::new(alloc, StdNet::new(rt, alloc));
-        let served = run_serve(
-            rt,
-            &mut cluster,
-            at.as_str(),
-            endpoint.as_str(),
-            CLIENTS,
-            turns,
-        );
+        let served = serve_clients(rt, at.as_str(), endpoint.as_str(), turns);
         theirs.end();
         served
     };
@@ -275,7 +310,7 @@ fn run<
 }
 
 /// Frames with their lengths; `None` where a word is no hex.
-fn frames_of(alloc: Global, given: &str) -> Result<Option<Vec<u8>>, Memory> {
+pub fn frames_of(alloc: Global, given: &str) -> Result<Option<Vec<u8>>, Memory> {
     let mut bytes = Vec::new(alloc);
     for word in given.split(' ') {
         let Some(frame) = bytes_of(alloc, word)? else {

@@ -11,8 +11,19 @@
 //! | `line LINE` | the end of a server over the loopback whose etcd is new, and after the first ask, which makes the root, gives this line to each who asks, and to which nobody connects; then `listening`, where that is its first line, and its other lines in order |
 //! | `late LINE` | the same of a server of one client, which connects and sends nothing, where the etcd gives the line once a worker serves it |
 //! | `gone 2` | the same of a server whose etcd is gone after the first ask, and to which two clients connect, one after the other |
+//! | `play SERVER \| SERVER ..` | as `two`, of servers that run one after the other on one etcd. A SERVER is `LIMIT WORD ..: STEP; STEP; ..`: how many clients it serves, its random words, and what is done. After the lines, for each client: the session and the password of its welcome in hex, and how many packets it received |
 //! | `turn FRAME ..` | as `two`, but the second client connects once the stream of the first has ended, and the gate holds nobody |
-//! | `two FRAME ..` | the end of a server over the loopback with an etcd in memory in the same process, where two clients each send these frames, in hex and without their lengths; then `listening`, where that is its first line, and its other lines in order. `alone`, where the worker of connection 1, which the gate holds until that of connection 2 has passed, has waited in vain. `no gate`, where one of them did not come to the gate. `other bytes`, where what a connection says that it sent is not what its client received |
+//! | `two FRAME ..` | the end of a server over the loopback with an etcd in memory in the same process, where two clients each send these frames, in hex and without their lengths; then `listening`, where that is its first line, and its other lines in order. `alone`, where the worker of connection 1, which the gate holds until that of connection 2 has passed, has waited in vain. `no gate`, where they did not come to the gate once each. `other bytes`, where what a connection says that it sent is not what its client received |
+//!
+//! A STEP is one of these, where C is the number of a client. One that has no stream yet connects first:
+//!
+//! | Step | Means |
+//! |---|---|
+//! | `C FRAME ..` | it sends these frames, and waits for as many packets |
+//! | `C +N` | it waits for N packets more |
+//! | `C end` | it waits for the end of its stream |
+//! | `C cut` | it cuts its stream |
+//! | `shut` | somebody tries to connect until nobody listens |
 //!
 //! No wait is without an end: what does not come in some half a minute of idle time is said in place of the right side.
 #![tactic(auto)]
@@ -22,6 +33,7 @@ mod deserted;
 mod follows;
 mod loopback;
 mod memory;
+mod plays;
 mod turns;
 
 use crate::deserted::Later;
@@ -66,6 +78,9 @@ fn found<
     }
     if kind == "turn" {
         return loopback::served(rt, alloc, given, true);
+    }
+    if kind == "play" {
+        return plays::served(rt, alloc, given);
     }
     if kind == "line" {
         return deserted::served(rt, alloc, Later::Says(given));

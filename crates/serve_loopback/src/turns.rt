@@ -2,7 +2,7 @@
 
 use std::alloc::Global;
 use std::sync::Arc;
-use std::sync::atomic::{AtomicBool, Ordering};
+use std::sync::atomic::{AtomicBool, AtomicU64, Ordering};
 use std::thread;
 use std::time::{Clock, Duration};
 use zp_server::Gate;
@@ -23,6 +23,8 @@ pub struct Watched {
     is_held: bool,
     first_came: AtomicBool,
     second_came: AtomicBool,
+    /// How often a worker came.
+    passes: AtomicU64,
     gave_up: AtomicBool,
     is_over: AtomicBool,
 }
@@ -34,6 +36,7 @@ impl Watched {
             is_held,
             first_came: AtomicBool::new(false),
             second_came: AtomicBool::new(false),
+            passes: AtomicU64::new(0),
             gave_up: AtomicBool::new(false),
             is_over: AtomicBool::new(false),
         }
@@ -44,9 +47,16 @@ impl Watched {
         self.gave_up.load(Ordering::SeqCst)
     }
 
-    /// Whether both workers came to the gate.
+    /// How often a worker came to the gate.
+    pub fn passes(&self) -> u64 {
+        self.passes.load(Ordering::SeqCst)
+    }
+
+    /// Whether both workers came to the gate, once each.
     pub fn both_came(&self) -> bool {
-        self.first_came.load(Ordering::SeqCst) && self.second_came.load(Ordering::SeqCst)
+        self.first_came.load(Ordering::SeqCst)
+            && self.second_came.load(Ordering::SeqCst)
+            && self.passes() == 2
     }
 
     /// Waits until the worker of connection 1 has come, at most about as long as for a server's end.
@@ -84,6 +94,7 @@ pub struct Turns {
 
 impl Gate for Turns {
     fn pass(&self, call: u64) {
+        self.watched.passes.fetch_add(1, Ordering::SeqCst);
         if call != 1 {
             self.watched.second_came.store(true, Ordering::SeqCst);
             return;
