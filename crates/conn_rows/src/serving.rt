@@ -10,6 +10,7 @@ use std::sync::{Arc, Wait};
 use zk_transcript::{Ended, TranscriptLine};
 use zn_layout::begin_ask;
 use zp_conn::{Belled, Cause, Fresh, NoTrace, Trace, serve_connection};
+use zp_served::{BegunLink, serve_alone};
 use zt_text::push_line;
 use zx_base::Memory;
 use zx_net::{Clock, MemClock, NoBell};
@@ -165,5 +166,32 @@ pub fn shown<R: Wait>(
     let served = serve_over(rt, alloc, bytes, piece, NONE, entered, &mut NoTrace)?;
     let mut found = words_of(alloc, served.cause)?;
     push_word(&mut found, hex_of(alloc, served.sink.bytes())?.as_str())?;
+    Ok(found)
+}
+
+/// The same, by the call that begins the tree of an etcd of its own.
+pub fn shown_alone<R: Wait>(
+    rt: &R,
+    alloc: Global,
+    bytes: &[u8],
+    piece: u32,
+) -> Result<String, Memory> {
+    let mut link = BegunLink::new(alloc)?;
+    let mut source = stream_of(alloc, bytes, piece, false, 0)?;
+    let mut sink = MemSink::new(alloc, Vec::new(alloc));
+    let mut feed = feed_of(rt, alloc, OPEN)?;
+    let cause = serve_alone(
+        rt,
+        alloc,
+        FRESH,
+        &mut link,
+        &mut feed,
+        &mut source,
+        &mut sink,
+        &mut MemClock::new(1000),
+        &mut NoTrace,
+    );
+    let mut found = words_of(alloc, cause)?;
+    push_word(&mut found, hex_of(alloc, sink.bytes())?.as_str())?;
     Ok(found)
 }

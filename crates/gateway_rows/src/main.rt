@@ -7,6 +7,7 @@
 //! | Left side | Right side |
 //! |---|---|
 //! | `gateway LIMIT STEP BYTES` | how the gateway ended, and what it sent, where these bytes came to it; its store is new and closed, so that no watch waits, and its clock goes STEP milliseconds further at each reading |
+//! | `compacted FLOOR BYTES` | the same, of a store in which the key `a` was put at the revisions 2, 3 and 4, and which was then compacted to revision FLOOR |
 //! | `link CALLS BYTES` | what so many calls of a link came to that asked for the key `zk/head`, where these bytes came to it; then why it failed, with the status where it was one, or `open` |
 //! | `dial FAILING CALLS BYTES` | the same of a link that dials, where its first connection gives these bytes and each later one none, and the dial with the number FAILING fails, 0 for none; `anew`; what one more call came to, after it was told its address anew; `end` |
 //! | `named ADDRESS BYTES` | what two calls of a link that dials came to where only this address can be dialled, which gives these bytes: one before it was told an address; `anew`; and one after it was told `x`; `end` |
@@ -40,6 +41,9 @@ impl<R: Wait + Copy + Drop> Rows for Messages<'_, R> {
         };
         if call == "gateway" {
             return serving::served(self.rt, alloc, given);
+        }
+        if call == "compacted" {
+            return serving::compacted(self.rt, alloc, given);
         }
         if call == "link" {
             return calls::made(alloc, given);

@@ -1,15 +1,19 @@
 //! Rows of the gateway.
 
+ghost use Rattle.std.specs.Prelude.{IfOk};
+ghost use Rattle.ev_call.specs.Asks.{IsGrantable};
+
 use crate::marks::{push_escaped, unescaped};
 use crate::ticking::Ticking;
 use ev_gateway::{GatewayEnd, gateway};
 use ev_http::HttpFault;
 use ev_shared::SharedStore;
 use ev_store::Store;
+use ev_types::{Act, Ask, TxnReq};
 use row_files::Words;
 use std::alloc::Global;
 use std::sync::Wait;
-use zx_base::Memory;
+use zx_base::{Bytes, Memory, Seq};
 use zx_outside::{MemSink, MemSource};
 
 /// How the gateway ended, and what it sent.
@@ -24,17 +28,59 @@ pub fn served<R: Wait>(rt: &R, alloc: Global, given: &str) -> Result<Option<Stri
         return Ok(None);
     };
     let bytes = unescaped(alloc, bytes)?;
-    Ok(Some(serve(rt, alloc, limit, step, bytes)?))
+    Ok(Some(serve(rt, alloc, Store::new(alloc)?, limit, step, bytes)?))
+}
+
+/// How many messages are answered over a store that was compacted: more than come.
+const MANY: u64 = 9;
+
+/// How often the key was put in such a store.
+const PUTS: u32 = 3;
+
+/// The transaction that puts `1` at the key `a`.
+fn put(alloc: Global) -> Result<Ask, Memory>
+    ensures { IfOk result (λ ask. IsGrantable ask) }
+{
+    let mut success = Seq::new(alloc);
+    success.push(Act::Put {
+        key: Bytes::copy_of(alloc, b"a".as_slice())?,
+        value: Bytes::copy_of(alloc, b"1".as_slice())?,
+        lease: 0,
+    })?;
+    Ok(Ask::Txn(TxnReq {
+        guards: Seq::new(alloc),
+        success,
+        failure: Seq::new(alloc),
+    }))
+}
+
+/// The same over a store in which the key `a` was put at the revisions 2, 3 and 4, and which was then compacted to this one.
+pub fn compacted<R: Wait>(rt: &R, alloc: Global, given: &str) -> Result<Option<String>, Memory> {
+    let Some((floor, bytes)) = given.split_once(' ') else {
+        return Ok(None);
+    };
+    let Some(floor) = Words::new(floor).number() else {
+        return Ok(None);
+    };
+    let bytes = unescaped(alloc, bytes)?;
+    let mut store = Store::new(alloc)?;
+    for _ in 0..PUTS {
+        let ask = put(alloc)?;
+        let _answer = store.carry_out(&ask);
+    }
+    let _compacted = store.compact(i64::from(floor));
+    Ok(Some(serve(rt, alloc, store, MANY, 0, bytes)?))
 }
 
 fn serve<R: Wait>(
     rt: &R,
     alloc: Global,
+    store: Store,
     limit: u64,
     step: u64,
     bytes: Vec<u8>,
 ) -> Result<String, Memory> {
-    let store = SharedStore::new(alloc, Store::new(alloc)?);
+    let store = SharedStore::new(alloc, store);
     let mut source = MemSource::new(bytes, Vec::new(alloc), Vec::new(alloc));
     let mut sink = MemSink::new(alloc, Vec::new(alloc));
     let mut clock = Ticking { now: 0, step };
