@@ -1,8 +1,7 @@
 use crate::net::{connect, ends_of, prepare};
 use crate::source::Patience;
-use crate::{SocketBell, SocketSink, SocketSource, StdClock, StdNet, ThreadSpawner};
+use crate::{SocketSink, SocketSource, StdClock, StdNet, ThreadSpawner};
 use libc::net as c;
-use std::alloc::Global;
 use std::io::Write;
 use std::net::{TcpListener, TcpStream};
 use std::os::fd::AsRawFd;
@@ -83,23 +82,6 @@ fn turn<S: Source>(source: &mut S) -> Got {
     source.read(&mut one)
 }
 
-/// Has another thread ring a little later.
-fn ring_soon(
-    rt: HostRuntime,
-    spawner: &mut ThreadSpawner<HostRuntime>,
-    bell: &Arc<SocketBell, Global>,
-) -> Result<(), Fail> {
-    let theirs = Arc::try_clone(bell)?;
-    let job = move || {
-        thread::sleep(&rt, Duration::from_millis(100));
-        theirs.ring();
-    };
-    if spawner.start(job).is_err() {
-        return Err(Fail::from("start"));
-    }
-    Ok(())
-}
-
 #[test]
 fn the_clock_tells_the_time(rt: HostRuntime) {
     let mut clock = StdClock::new(rt);
@@ -151,26 +133,15 @@ fn a_bell_ends_a_wait(rt: HostRuntime) -> Result<(), Fail> {
     // A bell that was just hung makes the first turn idle, and the second asks the system, which has nothing.
     assert!(rt; turn(&mut far) == Got::Nothing);
     assert!(rt; turn(&mut far) == Got::Nothing);
-    // A ring before the wait or in it ends it; one that is lost takes a second each time.
-    let mut spawner = ThreadSpawner::new(rt);
-    let (mut was_kept, mut was_woken) = (false, false);
+    // A bell that was rung before the wait ends it; one that is lost takes a second each time.
+    let mut was_woken = false;
     for _ in 0..10u32 {
         bell.arm();
         bell.ring();
         let since = Instant::now(&rt)?;
         assert!(rt; turn(&mut far) == Got::Nothing);
-        was_kept = was_kept || since.elapsed(&rt)? < Duration::from_millis(900);
-        // What is left of that wake ends one more wait.
-        assert!(rt; turn(&mut far) == Got::Nothing);
-        bell.arm();
-        let since = Instant::now(&rt)?;
-        ring_soon(rt, &mut spawner, &bell)?;
-        assert!(rt; turn(&mut far) == Got::Nothing);
-        let took = since.elapsed(&rt)?;
-        was_woken = was_woken
-            || (took >= Duration::from_millis(100) && took < Duration::from_millis(900));
+        was_woken = was_woken || since.elapsed(&rt)? < Duration::from_millis(900);
     }
-    assert!(rt; was_kept);
     assert!(rt; was_woken);
     assert!(rt; to_far.write(b"ping") == Took::Bytes(4));
     assert!(rt; comes(&mut far, b"ping"));
@@ -178,6 +149,34 @@ fn a_bell_ends_a_wait(rt: HostRuntime) -> Result<(), Fail> {
     drop(near);
     assert!(rt; next_byte(&mut far) == None);
     assert!(rt; turn(&mut far) == Got::End);
+    Ok(())
+}
+
+#[test]
+fn a_ring_ends_a_wait_that_has_begun(rt: HostRuntime) -> Result<(), Fail> {
+    let ((_near, _to_far), (mut far, _to_near)) = ends_of_a_stream(rt)?;
+    let Some(bell) = far.bell() else {
+        return Err(Fail::from("bell"));
+    };
+    assert!(rt; turn(&mut far) == Got::Nothing);
+    assert!(rt; turn(&mut far) == Got::Nothing);
+    // Another thread rings a tenth of a second later. A wait that no ring ends takes a second.
+    let mut spawner = ThreadSpawner::new(rt);
+    let mut was_woken = false;
+    for _ in 0..10u32 {
+        let theirs = Arc::try_clone(&bell)?;
+        bell.arm();
+        let since = Instant::now(&rt)?;
+        let job = move || {
+            thread::sleep(&rt, Duration::from_millis(100));
+            theirs.ring();
+        };
+        assert!(rt; spawner.start(job).is_ok());
+        assert!(rt; turn(&mut far) == Got::Nothing);
+        let took = since.elapsed(&rt)?.as_millis();
+        was_woken = was_woken || (took >= 100 && took < 900);
+    }
+    assert!(rt; was_woken);
     Ok(())
 }
 
