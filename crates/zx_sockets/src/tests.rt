@@ -206,9 +206,9 @@ fn a_peer_that_never_pauses_leaves_idle_turns(rt: HostRuntime) -> Result<(), Fai
     for _ in 0..300u32 {
         assert!(rt; to_far.write(b"x") == Took::Bytes(1));
         match turn(&mut far) {
-            Got::Bytes(_) => bytes += 1,
+            Got::Bytes(_) => bytes = bytes.saturating_add(1),
             Got::Nothing => {
-                idles += 1;
+                idles = idles.saturating_add(1);
                 assert!(rt; comes(&mut far, b"x"));
             }
             Got::End | Got::Failed => return Err(Fail::from("read")),
