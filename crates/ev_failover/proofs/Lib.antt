@@ -1,3 +1,4 @@
 pub mod Turning
 pub mod Outcome
 pub mod Storing
+pub mod Placing

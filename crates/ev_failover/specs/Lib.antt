@@ -3,3 +3,4 @@ pub mod Endpoints
 pub mod Turns
 pub mod Theorem
 pub mod Memory
+pub mod Dialling

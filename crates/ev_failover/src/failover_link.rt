@@ -8,11 +8,14 @@ ghost use Rattle.ev_failover.specs.Endpoints.{IsSentBy};
 ghost use Rattle.ev_failover.specs.Reading.{is_reading};
 ghost use Rattle.ev_failover.specs.Turns.{Tries, answer_of, goes_on, place_after, places_after};
 
+use crate::dial_endpoints::{DialEndpoints, name_all};
 use crate::endpoints::{EndFault, Endpoints};
 use crate::reading::is_reading;
-use ev_call::{CallFault, Etcd};
+use ev_call::{CallFault, Cluster, Etcd};
 use ev_types::{Answer, Ask};
+use zx_base::Memory;
 use zx_history::GhostHistory;
+use zx_net::Net;
 
 /// A link over the endpoints of one etcd. It asks the current one, at first the first. An endpoint to which an ask was not sent, or at
 /// which it failed, is the current one no longer: the next one is, and after the last the first.
@@ -208,5 +211,39 @@ impl<E: Endpoints + Drop> Etcd for FailoverLink<E> {
         self.asks = self.asks.and(ask);
         self.results = self.results.and(&result);
         result
+    }
+}
+
+impl<N: Net + Drop> Cluster for FailoverLink<DialEndpoints<N>> {
+    ghost use Rattle.std.specs.Prelude.{◌≡◌, ◌+◌, length, All, None, Some, OnErr, OnOk, option_map, string_bytes, vec_len};
+    ghost use Rattle.ev_addresses.specs.Lists.{addresses_in};
+    ghost use Rattle.ev_call.specs.Addresses.{IsAddress};
+    ghost use Rattle.ev_call.specs.Calls.{calls_of};
+
+    /// Names the endpoints that the calls after this one ask, and makes the first of them the current one: the first five addresses of
+    /// the text that are not empty, with commas between them, each `HOST:PORT`; `localhost` where there is none. The text is one or
+    /// more bytes of visible ASCII. Nothing is dialled yet. Where memory is refused, nothing is changed.
+    fn to(&mut self, endpoint: &str) -> Result<(), Memory>
+        requires { IsAddress endpoint.now }
+        ensures failures { self.new.failures ≡ self.old.failures }
+        ensures told { Some (calls_of self.new.asks.items self.new.results.items) ≡ Some (calls_of self.old.asks.items self.old.results.items) }
+        ensures named { OnOk result (option_map (λ n. string_bytes n.text) self.new.ends.named ≡ Some endpoint.now) }
+        ensures size { OnOk result (vec_len self.new.ends.others + 1 ≡ length (addresses_in endpoint.now)) }
+        ensures current { OnOk result (self.new.current ≡ 0) }
+        ensures first { OnOk result (self.new.ends.first ≡ None) }
+        ensures others { OnOk result (All (λ l. l ≡ None) self.new.ends.others.items) }
+        ensures same { OnErr result ((self.new.ends.named ≡ self.old.ends.named) × (self.new.ends.first ≡ self.old.ends.first) × (self.new.ends.others ≡ self.old.ends.others)) }
+        ensures stays { OnErr result (self.new.current ≡ self.old.current) }
+        ensures net { self.new.ends.net ≡ self.old.ends.net }
+    {
+        name_all(
+            self.ends.alloc,
+            &mut self.ends.named,
+            &mut self.ends.first,
+            &mut self.ends.others,
+            endpoint,
+        )?;
+        self.current = 0;
+        Ok(())
     }
 }

@@ -5,17 +5,22 @@
 //! answers. Any other ask is tried at the next endpoint only where it is certain that it was not sent: one that failed may have been
 //! carried out, so it is never sent again. `specs/Turns` has the order of the tries, and `specs/Theorem` what follows from it.
 //!
-//! [`MemEndpoints`] all stand before one etcd in memory.
+//! [`DialEndpoints`] are addresses that are dialled, each by a connection of its own. [`MemEndpoints`] all stand before one etcd in
+//! memory.
 #![tactic(auto)]
 
+mod dial_endpoints;
+mod dialled;
 mod endpoints;
 mod failover_link;
 mod memory_endpoints;
+mod named;
 mod reading;
 mod sent_list;
 
+pub use dial_endpoints::DialEndpoints;
 pub use endpoints::{EndFault, Endpoints};
-pub use ev_call::{CallFault, Etcd};
+pub use ev_call::{CallFault, Cluster, Etcd};
 pub use failover_link::FailoverLink;
 pub use memory_endpoints::MemEndpoints;
 pub use reading::is_reading;
