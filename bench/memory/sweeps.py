@@ -110,7 +110,7 @@ def rows(run):
 
         yield lambda: sweep(run, "connection", [run.conn_rows], os.devnull, judge, b"", 0, folder)
     if run.hub_rows and run.is_wanted("hub"):
-        script = os.path.join(run.work, "hub")
+        script = os.path.join(run.work, "hub.script")
         with open(script, "w", encoding="utf-8") as it:
             it.write(HUB)
 
