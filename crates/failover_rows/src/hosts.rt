@@ -105,6 +105,11 @@ impl Net for Hosts {
     }
 
     fn another(&self) -> Hosts {
-        Hosts::new(self.alloc)
+        Hosts {
+            alloc: self.alloc,
+            dialled: String::new(self.alloc),
+            door_faults: 0,
+            dial_faults: 0,
+        }
     }
 }
