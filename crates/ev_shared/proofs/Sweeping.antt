@@ -1,11 +1,11 @@
 -- One more lease whose seconds are looked at.
-use Rattle.std.proofs.Common.{◌≡◌, ℕ, ◌+◌, ◌<◌, ◌≤◌, List, [], ◌∷◌, ◌++◌, length, take, get_or, refl, sym, ap, subst, ◌∙◌}
+use Rattle.std.proofs.Common.{◌≡◌, ℕ, ◌+◌, ◌<◌, ◌≤◌, List, [], ◌∷◌, ◌++◌, length, take, get_or, refl, sym, ap, subst, ◌∙◌, inl, inr}
 use Rattle.std.specs.Prelude.{ℤ, All}
 use Rattle.std.proofs.lemmas.List.{take_more, take_all}
 use Rattle.std.proofs.lemmas.List.Elements.{All-append, All-cons, All-nil}
 use Rattle.ev_types.specs.Store.{Store}
 use Rattle.ev_shared.specs.History.{IsSettled}
-use Rattle.ev_shared.specs.Terms.{LapsesBy, swept, swept_one}
+use Rattle.ev_shared.specs.Terms.{IsLeft, IsSweptPartly, LapsesBy, Stay, swept, swept_one}
 use Rattle.ev_shared.specs.declared.term.Term.{Term}
 
 pub none_yet : (now : ℕ) (s : Store) (xs : List Term) → All (LapsesBy now s) (take 0 xs)
@@ -33,3 +33,16 @@ swept_on now s t u xs i x lt is before here =
 
 pub swept_all : (now : ℕ) (s t : Store) (xs : List Term) (i : ℕ) → length xs ≤ i → t ≡ swept now (take i xs) s → t ≡ swept now xs s
 swept_all now s t xs i le h = h ∙ ap (λ (l : List Term). swept now l s) (take_all i xs le)
+
+-- ---- where memory was refused
+
+pub swept_so_far : (now : ℕ) (s t u : Store) (xs : List Term) (i : ℕ) → t ≡ swept now (take i xs) s → u ≡ t → IsSweptPartly now xs s u
+swept_so_far now s t u xs i before same = (i, same ∙ before)
+
+pub left_before : (now : ℕ) (s t : Store) (xs ys : List Term) → IsSweptPartly now xs s t → ys ≡ xs → IsLeft now xs s ys t
+left_before now s t xs ys part same = inl (part, same)
+
+pub left_behind : (now : ℕ) (s t u : Store) (xs ys zs : List Term) → t ≡ swept now xs s → Stay now t xs ys → u ≡ t → zs ≡ ys → IsLeft now xs s zs u
+left_behind now s t u xs ys zs swept_all_of stay same_store same =
+    let kept : Stay now u xs ys = subst (λ (x : Store). Stay now x xs ys) (sym same_store) stay in
+    inr (same_store ∙ swept_all_of, subst (λ (l : List Term). Stay now u xs l) (sym same) kept)

@@ -1,5 +1,5 @@
 -- When leases are over (etcd API reference, "Lease": a lease expires where no keepalive came within its seconds).
-use Rattle.std.specs.Prelude.{◌≡◌, ◌⊎◌, ℕ, ◌+◌, ◌*◌, nat_le, nat_abs, ℤ, pos, Bool, true, not, List, [], ◌∷◌, ◌++◌, filter, if◌then◌else◌}
+use Rattle.std.specs.Prelude.{◌≡◌, ◌⊎◌, ℕ, ◌+◌, ◌*◌, nat_le, nat_abs, ℤ, pos, Bool, true, not, List, [], ◌∷◌, ◌++◌, filter, take, if◌then◌else◌}
 use Rattle.std.specs.Ordering.{int_eq}
 use Rattle.ev_types.specs.Store.{Store}
 use Rattle.ev_types.specs.declared.answer.Answer.{Answer}
@@ -26,9 +26,18 @@ abbrev pub swept : ℕ → List Term → Store → Store
 swept now [] s = s
 swept now (t ∷ terms) s = swept now terms (swept_one now t s)
 
+-- The first of these leases lapsed where their seconds had passed, one after the other, until one found no memory.
+abbrev pub IsSweptPartly : ℕ → List Term → Store → Store → Type 0
+IsSweptPartly now terms s t = (n : ℕ) × (t ≡ swept now (take n terms) s)
+
 -- The terms that are not over stay. In a full store all of them may: a lease that has keys is there still.
 abbrev pub Stay : ℕ → Store → List Term → List Term → Type 0
 Stay now s old stay = (stay ≡ filter (λ t. not (is_over now t)) old) ⊎ ((stay ≡ old) × IsFull s)
+
+-- What is left where memory was refused before the ask was carried out: of the leases whose seconds had passed some have lapsed, and no
+-- term is gone; or all have, and the terms are as before any ask.
+abbrev pub IsLeft : ℕ → List Term → Store → List Term → Store → Type 0
+IsLeft now terms s terms' s' = (IsSweptPartly now terms s s' × (terms' ≡ terms)) ⊎ ((s' ≡ swept now terms s) × Stay now s' terms terms')
 
 -- ---- the terms that an answer begins
 

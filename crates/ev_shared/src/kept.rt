@@ -8,7 +8,7 @@ ghost use Rattle.ev_types.specs.Store as etcd;
 ghost use Rattle.ev_store.specs.declared.fault.Denied.{Denied as Denial};
 ghost use Rattle.ev_store.specs.FirstDenial.{first_denial};
 ghost use Rattle.ev_shared.specs.History.{GoesOn, IsSettled, Replays, lapsed};
-ghost use Rattle.ev_shared.specs.Terms.{LapsesBy, Stay, swept, swept_one, terms_after};
+ghost use Rattle.ev_shared.specs.Terms.{IsLeft, IsSweptPartly, LapsesBy, Stay, swept, swept_one, terms_after};
 ghost use Rattle.ev_shared.specs.declared.term.Term.{Term as Lasting};
 
 use crate::event::Event;
@@ -76,6 +76,7 @@ impl Kept {
     fn lapse(&mut self, id: i64) -> Result<(), Memory>
         ensures lapses { OnOk result (self.new.store ≡ lapsed self.old.store id) }
         ensures settles { OnOk result (IsSettled self.new.store id) }
+        ensures refused { OnErr result (self.new.store ≡ self.old.store) }
         ensures stays { (i : ℤ) → IsSettled self.old.store i → IsSettled self.new.store i }
         ensures terms { self.new.terms ≡ self.old.terms }
         ensures began { self.new.first ≡ self.old.first }
@@ -96,6 +97,7 @@ impl Kept {
     fn lapse_due(&mut self, now: u64, term: Term) -> Result<(), Memory>
         ensures swept { OnOk result (self.new.store ≡ swept_one now term self.old.store) }
         ensures lapses { OnOk result (LapsesBy now self.new.store term) }
+        ensures refused { OnErr result (self.new.store ≡ self.old.store) }
         ensures stays { (i : ℤ) → IsSettled self.old.store i → IsSettled self.new.store i }
         ensures terms { self.new.terms ≡ self.old.terms }
         ensures began { self.new.first ≡ self.old.first }
@@ -108,10 +110,11 @@ impl Kept {
     }
 
     /// Lets each lease lapse whose seconds have passed, unless the store is full.
-    #[tactic(auto, using(crate::proofs::Replaying::longer_still))]
+    #[tactic(auto, using(crate::proofs::Replaying::longer_still, crate::proofs::Sweeping::swept_so_far))]
     fn lapse_each(&mut self, now: u64) -> Result<(), Memory>
         ensures swept { OnOk result (self.new.store ≡ swept now self.old.terms.items self.old.store) }
         ensures lapses { OnOk result (All (LapsesBy now self.new.store) self.old.terms.items) }
+        ensures refused { OnErr result (IsSweptPartly now self.old.terms.items self.old.store self.new.store) }
         ensures terms { self.new.terms ≡ self.old.terms }
         ensures began { self.new.first ≡ self.old.first }
         ensures history { GoesOn self.old.events.items self.new.events.items }
@@ -130,6 +133,8 @@ impl Kept {
         ensures swept { OnOk result (self.new.store ≡ swept now self.old.terms.items self.old.store) }
         ensures lapses { OnOk result (All (LapsesBy now self.new.store) self.old.terms.items) }
         ensures terms { OnOk result (Stay now self.new.store self.old.terms.items self.new.terms.items) }
+        ensures kept { OnErr result (self.new.terms.items ≡ self.old.terms.items) }
+        ensures refused { OnErr result (IsSweptPartly now self.old.terms.items self.old.store self.new.store) }
         ensures began { self.new.first ≡ self.old.first }
         ensures history { GoesOn self.old.events.items self.new.events.items }
     {
@@ -195,7 +200,7 @@ impl Kept {
     /// Carries out one ask at this moment. Before it, each lease whose seconds have passed lapses, and no other; a lapse that is denied
     /// since the store is full is left undone. After a denial, and where memory runs out, leases may have lapsed; nothing else has
     /// changed.
-    #[tactic(auto, using(crate::proofs::Replaying::longer_still))]
+    #[tactic(auto, using(crate::proofs::Replaying::longer_still, crate::proofs::Sweeping::left_before, crate::proofs::Sweeping::left_behind))]
     pub fn call_at(&mut self, now: u64, ask: &Ask) -> Result<Answer, StoreFault>
         requires { IsGrantable ask.now }
         ensures carried { IfOk result (λ a. carry (swept now self.old.terms.items self.old.store) ask.now ≡ Some (self.new.store, a)) }
@@ -204,6 +209,7 @@ impl Kept {
         ensures noted { IfOk result (λ a. (stay : List Lasting) × Stay now (swept now self.old.terms.items self.old.store) self.old.terms.items stay × (self.new.terms.items ≡ terms_after now a stay)) }
         ensures denied { (d : Denial) → result ≡ Err (StoreFault.Denied d) → self.new.store ≡ swept now self.old.terms.items self.old.store }
         ensures first { (d : Denial) → result ≡ Err (StoreFault.Denied d) → first_denial self.new.store ask.now ≡ Some d }
+        ensures refused { result ≡ Err StoreFault.Memory → IsLeft now self.old.terms.items self.old.store self.new.terms.items self.new.store }
         ensures began { self.new.first ≡ self.old.first }
         ensures history { GoesOn self.old.events.items self.new.events.items }
     {

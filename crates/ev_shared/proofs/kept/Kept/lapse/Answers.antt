@@ -18,6 +18,7 @@ returns-in-Err-Denied c =
     record {
       lapses = subst (λ (s : Store). s ≡ lapsed c.args.self.now.store c.args.id) same (undone c.args.self.now.store c.args.id none);
       settles = subst (λ (s : Store). IsSettled s c.args.id) same (denied_settles c.args.self.now.store c.args.id c.in-Err-Denied.field-0-0 named);
+      refused = tt;
       stays = λ i h. subst (λ (s : Store). IsSettled s i) same h;
       terms = refl;
       began = refl;
