@@ -245,6 +245,25 @@ def a_proxy_that_missed_updates_ends(program, work):
         assert proxies[1].process.poll() is None
 
 
+def a_proxy_begins_where_others_wrote_and_compacted(program, work):
+    with two_proxies(program, work) as (etcd, proxies), kazoos(proxies[0].address) as (a,):
+        a.create("/x", b"x")
+        for n in range(5):
+            etcd.control("put", "other/key", str(n))
+        etcd.control("compact", str(etcd.revision()))
+        late = Proxy(program, etcd.address, work)
+        try:
+            assert late.status(2) is None, late.lines()
+            with kazoos(late.address) as (b,):
+                seen = []
+                assert b.get("/x", watch=seen.append)[0] == b"x"
+                a.set("/x", b"y")
+                assert until(lambda: len(seen) == 1) and b.get("/x")[0] == b"y", "the update is missed"
+            assert late.faults() == [], late.faults()
+        finally:
+            late.end()
+
+
 def a_full_etcd_refuses_updates_and_comes_back(program, work):
     with two_proxies(program, work, "--quota-backend-bytes", str(16 * 1024 * 1024)) as (etcd, proxies):
         with kazoos(proxies[0].address, proxies[1].address, timeout=40.0) as (a, b):
@@ -273,4 +292,5 @@ def a_full_etcd_refuses_updates_and_comes_back(program, work):
 checks = [a_killed_proxy_loses_nothing, a_killed_proxy_keeps_sessions_and_locks, the_java_client_keeps_its_watches,
           the_c_client_keeps_its_watches, etcd_restarts_within_2_seconds,
           etcd_restarts_within_20_seconds, a_stopped_client_loses_its_session, compaction_is_not_felt,
-          a_proxy_that_missed_updates_ends, a_full_etcd_refuses_updates_and_comes_back]
+          a_proxy_that_missed_updates_ends, a_proxy_begins_where_others_wrote_and_compacted,
+          a_full_etcd_refuses_updates_and_comes_back]

@@ -2,6 +2,7 @@
 use Rattle.std.proofs.Common.{◌≡◌, ℕ, zero, suc, ◌-◌, List, [], ◌∷◌, Option, Some, None, Ok, Err, refl, subst, sym, ap, ◌∙◌, arith}
 use Rattle.std.specs.Prelude.{ℤ, All, IfSome, length, slice_get}
 use Rattle.std.proofs.lemmas.Int.{ints}
+use Rattle.ev_types.specs.Answers.{revision_in}
 use Rattle.ev_types.specs.Store.{chosen}
 use Rattle.ev_types.specs.declared.answer.ActAns.{ActAns}
 use Rattle.ev_types.specs.declared.answer.ActAns.TheVariants as part
@@ -19,7 +20,7 @@ use Rattle.ev_call.specs.Fitting.{AreCounts, Fits, IsCount, IsFoundWithin, PartF
 use Rattle.ev_call.specs.declared.etcd.CallFault.TheVariants as fault
 use Rattle.zn_layout.specs.Begin.{begin_ask}
 use Rattle.zw_follow.specs.declared.place.Place.{Place}
-use Rattle.zp_server.specs.Beginning.{BeginFailed, Began, IsPlace, first_of, found_by, last_part, place_at, place_in}
+use Rattle.zp_server.specs.Beginning.{BeginFailed, Began, IsPlace, first_of, found_by, last_part, number_at, place_in}
 use Rattle.zx_outside.specs.Counts.{one_more}
 use Rattle.zx_base.proofs.Options.{none_some, some_is}
 
@@ -63,17 +64,36 @@ head_counts : (r : Option RangeAns) → IfSome r IsFoundWithin → IfSome (first
 head_counts None within = tt
 head_counts (Some found) within = first_counts found.kvs within
 
--- its number and its zxid are in range
-is_place : (version revision : ℤ) → IsCount version → IsCount revision → IsPlace (record { number = version; zxid = revision })
-is_place version revision v r = let v0 = v.least in let v1 = v.most in let r0 = r.least in let r1 = r.most in
-    record { number_least = v0; number_most = omega (arith, ints); zxid_least = r0; zxid_most = omega (arith, ints) }
+number_counts : (head : Option Kv) → IfSome head AreCounts → IsCount (number_at head)
+number_counts (Some kv) counts = counts.version
+number_counts None counts = record { least = omega (arith, ints); most = omega (arith, ints) }
 
-place_counts : (head : Option Kv) → IfSome head AreCounts → IsPlace (place_at head)
-place_counts (Some kv) counts = is_place kv.version kv.mod_revision counts.version counts.revision
-place_counts None counts = record { number_least = omega (arith, ints); number_most = omega (arith, ints); zxid_least = omega (arith, ints); zxid_most = omega (arith, ints) }
+revision_counts : (q : Ask) (a : Answer) → Fits q a → IsCount (revision_in a)
+revision_counts (ask.Txn t) (answer.Txn revision succeeded parts) fits = fits.0
+revision_counts (ask.Range q) (answer.Range revision found) fits = fits.0
+revision_counts (ask.Grant id ttl) (answer.Granted revision granted seconds) fits = fits
+revision_counts (ask.Alive id) (answer.Alive revision kept seconds) fits = fits
+revision_counts (ask.Txn t) (answer.Range revision found) fits = absurd fits
+revision_counts (ask.Txn t) (answer.Granted revision granted seconds) fits = absurd fits
+revision_counts (ask.Txn t) (answer.Alive revision kept seconds) fits = absurd fits
+revision_counts (ask.Range q) (answer.Txn revision succeeded parts) fits = absurd fits
+revision_counts (ask.Range q) (answer.Granted revision granted seconds) fits = absurd fits
+revision_counts (ask.Range q) (answer.Alive revision kept seconds) fits = absurd fits
+revision_counts (ask.Grant id ttl) (answer.Txn revision succeeded parts) fits = absurd fits
+revision_counts (ask.Grant id ttl) (answer.Range revision found) fits = absurd fits
+revision_counts (ask.Grant id ttl) (answer.Alive revision kept seconds) fits = absurd fits
+revision_counts (ask.Alive id) (answer.Txn revision succeeded parts) fits = absurd fits
+revision_counts (ask.Alive id) (answer.Range revision found) fits = absurd fits
+revision_counts (ask.Alive id) (answer.Granted revision granted seconds) fits = absurd fits
+
+-- both numbers are in range
+is_place : (number revision : ℤ) → IsCount number → IsCount revision → IsPlace (record { number = number; revision = revision })
+is_place number revision n r = let n0 = n.least in let n1 = n.most in let r0 = r.least in let r1 = r.most in
+    record { number_least = n0; number_most = omega (arith, ints); revision_least = r0; revision_most = omega (arith, ints) }
 
 place_fits : (q : Ask) (a : Answer) → Fits q a → IsPlace (place_in a)
-place_fits q a fits = place_counts (first_of (found_by (last_part a))) (head_counts (found_by (last_part a)) (found_fits q a fits))
+place_fits q a fits = is_place (number_at (first_of (found_by (last_part a)))) (revision_in a)
+    (number_counts (first_of (found_by (last_part a))) (head_counts (found_by (last_part a)) (found_fits q a fits))) (revision_counts q a fits)
 
 -- ---- the first ask
 

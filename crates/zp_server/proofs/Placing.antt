@@ -14,6 +14,6 @@ placed_first list place new at =
       placed = omega (arith, ints);
       least = at.number_least;
       most = at.number_most;
-      zxid_least = at.zxid_least;
-      zxid_most = at.zxid_most;
+      revision_least = at.revision_least;
+      revision_most = at.revision_most;
     })

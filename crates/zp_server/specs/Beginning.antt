@@ -1,5 +1,6 @@
 -- The first ask: where the updates stand, or why that is not known.
 use Rattle.std.specs.Prelude.{◌≡◌, ℕ, ◌-◌, ℤ, pos, ◌≤ℤ◌, ◌<ℤ◌, ◌^◌, List, length, slice_get, Option, Some, None, Result, Ok, Err}
+use Rattle.ev_types.specs.Answers.{revision_in}
 use Rattle.ev_types.specs.declared.answer.ActAns.{ActAns}
 use Rattle.ev_types.specs.declared.answer.ActAns.TheVariants as part
 use Rattle.ev_types.specs.declared.answer.Answer.{Answer}
@@ -34,20 +35,22 @@ first_of None = None
 abbrev pub head_in : Answer → Option Kv
 head_in a = first_of (found_by (last_part a))
 
--- The head's version is the number of the last update, and its revision that update's zxid. Where there is no head, there was no update.
-abbrev pub place_at : Option Kv → Place
-place_at (Some head) = record { number = head.version; zxid = head.mod_revision }
-place_at None = record { number = pos 0; zxid = pos 0 }
+-- The head's version is the number of the last update. Where there is no head, there was no update.
+abbrev pub number_at : Option Kv → ℤ
+number_at (Some head) = head.version
+number_at None = pos 0
 
+-- At the revision of the answer the head is what it shows: each later update has a later revision. The revision of the head itself may
+-- have been compacted, where other keys were put after it.
 abbrev pub place_in : Answer → Place
-place_in a = place_at (head_in a)
+place_in a = record { number = number_at (head_in a); revision = revision_in a }
 
--- the number and the zxid of an update are in an etcd's range; where there was none they are 0
+-- the number and the revision are in an etcd's range
 pub record IsPlace (p : Place) : Type 0 where
   pub number_least : pos 0 ≤ℤ p.number
   pub number_most : p.number <ℤ pos (2 ^ 62)
-  pub zxid_least : pos 0 ≤ℤ p.zxid
-  pub zxid_most : p.zxid <ℤ pos (2 ^ 62)
+  pub revision_least : pos 0 ≤ℤ p.revision
+  pub revision_most : p.revision <ℤ pos (2 ^ 62)
 
 -- ---- what the first ask comes to
 
@@ -56,7 +59,7 @@ pub record ClusterTold : Type 0 where
   pub failures : ℕ
   pub calls : Option (List Call)
 
--- the cluster was asked to make the root at some time, where it has none, and to show the head: the updates stand where the head does
+-- the cluster was asked to make the root at some time, where it has none, and to show the head: the updates stand where its answer says
 pub record Began (p : Place) (c c' : ClusterTold) : Type 0 where
   pub is_place : IsPlace p
   pub failures : c'.failures ≡ c.failures

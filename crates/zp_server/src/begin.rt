@@ -2,7 +2,7 @@
 
 ghost use Rattle.std.specs.Prelude.{◌≡◌, Some, option_copied};
 ghost use Rattle.ev_call.specs.Addresses.{IsAddress};
-ghost use Rattle.zp_server.specs.Beginning.{Begins, found_by, head_in, last_part, place_in};
+ghost use Rattle.zp_server.specs.Beginning.{Begins, found_by, head_in, last_part, number_at, place_in};
 
 use crate::ends::Stop;
 use ev_call::{CallFault, Cluster};
@@ -11,9 +11,6 @@ use std::alloc::Global;
 use zn_layout::begin_ask;
 use zw_follow::Place;
 use zx_net::Clock;
-
-/// Where the updates stand before the first.
-const NOWHERE: Place = Place { number: 0, zxid: 0 };
 
 /// The last part of a transaction's answer, if there is one.
 fn last_part(answer: &Answer) -> Option<&ActAns>
@@ -49,16 +46,23 @@ fn head_in(answer: &Answer) -> Option<&Kv>
     }
 }
 
-/// Where the updates stand, by the answer of the first ask. Where it shows no head, there was no update.
+/// The number of the last update, by its head. Where there is no head, there was no update.
+fn number_at(head: Option<&Kv>) -> i64
+    ensures { result ≡ number_at (option_copied head.entry) }
+{
+    match head {
+        Some(head) => head.version,
+        None => 0,
+    }
+}
+
+/// Where the updates stand, by the answer of the first ask: at its revision the head is what it shows.
 fn place_in(answer: &Answer) -> Place
     ensures { result ≡ place_in answer.now }
 {
-    match head_in(answer) {
-        Some(head) => Place {
-            number: head.version,
-            zxid: head.mod_revision,
-        },
-        None => NOWHERE,
+    Place {
+        number: number_at(head_in(answer)),
+        revision: answer.revision(),
     }
 }
 

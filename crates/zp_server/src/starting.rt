@@ -31,7 +31,7 @@ pub type Home<N, B, R, G> = House<
     G,
 >;
 
-/// A new hub, and the update where it begins.
+/// A new hub, and the place where it begins.
 #[derive(Drop)]
 pub struct Opened<R: Wait + Drop> {
     pub list: Hub<R>,
@@ -39,7 +39,7 @@ pub struct Opened<R: Wait + Drop> {
     pub ghost placed: { IsPlaced list.list place },
 }
 
-/// A hub that nothing was published at, and the update where it begins.
+/// A hub that nothing was published at, and the place where it begins.
 pub fn begin_at<R: Wait + Drop>(list: Hub<R>, place: Place) -> Opened<R>
     requires new { list.list ≡ empty place.number }
     requires at { IsPlace place }

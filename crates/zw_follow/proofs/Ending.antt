@@ -64,7 +64,7 @@ pub follower_at : (n : ℤ) (s : FollowerState) → pos 0 ≤ℤ n → n <ℤ po
 follower_at n s least most is = is ∙ ap (λ (k : ℤ). record { number = k; fault = None }) (passed n least most)
 
 pub following_starts : {In : Type 0} (tells : In → Told) (lines : Lines In) (list : Published) (place : Place) (follower : FollowerState) → IsAt lines (tells lines.source) [] [] → IsPlaced list place → follower ≡ record { number = place.number; fault = None }
-    → IsFollowing tells lines.source lines list list place.zxid place follower taken.Nothing
+    → IsFollowing tells lines.source lines list list place.revision place follower taken.Nothing
 following_starts tells lines list place follower at placed follows = record {
   said = [];
   read = record { taken = []; gives = Gives-nil _ _; at = at; calm = refl };
@@ -90,7 +90,7 @@ following_waits tells dialled lines lines' before now zxid place follower gave f
 
 -- one more line was taken
 pub following_goes : {In : Type 0} (tells : In → Told) (dialled : In) (lines lines' : Lines In) (before now next : Published) (zxid : ℤ) (place place' : Place) (follower follower' : FollowerState) (gave gave' : Taken) (found : Option Line) (l : Line) (u : Unit {0})
-    → (h : IsFollowing tells dialled lines before now zxid place follower gave) → found ≡ Some l → ReadsOn tells dialled (Ok found) lines' h.said → TakesLine (Ok u) l now next place.zxid place'.zxid → Stands next follower' place' → gave' ≡ taken_after l gave
+    → (h : IsFollowing tells dialled lines before now zxid place follower gave) → found ≡ Some l → ReadsOn tells dialled (Ok found) lines' h.said → TakesLine (Ok u) l now next place.revision place'.revision → Stands next follower' place' → gave' ≡ taken_after l gave
     → IsFollowing tells dialled lines' before next zxid place' follower' gave'
 following_goes tells dialled lines lines' before now next zxid place place' follower follower' gave gave' found l u h some reads takes stands counted =
     let read : ReadsOn tells dialled (Ok (Some l)) lines' h.said = subst (λ (f : Option Line). ReadsOn tells dialled (Ok f) lines' h.said) some reads in
@@ -107,7 +107,7 @@ following_goes tells dialled lines lines' before now next zxid place place' foll
 -- ---- its end
 
 pub stream_stops : {In : Type 0} (tells : In → Told) (dialled : In) (lines : Lines In) (before now : Published) (zxid : ℤ) (place : Place) (follower : FollowerState) (gave : Taken) (n n' : ℕ)
-    → IsFollowing tells dialled lines before now zxid place follower gave → n' ≡ one_more n → ReadsStream tells dialled stream.Stopped before now zxid place.zxid n n'
+    → IsFollowing tells dialled lines before now zxid place follower gave → n' ≡ one_more n → ReadsStream tells dialled stream.Stopped before now zxid place.revision n n'
 stream_stops tells dialled lines before now zxid place follower gave n n' h counted = record {
   said = h.said;
   lines = lines;
@@ -121,7 +121,7 @@ stream_stops tells dialled lines before now zxid place follower gave n n' h coun
 
 -- nothing further can be read
 pub stream_breaks : {In : Type 0} (tells : In → Told) (dialled : In) (lines lines' : Lines In) (before now : Published) (zxid : ℤ) (place : Place) (follower : FollowerState) (gave : Taken) (why : Fault) (end : StreamEnd) (n n' : ℕ)
-    → (h : IsFollowing tells dialled lines before now zxid place follower gave) → ReadsOn tells dialled (Err why) lines' h.said → IsBrokenBy why gave end → n' ≡ n → ReadsStream tells dialled end before now zxid place.zxid n n'
+    → (h : IsFollowing tells dialled lines before now zxid place follower gave) → ReadsOn tells dialled (Err why) lines' h.said → IsBrokenBy why gave end → n' ≡ n → ReadsStream tells dialled end before now zxid place.revision n n'
 stream_breaks tells dialled lines lines' before now zxid place follower gave why (stream.Over told barren) n n' h stops broken counted = record {
   said = h.said;
   lines = lines;
@@ -152,7 +152,7 @@ goes_on_broken list place why gave stream.Stopped broken placed = absurd broken
 
 -- a line shows that the updates cannot be followed any further
 stream_closes : {In : Type 0} (tells : In → Told) (dialled : In) (lines lines' : Lines In) (before now next : Published) (zxid zxid' : ℤ) (place : Place) (follower : FollowerState) (gave : Taken) (l : Line) (end : StreamEnd) (n n' : ℕ)
-    → (h : IsFollowing tells dialled lines before now zxid place follower gave) → (read : ReadsOn tells dialled (Ok (Some l)) lines' h.said) → next ≡ now → zxid' ≡ place.zxid
+    → (h : IsFollowing tells dialled lines before now zxid place follower gave) → (read : ReadsOn tells dialled (Ok (Some l)) lines' h.said) → next ≡ now → zxid' ≡ place.revision
     → EndsBy tells dialled end (h.said ++ read.0 ∷ []) (heads_in (read.0).line) next n n' → ReadsStream tells dialled end before next zxid zxid' n n'
 stream_closes tells dialled lines lines' before now next zxid zxid' place follower gave l end n n' h read same stays ends = record {
   said = h.said ++ read.0 ∷ [];
@@ -170,7 +170,7 @@ shown_in : (list list' : Published) (l l' : Line) (end : FeedEnd) → list' ≡ 
 shown_in list list' l l' end same is shown = subst (λ (x : Published). IsShown x end l') (sym same) (subst (λ (x : Line). IsShown list end x) (sym is) shown)
 
 stream_ends : {In : Type 0} (tells : In → Told) (dialled : In) (lines lines' : Lines In) (before now next : Published) (zxid zxid' : ℤ) (place : Place) (follower : FollowerState) (gave : Taken) (l : Line) (end : StreamEnd) (n n' : ℕ)
-    → IsFollowing tells dialled lines before now zxid place follower gave → ((said : List Said) → IsReadTo tells dialled lines (spelled said) → ReadsOn tells dialled (Ok (Some l)) lines' said) → TakesLine (Err end) l now next place.zxid zxid' → n' ≡ n
+    → IsFollowing tells dialled lines before now zxid place follower gave → ((said : List Said) → IsReadTo tells dialled lines (spelled said) → ReadsOn tells dialled (Ok (Some l)) lines' said) → TakesLine (Err end) l now next place.revision zxid' → n' ≡ n
     → ReadsStream tells dialled end before next zxid zxid' n n'
 stream_ends tells dialled lines lines' before now next zxid zxid' place follower gave l (stream.Closes ends.Memory) n n' h reads takes counted =
     let read = reads h.said h.read in
@@ -206,7 +206,7 @@ stream_ends tells dialled lines lines' before now next zxid zxid' place follower
 
 -- the same, where what was found is that line
 pub stream_ends_at : {In : Type 0} (tells : In → Told) (dialled : In) (lines lines' : Lines In) (before now next : Published) (zxid zxid' : ℤ) (place : Place) (follower : FollowerState) (gave : Taken) (found : Option Line) (l : Line) (end : StreamEnd) (n n' : ℕ)
-    → IsFollowing tells dialled lines before now zxid place follower gave → found ≡ Some l → ((said : List Said) → IsReadTo tells dialled lines (spelled said) → ReadsOn tells dialled (Ok found) lines' said) → TakesLine (Err end) l now next place.zxid zxid' → n' ≡ n
+    → IsFollowing tells dialled lines before now zxid place follower gave → found ≡ Some l → ((said : List Said) → IsReadTo tells dialled lines (spelled said) → ReadsOn tells dialled (Ok found) lines' said) → TakesLine (Err end) l now next place.revision zxid' → n' ≡ n
     → ReadsStream tells dialled end before next zxid zxid' n n'
 stream_ends_at tells dialled lines lines' before now next zxid zxid' place follower gave found l end n n' h some reads takes counted =
     stream_ends tells dialled lines lines' before now next zxid zxid' place follower gave l end n n' h (λ said read. subst (λ (f : Option Line). ReadsOn tells dialled (Ok f) lines' said) some (reads said read)) takes counted

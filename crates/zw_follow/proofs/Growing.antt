@@ -84,7 +84,7 @@ zxid_join zxid (e ∷ es) others = zxid_join e.zxid es others
 
 -- ---- a list of entries, one after the other
 
-pub publishing_starts : (all : List Entry) (list : Published) (place : Place) → IsRun (last_number list) all → IsPlaced list place → IsPublishing all all list list place.zxid place
+pub publishing_starts : (all : List Entry) (list : Published) (place : Place) → IsRun (last_number list) all → IsPlaced list place → IsPublishing all all list list place.revision place
 publishing_starts all list place run placed = record {
   done = [];
   split = refl;
@@ -93,12 +93,12 @@ publishing_starts all list place run placed = record {
   run = run;
   placed = placed.placed;
   zxid_is = refl;
-  zxid_least = placed.zxid_least;
-  zxid_most = placed.zxid_most;
+  revision_least = placed.revision_least;
+  revision_most = placed.revision_most;
 }
 
 -- one more is published
-pub publishing_goes : (all queue rest : List Entry) (e : Entry) (before now next : Published) (zxid : ℤ) (place place' : Place) → queue ≡ e ∷ rest → next ≡ with_entry now e → place'.number ≡ e.number → place'.zxid ≡ e.zxid
+pub publishing_goes : (all queue rest : List Entry) (e : Entry) (before now next : Published) (zxid : ℤ) (place place' : Place) → queue ≡ e ∷ rest → next ≡ with_entry now e → place'.number ≡ e.number → place'.revision ≡ e.zxid
     → IsPublishing all queue before now zxid place → IsPublishing all rest before next zxid place'
 publishing_goes all queue rest e before now next zxid place place' popped grown is stands h = record {
   done = h.done ++ e ∷ [];
@@ -108,8 +108,8 @@ publishing_goes all queue rest e before now next zxid place place' popped grown 
   run = subst (λ (n : ℤ). IsRun n rest) (sym last) run.3;
   placed = is ∙ run.0 ∙ sym last;
   zxid_is = stands ∙ sym (zxid_join zxid h.done (e ∷ []));
-  zxid_least = subst (λ (z : ℤ). pos 0 ≤ℤ z) (sym stands) run.1;
-  zxid_most = subst (λ (z : ℤ). z <ℤ pos (2 ^ 62)) (sym stands) run.2;
+  revision_least = subst (λ (z : ℤ). pos 0 ≤ℤ z) (sym stands) run.1;
+  revision_most = subst (λ (z : ℤ). z <ℤ pos (2 ^ 62)) (sym stands) run.2;
 }
   where
     run : IsRun (last_number now) (e ∷ rest)
@@ -122,11 +122,11 @@ publishing_goes all queue rest e before now next zxid place place' popped grown 
 pub next_number : (all queue rest : List Entry) (e : Entry) (before now : Published) (zxid : ℤ) (place : Place) → queue ≡ e ∷ rest → IsPublishing all queue before now zxid place → e.number ≡ last_number now +ℤ pos 1
 next_number all queue rest e before now zxid place popped h = (subst (IsRun (last_number now)) popped h.run).0
 
-pub published_all : (all queue : List Entry) (before now : Published) (place place' : Place) (u : Unit {0}) → queue ≡ [] → IsPublishing all queue before now place.zxid place' → PublishesAll (Ok u) all before now place place'
-published_all all queue before now place place' u none h = subst (λ (q : List Entry). IsPublishing all q before now place.zxid place') none h
+pub published_all : (all queue : List Entry) (before now : Published) (place place' : Place) (u : Unit {0}) → queue ≡ [] → IsPublishing all queue before now place.revision place' → PublishesAll (Ok u) all before now place place'
+published_all all queue before now place place' u none h = subst (λ (q : List Entry). IsPublishing all q before now place.revision place') none h
 
 -- memory was refused
-pub published_front : (all queue : List Entry) (before now now' : Published) (place place' : Place) (m : Memory) → now' ≡ now → IsPublishing all queue before now place.zxid place' → PublishesAll (Err m) all before now' place place'
+pub published_front : (all queue : List Entry) (before now now' : Published) (place place' : Place) (m : Memory) → now' ≡ now → IsPublishing all queue before now place.revision place' → PublishesAll (Err m) all before now' place place'
 published_front all queue before now now' place place' m same h = (h.done, queue, h.split, same ∙ h.grown, h.zxid_is)
 
 -- ---- what is added

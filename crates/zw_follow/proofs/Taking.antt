@@ -64,25 +64,25 @@ at_place place = at_number place.number
 gives_at : (l : Line) (r : Result (Vec Entry) FeedFault) (s s' : FollowerState) (place : Place) → s ≡ at_place place → Takes s l r s' → Gives place.number l r × (s' ≡ follow.after (at_place place) r)
 gives_at l r s s' place is takes = subst (λ (x : FollowerState). Takes x l r s') is takes
 
-pub line_fails : (l : Line) (f : FeedFault) (end : StreamEnd) (s s' : FollowerState) (list : Published) (place : Place) → Stands list s place → Takes s l (Err f) s' → Means f end → TakesLine (Err end) l list list place.zxid place.zxid
+pub line_fails : (l : Line) (f : FeedFault) (end : StreamEnd) (s s' : FollowerState) (list : Published) (place : Place) → Stands list s place → Takes s l (Err f) s' → Means f end → TakesLine (Err end) l list list place.revision place.revision
 line_fails l feed.Ended end s s' list place stands takes means =
     let g = gives_at l (Err feed.Ended) s s' place stands.follows takes in
-    subst (λ (e : StreamEnd). TakesLine (Err e) l list list place.zxid place.zxid) (sym means.1) (refl, refl, g.0, refl)
+    subst (λ (e : StreamEnd). TakesLine (Err e) l list list place.revision place.revision) (sym means.1) (refl, refl, g.0, refl)
 line_fails l (feed.Compacted rev) end s s' list place stands takes means =
     let g = gives_at l (Err (feed.Compacted rev)) s s' place stands.follows takes in
-    subst (λ (e : StreamEnd). TakesLine (Err e) l list list place.zxid place.zxid) (sym means) (refl, refl, proper_compacted rev, g.0)
+    subst (λ (e : StreamEnd). TakesLine (Err e) l list list place.revision place.revision) (sym means) (refl, refl, proper_compacted rev, g.0)
 line_fails l (feed.Gap expected found) end s s' list place stands takes means =
     let g = gives_at l (Err (feed.Gap expected found)) s s' place stands.follows takes in
     let broken = (g.0).broken in
-    subst (λ (e : StreamEnd). TakesLine (Err e) l list list place.zxid place.zxid) (sym means)
+    subst (λ (e : StreamEnd). TakesLine (Err e) l list list place.revision place.revision) (sym means)
     (refl, refl, proper_gap expected found broken.2, subst (λ (n : ℤ). BreaksAt n (heads_in l) (feed.Gap expected found)) (stands.placed).placed g.0)
 line_fails l (feed.Damaged key value) end s s' list place stands takes means =
     let g = gives_at l (Err (feed.Damaged key value)) s s' place stands.follows takes in
     let broken = (g.0).broken in
-    subst (λ (e : StreamEnd). TakesLine (Err e) l list list place.zxid place.zxid) (sym means)
+    subst (λ (e : StreamEnd). TakesLine (Err e) l list list place.revision place.revision) (sym means)
     (refl, refl, proper_damaged key value (subst (IsNoValue head_bytes IsHeadWithin) (sym broken.2) broken.3), subst (λ (n : ℤ). BreaksAt n (heads_in l) (feed.Damaged key value)) (stands.placed).placed g.0)
 line_fails l feed.Memory end s s' list place stands takes means =
-    subst (λ (e : StreamEnd). TakesLine (Err e) l list list place.zxid place.zxid) (sym means)
+    subst (λ (e : StreamEnd). TakesLine (Err e) l list list place.revision place.revision) (sym means)
     ([], heads_in l, record { taken = []; split = refl; gives = tt; grown = sym (with_none list) }, refl)
 
 -- the worker stays at its place
@@ -103,12 +103,12 @@ pub run_at : (l : Line) (es : Vec Entry) (s s' : FollowerState) (list : Publishe
 run_at l es s s' list place fits stands takes = entries_run (last_number list) (heads_in l) es.items (heads_fit l fits) (entries_at l es s s' list place stands takes)
 
 pub line_taken : (l : Line) (es : Vec Entry) (s s' : FollowerState) (before after : Published) (place place' : Place) (u : Unit {0}) → Stands before s place → Takes s l (Ok es) s' → PublishesAll (Ok u) es.items before after place place'
-    → TakesLine (Ok u) l before after place.zxid place'.zxid
+    → TakesLine (Ok u) l before after place.revision place'.revision
 line_taken l es s s' before after place place' u stands takes p =
     let all : es.items ≡ p.done = p.split ∙ append-nil p.done in (
       es.items,
       record { taken = heads_in l; split = sym (append-nil (heads_in l)); gives = entries_at l es s s' before place stands takes; grown = p.grown ∙ ap (with_entries before) (sym all) },
-      p.zxid_is ∙ ap (zxid_after place.zxid) (sym all),
+      p.zxid_is ∙ ap (zxid_after place.revision) (sym all),
     )
 
 pub line_stands : (l : Line) (es : Vec Entry) (s s' : FollowerState) (before after : Published) (place place' : Place) (u : Unit {0}) → LineFits l → Stands before s place → Takes s l (Ok es) s'
@@ -127,15 +127,15 @@ line_stands l es s s' before after place place' u fits stands takes p =
         placed = p.placed;
         least = omega (arith, ints, last, least);
         most = subst (λ (n : ℤ). n <ℤ pos (2 ^ 62)) (sym last) below;
-        zxid_least = p.zxid_least;
-        zxid_most = p.zxid_most;
+        revision_least = p.revision_least;
+        revision_most = p.revision_most;
       };
       follows = is;
     }
 
 -- memory was refused before all of them were published
 pub line_refused : (l : Line) (es : Vec Entry) (s s' : FollowerState) (before after : Published) (place place' : Place) (m : Memory) → Stands before s place → Takes s l (Ok es) s' → PublishesAll (Err m) es.items before after place place'
-    → TakesLine (Err (stream.Closes ends.Memory)) l before after place.zxid place'.zxid
+    → TakesLine (Err (stream.Closes ends.Memory)) l before after place.revision place'.revision
 line_refused l es s s' before after place place' m stands takes p =
     let cut = publishes_front (heads_in l) es.items p.0 p.1 before after (entries_at l es s s' before place stands takes) p.2 p.3 in
     (p.0, cut.0, cut.1, p.4)

@@ -41,7 +41,7 @@ telling given left counts ended name taken faults named = record { source = told
 
 -- ---- one dial
 
--- the request to this host for the puts of the head from the revision after this zxid on (etcd API reference, "Watch")
+-- the request to this host for the puts of the head from the revision after this one on (etcd API reference, "Watch")
 abbrev pub request_with : List ℕ → List ℕ → List ℕ
 request_with host body = request_head host route.Watch (length body) ++ body
 

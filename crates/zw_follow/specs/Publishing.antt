@@ -30,7 +30,7 @@ IsRun n (e ∷ es) = (e.number ≡ n +ℤ pos 1) × (pos 0 ≤ℤ e.zxid) × (e.
 abbrev pub with_entries : Published → List Entry → Published
 with_entries list es = record list { entries = list.entries ++ es }
 
--- the zxid of the last of these entries; before the first it is this one
+-- the zxid of the last of these entries, which is its revision; before the first it is this revision
 abbrev pub zxid_after : ℤ → List Entry → ℤ
 zxid_after zxid [] = zxid
 zxid_after zxid (e ∷ es) = zxid_after e.zxid es
@@ -73,14 +73,14 @@ Explains end list said left = (earlier : List Said) × (last : Said) × (said �
 
 -- ---- where the worker stands
 
--- the place is the end of the list, which is open; its number and its zxid are from 0 to below 2 ^ 62
+-- the place is the end of the list, which is open; its number and its revision are from 0 to below 2 ^ 62
 pub record IsPlaced (list : Published) (place : Place) : Type 0 where
   pub is_open : list.end ≡ None
   pub placed : place.number ≡ last_number list
   pub least : pos 0 ≤ℤ place.number
   pub most : place.number <ℤ pos (2 ^ 62)
-  pub zxid_least : pos 0 ≤ℤ place.zxid
-  pub zxid_most : place.zxid <ℤ pos (2 ^ 62)
+  pub revision_least : pos 0 ≤ℤ place.revision
+  pub revision_most : place.revision <ℤ pos (2 ^ 62)
 
 -- the follower stands there too, between two lines
 pub record Stands (list : Published) (follower : FollowerState) (place : Place) : Type 0 where
@@ -113,11 +113,11 @@ pub record IsPublishing (all queue : List Entry) (before now : Published) (zxid 
   pub is_open : now.end ≡ None
   pub run : IsRun (last_number now) queue
   pub placed : place.number ≡ last_number now
-  pub zxid_is : place.zxid ≡ zxid_after zxid done
-  pub zxid_least : pos 0 ≤ℤ place.zxid
-  pub zxid_most : place.zxid <ℤ pos (2 ^ 62)
+  pub zxid_is : place.revision ≡ zxid_after zxid done
+  pub revision_least : pos 0 ≤ℤ place.revision
+  pub revision_most : place.revision <ℤ pos (2 ^ 62)
 
 -- what the publishing of entries comes to: the place is the end of the list, or, where memory was refused, some of them are published
 abbrev pub PublishesAll : Result (Unit {0}) Memory → List Entry → Published → Published → Place → Place → Type 0
-PublishesAll (Ok _) es before after place place' = IsPublishing es [] before after place.zxid place'
-PublishesAll (Err _) es before after place place' = (front : List Entry) × (rest : List Entry) × (es ≡ front ++ rest) × (after ≡ with_entries before front) × (place'.zxid ≡ zxid_after place.zxid front)
+PublishesAll (Ok _) es before after place place' = IsPublishing es [] before after place.revision place'
+PublishesAll (Err _) es before after place place' = (front : List Entry) × (rest : List Entry) × (es ≡ front ++ rest) × (after ≡ with_entries before front) × (place'.revision ≡ zxid_after place.revision front)

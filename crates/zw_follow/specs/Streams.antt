@@ -140,7 +140,7 @@ abbrev pub GoesOn : StreamEnd → Published → Place → Type 0
 GoesOn (stream.Over why barren) list place = IsPlaced list place
 GoesOn _ list place = list.end ≡ None
 
--- By the stream's lines, the heads in them that are left, the list, the zxids before and after, and the readings that found the word
+-- By the stream's lines, the heads in them that are left, the list, the revisions before and after, and the readings that found the word
 -- to stop set, before and after.
 abbrev pub EndsBy : {In : Type 0} → (In → Told) → In → StreamEnd → List Said → List Kv → Published → ℕ → ℕ → Type 0
 EndsBy tells dialled stream.Stopped said left list n n' = (left ≡ []) × (n' ≡ one_more n)
@@ -190,6 +190,6 @@ pub record IsFollowing {In : Type 0} (tells : In → Told) (dialled : In) (lines
   pub read : IsReadTo tells dialled lines (spelled said)
   pub entries : List Entry
   pub publishes : Publishes (heads_of said) entries [] before now
-  pub zxid_is : place.zxid ≡ zxid_after zxid entries
+  pub zxid_is : place.revision ≡ zxid_after zxid entries
   pub stands : Stands now follower place
   pub is : gave ≡ taken_of said

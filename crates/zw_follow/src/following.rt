@@ -21,9 +21,9 @@ use zx_words::StopWord;
 /// How many dials in a row may give no line.
 const MAX_BARREN: u32 = 10;
 
-/// Follows the head from the update with this number and zxid on, and publishes an entry for each later one (etcd API reference,
-/// "Watch"). `endpoint` is `HOST:PORT` of a JSON gateway. Both numbers are from 0 to 2^62 - 1; `number` is that of the hub's last
-/// entry, and the hub is open.
+/// Follows the head from behind this revision on, at which the last update has this number, and publishes an entry for each later one
+/// (etcd API reference, "Watch"). `endpoint` is `HOST:PORT` of a JSON gateway. Both numbers are from 0 to 2^62 - 1; `number` is that
+/// of the hub's last entry, and the hub is open.
 ///
 /// `None`: the word to stop was found set, and the hub is open. Otherwise the hub is closed for the end that is given:
 ///
@@ -37,26 +37,26 @@ pub fn follow<R: Wait + Eprint, H: Wait + Drop, N: Net, Q: StopWord>(
     net: &mut N,
     endpoint: &str,
     number: i64,
-    zxid: i64,
+    revision: i64,
     hub: &mut Hub<H>,
     stop: &mut Q,
 ) -> Option<FeedEnd>
     // The hub is open, its last number is this one, and both numbers are from 0 to below 2 ^ 62.
-    requires { IsPlaced hub.old.list (record { number = number; zxid = zxid }) }
+    requires { IsPlaced hub.old.list (record { number = number; revision = revision }) }
     // It has published the entries of the lines that its streams gave, each once and in order.
     ensures { Follows
         (telling N.In.given N.In.left N.In.counts N.In.ended N.In.name N.Out.taken N.Out.counts N.Out.name)
         endpoint.now result
         (record { counts = N.counts net.old; streams = N.streams net.old })
         (record { counts = N.counts net.new; streams = N.streams net.new })
-        zxid hub.old.list hub.new.list (Q.set_readings stop.old) (Q.set_readings stop.new) }
+        revision hub.old.list hub.new.list (Q.set_readings stop.old) (Q.set_readings stop.new) }
 {
     follow_and_ring(
         rt,
         alloc,
         net,
         endpoint,
-        Place { number, zxid },
+        Place { number, revision },
         hub,
         stop,
         &NoBells,
@@ -80,7 +80,7 @@ pub fn follow_and_ring<R: Wait + Eprint, H: Wait + Drop, N: Net, Q: StopWord, B:
         endpoint.now result
         (record { counts = N.counts net.old; streams = N.streams net.old })
         (record { counts = N.counts net.new; streams = N.streams net.new })
-        place.zxid hub.old.list hub.new.list (Q.set_readings stop.old) (Q.set_readings stop.new) }
+        place.revision hub.old.list hub.new.list (Q.set_readings stop.old) (Q.set_readings stop.new) }
 {
     let mut place = place;
     let end = match follow_streams(rt, alloc, net, endpoint, &mut place, hub, stop, bells) {
@@ -111,9 +111,9 @@ fn follow_stream<R: Wait, H: Wait + Drop, N: Net, Q: StopWord, B: Rings>(
         endpoint.now result
         (record { counts = N.counts net.old; streams = N.streams net.old })
         (record { counts = N.counts net.new; streams = N.streams net.new })
-        hub.old.list hub.new.list place.old.zxid place.new.zxid (Q.set_readings stop.old) (Q.set_readings stop.new) }
+        hub.old.list hub.new.list place.old.revision place.new.revision (Q.set_readings stop.old) (Q.set_readings stop.new) }
 {
-    let mut lines = match open(alloc, net, endpoint, place.zxid) {
+    let mut lines = match open(alloc, net, endpoint, place.revision) {
         Ok(lines) => lines,
         Err(end) => return end,
     };
@@ -153,7 +153,7 @@ fn follow_streams<R: Wait + Eprint, H: Wait + Drop, N: Net, Q: StopWord, B: Ring
         endpoint.now result
         (record { counts = N.counts net.old; streams = N.streams net.old })
         (record { counts = N.counts net.new; streams = N.streams net.new })
-        place.old.zxid hub.old.list hub.new.list (Q.set_readings stop.old) (Q.set_readings stop.new) }
+        place.old.revision hub.old.list hub.new.list (Q.set_readings stop.old) (Q.set_readings stop.new) }
 {
     let mut barren = 0;
     'streams: for _ in rt.forever() {

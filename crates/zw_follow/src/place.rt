@@ -1,8 +1,8 @@
 //! Where the updates stand.
 
-/// The number of an update, which is the version that it gave the head, and its zxid, which is its revision.
+/// At this revision of etcd this is the number of the last update, which is the version that it gave the head.
 #[derive(Clone, Copy, Debug, PartialEq, Eq)]
 pub struct Place {
     pub number: i64,
-    pub zxid: i64,
+    pub revision: i64,
 }

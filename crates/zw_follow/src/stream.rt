@@ -76,25 +76,25 @@ fn unsent(fault: HttpFault) -> StreamEnd
     }
 }
 
-/// Dials, and asks for the head's puts from the revision after this zxid on, which is below 2^62.
+/// Dials, and asks for the head's puts from the revision after this one on, which is below 2^62.
 pub(crate) fn open<N: Net>(
     alloc: Global,
     net: &mut N,
     endpoint: &str,
-    zxid: i64,
+    revision: i64,
 ) -> Result<Lines<N::In>, StreamEnd>
-    requires least { pos 0 ≤ℤ zxid }
-    requires most { zxid <ℤ pos (2 ^ 62) }
+    requires least { pos 0 ≤ℤ revision }
+    requires most { revision <ℤ pos (2 ^ 62) }
     ensures { Opens
         (telling N.In.given N.In.left N.In.counts N.In.ended N.In.name N.Out.taken N.Out.counts N.Out.name)
-        result endpoint.now zxid
+        result endpoint.now revision
         (record { counts = N.counts net.old; streams = N.streams net.old })
         (record { counts = N.counts net.new; streams = N.streams net.new }) }
 {
     let Ok((source, mut sink)) = net.dial(endpoint) else {
         return Err(barren(Fault::Dial));
     };
-    let Ok(text) = write_watch(alloc, zxid + 1, b"zk/head".as_slice()) else {
+    let Ok(text) = write_watch(alloc, revision + 1, b"zk/head".as_slice()) else {
         return Err(StreamEnd::Closes(FeedEnd::Memory));
     };
     match send_request(alloc, &mut sink, endpoint, Route::Watch, text.as_slice()) {
@@ -245,7 +245,7 @@ fn publish<R: Wait + Drop>(
     'entries: while let Some(entry) = queue.pop_front() {
         let next = Place {
             number: entry.number,
-            zxid: entry.zxid,
+            revision: entry.zxid,
         };
         hub.publish(Arc::new(alloc, entry)?)?;
         *place = next;
@@ -279,7 +279,7 @@ fn take_line<R: Wait + Drop>(
 ) -> Result<(), StreamEnd>
     requires line { LineFits line.now }
     requires stands { Stands hub.old.list follower.old place.old }
-    ensures takes { TakesLine result line.now hub.old.list hub.new.list place.old.zxid place.new.zxid }
+    ensures takes { TakesLine result line.now hub.old.list hub.new.list place.old.revision place.new.revision }
     ensures stands { OnOk result (Stands hub.new.list follower.new place.new) }
     ensures goes_on { IfErr result (λ end. GoesOn end hub.new.list place.new) }
 {
@@ -307,7 +307,7 @@ pub(crate) fn read_stream<R: Wait, H: Wait + Drop, S: Source, Q: StopWord, B: Ri
     requires placed { IsPlaced hub.old.list place.old }
     ensures goes_on { GoesOn result hub.new.list place.new }
     ensures reads { ReadsStream (told S.given S.left S.counts S.ended S.name) lines.old.source result
-        hub.old.list hub.new.list place.old.zxid place.new.zxid
+        hub.old.list hub.new.list place.old.revision place.new.revision
         (Q.set_readings stop.old) (Q.set_readings stop.new) }
 {
     let mut follower = Follower::new(alloc, place.number);
