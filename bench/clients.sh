@@ -2,7 +2,7 @@
 # Tries `zetcd serve` with real clients on a real etcd: kazoo, ZooKeeper's Java and C clients and zkCli, over two proxies on the
 # loopback. Proxies are killed, etcd is restarted, compacted and filled, and clients are stopped until their sessions have lapsed.
 # Prints a line for each check, and ends with status 0 where all hold. Installs what it needs from Debian (as root), and ends what it
-# started. Takes about eight minutes; with words, only the parts that they name (basics faults ends history).
+# started. Takes about nine minutes; with words, only the parts that they name (basics faults ends history members).
 #
 #     bench/clients.sh [PART..]          ZETCD=PROGRAM: another program than the one that `./run` builds
 set -eu

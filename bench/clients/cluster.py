@@ -1,4 +1,5 @@
 """An etcd and proxies on the loopback, as processes, for bench/clients.sh and bench/serve.sh."""
+import json
 import os
 import random
 import shutil
@@ -43,20 +44,20 @@ def answers(port):
 
 
 class Etcd:
-    def __init__(self, work, *flags):
-        self.port, self.peer, self.flags = free_port(), free_port(), flags
+    def __init__(self, work, *flags, peer=None, is_awaited=True):
+        self.port, self.peer, self.flags = free_port(), peer or free_port(), flags
         self.folder = os.path.join(work, f"etcd-{self.port}")
         self.address = f"127.0.0.1:{self.port}"
         self.process = None
-        self.start()
+        self.start(is_awaited)
 
-    def start(self):
+    def start(self, is_awaited=True):
         urls = f"http://{self.address}"
         words = ["etcd", "--data-dir", self.folder, "--listen-client-urls", urls, "--advertise-client-urls", urls,
                  "--listen-peer-urls", f"http://127.0.0.1:{self.peer}", "--unsafe-no-fsync", *self.flags]
         log = open(self.folder + ".log", "ab")
         self.process = subprocess.Popen(words, stdout=log, stderr=log)
-        if not until(self.is_healthy, 20):
+        if is_awaited and not until(self.is_healthy, 20):
             raise RuntimeError("etcd does not come up")
 
     def is_healthy(self):
@@ -81,9 +82,36 @@ class Etcd:
             raise RuntimeError(made.stderr.decode())
         return made.stdout
 
+    def status(self):
+        return json.loads(self.control("endpoint", "status", "-w", "json"))[0]["Status"]
+
     def revision(self):
-        import json
-        return json.loads(self.control("endpoint", "status", "-w", "json"))[0]["Status"]["header"]["revision"]
+        return self.status()["header"]["revision"]
+
+    def leads(self):
+        status = self.status()
+        return status["leader"] == status["header"]["member_id"]
+
+
+class Members:
+    """An etcd of several members. `address` is the text that names them all."""
+
+    def __init__(self, work, size=3):
+        peers = [free_port() for _ in range(size)]
+        urls = [f"http://127.0.0.1:{port}" for port in peers]
+        all_of_them = ",".join(f"m{n}={url}" for n, url in enumerate(urls))
+        self.members = [Etcd(work, "--name", f"m{n}", "--initial-advertise-peer-urls", urls[n], "--initial-cluster", all_of_them,
+                             peer=peers[n], is_awaited=False) for n in range(size)]
+        self.address = ",".join(it.address for it in self.members)
+        if not until(lambda: all(it.is_healthy() for it in self.members), 20):
+            raise RuntimeError("the members do not come up")
+
+    def leader(self):
+        return next(it for it in self.members if it.process.poll() is None and it.leads())
+
+    def end(self):
+        for it in self.members:
+            it.end()
 
 
 class MemoryEtcd:

@@ -26,7 +26,7 @@ class Writer(threading.Thread):
         self.client = KazooClient(hosts=hosts, timeout=10.0)
         self.client.start(10)
         self.is_over = is_over
-        self.sure, self.unsure, self.zxids, self.made = 0, 0, [], []
+        self.sure, self.unsure, self.zxids, self.made, self.times = 0, 0, [], [], []
 
     def run(self):
         while not self.is_over.is_set():
@@ -35,6 +35,7 @@ class Writer(threading.Thread):
                 self.zxids.append(self.client.last_zxid)
                 self.client.set("/counter", str(int(content) + 1).encode(), stat.version)
                 self.sure += 1
+                self.times.append(time.time())
                 self.made.append(self.client.create("/log/n-", content, sequence=True))
             except BadVersionError:
                 pass
@@ -43,8 +44,13 @@ class Writer(threading.Thread):
                 time.sleep(0.05)
 
 
+def longest_pause(times):
+    return max((later - earlier for earlier, later in zip(times, times[1:])), default=0.0)
+
+
 def counting(etcd, proxies, seconds, harm, writers=6):
-    """Has writers count while harm is done, and checks that no update that was acknowledged is lost and that no zxid goes back."""
+    """Has writers count while harm is done, and checks that no update that was acknowledged is lost and that no zxid goes back.
+    Gives the longest pause between two acknowledged updates of one writer, in seconds."""
     hosts = hosts_of(proxies)
     with kazoos(hosts) as (watcher,):
         watcher.create("/counter", b"0")
@@ -71,7 +77,7 @@ def counting(etcd, proxies, seconds, harm, writers=6):
             assert it.zxids == sorted(it.zxids), "a zxid went back"
             it.client.stop()
         assert sure > 0
-        return sure, unsure
+        return max(longest_pause(it.times) for it in all_writers)
 
 
 def a_killed_proxy_loses_nothing(program, work):

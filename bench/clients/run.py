@@ -9,8 +9,9 @@ import basics
 import ends
 import faults
 import history
+import members
 
-PARTS = {"basics": basics.checks, "faults": faults.checks, "ends": ends.checks, "history": history.checks}
+PARTS = {"basics": basics.checks, "faults": faults.checks, "ends": ends.checks, "history": history.checks, "members": members.checks}
 
 
 def main():
@@ -23,9 +24,9 @@ def main():
         for check in PARTS[part]:
             name, since = check.__name__.replace("_", " "), time.time()
             try:
-                check(program, work)
+                said = check(program, work)
                 passed += 1
-                print(f"ok     {name} ({time.time() - since:.1f} s)", flush=True)
+                print(f"ok     {name} ({time.time() - since:.1f} s)" + (f": {said}" if said else ""), flush=True)
             except Exception as wrong:  # each check by itself
                 failed += 1
                 print(f"FAILED {name} ({time.time() - since:.1f} s): {type(wrong).__name__} {wrong}", flush=True)

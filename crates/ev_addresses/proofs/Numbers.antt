@@ -81,5 +81,12 @@ some_counted (a ∷ more) h = refl
 pub as_named : (text : List ℕ) (n : ℕ) → n ≡ length (named_in text) → (n ≡ 0 → ⊥) → n ≡ length (addresses_in text)
 as_named text n is some = is ∙ some_counted (named_in text) (λ none. some (is ∙ none))
 
+some_listed : (named : List (List ℕ)) → 0 < length (or_local named)
+some_listed [] = omega arith
+some_listed (a ∷ more) = omega arith
+
+pub are_some : (text : List ℕ) → 0 < length (addresses_in text)
+are_some text = some_listed (named_in text)
+
 pub few : (text : List ℕ) (n : ℕ) → n ≡ length (named_in text) → n ≤ 5
 few text n is = let t = length-take 5 (filter is_part (slice_split (λ b. b == 44) text)) in omega (arith, is, t)

@@ -1,5 +1,5 @@
 -- The addresses of the endpoints of one etcd, in one text.
-use Rattle.std.specs.Prelude.{ℕ, ◌==◌, Bool, not, List, [], ◌∷◌, filter, length, take, codes}
+use Rattle.std.specs.Prelude.{ℕ, ◌+◌, ◌-◌, ◌==◌, nat_lt, if◌then◌else◌, Bool, not, List, [], ◌∷◌, filter, length, take, codes}
 use Rattle.std.specs.List.{slice_split}
 
 -- what stands between two commas names an endpoint unless it is empty
@@ -21,3 +21,7 @@ or_local (a ∷ more) = a ∷ more
 -- the endpoints of a text
 abbrev pub addresses_in : List ℕ → List (List ℕ)
 addresses_in text = or_local (named_in text)
+
+-- the number of the address after this one; after the last comes the first
+abbrev pub next_of : ℕ → ℕ → ℕ
+next_of size at = if nat_lt at (size - 1) then at + 1 else 0

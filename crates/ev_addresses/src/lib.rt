@@ -8,5 +8,5 @@
 mod lists;
 mod visible;
 
-pub use lists::{address_at, count_of};
+pub use lists::{address_at, count_of, next_of};
 pub use visible::is_address;

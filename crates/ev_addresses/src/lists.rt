@@ -2,7 +2,7 @@
 
 ghost use Rattle.std.specs.Prelude.{◌≡◌, ◌≤◌, length, option_map, slice_get, unwrap_or};
 ghost use Rattle.ev_call.specs.Addresses.{IsAddress};
-ghost use Rattle.ev_addresses.specs.Lists.{addresses_in, local, named_in};
+ghost use Rattle.ev_addresses.specs.Lists.{addresses_in, local, named_in, next_of};
 
 /// How many addresses count.
 const MOST: usize = 5;
@@ -52,4 +52,12 @@ pub fn count_of(text: &str) -> usize
         return 1;
     }
     named
+}
+
+/// The number of the address after this one, from 0; after the last comes the first.
+pub fn next_of(text: &str, index: usize) -> usize
+    ensures { result ≡ next_of (length (addresses_in text.now)) index }
+{
+    let last = count_of(text) - 1;
+    if index < last { index + 1 } else { 0 }
 }

@@ -155,6 +155,13 @@ impl<S: Source + Drop, K: Sink + Drop> HttpLink<S, K> {
         })
     }
 
+    /// What each request names as its host.
+    pub fn host(&self) -> &str
+        ensures { result.now ≡ string_bytes self.now.host }
+    {
+        self.host.as_str()
+    }
+
     /// Why the link failed; `None` where it did not, or only wanted memory.
     pub fn last_failure(&self) -> Option<&LinkFailure>
         ensures { option_copied result ≡ failure_in self.now.state }

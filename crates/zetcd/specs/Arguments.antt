@@ -1,7 +1,7 @@
 -- The words of a command.
 use Rattle.std.specs.Prelude.{◌≡◌, ℕ, List, [], ◌∷◌, map, drop, true, string_bytes, codes, Some}
 use Rattle.std.specs.declared.string.String.{String}
-use Rattle.zetcd_cmd.specs.Serving.{is_address, limit_in}
+use Rattle.zetcd_cmd.specs.Serving.{are_addresses, is_address, limit_in}
 
 -- the words after the program's name
 abbrev pub arguments : {Z : Type 0} → List (String Z) → List (List ℕ)
@@ -15,10 +15,10 @@ IsServing words listen limit =
 abbrev pub IsNoServing : List (List ℕ) → Type 0
 IsNoServing words = (listen : List ℕ) (limit : ℕ) → ¬ IsServing words listen limit
 
--- the words after the program's name are `serve`, these two addresses, and the text of this limit
+-- the words after the program's name are `serve`, this address, these one to five addresses, and the text of this limit
 abbrev pub IsProxying : List (List ℕ) → List ℕ → List ℕ → ℕ → Type 0
 IsProxying words listen endpoint limit =
-    (text : List ℕ) × (words ≡ codes "serve" ∷ (listen ∷ (endpoint ∷ (text ∷ [])))) × (is_address listen ≡ true) × (is_address endpoint ≡ true) × (limit_in text ≡ Some limit)
+    (text : List ℕ) × (words ≡ codes "serve" ∷ (listen ∷ (endpoint ∷ (text ∷ [])))) × (is_address listen ≡ true) × (are_addresses endpoint ≡ true) × (limit_in text ≡ Some limit)
 
 abbrev pub IsNoProxying : List (List ℕ) → Type 0
 IsNoProxying words = (listen : List ℕ) (endpoint : List ℕ) (limit : ℕ) → ¬ IsProxying words listen endpoint limit

@@ -5,7 +5,8 @@
 //! status's number.
 #![tactic(auto)]
 
-ghost use Rattle.std.specs.Prelude.{◌≡◌, ◌≢◌, ◌⊎◌, List, ℕ, [], ◌∷◌, codes, IfErr, IfOk};
+ghost use Rattle.std.specs.Prelude.{◌≡◌, ◌≢◌, ◌⊎◌, length, List, ℕ, [], ◌∷◌, codes, IfErr, IfOk};
+ghost use Rattle.ev_addresses.specs.Lists.{addresses_in};
 ghost use Rattle.std.specs.Process.{exit_status};
 ghost use Rattle.std.specs.Vec.Iter.{into_iter_items};
 ghost use Rattle.zetcd.specs.Arguments.{IsNoProxying, IsNoServing, IsProxying, IsServing, arguments};
@@ -22,10 +23,10 @@ mod words;
 use crate::meaning::meaning;
 use crate::words::{lent, words_of};
 use ev_call::Cluster;
-use ev_link::DialCluster;
+use ev_failover::{DialEndpoints, FailoverLink};
 use std::alloc::{AllocError, Global};
 use std::env::{self, Args};
-use std::io::ErrorKind;
+use std::io::{self, ErrorKind};
 use std::process::ExitCode;
 use std::sync::Wait;
 use std::time::Clock as SystemClock;
@@ -40,47 +41,88 @@ fn main(rt: HostRuntime) -> ExitCode {
     let mut input = StdSource::new(rt.stdin());
     let mut out = StdSink::new(rt.stdout());
     let mut net = StdNet::new(rt, alloc);
-    let mut cluster = DialCluster::new(alloc, StdNet::new(rt, alloc));
     let mut spawner = ThreadSpawner::new(rt);
     let mut clock = StdClock::new(rt);
     let Ok(mut random) = RandWord::new(&rt) else {
         let _told = eprintln!(rt; "zetcd: the system gives no random bytes");
         return exit(&Status::Memory);
     };
-    let status = match env::args(&rt) {
-        Ok(args) => with_words(
-            &rt,
-            alloc,
-            args,
-            &mut input,
-            &mut out,
-            &mut net,
-            &mut cluster,
-            &mut spawner,
-            &mut clock,
-            &mut random,
-        )
-        .unwrap_or(Status::Memory),
-        // A word that is not UTF-8 belongs to no command. The usage line is written, as it is for no words.
-        Err(error) if error.kind() == ErrorKind::InvalidData => zetcd(
-            &rt,
-            alloc,
-            &[],
-            &mut input,
-            &mut out,
-            &mut net,
-            &mut cluster,
-            &mut spawner,
-            &mut clock,
-            &mut random,
-        ),
-        Err(_) => Status::Memory,
-    };
+    let status = over_endpoints(
+        &rt,
+        alloc,
+        env::args(&rt),
+        &mut input,
+        &mut out,
+        &mut net,
+        StdNet::new(rt, alloc),
+        &mut spawner,
+        &mut clock,
+        &mut random,
+    );
     if let Some(words) = meaning(&status) {
         // Where standard error takes nothing, the exit code still tells.
         let _told = eprintln!(rt; "zetcd: {words}");
     }
     exit(&status)
+}
+
+/// Runs the command that the words name, over endpoints that are dialled by a net of their own.
+fn over_endpoints<
+    W: Wait + SystemClock + Eprint + Copy + Send + Drop + 'static,
+    I: Source,
+    O: Sink,
+    N: Net + Send + Drop + 'static,
+    D: Net + Drop,
+    P: Spawner,
+    C: Clock + Send + Drop + 'static,
+    R: Random,
+>(
+    rt: &W,
+    alloc: Global,
+    args: io::Result<Args>,
+    input: &mut I,
+    out: &mut O,
+    net: &mut N,
+    dialled: D,
+    spawner: &mut P,
+    clock: &mut C,
+    random: &mut R,
+) -> Status
+where
+    N::In: Wakes + HangsUp,
+    N::Door: Send,
+    requires { (N.counts net.old).accepted ≡ 0 }
+{
+    let mut cluster = FailoverLink::new(DialEndpoints::new(alloc, dialled));
+    match args {
+        Ok(args) => with_words(
+            rt,
+            alloc,
+            args,
+            input,
+            out,
+            net,
+            &mut cluster,
+            spawner,
+            clock,
+            random,
+        )
+        .unwrap_or(Status::Memory),
+        // A word that is not UTF-8 belongs to no command. The usage line is written, as it is for no words.
+        Err(error) if error.kind() == ErrorKind::InvalidData => zetcd(
+            rt,
+            alloc,
+            &[],
+            input,
+            out,
+            net,
+            &mut cluster,
+            spawner,
+            clock,
+            random,
+        ),
+        Err(_) => Status::Memory,
+    }
 }
 
 /// The exit code, which is the status's number.
@@ -123,7 +165,7 @@ where
     ensures judge { IfOk result (λ s. arguments (into_iter_items args) ≡ codes "judge" ∷ [] → Did (Judges s (I.ended input.new) (I.left input.new)) (I.given input.old) (I.given input.new) (I.left input.old) (I.left input.new) (O.taken out.old) (O.taken out.new)) }
     ensures etcd { IfOk result (λ s. (listen : List ℕ) → (limit : ℕ) → IsServing (arguments (into_iter_items args)) listen limit → Serves s listen limit (N.counts net.old) (N.counts net.new) (O.taken out.old) (O.taken out.new)) }
     ensures serve { IfOk result (λ s. (listen : List ℕ) → (endpoint : List ℕ) → (limit : ℕ) → IsProxying (arguments (into_iter_items args)) listen endpoint limit →
-        Proxies s listen limit (L.failures cluster.old) (L.failures cluster.new) (P.refusals spawner.old) (P.refusals spawner.new)
+        Proxies (length (addresses_in endpoint)) s listen limit (L.failures cluster.old) (L.failures cluster.new) (P.refusals spawner.old) (P.refusals spawner.new)
         (seen (N.counts net.old) (O.taken out.old) (O.counts out.old)) (seen (N.counts net.new) (O.taken out.new) (O.counts out.new))) }
     ensures net_cause { IfOk result (λ s. s ≡ Status.Net → HasNetCause (L.failures cluster.old) (L.failures cluster.new) (P.refusals spawner.old) (P.refusals spawner.new)
         (N.counts net.old) (N.counts net.new) (O.taken out.old) (O.taken out.new)) }

@@ -10,20 +10,20 @@ use Rattle.zp_server.specs.Lines.{fault_text}
 use Rattle.zp_server.specs.Telling.{Seen}
 use Rattle.zp_server.specs.declared.ends.ServeEnd.{ServeEnd}
 use Rattle.zp_server.specs.declared.ends.ServeEnd.TheVariants as ends
-use Rattle.zetcd_cmd.specs.Serving.{is_address, limit_in}
+use Rattle.zetcd_cmd.specs.Serving.{are_addresses, is_address, limit_in}
 use Rattle.zetcd_cmd.specs.declared.status.Status.{Status}
 use Rattle.zetcd_cmd.specs.declared.status.Status.TheVariants as status
 
 -- ---- the words
 
--- the words are `serve`, an address to listen at, the address of an etcd, and this limit
+-- the words are `serve`, an address to listen at, one to five addresses of an etcd, and this limit
 abbrev pub IsServe : List (Bor (List ℕ)) → List ℕ → List ℕ → ℕ → Type 0
 IsServe [] listen endpoint limit = ⊥
 IsServe (word ∷ []) listen endpoint limit = ⊥
 IsServe (word ∷ first ∷ []) listen endpoint limit = ⊥
 IsServe (word ∷ first ∷ second ∷ []) listen endpoint limit = ⊥
 IsServe (word ∷ first ∷ second ∷ third ∷ []) listen endpoint limit =
-    (word.now ≡ codes "serve") × (first.now ≡ listen) × (is_address listen ≡ true) × (second.now ≡ endpoint) × (is_address endpoint ≡ true) × (limit_in third.now ≡ Some limit)
+    (word.now ≡ codes "serve") × (first.now ≡ listen) × (is_address listen ≡ true) × (second.now ≡ endpoint) × (are_addresses endpoint ≡ true) × (limit_in third.now ≡ Some limit)
 IsServe (word ∷ first ∷ second ∷ third ∷ fourth ∷ words) listen endpoint limit = ⊥
 
 abbrev pub NamesServe : List (Bor (List ℕ)) → Type 0
@@ -53,13 +53,13 @@ status_of (ends.Feed end) = status.Feed end
 -- behind the lines so far, of fewer clients than the limit allows.
 -- 5: a front of what was to be written next: a line about a client is about one that has none yet. 7: the lines so far, and perhaps one
 -- more, about such a client.
-abbrev pub Proxies : Status → List ℕ → ℕ → ℕ → ℕ → ℕ → ℕ → Seen → Seen → Type 0
-Proxies status.Done listen limit failures failures' refusals refusals' t t' = IsDone listen limit t t' × (failures' ≡ failures)
-Proxies (status.Feed end) listen limit failures failures' refusals refusals' t t' = FeedTold (arc_value end) listen limit t t'
-Proxies status.Net listen limit failures failures' refusals refusals' t t' = IsUnstarted failures failures' refusals refusals' t t' ⊎ (IsUnbound t t' ⊎ IsShut listen limit t t')
-Proxies status.WriteFault listen limit failures failures' refusals refusals' t t' = IsUnwritten listen limit t t'
-Proxies status.Memory listen limit failures failures' refusals refusals' t t' = (t' ≡ t) ⊎ IsStarved listen limit t t'
-Proxies _ listen limit failures failures' refusals refusals' t t' = ⊥
+abbrev pub Proxies : ℕ → Status → List ℕ → ℕ → ℕ → ℕ → ℕ → ℕ → Seen → Seen → Type 0
+Proxies size status.Done listen limit failures failures' refusals refusals' t t' = IsDone size listen limit t t' × (failures' ≡ failures)
+Proxies size (status.Feed end) listen limit failures failures' refusals refusals' t t' = FeedTold size (arc_value end) listen limit t t'
+Proxies size status.Net listen limit failures failures' refusals refusals' t t' = IsUnstarted failures failures' refusals refusals' t t' ⊎ (IsUnbound t t' ⊎ IsShut size listen limit t t')
+Proxies size status.WriteFault listen limit failures failures' refusals refusals' t t' = IsUnwritten size listen limit t t'
+Proxies size status.Memory listen limit failures failures' refusals refusals' t t' = (t' ≡ t) ⊎ IsStarved size listen limit t t'
+Proxies size _ listen limit failures failures' refusals refusals' t t' = ⊥
 
 -- why the net is at fault: a door had one fault; or the etcd's first answer failed, or a start of a worker was refused, and then
 -- nothing was written but `net fault`

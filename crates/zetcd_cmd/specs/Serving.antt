@@ -1,6 +1,7 @@
 -- The words `etcd LISTEN LIMIT`, and what the command came to.
 use Rattle.std.specs.Prelude.{◌≡◌, ℕ, ◌&&◌, ◌==◌, Bool, true, false, List, [], ◌∷◌, length, codes, if◌then◌else◌, nat_le, Option, Some, None}
-use Rattle.std.specs.List.{list_all}
+use Rattle.std.specs.List.{list_all, slice_split}
+use Rattle.ev_addresses.specs.Lists.{is_part}
 use denote.Ref.{Bor}
 use Rattle.zt_text.specs.Scripts.{◌>>=◌, decimal_digit, digits_value, max_number, not_above}
 use Rattle.zx_net.specs.Nets.{NetCounts}
@@ -20,6 +21,14 @@ is_visible b = nat_le 33 b && nat_le b 126
 abbrev pub is_address : List ℕ → Bool
 is_address [] = false
 is_address (b ∷ bs) = if b == 45 then false else list_all is_visible (b ∷ bs)
+
+-- something stands before, between and after the commas, of which there are at most four
+abbrev pub are_plain : List ℕ → Bool
+are_plain text = list_all is_part (slice_split (λ b. b == 44) text) && nat_le (length (slice_split (λ b. b == 44) text)) 5
+
+-- one to five addresses, with commas between them, none of which is empty
+abbrev pub are_addresses : List ℕ → Bool
+are_addresses text = is_address text && are_plain text
 
 -- the number of these digits, up to 4294967295
 abbrev pub digits_number : List ℕ → Option ℕ

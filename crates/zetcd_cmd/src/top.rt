@@ -1,6 +1,7 @@
 //! The top call.
 
-ghost use Rattle.std.specs.Prelude.{◌≡◌, ◌≢◌, ◌⊎◌, List, ℕ};
+ghost use Rattle.std.specs.Prelude.{◌≡◌, ◌≢◌, ◌⊎◌, length, List, ℕ};
+ghost use Rattle.ev_addresses.specs.Lists.{addresses_in};
 ghost use Rattle.zx_outside.specs.Counts.{one_more};
 ghost use Rattle.zx_outside.specs.Writing.{counts_after_write};
 ghost use Rattle.zx_outside.specs.declared.sink.Took.TheVariants.{Failed as TookFailed};
@@ -91,7 +92,7 @@ where
     ensures etcd { (listen : List ℕ) → (limit : ℕ) → IsEtcd words.now listen limit → Serves result listen limit (N.counts net.old) (N.counts net.new) (O.taken out.old) (O.taken out.new) }
     // Of `serve`, by the status: which clients were accepted, what was written about each, and how it ended.
     ensures serve { (listen : List ℕ) → (endpoint : List ℕ) → (limit : ℕ) → IsServe words.now listen endpoint limit →
-        Proxies result listen limit (L.failures cluster.old) (L.failures cluster.new) (P.refusals spawner.old) (P.refusals spawner.new)
+        Proxies (length (addresses_in endpoint)) result listen limit (L.failures cluster.old) (L.failures cluster.new) (P.refusals spawner.old) (P.refusals spawner.new)
         (seen (N.counts net.old) (O.taken out.old) (O.counts out.old)) (seen (N.counts net.new) (O.taken out.new) (O.counts out.new)) }
     // Status 6 has its cause in the net: one fault of a door.
     ensures net { ¬ NamesServe words.now → result ≡ Status.Net → (N.counts net.new).door_faults ≡ one_more (N.counts net.old).door_faults }
@@ -189,7 +190,7 @@ where
     requires names { NamesServe words.now }
     requires fresh { (N.counts net.old).accepted ≡ 0 }
     ensures told { (listen : List ℕ) → (endpoint : List ℕ) → (limit : ℕ) → IsServe words.now listen endpoint limit →
-        Proxies result listen limit (L.failures cluster.old) (L.failures cluster.new) (P.refusals spawner.old) (P.refusals spawner.new)
+        Proxies (length (addresses_in endpoint)) result listen limit (L.failures cluster.old) (L.failures cluster.new) (P.refusals spawner.old) (P.refusals spawner.new)
         (seen (N.counts net.old) (O.taken out.old) (O.counts out.old)) (seen (N.counts net.new) (O.taken out.new) (O.counts out.new)) }
     ensures read { result ≢ Status.ReadFault }
     ensures net { result ≡ Status.Net → HasNetCause (L.failures cluster.old) (L.failures cluster.new) (P.refusals spawner.old) (P.refusals spawner.new)

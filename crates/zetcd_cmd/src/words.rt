@@ -1,11 +1,15 @@
 //! The words of the commands that listen: `etcd LISTEN LIMIT` and `serve LISTEN ENDPOINT LIMIT`.
 
-ghost use Rattle.std.specs.Prelude.{◌≡◌, IfSome, IsNone};
-ghost use Rattle.std.specs.List.{list_all};
+ghost use Rattle.std.specs.Prelude.{◌≡◌, ◌==◌, IfSome, IsNone, length, nat_le};
+ghost use Rattle.std.specs.List.{list_all, slice_split};
+ghost use Rattle.ev_addresses.specs.Lists.{is_part};
 ghost use Rattle.zetcd_cmd.specs.Proxying.{IsServe, NamesServe};
-ghost use Rattle.zetcd_cmd.specs.Serving.{IsEtcd, NamesEtcd, digits_number, is_address as is_address_of, is_visible, limit_in};
+ghost use Rattle.zetcd_cmd.specs.Serving.{are_addresses as are_addresses_of, are_plain as are_plain_of, IsEtcd, NamesEtcd, digits_number, is_address as is_address_of, is_visible, limit_in};
 
 use zt_text::decimal_digit;
+
+/// How many endpoints `serve` takes.
+const MAX_ADDRESSES: usize = 5;
 
 /// The longest number has this many digits.
 const MAX_DIGITS: usize = 10;
@@ -25,6 +29,35 @@ fn is_address(text: &[u8]) -> bool
         return false;
     }
     are_visible(text)
+}
+
+/// Whether these are one to five addresses with commas between them, none of which is empty.
+fn are_addresses(text: &[u8]) -> bool
+    ensures { result ≡ are_addresses_of text.now }
+{
+    is_address(text) && are_plain(text)
+}
+
+/// Whether the commas of a text stand as between one to five addresses.
+fn are_plain(text: &[u8]) -> bool
+    ensures { result ≡ are_plain_of text.now }
+{
+    are_some(text) && are_few(text)
+}
+
+/// Whether something stands before, between and after the commas.
+fn are_some(text: &[u8]) -> bool
+    ensures { result ≡ list_all is_part (slice_split (λ b. b == 44) text.now) }
+{
+    text.split(|byte| *byte == b',')
+        .all(|part| !part.is_empty())
+}
+
+/// Whether at most four commas stand in the text.
+fn are_few(text: &[u8]) -> bool
+    ensures { result ≡ nat_le (length (slice_split (λ b. b == 44) text.now)) 5 }
+{
+    text.split(|byte| *byte == b',').count() <= MAX_ADDRESSES
 }
 
 /// The number of these digits, up to 4294967295; `None` where one is no digit, or the number is greater.
@@ -77,7 +110,7 @@ pub fn etcd_words<'a>(words: &[&'a str]) -> Option<(&'a str, u64)>
 pub struct Proxy<'a> {
     /// The address to listen at.
     pub listen: &'a str,
-    /// The address of the etcd.
+    /// The addresses of the etcd's members.
     pub endpoint: &'a str,
     /// How many connections are accepted.
     pub limit: u64,
@@ -94,7 +127,7 @@ pub fn serve_words<'a>(words: &[&'a str]) -> Option<Proxy<'a>>
     if word.as_bytes() != b"serve".as_slice() {
         return None;
     }
-    if !is_address(listen.as_bytes()) || !is_address(endpoint.as_bytes()) {
+    if !is_address(listen.as_bytes()) || !are_addresses(endpoint.as_bytes()) {
         return None;
     }
     match limit_of(limit.as_bytes()) {

@@ -10,29 +10,29 @@ use Rattle.zp_server.proofs.Stopping.{stops_done, stops_last}
 -- ---- so many clients
 
 -- nobody was let in yet
-pub logs_begun : (busy : List ℕ) (t : Seen) → busy ≡ [] → Logs false 0 (counting 0) [] busy t t
-logs_begun busy t idle = subst (λ (served : List ℕ). Logs false 0 [] [] served t t) (sym idle) (logs_none false [] t)
+pub logs_begun : (size : ℕ) (busy : List ℕ) (t : Seen) → busy ≡ [] → Logs size false 0 (counting 0) [] busy t t
+logs_begun size busy t idle = subst (λ (served : List ℕ). Logs size false 0 [] [] served t t) (sym idle) (logs_none size false [] t)
 
 counting_next : (n : ℕ) → counting (n + 1) ≡ (n + 1) ∷ counting n
 counting_next n = rw add-one
 
 -- one more was let in
-pub one_more_on : (n : ℕ) (busy busy' busy'' : List ℕ) (t t' t'' : Seen) → Logs false n (counting n) busy busy' t t' → Logs false 1 ((n + 1) ∷ []) busy' busy'' t' t''
-    → Logs false (n + 1) (counting (n + 1)) busy busy'' t t''
-one_more_on n busy busy' busy'' t t' t'' logs next =
-    subst (λ (numbers : List ℕ). Logs false (n + 1) numbers busy busy'' t t'') (sym (counting_next n))
-    (logs_then false n 1 (n + 1) (omega arith) (counting n) ((n + 1) ∷ []) busy busy' busy'' t t' t'' logs next)
+pub one_more_on : (size : ℕ) (n : ℕ) (busy busy' busy'' : List ℕ) (t t' t'' : Seen) → Logs size false n (counting n) busy busy' t t' → Logs size false 1 ((n + 1) ∷ []) busy' busy'' t' t''
+    → Logs size false (n + 1) (counting (n + 1)) busy busy'' t t''
+one_more_on size n busy busy' busy'' t t' t'' logs next =
+    subst (λ (numbers : List ℕ). Logs size false (n + 1) numbers busy busy'' t t'') (sym (counting_next n))
+    (logs_then size false n 1 (n + 1) (omega arith) (counting n) ((n + 1) ∷ []) busy busy' busy'' t t' t'' logs next)
 
 -- the net has counted those that were let in
-pub counted_so_far : (met : Bool) (k before : ℕ) (fresh busy busy' : List ℕ) (t t' : Seen) → Logs met k fresh busy busy' t t' → (t.net).accepted ≡ before → before + k < 2 ^ 64 → (t'.net).accepted ≡ before + k
-counted_so_far met k before fresh busy busy' t t' logs from few = omega (arith, logs.accepted, from, few)
+pub counted_so_far : (size : ℕ) (met : Bool) (k before : ℕ) (fresh busy busy' : List ℕ) (t t' : Seen) → Logs size met k fresh busy busy' t t' → (t.net).accepted ≡ before → before + k < 2 ^ 64 → (t'.net).accepted ≡ before + k
+counted_so_far size met k before fresh busy busy' t t' logs from few = omega (arith, logs.accepted, from, few)
 
-pub counted_from_none : (k : ℕ) (fresh busy busy' : List ℕ) (t t' : Seen) → Logs false k fresh busy busy' t t' → (t.net).accepted ≡ 0 → k < 2 ^ 64 → (t'.net).accepted ≡ k
-counted_from_none k fresh busy busy' t t' logs from few = omega (arith, logs.accepted, from, few)
+pub counted_from_none : (size : ℕ) (k : ℕ) (fresh busy busy' : List ℕ) (t t' : Seen) → Logs size false k fresh busy busy' t t' → (t.net).accepted ≡ 0 → k < 2 ^ 64 → (t'.net).accepted ≡ k
+counted_from_none size k fresh busy busy' t t' logs from few = omega (arith, logs.accepted, from, few)
 
 -- ---- all clients
 
 -- the last were waited for
-pub stops_end : (r : Result (Unit {0}) Stop) (limit : ℕ) (busy : List ℕ) (t t' t'' : Seen) → Logs false limit (counting limit) [] busy t t' → Goes r 0 [] busy [] t' t'' → Stops r limit [] t t''
-stops_end (Ok u) limit busy t t' t'' logs goes = stops_done limit busy t t' t'' logs goes
-stops_end (Err why) limit busy t t' t'' logs halts = stops_last why limit busy [] t t' t'' logs halts
+pub stops_end : (size : ℕ) (r : Result (Unit {0}) Stop) (limit : ℕ) (busy : List ℕ) (t t' t'' : Seen) → Logs size false limit (counting limit) [] busy t t' → Goes size r 0 [] busy [] t' t'' → Stops size r limit [] t t''
+stops_end size (Ok u) limit busy t t' t'' logs goes = stops_done size limit busy t t' t'' logs goes
+stops_end size (Err why) limit busy t t' t'' logs halts = stops_last size why limit busy [] t t' t'' logs halts

@@ -36,31 +36,31 @@ few_all n limit fewer = record { least = omega arith; most = omega arith; within
 
 -- ---- it was done
 
-done : (listen : List ℕ) (limit refusals refusals' : ℕ) (t s t' : Seen) → t' ≡ s → ServesFrom (Ok tt) listen limit refusals refusals' t s → IsDone listen limit t t'
-done listen limit refusals refusals' t s t' same (inl refused) = absurd refused
-done listen limit refusals refusals' t s t' same (inr (inl begun)) = absurd begun
-done listen limit refusals refusals' t s t' same (inr (inr h)) = record {
+done : (size : ℕ) (listen : List ℕ) (limit refusals refusals' : ℕ) (t s t' : Seen) → t' ≡ s → ServesFrom size (Ok tt) listen limit refusals refusals' t s → IsDone size listen limit t t'
+done size listen limit refusals refusals' t s t' same (inl refused) = absurd refused
+done size listen limit refusals refusals' t s t' same (inr (inl begun)) = absurd begun
+done size listen limit refusals refusals' t s t' same (inr (inr h)) = record {
   first = h.first;
   listens = h.listens;
-  logs = subst (Logs false limit (counting limit) [] [] h.first) (sym same) h.stops;
+  logs = subst (Logs size false limit (counting limit) [] [] h.first) (sym same) h.stops;
 }
 
 -- ---- the net had a fault
 
-net_told : (listen : List ℕ) (limit failures failures' refusals refusals' : ℕ) (t s t' : Seen) → Tells fault_text s t' → ServesFrom (Err stop.Net) listen limit refusals refusals' t s
-    → Ends ends.Net listen limit failures failures' refusals refusals' t t'
-net_told listen limit failures failures' refusals refusals' t s t' tells (inl refused) =
+net_told : (size : ℕ) (listen : List ℕ) (limit failures failures' refusals refusals' : ℕ) (t s t' : Seen) → Tells fault_text s t' → ServesFrom size (Err stop.Net) listen limit refusals refusals' t s
+    → Ends size ends.Net listen limit failures failures' refusals refusals' t t'
+net_told size listen limit failures failures' refusals refusals' t s t' tells (inl refused) =
     inl (record { rose = inr refused.0; tells = subst (λ (x : Seen). Tells fault_text x t') refused.1 tells })
-net_told listen limit failures failures' refusals refusals' t s t' tells (inr (inl faulted)) = inr (inl (record { broken = s; faulted = faulted; tells = tells }))
-net_told listen limit failures failures' refusals refusals' t s t' tells (inr (inr h)) =
+net_told size listen limit failures failures' refusals refusals' t s t' tells (inr (inl faulted)) = inr (inl (record { broken = s; faulted = faulted; tells = tells }))
+net_told size listen limit failures failures' refusals refusals' t s t' tells (inr (inr h)) =
     inr (inr (record { first = h.first; listens = h.listens; broken = s; stopped = h.stops; tells = tells }))
 
-net_cut : (listen : List ℕ) (limit refusals refusals' : ℕ) (t s t' : Seen) → Cuts fault_text s t' → ServesFrom (Err stop.Net) listen limit refusals refusals' t s
-    → IsUnwritten listen limit t t'
-net_cut listen limit refusals refusals' t s t' cut (inl refused) = record { text = fault_text; from = s; writing = inr (inl (refl, inl refused.1)); cut = cut }
-net_cut listen limit refusals refusals' t s t' cut (inr (inl faulted)) = record { text = fault_text; from = s; writing = inr (inl (refl, inr faulted)); cut = cut }
-net_cut listen limit refusals refusals' t s t' cut (inr (inr h)) =
-    let stopped : NetStop limit h.first s = h.stops in
+net_cut : (size : ℕ) (listen : List ℕ) (limit refusals refusals' : ℕ) (t s t' : Seen) → Cuts fault_text s t' → ServesFrom size (Err stop.Net) listen limit refusals refusals' t s
+    → IsUnwritten size listen limit t t'
+net_cut size listen limit refusals refusals' t s t' cut (inl refused) = record { text = fault_text; from = s; writing = inr (inl (refl, inl refused.1)); cut = cut }
+net_cut size listen limit refusals refusals' t s t' cut (inr (inl faulted)) = record { text = fault_text; from = s; writing = inr (inl (refl, inr faulted)); cut = cut }
+net_cut size listen limit refusals refusals' t s t' cut (inr (inr h)) =
+    let stopped : NetStop size limit h.first s = h.stops in
     record {
       text = fault_text;
       from = s;
@@ -74,7 +74,7 @@ net_cut listen limit refusals refusals' t s t' cut (inr (inr h)) =
           n = stopped.n;
           k = stopped.n;
           few = few_all stopped.n limit stopped.fewer;
-          logs = logs_met false stopped.n (counting stopped.n) [] stopped.left h.first stopped.between stopped.logs;
+          logs = logs_met size false stopped.n (counting stopped.n) [] stopped.left h.first stopped.between stopped.logs;
         };
         is_next = inr (inl (refl, stopped.faulted));
       }));
@@ -82,15 +82,15 @@ net_cut listen limit refusals refusals' t s t' cut (inr (inr h)) =
 
 -- ---- the sink had a fault before
 
-unwritten : (listen : List ℕ) (limit refusals refusals' : ℕ) (t s t' : Seen) → t' ≡ s → ServesFrom (Err stop.Write) listen limit refusals refusals' t s → IsUnwritten listen limit t t'
-unwritten listen limit refusals refusals' t s t' same (inl refused) = absurd refused
-unwritten listen limit refusals refusals' t s t' same (inr (inl cut)) = record {
+unwritten : (size : ℕ) (listen : List ℕ) (limit refusals refusals' : ℕ) (t s t' : Seen) → t' ≡ s → ServesFrom size (Err stop.Write) listen limit refusals refusals' t s → IsUnwritten size listen limit t t'
+unwritten size listen limit refusals refusals' t s t' same (inl refused) = absurd refused
+unwritten size listen limit refusals refusals' t s t' same (inr (inl cut)) = record {
   text = listening_text listen;
   from = t;
   writing = inl (refl, refl);
   cut = subst (Cuts (listening_text listen) t) (sym same) cut;
 }
-unwritten listen limit refusals refusals' t s t' same (inr (inr h)) = record {
+unwritten size listen limit refusals refusals' t s t' same (inr (inr h)) = record {
   text = text_of (h.stops).last;
   from = (h.stops).between;
   writing = inr (inr (record {
@@ -104,10 +104,10 @@ unwritten listen limit refusals refusals' t s t' same (inr (inr h)) = record {
 
 -- ---- memory was refused
 
-starved : (listen : List ℕ) (limit refusals refusals' : ℕ) (t s t' : Seen) → t' ≡ s → ServesFrom (Err stop.Memory) listen limit refusals refusals' t s → (t' ≡ t) ⊎ IsStarved listen limit t t'
-starved listen limit refusals refusals' t s t' same (inl refused) = inl (same ∙ refused)
-starved listen limit refusals refusals' t s t' same (inr (inl begun)) = inl (same ∙ begun)
-starved listen limit refusals refusals' t s t' same (inr (inr h)) = inr (record {
+starved : (size : ℕ) (listen : List ℕ) (limit refusals refusals' : ℕ) (t s t' : Seen) → t' ≡ s → ServesFrom size (Err stop.Memory) listen limit refusals refusals' t s → (t' ≡ t) ⊎ IsStarved size listen limit t t'
+starved size listen limit refusals refusals' t s t' same (inl refused) = inl (same ∙ refused)
+starved size listen limit refusals refusals' t s t' same (inr (inl begun)) = inl (same ∙ begun)
+starved size listen limit refusals refusals' t s t' same (inr (inr h)) = inr (record {
   left = (h.stops).left;
   between = (h.stops).between;
   lines = record { first = h.first; listens = h.listens; n = (h.stops).n; k = (h.stops).k; few = (h.stops).few; logs = (h.stops).logs };
@@ -116,90 +116,90 @@ starved listen limit refusals refusals' t s t' same (inr (inr h)) = inr (record 
 
 -- ---- the hub was closed
 
-feed_lines : (end : Arc FeedEnd Global) (listen : List ℕ) (limit refusals refusals' : ℕ) (t s : Seen) → ServesFrom (Err (stop.Feed end)) listen limit refusals refusals' t s
-    → MayBeTold (arc_value end) × IsAfterLines listen limit [] t s
-feed_lines end listen limit refusals refusals' t s (inl refused) = absurd refused
-feed_lines end listen limit refusals refusals' t s (inr (inl begun)) = absurd begun
-feed_lines end listen limit refusals refusals' t s (inr (inr h)) =
+feed_lines : (size : ℕ) (end : Arc FeedEnd Global) (listen : List ℕ) (limit refusals refusals' : ℕ) (t s : Seen) → ServesFrom size (Err (stop.Feed end)) listen limit refusals refusals' t s
+    → MayBeTold (arc_value end) × IsAfterLines size listen limit [] t s
+feed_lines size end listen limit refusals refusals' t s (inl refused) = absurd refused
+feed_lines size end listen limit refusals refusals' t s (inr (inl begun)) = absurd begun
+feed_lines size end listen limit refusals refusals' t s (inr (inr h)) =
     ((h.stops).may, record { first = h.first; listens = h.listens; n = (h.stops).n; k = (h.stops).k; few = (h.stops).few; logs = (h.stops).logs })
 
 -- ---- the whole
 
-pub ended : (r : Result (Unit {0}) Stop) (end : ServeEnd) (listen : List ℕ) (limit failures failures' refusals refusals' : ℕ) (t s t' : Seen) → failures' ≡ failures
-    → ServesFrom r listen limit refusals refusals' t s → t'.net ≡ s.net → t'.book ≡ s.book → Finishes r end s.out t'.out → Ends end listen limit failures failures' refusals refusals' t t'
-ended (Ok u) ends.Done listen limit failures failures' refusals refusals' t s t' asked from net book fin =
-    (done listen limit refusals refusals' t s t' (seen_is s t' net fin book) from, asked)
-ended (Err stop.Net) ends.Net listen limit failures failures' refusals refusals' t s t' asked from net book fin =
-    net_told listen limit failures failures' refusals refusals' t s t' (record { net = net; out = fin; book = book }) from
-ended (Err stop.Net) ends.WriteFault listen limit failures failures' refusals refusals' t s t' asked from net book fin =
-    net_cut listen limit refusals refusals' t s t' (cuts_of fault_text s t' net book fin) from
-ended (Err stop.Write) ends.WriteFault listen limit failures failures' refusals refusals' t s t' asked from net book fin =
-    unwritten listen limit refusals refusals' t s t' (seen_is s t' net fin book) from
-ended (Err stop.Memory) ends.Memory listen limit failures failures' refusals refusals' t s t' asked from net book fin =
-    starved listen limit refusals refusals' t s t' (seen_is s t' net fin book) from
-ended (Err (stop.Feed end)) (ends.Feed told) listen limit failures failures' refusals refusals' t s t' asked from net book fin =
-    let lines : MayBeTold (arc_value end) × IsAfterLines listen limit [] t s = feed_lines end listen limit refusals refusals' t s from in
-    subst (λ e. FeedTold (arc_value e) listen limit t t') (sym fin.0) (record { may = lines.0; between = s; lines = lines.1; tells = record { net = net; out = fin.1; book = book } })
-ended (Err (stop.Feed end)) ends.WriteFault listen limit failures failures' refusals refusals' t s t' asked from net book fin =
-    let lines : MayBeTold (arc_value end) × IsAfterLines listen limit [] t s = feed_lines end listen limit refusals refusals' t s from in
+pub ended : (size : ℕ) (r : Result (Unit {0}) Stop) (end : ServeEnd) (listen : List ℕ) (limit failures failures' refusals refusals' : ℕ) (t s t' : Seen) → failures' ≡ failures
+    → ServesFrom size r listen limit refusals refusals' t s → t'.net ≡ s.net → t'.book ≡ s.book → Finishes r end s.out t'.out → Ends size end listen limit failures failures' refusals refusals' t t'
+ended size (Ok u) ends.Done listen limit failures failures' refusals refusals' t s t' asked from net book fin =
+    (done size listen limit refusals refusals' t s t' (seen_is s t' net fin book) from, asked)
+ended size (Err stop.Net) ends.Net listen limit failures failures' refusals refusals' t s t' asked from net book fin =
+    net_told size listen limit failures failures' refusals refusals' t s t' (record { net = net; out = fin; book = book }) from
+ended size (Err stop.Net) ends.WriteFault listen limit failures failures' refusals refusals' t s t' asked from net book fin =
+    net_cut size listen limit refusals refusals' t s t' (cuts_of fault_text s t' net book fin) from
+ended size (Err stop.Write) ends.WriteFault listen limit failures failures' refusals refusals' t s t' asked from net book fin =
+    unwritten size listen limit refusals refusals' t s t' (seen_is s t' net fin book) from
+ended size (Err stop.Memory) ends.Memory listen limit failures failures' refusals refusals' t s t' asked from net book fin =
+    starved size listen limit refusals refusals' t s t' (seen_is s t' net fin book) from
+ended size (Err (stop.Feed end)) (ends.Feed told) listen limit failures failures' refusals refusals' t s t' asked from net book fin =
+    let lines : MayBeTold (arc_value end) × IsAfterLines size listen limit [] t s = feed_lines size end listen limit refusals refusals' t s from in
+    subst (λ e. FeedTold size (arc_value e) listen limit t t') (sym fin.0) (record { may = lines.0; between = s; lines = lines.1; tells = record { net = net; out = fin.1; book = book } })
+ended size (Err (stop.Feed end)) ends.WriteFault listen limit failures failures' refusals refusals' t s t' asked from net book fin =
+    let lines : MayBeTold (arc_value end) × IsAfterLines size listen limit [] t s = feed_lines size end listen limit refusals refusals' t s from in
     record {
       text = feed_text (arc_value end);
       from = s;
       cut = cuts_of (feed_text (arc_value end)) s t' net book fin;
       writing = inr (inr (record { left = []; between = s; lines = lines.1; is_next = inr (inr (arc_value end, (refl, refl))) }));
     }
-ended (Err (stop.Feed end)) ends.Memory listen limit failures failures' refusals refusals' t s t' asked from net book fin =
-    let lines : MayBeTold (arc_value end) × IsAfterLines listen limit [] t s = feed_lines end listen limit refusals refusals' t s from in
+ended size (Err (stop.Feed end)) ends.Memory listen limit failures failures' refusals refusals' t s t' asked from net book fin =
+    let lines : MayBeTold (arc_value end) × IsAfterLines size listen limit [] t s = feed_lines size end listen limit refusals refusals' t s from in
     inr (record {
       left = [];
       between = s;
       lines = lines.1;
       leaves = subst (Leaves [] s) (sym (seen_is s t' net fin book)) (record { accepted = refl; doors = refl; book = refl; taken = inl refl; unharmed = refl });
     })
-ended (Ok u) ends.WriteFault listen limit failures failures' refusals refusals' t s t' asked from net book fin = absurd fin
-ended (Ok u) ends.Net listen limit failures failures' refusals refusals' t s t' asked from net book fin = absurd fin
-ended (Ok u) ends.Memory listen limit failures failures' refusals refusals' t s t' asked from net book fin = absurd fin
-ended (Ok u) (ends.Feed told) listen limit failures failures' refusals refusals' t s t' asked from net book fin = absurd fin
-ended (Err stop.Net) ends.Done listen limit failures failures' refusals refusals' t s t' asked from net book fin = absurd fin
-ended (Err stop.Net) ends.Memory listen limit failures failures' refusals refusals' t s t' asked from net book fin = absurd fin
-ended (Err stop.Net) (ends.Feed told) listen limit failures failures' refusals refusals' t s t' asked from net book fin = absurd fin
-ended (Err stop.Write) ends.Done listen limit failures failures' refusals refusals' t s t' asked from net book fin = absurd fin
-ended (Err stop.Write) ends.Net listen limit failures failures' refusals refusals' t s t' asked from net book fin = absurd fin
-ended (Err stop.Write) ends.Memory listen limit failures failures' refusals refusals' t s t' asked from net book fin = absurd fin
-ended (Err stop.Write) (ends.Feed told) listen limit failures failures' refusals refusals' t s t' asked from net book fin = absurd fin
-ended (Err stop.Memory) ends.Done listen limit failures failures' refusals refusals' t s t' asked from net book fin = absurd fin
-ended (Err stop.Memory) ends.WriteFault listen limit failures failures' refusals refusals' t s t' asked from net book fin = absurd fin
-ended (Err stop.Memory) ends.Net listen limit failures failures' refusals refusals' t s t' asked from net book fin = absurd fin
-ended (Err stop.Memory) (ends.Feed told) listen limit failures failures' refusals refusals' t s t' asked from net book fin = absurd fin
-ended (Err (stop.Feed end)) ends.Done listen limit failures failures' refusals refusals' t s t' asked from net book fin = absurd fin
-ended (Err (stop.Feed end)) ends.Net listen limit failures failures' refusals refusals' t s t' asked from net book fin = absurd fin
+ended size (Ok u) ends.WriteFault listen limit failures failures' refusals refusals' t s t' asked from net book fin = absurd fin
+ended size (Ok u) ends.Net listen limit failures failures' refusals refusals' t s t' asked from net book fin = absurd fin
+ended size (Ok u) ends.Memory listen limit failures failures' refusals refusals' t s t' asked from net book fin = absurd fin
+ended size (Ok u) (ends.Feed told) listen limit failures failures' refusals refusals' t s t' asked from net book fin = absurd fin
+ended size (Err stop.Net) ends.Done listen limit failures failures' refusals refusals' t s t' asked from net book fin = absurd fin
+ended size (Err stop.Net) ends.Memory listen limit failures failures' refusals refusals' t s t' asked from net book fin = absurd fin
+ended size (Err stop.Net) (ends.Feed told) listen limit failures failures' refusals refusals' t s t' asked from net book fin = absurd fin
+ended size (Err stop.Write) ends.Done listen limit failures failures' refusals refusals' t s t' asked from net book fin = absurd fin
+ended size (Err stop.Write) ends.Net listen limit failures failures' refusals refusals' t s t' asked from net book fin = absurd fin
+ended size (Err stop.Write) ends.Memory listen limit failures failures' refusals refusals' t s t' asked from net book fin = absurd fin
+ended size (Err stop.Write) (ends.Feed told) listen limit failures failures' refusals refusals' t s t' asked from net book fin = absurd fin
+ended size (Err stop.Memory) ends.Done listen limit failures failures' refusals refusals' t s t' asked from net book fin = absurd fin
+ended size (Err stop.Memory) ends.WriteFault listen limit failures failures' refusals refusals' t s t' asked from net book fin = absurd fin
+ended size (Err stop.Memory) ends.Net listen limit failures failures' refusals refusals' t s t' asked from net book fin = absurd fin
+ended size (Err stop.Memory) (ends.Feed told) listen limit failures failures' refusals refusals' t s t' asked from net book fin = absurd fin
+ended size (Err (stop.Feed end)) ends.Done listen limit failures failures' refusals refusals' t s t' asked from net book fin = absurd fin
+ended size (Err (stop.Feed end)) ends.Net listen limit failures failures' refusals refusals' t s t' asked from net book fin = absurd fin
 
 -- the first ask failed, or memory was refused for it
-pub unasked : (why : Stop) (end : ServeEnd) (listen : List ℕ) (limit refusals refusals' : ℕ) (c c' : ClusterTold) (t t' : Seen) → Begins (Err why) c c'
-    → t'.net ≡ t.net → t'.book ≡ t.book → Finishes (Err why) end t.out t'.out → Ends end listen limit c.failures c'.failures refusals refusals' t t'
-unasked stop.Net ends.Net listen limit refusals refusals' c c' t t' begins net book fin = inl (record { rose = inl begins.failures; tells = record { net = net; out = fin; book = book } })
-unasked stop.Net ends.WriteFault listen limit refusals refusals' c c' t t' begins net book fin =
+pub unasked : (size : ℕ) (why : Stop) (end : ServeEnd) (listen : List ℕ) (limit refusals refusals' : ℕ) (c c' : ClusterTold) (t t' : Seen) → Begins (Err why) c c'
+    → t'.net ≡ t.net → t'.book ≡ t.book → Finishes (Err why) end t.out t'.out → Ends size end listen limit c.failures c'.failures refusals refusals' t t'
+unasked size stop.Net ends.Net listen limit refusals refusals' c c' t t' begins net book fin = inl (record { rose = inl begins.failures; tells = record { net = net; out = fin; book = book } })
+unasked size stop.Net ends.WriteFault listen limit refusals refusals' c c' t t' begins net book fin =
     record { text = fault_text; from = t; writing = inr (inl (refl, inl refl)); cut = cuts_of fault_text t t' net book fin }
-unasked stop.Memory ends.Memory listen limit refusals refusals' c c' t t' begins net book fin = inl (seen_is t t' net fin book)
-unasked stop.Net ends.Done listen limit refusals refusals' c c' t t' begins net book fin = absurd fin
-unasked stop.Net ends.Memory listen limit refusals refusals' c c' t t' begins net book fin = absurd fin
-unasked stop.Net (ends.Feed told) listen limit refusals refusals' c c' t t' begins net book fin = absurd fin
-unasked stop.Memory ends.Done listen limit refusals refusals' c c' t t' begins net book fin = absurd fin
-unasked stop.Memory ends.WriteFault listen limit refusals refusals' c c' t t' begins net book fin = absurd fin
-unasked stop.Memory ends.Net listen limit refusals refusals' c c' t t' begins net book fin = absurd fin
-unasked stop.Memory (ends.Feed told) listen limit refusals refusals' c c' t t' begins net book fin = absurd fin
-unasked stop.Write end listen limit refusals refusals' c c' t t' begins net book fin = absurd begins
-unasked (stop.Feed e) end listen limit refusals refusals' c c' t t' begins net book fin = absurd begins
+unasked size stop.Memory ends.Memory listen limit refusals refusals' c c' t t' begins net book fin = inl (seen_is t t' net fin book)
+unasked size stop.Net ends.Done listen limit refusals refusals' c c' t t' begins net book fin = absurd fin
+unasked size stop.Net ends.Memory listen limit refusals refusals' c c' t t' begins net book fin = absurd fin
+unasked size stop.Net (ends.Feed told) listen limit refusals refusals' c c' t t' begins net book fin = absurd fin
+unasked size stop.Memory ends.Done listen limit refusals refusals' c c' t t' begins net book fin = absurd fin
+unasked size stop.Memory ends.WriteFault listen limit refusals refusals' c c' t t' begins net book fin = absurd fin
+unasked size stop.Memory ends.Net listen limit refusals refusals' c c' t t' begins net book fin = absurd fin
+unasked size stop.Memory (ends.Feed told) listen limit refusals refusals' c c' t t' begins net book fin = absurd fin
+unasked size stop.Write end listen limit refusals refusals' c c' t t' begins net book fin = absurd begins
+unasked size (stop.Feed e) end listen limit refusals refusals' c c' t t' begins net book fin = absurd begins
 
 -- ---- what the calls make of these
 
 -- there is no room for the first line, and nothing was done
-pub unready : (listen : List ℕ) (limit : ℕ) (t t' : Seen) → t'.net ≡ t.net → t'.out ≡ t.out → t'.book ≡ t.book → Clients (Err stop.Memory) listen limit t t'
-unready listen limit t t' net out book = inl (seen_is t t' net out book)
+pub unready : (size : ℕ) (listen : List ℕ) (limit : ℕ) (t t' : Seen) → t'.net ≡ t.net → t'.out ≡ t.out → t'.book ≡ t.book → Clients size (Err stop.Memory) listen limit t t'
+unready size listen limit t t' net out book = inl (seen_is t t' net out book)
 
 -- it could not listen
-pub unbound : (listen : List ℕ) (limit : ℕ) (t t' : Seen) → t'.net ≡ record t.net { door_faults = one_more (t.net).door_faults } → t'.out ≡ t.out → t'.book ≡ t.book → Clients (Err stop.Net) listen limit t t'
-unbound listen limit t t' net out book = inl (record {
+pub unbound : (size : ℕ) (listen : List ℕ) (limit : ℕ) (t t' : Seen) → t'.net ≡ record t.net { door_faults = one_more (t.net).door_faults } → t'.out ≡ t.out → t'.book ≡ t.book → Clients size (Err stop.Net) listen limit t t'
+unbound size listen limit t t' net out book = inl (record {
   accepted = ap (λ (n : NetCounts). n.accepted) net;
   dials = ap (λ (n : NetCounts). n.dial_faults) net;
   faulted = ap (λ (n : NetCounts). n.door_faults) net;
@@ -208,30 +208,30 @@ unbound listen limit t t' net out book = inl (record {
 })
 
 -- it could not say that it listens
-pub unlisted : (text listen : List ℕ) (limit : ℕ) (t t' : Seen) → text ≡ listening_text listen → t'.net ≡ t.net → t'.book ≡ t.book → IsCut text t.out t'.out → Clients (Err stop.Write) listen limit t t'
-unlisted text listen limit t t' is net book cut = inl (cuts_of (listening_text listen) t t' net book (subst (λ (x : List ℕ). IsCut x t.out t'.out) is cut))
+pub unlisted : (size : ℕ) (text listen : List ℕ) (limit : ℕ) (t t' : Seen) → text ≡ listening_text listen → t'.net ≡ t.net → t'.book ≡ t.book → IsCut text t.out t'.out → Clients size (Err stop.Write) listen limit t t'
+unlisted size text listen limit t t' is net book cut = inl (cuts_of (listening_text listen) t t' net book (subst (λ (x : List ℕ). IsCut x t.out t'.out) is cut))
 
 -- it said so, and then accepted clients
-pub listened : (r : Result (Unit {0}) Stop) (text listen : List ℕ) (limit : ℕ) (t s t' : Seen) → Stops r limit [] s t' → text ≡ listening_text listen → s.net ≡ t.net → s.book ≡ t.book → IsWritten text t.out s.out
-    → Clients r listen limit t t'
-listened r text listen limit t s t' stops is net book written = inr (record {
+pub listened : (size : ℕ) (r : Result (Unit {0}) Stop) (text listen : List ℕ) (limit : ℕ) (t s t' : Seen) → Stops size r limit [] s t' → text ≡ listening_text listen → s.net ≡ t.net → s.book ≡ t.book → IsWritten text t.out s.out
+    → Clients size r listen limit t t'
+listened size r text listen limit t s t' stops is net book written = inr (record {
   first = s;
   listens = record { net = net; out = subst (λ (x : List ℕ). IsWritten x t.out s.out) is written; book = book };
   stops = stops;
 })
 
 -- memory was refused before a worker was started
-pub unbegun : (listen : List ℕ) (limit refusals refusals' : ℕ) (t t' : Seen) → t'.net ≡ t.net → t'.out ≡ t.out → t'.book ≡ t.book → ServesFrom (Err stop.Memory) listen limit refusals refusals' t t'
-unbegun listen limit refusals refusals' t t' net out book = inl (seen_is t t' net out book)
+pub unbegun : (size : ℕ) (listen : List ℕ) (limit refusals refusals' : ℕ) (t t' : Seen) → t'.net ≡ t.net → t'.out ≡ t.out → t'.book ≡ t.book → ServesFrom size (Err stop.Memory) listen limit refusals refusals' t t'
+unbegun size listen limit refusals refusals' t t' net out book = inl (seen_is t t' net out book)
 
 -- a worker could not be started, after another one or none
-pub refused : (why : Stop) (listen : List ℕ) (limit refusals between refusals' : ℕ) (t t' : Seen) → between ≡ refusals → Starts (Err why) between refusals' → t'.net ≡ t.net → t'.out ≡ t.out → t'.book ≡ t.book
-    → ServesFrom (Err why) listen limit refusals refusals' t t'
-refused stop.Net listen limit refusals between refusals' t t' before starts net out book = inl (starts ∙ ap one_more before, seen_is t t' net out book)
-refused stop.Memory listen limit refusals between refusals' t t' before starts net out book = inl (seen_is t t' net out book)
-refused stop.Write listen limit refusals between refusals' t t' before starts net out book = absurd starts
-refused (stop.Feed end) listen limit refusals between refusals' t t' before starts net out book = absurd starts
+pub refused : (size : ℕ) (why : Stop) (listen : List ℕ) (limit refusals between refusals' : ℕ) (t t' : Seen) → between ≡ refusals → Starts (Err why) between refusals' → t'.net ≡ t.net → t'.out ≡ t.out → t'.book ≡ t.book
+    → ServesFrom size (Err why) listen limit refusals refusals' t t'
+refused size stop.Net listen limit refusals between refusals' t t' before starts net out book = inl (starts ∙ ap one_more before, seen_is t t' net out book)
+refused size stop.Memory listen limit refusals between refusals' t t' before starts net out book = inl (seen_is t t' net out book)
+refused size stop.Write listen limit refusals between refusals' t t' before starts net out book = absurd starts
+refused size (stop.Feed end) listen limit refusals between refusals' t t' before starts net out book = absurd starts
 
 -- both were started
-pub begun : (r : Result (Unit {0}) Stop) (listen : List ℕ) (limit refusals refusals' : ℕ) (t t' : Seen) → Clients r listen limit t t' → ServesFrom r listen limit refusals refusals' t t'
-begun r listen limit refusals refusals' t t' clients = inr clients
+pub begun : (size : ℕ) (r : Result (Unit {0}) Stop) (listen : List ℕ) (limit refusals refusals' : ℕ) (t t' : Seen) → Clients size r listen limit t t' → ServesFrom size r listen limit refusals refusals' t t'
+begun size r listen limit refusals refusals' t t' clients = inr clients

@@ -11,4 +11,3 @@ pub mod Placing
 pub mod Stopping
 pub mod Striking
 pub mod Texts
-pub mod Visible

@@ -22,13 +22,13 @@ Begun (Err stop.Memory) listen t t' = t' ≡ t
 Begun _ listen t t' = ⊥
 
 -- it listened, and then no further client was accepted
-pub record Listened (r : Result (Unit {0}) Stop) (listen : List ℕ) (limit : ℕ) (t t' : Seen) : Type 0 where
+pub record Listened (size : ℕ) (r : Result (Unit {0}) Stop) (listen : List ℕ) (limit : ℕ) (t t' : Seen) : Type 0 where
   pub first : Seen
   pub listens : Tells (listening_text listen) t first
-  pub stops : Stops r limit [] first t'
+  pub stops : Stops size r limit [] first t'
 
-abbrev pub Clients : Result (Unit {0}) Stop → List ℕ → ℕ → Seen → Seen → Type 0
-Clients r listen limit t t' = Begun r listen t t' ⊎ Listened r listen limit t t'
+abbrev pub Clients : ℕ → Result (Unit {0}) Stop → List ℕ → ℕ → Seen → Seen → Type 0
+Clients size r listen limit t t' = Begun r listen t t' ⊎ Listened size r listen limit t t'
 
 -- a worker could not be started, or memory was refused
 abbrev pub IsRefused : Result (Unit {0}) Stop → ℕ → ℕ → Seen → Seen → Type 0
@@ -36,8 +36,8 @@ IsRefused (Err stop.Net) refusals refusals' t t' = (refusals' ≡ one_more refus
 IsRefused (Err stop.Memory) refusals refusals' t t' = t' ≡ t
 IsRefused _ refusals refusals' t t' = ⊥
 
-abbrev pub ServesFrom : Result (Unit {0}) Stop → List ℕ → ℕ → ℕ → ℕ → Seen → Seen → Type 0
-ServesFrom r listen limit refusals refusals' t t' = IsRefused r refusals refusals' t t' ⊎ Clients r listen limit t t'
+abbrev pub ServesFrom : ℕ → Result (Unit {0}) Stop → List ℕ → ℕ → ℕ → ℕ → Seen → Seen → Type 0
+ServesFrom size r listen limit refusals refusals' t t' = IsRefused r refusals refusals' t t' ⊎ Clients size r listen limit t t'
 
 -- what is written at the end, and what that comes to
 abbrev pub Finishes : Result (Unit {0}) Stop → ServeEnd → Output → Output → Type 0
@@ -54,19 +54,19 @@ Finishes _ _ o o' = ⊥
 -- ---- the whole
 
 -- the server listened, and then these connections have their lines, in order: n of them have numbers, and k clients were accepted
-pub record IsAfterLines (listen : List ℕ) (limit : ℕ) (left : List ℕ) (t t' : Seen) : Type 0 where
+pub record IsAfterLines (size : ℕ) (listen : List ℕ) (limit : ℕ) (left : List ℕ) (t t' : Seen) : Type 0 where
   pub first : Seen
   pub listens : Tells (listening_text listen) t first
   pub n : ℕ
   pub k : ℕ
   pub few : AreFew n k limit
-  pub logs : Logs true k (counting n) [] left first t'
+  pub logs : Logs size true k (counting n) [] left first t'
 
 -- all clients were accepted and have ended, none of them since the hub was closed
-pub record IsDone (listen : List ℕ) (limit : ℕ) (t t' : Seen) : Type 0 where
+pub record IsDone (size : ℕ) (listen : List ℕ) (limit : ℕ) (t t' : Seen) : Type 0 where
   pub first : Seen
   pub listens : Tells (listening_text listen) t first
-  pub logs : Logs false limit (counting limit) [] [] first t'
+  pub logs : Logs size false limit (counting limit) [] [] first t'
 
 -- before it listened: the cluster counts a failure more, or the spawner a refused start
 pub record IsUnstarted (failures failures' refusals refusals' : ℕ) (t t' : Seen) : Type 0 where
@@ -80,18 +80,18 @@ pub record IsUnbound (t t' : Seen) : Type 0 where
   pub tells : Tells fault_text broken t'
 
 -- the door had a fault after fewer clients than the limit
-pub record IsShut (listen : List ℕ) (limit : ℕ) (t t' : Seen) : Type 0 where
+pub record IsShut (size : ℕ) (listen : List ℕ) (limit : ℕ) (t t' : Seen) : Type 0 where
   pub first : Seen
   pub listens : Tells (listening_text listen) t first
   pub broken : Seen
-  pub stopped : NetStop limit first broken
+  pub stopped : NetStop size limit first broken
   pub tells : Tells fault_text broken t'
 
 -- the hub was closed by this end, which may be told, and is told behind the lines of all connections that have numbers
-pub record FeedTold (end : FeedEnd) (listen : List ℕ) (limit : ℕ) (t t' : Seen) : Type 0 where
+pub record FeedTold (size : ℕ) (end : FeedEnd) (listen : List ℕ) (limit : ℕ) (t t' : Seen) : Type 0 where
   pub may : MayBeTold end
   pub between : Seen
-  pub lines : IsAfterLines listen limit [] t between
+  pub lines : IsAfterLines size listen limit [] t between
   pub tells : Tells (feed_text end) between t'
 
 -- What is written next, and where the server stands then: a line that is still to come, or the last line.
@@ -101,37 +101,37 @@ IsNext text n k left between from =
     ⊎ (((text ≡ fault_text) × DoorFaulted between from)
     ⊎ ((end : FeedEnd) × ((text ≡ feed_text end) × (from ≡ between))))
 
-pub record IsNextLine (text listen : List ℕ) (limit : ℕ) (t from : Seen) : Type 0 where
+pub record IsNextLine (size : ℕ) (text listen : List ℕ) (limit : ℕ) (t from : Seen) : Type 0 where
   pub left : List ℕ
   pub between : Seen
-  pub lines : IsAfterLines listen limit left t between
+  pub lines : IsAfterLines size listen limit left t between
   pub is_next : IsNext text lines.n lines.k left between from
 
 -- the first line, or a fault before it, or what is next behind the lines so far
-abbrev pub IsWriting : List ℕ → List ℕ → ℕ → Seen → Seen → Type 0
-IsWriting text listen limit t from =
+abbrev pub IsWriting : ℕ → List ℕ → List ℕ → ℕ → Seen → Seen → Type 0
+IsWriting size text listen limit t from =
     ((text ≡ listening_text listen) × (from ≡ t))
     ⊎ (((text ≡ fault_text) × ((from ≡ t) ⊎ DoorFaulted t from))
-    ⊎ IsNextLine text listen limit t from)
+    ⊎ IsNextLine size text listen limit t from)
 
 -- the sink had one fault, and took a front of what was to be written next
-pub record IsUnwritten (listen : List ℕ) (limit : ℕ) (t t' : Seen) : Type 0 where
+pub record IsUnwritten (size : ℕ) (listen : List ℕ) (limit : ℕ) (t t' : Seen) : Type 0 where
   pub text : List ℕ
   pub from : Seen
-  pub writing : IsWriting text listen limit t from
+  pub writing : IsWriting size text listen limit t from
   pub cut : Cuts text from t'
 
 -- memory was refused behind the lines so far
-pub record IsStarved (listen : List ℕ) (limit : ℕ) (t t' : Seen) : Type 0 where
+pub record IsStarved (size : ℕ) (listen : List ℕ) (limit : ℕ) (t t' : Seen) : Type 0 where
   pub left : List ℕ
   pub between : Seen
-  pub lines : IsAfterLines listen limit left t between
+  pub lines : IsAfterLines size listen limit left t between
   pub leaves : Leaves left between t'
 
 -- How it ended: what each end promises, by the failures that the cluster counts and the refused starts that the spawner counts too.
-abbrev pub Ends : ServeEnd → List ℕ → ℕ → ℕ → ℕ → ℕ → ℕ → Seen → Seen → Type 0
-Ends ends.Done listen limit failures failures' refusals refusals' t t' = IsDone listen limit t t' × (failures' ≡ failures)
-Ends ends.Net listen limit failures failures' refusals refusals' t t' = IsUnstarted failures failures' refusals refusals' t t' ⊎ (IsUnbound t t' ⊎ IsShut listen limit t t')
-Ends (ends.Feed end) listen limit failures failures' refusals refusals' t t' = FeedTold (arc_value end) listen limit t t'
-Ends ends.WriteFault listen limit failures failures' refusals refusals' t t' = IsUnwritten listen limit t t'
-Ends ends.Memory listen limit failures failures' refusals refusals' t t' = (t' ≡ t) ⊎ IsStarved listen limit t t'
+abbrev pub Ends : ℕ → ServeEnd → List ℕ → ℕ → ℕ → ℕ → ℕ → ℕ → Seen → Seen → Type 0
+Ends size ends.Done listen limit failures failures' refusals refusals' t t' = IsDone size listen limit t t' × (failures' ≡ failures)
+Ends size ends.Net listen limit failures failures' refusals refusals' t t' = IsUnstarted failures failures' refusals refusals' t t' ⊎ (IsUnbound t t' ⊎ IsShut size listen limit t t')
+Ends size (ends.Feed end) listen limit failures failures' refusals refusals' t t' = FeedTold size (arc_value end) listen limit t t'
+Ends size ends.WriteFault listen limit failures failures' refusals refusals' t t' = IsUnwritten size listen limit t t'
+Ends size ends.Memory listen limit failures failures' refusals refusals' t t' = (t' ≡ t) ⊎ IsStarved size listen limit t t'

@@ -1,4 +1,3 @@
-pub mod Addresses
 pub mod Beginning
 pub mod Books
 pub mod Ends

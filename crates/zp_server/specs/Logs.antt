@@ -1,5 +1,5 @@
 -- What a server has done for its clients: which it has accepted, and what it has written and given to its book about each.
-use Rattle.std.specs.Prelude.{◌≡◌, ◌⊎◌, ℕ, zero, suc, ◌+◌, ◌<◌, ◌≤◌, Bool, true, false, List, [], ◌∷◌, ◌++◌, length, map, filter, filter_map, flat_map, Result, Ok, Err, IsPermutation}
+use Rattle.std.specs.Prelude.{◌≡◌, ◌⊎◌, ℕ, zero, suc, ◌+◌, ◌-◌, ◌*◌, ◌<◌, ◌≤◌, Bool, true, false, List, [], ◌∷◌, ◌++◌, length, map, filter, filter_map, flat_map, Result, Ok, Err, IsPermutation}
 use Rattle.std.specs.Arc.{arc_value}
 use Rattle.zw_hub.specs.Ends.{MayBeTold}
 use Rattle.zw_hub.specs.declared.feed.FeedEnd.{FeedEnd}
@@ -16,13 +16,15 @@ counting zero = []
 counting (suc n) = suc n ∷ counting n
 
 -- k clients were accepted. Of the connections that were open before, and of the fresh ones, each has its one line, but for those that
--- are open still; the book took those that had a worker, in the order of the lines; and each line without one is a dial that failed.
--- Unless a connection has met the hub closed, none of them ended for that.
-pub record Logs (met : Bool) (k : ℕ) (fresh busy busy' : List ℕ) (t t' : Seen) : Type 0 where
+-- are open still; the book took those that had a worker, in the order of the lines; and for each line without one the dials of all
+-- endpoints failed, and for any other fresh connection fewer. Unless a connection has met the hub closed, none of them ended for that.
+pub record Logs (size : ℕ) (met : Bool) (k : ℕ) (fresh busy busy' : List ℕ) (t t' : Seen) : Type 0 where
   pub lines : List Line
   pub accepted : (t'.net).accepted ≡ more k (t.net).accepted
   pub doors : (t'.net).door_faults ≡ (t.net).door_faults
-  pub dials : (t'.net).dial_faults ≡ more (length (filter_map unlinked lines)) (t.net).dial_faults
+  pub passed : ℕ
+  pub few : passed ≤ (size - 1) * length fresh
+  pub dials : (t'.net).dial_faults ≡ more (size * length (filter_map unlinked lines) + passed) (t.net).dial_faults
   pub numbers : IsPermutation (map number_of lines ++ busy') (fresh ++ busy)
   pub fed : met ≡ false → filter is_fed lines ≡ []
   pub book : t'.book ≡ with_endings t.book (filter_map ending_of lines)
@@ -33,7 +35,7 @@ pub record Logs (met : Bool) (k : ℕ) (fresh busy busy' : List ℕ) (t t' : See
 abbrev pub IsAmong : ℕ → List ℕ → Type 0
 IsAmong number numbers = (others : List ℕ) × IsPermutation (number ∷ others) numbers
 
--- perhaps a line was written more, of one of these connections, which the book does not know of, and perhaps a dial failed
+-- perhaps a line was written more, of one of these connections, which the book does not know of, and perhaps some dials failed
 pub record Leaves (left : List ℕ) (t t' : Seen) : Type 0 where
   pub accepted : (t'.net).accepted ≡ (t.net).accepted
   pub doors : (t'.net).door_faults ≡ (t.net).door_faults
@@ -44,59 +46,59 @@ pub record Leaves (left : List ℕ) (t t' : Seen) : Type 0 where
 -- ---- up to the next client, of whom at most `most` were accepted
 
 -- the door had a fault
-pub record NetHalt (busy : List ℕ) (t t' : Seen) : Type 0 where
+pub record NetHalt (size : ℕ) (busy : List ℕ) (t t' : Seen) : Type 0 where
   pub left : List ℕ
   pub between : Seen
-  pub logs : Logs false 0 [] busy left t between
+  pub logs : Logs size false 0 [] busy left t between
   pub faulted : DoorFaulted between t'
 
 -- the hub was found closed, by an end that may be told
-pub record FeedHalt (end : FeedEnd) (most : ℕ) (busy busy' : List ℕ) (t t' : Seen) : Type 0 where
+pub record FeedHalt (size : ℕ) (end : FeedEnd) (most : ℕ) (busy busy' : List ℕ) (t t' : Seen) : Type 0 where
   pub may : MayBeTold end
   pub k : ℕ
   pub few : k ≤ most
-  pub logs : Logs true k [] busy busy' t t'
+  pub logs : Logs size true k [] busy busy' t t'
 
 -- the sink had a fault in the next line: that of a connection that is open, or of the fresh one, where all that may be were accepted
-pub record WriteHalt (most : ℕ) (fresh busy : List ℕ) (t t' : Seen) : Type 0 where
+pub record WriteHalt (size : ℕ) (most : ℕ) (fresh busy : List ℕ) (t t' : Seen) : Type 0 where
   pub k : ℕ
   pub few : k ≤ most
   pub left : List ℕ
   pub between : Seen
-  pub logs : Logs true k [] busy left t between
+  pub logs : Logs size true k [] busy left t between
   pub last : Line
   pub owed : IsAmong (number_of last) left ⊎ ((fresh ≡ number_of last ∷ []) × (most ≤ k))
   pub cut : Cuts (text_of last) between t'
 
 -- memory was refused
-pub record MemoryHalt (most : ℕ) (busy : List ℕ) (t t' : Seen) : Type 0 where
+pub record MemoryHalt (size : ℕ) (most : ℕ) (busy : List ℕ) (t t' : Seen) : Type 0 where
   pub k : ℕ
   pub few : k ≤ most
   pub left : List ℕ
   pub between : Seen
-  pub logs : Logs true k [] busy left t between
+  pub logs : Logs size true k [] busy left t between
   pub leaves : Leaves left between t'
 
 -- why no further client is accepted
-abbrev pub Halts : Stop → ℕ → List ℕ → List ℕ → List ℕ → Seen → Seen → Type 0
-Halts stop.Net most fresh busy busy' t t' = (0 < most) × NetHalt busy t t'
-Halts (stop.Feed end) most fresh busy busy' t t' = FeedHalt (arc_value end) most busy busy' t t'
-Halts stop.Write most fresh busy busy' t t' = WriteHalt most fresh busy t t'
-Halts stop.Memory most fresh busy busy' t t' = MemoryHalt most busy t t'
+abbrev pub Halts : ℕ → Stop → ℕ → List ℕ → List ℕ → List ℕ → Seen → Seen → Type 0
+Halts size stop.Net most fresh busy busy' t t' = (0 < most) × NetHalt size busy t t'
+Halts size (stop.Feed end) most fresh busy busy' t t' = FeedHalt size (arc_value end) most busy busy' t t'
+Halts size stop.Write most fresh busy busy' t t' = WriteHalt size most fresh busy t t'
+Halts size stop.Memory most fresh busy busy' t t' = MemoryHalt size most busy t t'
 
-abbrev pub Goes : Result (Unit {0}) Stop → ℕ → List ℕ → List ℕ → List ℕ → Seen → Seen → Type 0
-Goes (Ok _) k fresh busy busy' t t' = Logs false k fresh busy busy' t t'
-Goes (Err why) k fresh busy busy' t t' = Halts why k fresh busy busy' t t'
+abbrev pub Goes : ℕ → Result (Unit {0}) Stop → ℕ → List ℕ → List ℕ → List ℕ → Seen → Seen → Type 0
+Goes size (Ok _) k fresh busy busy' t t' = Logs size false k fresh busy busy' t t'
+Goes size (Err why) k fresh busy busy' t t' = Halts size why k fresh busy busy' t t'
 
 -- one more was taken back where the hub is known to be closed, so that it is no stop that others found it closed too
-abbrev pub Rests : Result (Unit {0}) Stop → List ℕ → List ℕ → Seen → Seen → Type 0
-Rests (Ok _) busy busy' t t' = Logs true 0 [] busy busy' t t'
-Rests (Err why) busy busy' t t' = Halts why 0 [] busy [] t t'
+abbrev pub Rests : ℕ → Result (Unit {0}) Stop → List ℕ → List ℕ → Seen → Seen → Type 0
+Rests size (Ok _) busy busy' t t' = Logs size true 0 [] busy busy' t t'
+Rests size (Err why) busy busy' t t' = Halts size why 0 [] busy [] t t'
 
 -- one more client was accepted, once room was made
-abbrev pub Admits : {E : Type 0} → Result E Stop → List ℕ → List ℕ → Seen → Seen → Type 0
-Admits (Ok ends) busy busy' t t' = Logs false 1 [] busy busy' t t'
-Admits (Err why) busy busy' t t' = Halts why 1 [] busy busy' t t'
+abbrev pub Admits : {E : Type 0} → ℕ → Result E Stop → List ℕ → List ℕ → Seen → Seen → Type 0
+Admits size (Ok ends) busy busy' t t' = Logs size false 1 [] busy busy' t t'
+Admits size (Err why) busy busy' t t' = Halts size why 1 [] busy busy' t t'
 
 -- ---- all clients
 
@@ -107,49 +109,49 @@ pub record AreFew (n k limit : ℕ) : Type 0 where
   pub most : k ≤ n + 1
   pub within : k ≤ limit
 
-pub record NetStop (limit : ℕ) (t t' : Seen) : Type 0 where
+pub record NetStop (size : ℕ) (limit : ℕ) (t t' : Seen) : Type 0 where
   pub n : ℕ
   pub fewer : n < limit
   pub left : List ℕ
   pub between : Seen
-  pub logs : Logs false n (counting n) [] left t between
+  pub logs : Logs size false n (counting n) [] left t between
   pub faulted : DoorFaulted between t'
 
-pub record FeedStop (end : FeedEnd) (limit : ℕ) (busy : List ℕ) (t t' : Seen) : Type 0 where
+pub record FeedStop (size : ℕ) (end : FeedEnd) (limit : ℕ) (busy : List ℕ) (t t' : Seen) : Type 0 where
   pub may : MayBeTold end
   pub n : ℕ
   pub k : ℕ
   pub few : AreFew n k limit
-  pub logs : Logs true k (counting n) [] busy t t'
+  pub logs : Logs size true k (counting n) [] busy t t'
 
 -- A line that is still to come: of a connection that is open, or of the last client, who was accepted and has no number yet.
 abbrev pub IsOwed : Line → ℕ → ℕ → List ℕ → Type 0
 IsOwed last n k left = IsAmong (number_of last) left ⊎ ((number_of last ≡ n + 1) × (k ≡ n + 1))
 
-pub record WriteStop (limit : ℕ) (t t' : Seen) : Type 0 where
+pub record WriteStop (size : ℕ) (limit : ℕ) (t t' : Seen) : Type 0 where
   pub n : ℕ
   pub k : ℕ
   pub few : AreFew n k limit
   pub left : List ℕ
   pub between : Seen
-  pub logs : Logs true k (counting n) [] left t between
+  pub logs : Logs size true k (counting n) [] left t between
   pub last : Line
   pub owed : IsOwed last n k left
   pub cut : Cuts (text_of last) between t'
 
-pub record MemoryStop (limit : ℕ) (t t' : Seen) : Type 0 where
+pub record MemoryStop (size : ℕ) (limit : ℕ) (t t' : Seen) : Type 0 where
   pub n : ℕ
   pub k : ℕ
   pub few : AreFew n k limit
   pub left : List ℕ
   pub between : Seen
-  pub logs : Logs true k (counting n) [] left t between
+  pub logs : Logs size true k (counting n) [] left t between
   pub leaves : Leaves left between t'
 
 -- As many clients were accepted as the limit allows, of which these are served still; or fewer, and why.
-abbrev pub Stops : Result (Unit {0}) Stop → ℕ → List ℕ → Seen → Seen → Type 0
-Stops (Ok _) limit busy t t' = Logs false limit (counting limit) [] busy t t'
-Stops (Err stop.Net) limit busy t t' = NetStop limit t t'
-Stops (Err (stop.Feed end)) limit busy t t' = FeedStop (arc_value end) limit busy t t'
-Stops (Err stop.Write) limit busy t t' = WriteStop limit t t'
-Stops (Err stop.Memory) limit busy t t' = MemoryStop limit t t'
+abbrev pub Stops : ℕ → Result (Unit {0}) Stop → ℕ → List ℕ → Seen → Seen → Type 0
+Stops size (Ok _) limit busy t t' = Logs size false limit (counting limit) [] busy t t'
+Stops size (Err stop.Net) limit busy t t' = NetStop size limit t t'
+Stops size (Err (stop.Feed end)) limit busy t t' = FeedStop size (arc_value end) limit busy t t'
+Stops size (Err stop.Write) limit busy t t' = WriteStop size limit t t'
+Stops size (Err stop.Memory) limit busy t t' = MemoryStop size limit t t'

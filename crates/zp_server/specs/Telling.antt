@@ -1,8 +1,6 @@
 -- What a server's net, sink and book tell, and what writing changes in it.
 use Rattle.std.specs.Prelude.{◌≡◌, ℕ, ◌+◌, ◌-◌, ◌^◌, Bool, true, false, List, max, min, Option, Result, Ok, Err}
 use Rattle.zx_net.specs.Nets.{NetCounts}
-use Rattle.zp_server.specs.declared.admitting.NoLink.{NoLink}
-use Rattle.zp_server.specs.declared.admitting.NoLink.TheVariants as nolink
 use Rattle.zx_outside.specs.Counts.{OutputCounts, one_more}
 use Rattle.zx_outside.specs.Writing.{Takes, TakesFront, counts_after_write}
 use Rattle.zx_outside.specs.declared.sink.Took.TheVariants as took
@@ -68,11 +66,6 @@ pub record DoorFaulted (t t' : Seen) : Type 0 where
   pub faulted : (t'.net).door_faults ≡ one_more (t.net).door_faults
   pub out : t'.out ≡ t.out
   pub book : t'.book ≡ t.book
-
--- what a dial for a connection's link counts: the fault of one that failed
-abbrev pub Dials : {E : Type 0} → Result E NoLink → NetCounts → NetCounts → Type 0
-Dials (Err nolink.Dial) counts counts' = counts' ≡ record counts { dial_faults = one_more counts.dial_faults }
-Dials _ counts counts' = counts' ≡ counts
 
 -- a worker was started; or that was refused, and is counted
 abbrev pub Starts : Result (Unit {0}) Stop → ℕ → ℕ → Type 0

@@ -1,12 +1,9 @@
 //! Lets a client in.
 
-ghost use Rattle.std.specs.Prelude.{◌≡◌, [], IfOk, OnErr, OnOk};
-ghost use Rattle.ev_call.specs.Addresses.{IsAddress};
-ghost use Rattle.ev_call.specs.Calls.{calls_of};
+ghost use Rattle.std.specs.Prelude.{◌≡◌, ℕ, IfOk, OnErr, OnOk};
 ghost use Rattle.zx_net.specs.Nets.{IsFreshSink, IsFreshSource};
 ghost use Rattle.zp_server.specs.Logs.{Admits};
 ghost use Rattle.zp_server.specs.Looking.{FindsOpenTwice};
-ghost use Rattle.zp_server.specs.Telling.{Dials};
 
 use crate::book::Book;
 use crate::desk::Desk;
@@ -15,41 +12,11 @@ use crate::gate::Gate;
 use crate::house::House;
 use crate::looking::look;
 use crate::taking::make_room;
-use ev_link::HttpLink;
 use std::alloc::Global;
 use std::sync::Wait;
 use zx_net::{Net, Wakes};
 use zx_outside::Sink;
 use zx_words::HangsUp;
-
-/// Why there is no link.
-#[derive(Clone, Copy, Debug)]
-pub enum NoLink {
-    /// Nobody answers at the address.
-    Dial,
-    /// The allocator refused memory.
-    Memory,
-}
-
-/// A new link to etcd.
-pub fn link_to<N: Net>(
-    alloc: Global,
-    net: &mut N,
-    endpoint: &str,
-) -> Result<HttpLink<N::In, N::Out>, NoLink>
-    requires { IsAddress endpoint.now }
-    ensures dials { Dials result (N.counts net.old) (N.counts net.new) }
-    ensures failures { IfOk result (λ link. link.failures ≡ 0) }
-    ensures asks { IfOk result (λ link. calls_of link.asks.items link.results.items ≡ []) }
-{
-    let Ok((source, sink)) = net.dial(endpoint) else {
-        return Err(NoLink::Dial);
-    };
-    match HttpLink::new(alloc, source, sink, endpoint) {
-        Ok(link) => Ok(link),
-        Err(_refused) => Err(NoLink::Memory),
-    }
-}
 
 /// Waits until there is room for one more client, and then for the client.
 pub fn admit<W: Wait, N: Net, R: Wait + Drop, O: Sink, G: Gate + Drop, B: Book<N::In, N::Out>>(
@@ -64,7 +31,7 @@ pub fn admit<W: Wait, N: Net, R: Wait + Drop, O: Sink, G: Gate + Drop, B: Book<N
 ) -> Result<(N::In, N::Out), Stop>
 where
     N::In: Wakes + HangsUp,
-    ensures admits { Admits result desk.old.busy.items desk.new.busy.items
+    ensures admits { (size : ℕ) → Admits size result desk.old.busy.items desk.new.busy.items
         (record { net = N.counts net.old; out = record { taken = O.taken out.old; counts = O.counts out.old }; book = B.told book.old })
         (record { net = N.counts net.new; out = record { taken = O.taken out.new; counts = O.counts out.new }; book = B.told book.new }) }
     ensures source { IfOk result (λ ends. IsFreshSource (N.In.given ends.0) (N.In.counts ends.0) (N.In.ended ends.0) (N.In.name ends.0) (N.counts net.new).accepted) }

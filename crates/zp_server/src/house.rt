@@ -23,8 +23,6 @@ pub struct House<
     pub back: Back<I, O, T, R>,
     pub bells: Arc<Bells<B>, Global>,
     pub gate: G,
-    /// The address of etcd.
-    pub endpoint: String,
 }
 
 impl<
@@ -36,17 +34,11 @@ impl<
     G: Gate + Drop,
 > House<I, O, T, R, B, G> {
     /// Nobody works yet; room for so many workers of connections.
-    pub fn new(
-        alloc: Global,
-        gate: G,
-        endpoint: &str,
-        room: usize,
-    ) -> Result<House<I, O, T, R, B, G>, Memory> {
+    pub fn new(alloc: Global, gate: G, room: usize) -> Result<House<I, O, T, R, B, G>, Memory> {
         Ok(House {
             back: Back::with_room(alloc, room)?,
             bells: Arc::new(alloc, Bells::with_room(alloc, room)?)?,
             gate,
-            endpoint: String::from_str(alloc, endpoint)?,
         })
     }
 }

@@ -34,7 +34,6 @@
 #![tactic(auto)]
 
 mod accepting;
-mod address;
 mod admitting;
 mod back;
 mod begin;
@@ -54,10 +53,10 @@ mod starting;
 mod taking;
 mod working;
 
-pub use address::is_address;
 pub use bells::Bells;
 pub use book::{Book, ListBook, NoBook};
 pub use ends::ServeEnd;
+pub use ev_addresses::is_address;
 pub use gate::{Gate, OpenGate};
 pub use served::Served;
 pub use serving::serve;

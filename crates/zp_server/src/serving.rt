@@ -1,6 +1,7 @@
 //! The server.
 
-ghost use Rattle.std.specs.Prelude.{◌≡◌, ℕ, [], IfOk, Err};
+ghost use Rattle.std.specs.Prelude.{◌≡◌, ℕ, [], length, IfOk, Err};
+ghost use Rattle.ev_addresses.specs.Lists.{addresses_in};
 ghost use Rattle.ev_call.specs.Addresses.{IsAddress};
 ghost use Rattle.zp_server.specs.Beginning.{IsPlace};
 ghost use Rattle.zp_server.specs.Ends.{Clients, Ends, Finishes, ServesFrom};
@@ -100,9 +101,9 @@ fn waited_for<
     out: &mut O,
     book: &mut B,
 ) -> Stop
-    ensures { (net : NetCounts) (limit : ℕ) (first : Seen) → Stops (Err stop) limit desk.old.busy.items first
+    ensures { (size : ℕ) (net : NetCounts) (limit : ℕ) (first : Seen) → Stops size (Err stop) limit desk.old.busy.items first
         (record { net = net; out = record { taken = O.taken out.old; counts = O.counts out.old }; book = B.told book.old })
-        → Stops (Err result) limit [] first
+        → Stops size (Err result) limit [] first
         (record { net = net; out = record { taken = O.taken out.new; counts = O.counts out.new }; book = B.told book.new }) }
 {
     match stop {
@@ -143,7 +144,7 @@ where
     requires address { IsAddress endpoint.now }
     requires fresh { (N.counts net.old).accepted ≡ 0 }
     requires idle { desk.old.busy.items ≡ [] }
-    ensures { Stops result limit []
+    ensures { Stops (length (addresses_in endpoint.now)) result limit []
         (record { net = N.counts net.old; out = record { taken = O.taken out.old; counts = O.counts out.old }; book = B.told book.old })
         (record { net = N.counts net.new; out = record { taken = O.taken out.new; counts = O.counts out.new }; book = B.told book.new }) }
 {
@@ -188,7 +189,7 @@ where
     requires address { IsAddress endpoint.now }
     requires fresh { (N.counts net.old).accepted ≡ 0 }
     requires idle { desk.old.busy.items ≡ [] }
-    ensures { Clients result listen.now limit
+    ensures { Clients (length (addresses_in endpoint.now)) result listen.now limit
         (record { net = N.counts net.old; out = record { taken = O.taken out.old; counts = O.counts out.old }; book = B.told book.old })
         (record { net = N.counts net.new; out = record { taken = O.taken out.new; counts = O.counts out.new }; book = B.told book.new }) }
 {
@@ -230,12 +231,11 @@ fn open<R: Wait + Copy + Drop>(
 fn house_of<N: Net, R: Wait + Drop, G: Gate + Drop, B: Book<N::In, N::Out>>(
     alloc: Global,
     gate: G,
-    endpoint: &str,
 ) -> Result<Arc<Home<N, B, R, G>, Global>, Memory>
 where
     N::In: Wakes,
 {
-    let house = House::new(alloc, gate, endpoint, MAX_CLIENTS)?;
+    let house = House::new(alloc, gate, MAX_CLIENTS)?;
     match Arc::new(alloc, house) {
         Ok(house) => Ok(house),
         Err(_refused) => Err(Memory),
@@ -274,11 +274,11 @@ where
     requires address { IsAddress endpoint.now }
     requires place { IsPlace place }
     requires fresh { (N.counts net.old).accepted ≡ 0 }
-    ensures { ServesFrom result listen.now limit (P.refusals spawner.old) (P.refusals spawner.new)
+    ensures { ServesFrom (length (addresses_in endpoint.now)) result listen.now limit (P.refusals spawner.old) (P.refusals spawner.new)
         (record { net = N.counts net.old; out = record { taken = O.taken out.old; counts = O.counts out.old }; book = B.told book.old })
         (record { net = N.counts net.new; out = record { taken = O.taken out.new; counts = O.counts out.new }; book = B.told book.new }) }
 {
-    let house = match house_of::<N, W, G, B>(alloc, gate, endpoint) {
+    let house = match house_of::<N, W, G, B>(alloc, gate) {
         Ok(house) => house,
         Err(_refused) => return Err(Stop::Memory),
     };
@@ -311,9 +311,11 @@ where
     )
 }
 
-/// Serves ZooKeeper clients at `listen` from the etcd cluster whose JSON gateway is at `endpoint`, both `HOST:PORT`, until `limit`
-/// clients were accepted and have ended. `endpoint` is one or more bytes of visible ASCII, since each request to etcd names it as its
-/// host; [`is_address`](crate::is_address) tells. The net has accepted no connection before, since it names the ends of a connection
+/// Serves ZooKeeper clients at `listen`, `HOST:PORT`, until `limit` clients were accepted and have ended, from the etcd cluster whose
+/// members have their JSON gateways at `endpoint`: the first five addresses in it that are not empty, with commas between them, each
+/// `HOST:PORT`; `localhost` where there is none. `endpoint` is one or more bytes of visible ASCII, since each request to etcd names its
+/// address as its host; [`is_address`](crate::is_address) tells. For each client the addresses are dialled in turn, from the first on,
+/// until one dial succeeds. The net has accepted no connection before, since it names the ends of a connection
 /// by how many it has accepted, and the lines count connections from 1. The ends:
 ///
 /// - `Done`: each of the connections 1 to `limit` has one line, and each that had a worker one [`Served`](crate::Served) in the
@@ -356,7 +358,7 @@ where
     requires address { IsAddress endpoint.now }
     requires fresh { (N.counts net.old).accepted ≡ 0 }
     // What was accepted, written and given to the book, by the end.
-    ensures { Ends result listen.now limit (L.failures cluster.old) (L.failures cluster.new) (P.refusals spawner.old) (P.refusals spawner.new)
+    ensures { Ends (length (addresses_in endpoint.now)) result listen.now limit (L.failures cluster.old) (L.failures cluster.new) (P.refusals spawner.old) (P.refusals spawner.new)
         (record { net = N.counts net.old; out = record { taken = O.taken out.old; counts = O.counts out.old }; book = B.told book.old })
         (record { net = N.counts net.new; out = record { taken = O.taken out.new; counts = O.counts out.new }; book = B.told book.new }) }
 {

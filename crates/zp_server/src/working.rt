@@ -127,11 +127,15 @@ fn serve_by<
 /// Tells the operator of a link that failed.
 fn tell_of<R: Eprint, I: Source + Drop, O: Sink + Drop, T: Trace + Drop>(
     rt: &R,
-    endpoint: &str,
     served: &Served<I, O, T>,
 ) {
     if let Cause::LinkFault = served.cause {
-        tell_link(rt, served.number, endpoint, fault_of(&served.link));
+        tell_link(
+            rt,
+            served.number,
+            served.link.host(),
+            fault_of(&served.link),
+        );
     }
 }
 
@@ -157,7 +161,7 @@ fn work<
     house.gate.pass(number);
     let returned = serve_by(rt, alloc, ready, reader, bell);
     house.bells.remove(rt, number);
-    tell_of(rt, house.endpoint.as_str(), &returned.served);
+    tell_of(rt, &returned.served);
     house.back.put(rt, returned);
 }
 

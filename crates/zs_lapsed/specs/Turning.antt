@@ -1,12 +1,12 @@
 -- The calls of one turn: lists, one behind the other, and after each a reap of each session that it shows as lapsed.
-use Rattle.std.specs.Prelude.{◌≡◌, ◌⊎◌, ℕ, zero, suc, Bool, true, false, List, [], ◌++◌, Option, Some, None, Result, Ok, Err}
+use Rattle.std.specs.Prelude.{◌≡◌, ◌⊎◌, ℕ, zero, suc, ◌<◌, Bool, true, false, List, [], ◌++◌, Option, Some, None, Result, Ok, Err}
 use Rattle.ev_call.specs.Calls.{Call}
+use Rattle.ev_link.specs.Reaching.{undialled_times}
 use Rattle.ev_link.specs.declared.failure.LinkFailure.{LinkFailure}
 use Rattle.ev_link.specs.declared.failure.LinkFailure.TheVariants as failure
 use Rattle.ev_words.specs.declared.fault.Fault.{Fault}
 use Rattle.ev_words.specs.declared.fault.Fault.TheVariants as told
 use Rattle.zx_net.specs.Nets.{NetCounts}
-use Rattle.zx_outside.specs.Counts.{one_more}
 use Rattle.zs_lapsed.specs.declared.calling.TurnFault.{TurnFault}
 use Rattle.zs_lapsed.specs.declared.calling.TurnFault.TheVariants as turn
 use Rattle.zs_lapsed.specs.declared.listing.Listed.{Listed}
@@ -88,11 +88,7 @@ TurnsOver old new result = TurnsOn (begun_from old) new result ⊎ (IsLeftNone o
 
 -- ---- the net
 
--- a dial that failed is counted, and nothing else is
-abbrev pub counts_for : Fault → NetCounts → NetCounts
-counts_for told.Dial counts = record counts { dial_faults = one_more counts.dial_faults }
-counts_for _ counts = counts
-
-abbrev pub counts_over : {A : Type 0} → Result A Fault → NetCounts → NetCounts
-counts_over (Ok x) counts = counts
-counts_over (Err fault) counts = counts_for fault counts
+-- Dials that failed are counted, and nothing else is: one for each endpoint where none could be dialled, and otherwise fewer.
+abbrev pub DialsOver : {A : Type 0} → Result A Fault → ℕ → NetCounts → NetCounts → Type 0
+DialsOver (Err told.Dial) size counts counts' = counts' ≡ undialled_times size counts
+DialsOver _ size counts counts' = (failed : ℕ) × (failed < size) × (counts' ≡ undialled_times failed counts)

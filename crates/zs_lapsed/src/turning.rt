@@ -1,11 +1,11 @@
 //! One turn: lists all sessions, and ends those that have lapsed.
 
-ghost use Rattle.std.specs.Prelude.{◌≡◌, [], None, IfOk, OnErr};
+ghost use Rattle.std.specs.Prelude.{◌≡◌, [], length, None, Err, IfOk, OnErr};
+ghost use Rattle.ev_addresses.specs.Lists.{addresses_in};
 ghost use Rattle.ev_call.specs.Addresses.{IsAddress};
 ghost use Rattle.ev_call.specs.Calls.{calls_of};
 ghost use Rattle.zs_lapsed.specs.Calling.{Makes, link_told, of_kept, tells};
-ghost use Rattle.zs_lapsed.specs.Turning.{IsLeftNone, IsPage, Turns, TurnsOn, TurnsOver, begun_from, counts_for, counts_over, damage_told, max_lists};
-ghost use Rattle.zx_net.specs.Nets.{NetCounts};
+ghost use Rattle.zs_lapsed.specs.Turning.{DialsOver, IsLeftNone, IsPage, Turns, TurnsOn, TurnsOver, begun_from, damage_told, max_lists};
 
 use crate::calling::TurnFault;
 use crate::failure::fault_of;
@@ -13,7 +13,7 @@ use crate::listing::list;
 use crate::reaping::{either, reap_each};
 use ev_call::Etcd;
 use ev_json::{Field, JsonFault};
-use ev_link::HttpLink;
+use ev_link::{HttpLink, NoLink, link_to};
 use ev_words::Fault;
 use std::alloc::Global;
 use zx_base::Bytes;
@@ -71,7 +71,7 @@ fn turn<L: Etcd>(alloc: Global, link: &mut L) -> Result<bool, TurnFault>
     Ok(is_damaged)
 }
 
-/// A new link.
+/// A new link, to the first endpoint that can be dialled.
 fn dialled<N: Net>(
     alloc: Global,
     net: &mut N,
@@ -79,18 +79,17 @@ fn dialled<N: Net>(
 ) -> Result<HttpLink<N::In, N::Out>, Fault>
     requires { IsAddress endpoint.now }
     ensures begun { IfOk result (λ l. tells (calls_of l.asks.items l.results.items) l.failures ≡ tells [] 0) }
-    ensures counts { N.counts net.new ≡ counts_over result (N.counts net.old) }
+    ensures dials { DialsOver result (length (addresses_in endpoint.now)) (N.counts net.old) (N.counts net.new) }
 {
-    let Ok((source, sink)) = net.dial(endpoint) else {
-        return Err(Fault::Dial);
-    };
-    match HttpLink::new(alloc, source, sink, endpoint) {
+    match link_to(alloc, net, endpoint) {
         Ok(link) => Ok(link),
-        Err(_) => Err(Fault::Memory),
+        Err(NoLink::Dial) => Err(Fault::Dial),
+        Err(NoLink::Memory) => Err(Fault::Memory),
     }
 }
 
 /// The link that was kept, or a new one.
+#[tactic(auto, using(crate::proofs::Keeping::dials_none, ev_addresses::proofs::Numbers::are_some))]
 fn link_of<N: Net>(
     alloc: Global,
     net: &mut N,
@@ -100,7 +99,7 @@ fn link_of<N: Net>(
     requires { IsAddress endpoint.now }
     ensures begun { IfOk result (λ l. tells (calls_of l.asks.items l.results.items) l.failures ≡ begun_from (of_kept kept (λ l. tells (calls_of l.asks.items l.results.items) l.failures))) }
     ensures none { OnErr result (IsLeftNone (of_kept kept (λ l. tells (calls_of l.asks.items l.results.items) l.failures))) }
-    ensures counts { N.counts net.new ≡ counts_over result (N.counts net.old) }
+    ensures dials { DialsOver result (length (addresses_in endpoint.now)) (N.counts net.old) (N.counts net.new) }
 {
     match kept {
         Some(link) => Ok(link),
@@ -109,9 +108,9 @@ fn link_of<N: Net>(
 }
 
 /// What a turn's fault is told as.
-#[tactic(auto, using(crate::proofs::Keeping::link_counts))]
+#[tactic(auto, using(crate::proofs::Keeping::linked_fault))]
 fn fault_after<S: Source + Drop, K: Sink + Drop>(link: &HttpLink<S, K>, why: TurnFault) -> Fault
-    ensures { (counts : NetCounts) → counts_for result counts ≡ counts }
+    ensures { result ≡ Fault.Dial → ⊥ }
 {
     match why {
         TurnFault::Failed => fault_of(link),
@@ -134,7 +133,7 @@ fn damage(is_damaged: bool) -> Result<(), Fault>
 }
 
 /// One turn over a link, which is kept where it did not fail.
-#[tactic(auto, using(crate::proofs::Keeping::kept_on, crate::proofs::Keeping::none_on, crate::proofs::Keeping::damage_counts))]
+#[tactic(auto, using(crate::proofs::Keeping::kept_on, crate::proofs::Keeping::none_on, crate::proofs::Keeping::damage_linked))]
 fn turn_on<S: Source + Drop, K: Sink + Drop>(
     alloc: Global,
     link: HttpLink<S, K>,
@@ -142,7 +141,7 @@ fn turn_on<S: Source + Drop, K: Sink + Drop>(
 ) -> Result<(), Fault>
     requires { kept.old ≡ None }
     ensures turns { TurnsOn (tells (calls_of link.asks.items link.results.items) link.failures) (of_kept kept.new (λ l. tells (calls_of l.asks.items l.results.items) l.failures)) result }
-    ensures counts { (counts : NetCounts) → counts_over result counts ≡ counts }
+    ensures linked { result ≡ Err Fault.Dial → ⊥ }
 {
     let mut link = link;
     match turn(alloc, &mut link) {
@@ -155,7 +154,7 @@ fn turn_on<S: Source + Drop, K: Sink + Drop>(
 }
 
 /// One turn over the link, where there is one, and otherwise over one that is dialled. The link is kept where it did not fail.
-#[tactic(auto, using(crate::proofs::Keeping::over_link, crate::proofs::Keeping::over_none))]
+#[tactic(auto, using(crate::proofs::Keeping::over_link, crate::proofs::Keeping::over_none, crate::proofs::Keeping::dials_told, crate::proofs::Keeping::dials_unlinked))]
 pub(crate) fn turn_over<N: Net>(
     alloc: Global,
     net: &mut N,
@@ -164,7 +163,7 @@ pub(crate) fn turn_over<N: Net>(
 ) -> Result<(), Fault>
     requires { IsAddress endpoint.now }
     ensures turns { TurnsOver (of_kept link.old (λ l. tells (calls_of l.asks.items l.results.items) l.failures)) (of_kept link.new (λ l. tells (calls_of l.asks.items l.results.items) l.failures)) result }
-    ensures counts { N.counts net.new ≡ counts_over result (N.counts net.old) }
+    ensures dials { DialsOver result (length (addresses_in endpoint.now)) (N.counts net.old) (N.counts net.new) }
 {
     let kept = link.take();
     match link_of(alloc, net, endpoint, kept) {

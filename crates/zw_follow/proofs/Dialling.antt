@@ -13,7 +13,7 @@ use Rattle.zw_hub.specs.declared.feed.FeedEnd.{FeedEnd}
 use Rattle.zw_hub.specs.declared.feed.FeedEnd.TheVariants as ends
 use Rattle.zw_hub.specs.declared.published.Published.{Published}
 use Rattle.zx_outside.specs.Counts.{one_more}
-use Rattle.zw_follow.specs.Dials.{Answers, AreBarren, AreDials, AreFewEnough, Comes, CountsTo, Dial, DialsOnce, EndBarren, Followed, Follows, GivesUp, IsBetween, IsDial, IsOverDial, NetTold, Opens, OpensNone, Stops, Telling, WasRead, barren_after, entries_of, said_of}
+use Rattle.zw_follow.specs.Dials.{Answers, AreBarren, AreDials, AreFewEnough, Comes, CountsTo, Dial, DialsOnce, EndBarren, Followed, Follows, GivesUp, IsBetween, IsDial, IsOverDial, NetTold, Opens, OpensNone, Stops, Telling, WasRead, at_after, barren_after, entries_of, host_after, host_at, said_of}
 use Rattle.zw_follow.specs.Publishing.{Explains, IsPlaced, Publishes, Said, heads_of, zxid_after}
 use Rattle.zw_follow.specs.Streams.{GoesOn, IsOver, IsUnsentBy, ReadsStream}
 use Rattle.zw_follow.specs.declared.place.Place.{Place}
@@ -53,10 +53,11 @@ opens_none tells why stream.Stopped host zxid net net' unsent none = absurd unse
 -- a dial that read no line
 pub dials_none : {In Out : Type 0} (tells : Telling In Out) (host : List ℕ) (end : StreamEnd) (net net' : NetTold) (list : Published) (zxid : ℤ) (n : ℕ) → Opens tells (Err end) host zxid net net' → DialsOnce tells host end net net' list list zxid zxid n n
 dials_none tells host (stream.Over why barren) net net' list zxid n (counts, inl failed) = record {
-  dial = record { before = net; after = net'; zxid = zxid; said = []; entries = [] };
+  dial = record { host = host; before = net; after = net'; zxid = zxid; said = []; entries = [] };
   starts = refl;
   stops = refl;
   asks = refl;
+  names = refl;
   is = inl (failed, (refl, refl));
   left = [];
   publishes = publishes_nothing list;
@@ -64,10 +65,11 @@ dials_none tells host (stream.Over why barren) net net' list zxid n (counts, inl
   comes = (refl, refl, inl ((failed, (refl, refl)), counts));
 }
 dials_none tells host (stream.Over why barren) net net' list zxid n (counts, inr none) = record {
-  dial = record { before = net; after = net'; zxid = zxid; said = []; entries = [] };
+  dial = record { host = host; before = net; after = net'; zxid = zxid; said = []; entries = [] };
   starts = refl;
   stops = refl;
   asks = refl;
+  names = refl;
   is = inr (inl (http.WriteFault, (none, (refl, refl))));
   left = [];
   publishes = publishes_nothing list;
@@ -75,12 +77,13 @@ dials_none tells host (stream.Over why barren) net net' list zxid n (counts, inr
   comes = (refl, refl, inr (inl ((none, (refl, refl)), counts)));
 }
 dials_none tells host (stream.Closes end) net net' list zxid n opens =
-    let d : Dial = record { before = net; after = net'; zxid = zxid; said = []; entries = [] } in
+    let d : Dial = record { host = host; before = net; after = net'; zxid = zxid; said = []; entries = [] } in
     record {
       dial = d;
       starts = refl;
       stops = refl;
       asks = refl;
+      names = refl;
       is = inr (inl (http.Memory, (opens.1, (refl, refl))));
       left = [];
       publishes = publishes_nothing list;
@@ -107,13 +110,14 @@ comes_read tells host (stream.Closes end) d before after zxid zxid' n n' w r sam
 pub dials_read : {In Out : Type 0} (tells : Telling In Out) (lines : Lines In) (host : List ℕ) (end : StreamEnd) (net net' : NetTold) (before after : Published) (zxid zxid' : ℤ) (n n' : ℕ) → Opens tells (Ok lines) host zxid net net'
     → ReadsStream tells.source lines.source end before after zxid zxid' n n' → DialsOnce tells host end net net' before after zxid zxid' n n'
 dials_read tells lines host end net net' before after zxid zxid' n n' opens r =
-    let d : Dial = record { before = net; after = net'; zxid = zxid; said = r.said; entries = r.entries } in
+    let d : Dial = record { host = host; before = net; after = net'; zxid = zxid; said = r.said; entries = r.entries } in
     let w : WasRead tells host d = record { source = lines.source; answers = opens.1; lines = r.lines; read = r.read } in
     record {
       dial = d;
       starts = refl;
       stops = refl;
       asks = refl;
+      names = refl;
       is = inr (inr w);
       left = r.left;
       publishes = r.publishes;
@@ -131,42 +135,46 @@ entries_push : (ds : List Dial) (d : Dial) → entries_of (ds ++ d ∷ []) ≡ e
 entries_push [] d = append-nil d.entries
 entries_push (first ∷ ds) d = ap (λ (es : List Entry). first.entries ++ es) (entries_push ds d) ∙ sym (append_assoc first.entries (entries_of ds) d.entries)
 
-dials_push : {In Out : Type 0} (tells : Telling In Out) (host : List ℕ) (net now : NetTold) (zxid : ℤ) (ds : List Dial) (d : Dial) → AreDials tells host net zxid ds now → d.before ≡ now → d.zxid ≡ zxid_after zxid (entries_of ds) → IsDial tells host d
-    → AreDials tells host net zxid (ds ++ d ∷ []) d.after
-dials_push tells host net now zxid [] d dials starts asks is = (starts ∙ dials, asks, is, refl)
-dials_push tells host net now zxid (first ∷ ds) d dials starts asks is =
-    (dials.0, dials.1, dials.2, dials_push tells host first.after now (zxid_after zxid first.entries) ds d dials.3 starts (asks ∙ zxid_join zxid first.entries (entries_of ds)) is)
+at_push : (text : List ℕ) (at : ℕ) (ds : List Dial) (d : Dial) → at_after text at (ds ++ d ∷ []) ≡ host_after text (at_after text at ds)
+at_push text at [] d = refl
+at_push text at (first ∷ ds) d = at_push text (host_after text at) ds d
 
-counts_push : {In Out : Type 0} (tells : Telling In Out) (host : List ℕ) (n m : ℕ) (ds : List Dial) (d : Dial) (barren : Bool) → CountsTo tells host n ds m → m < 10 → IsOverDial tells host d barren → CountsTo tells host n (ds ++ d ∷ []) (barren_after barren m)
-counts_push tells host n m [] d barren h small over = (subst (λ (k : ℕ). k < 10) h small, barren, over, ap (barren_after barren) h)
-counts_push tells host n m (first ∷ ds) d barren h small over = (h.0, h.1, h.2, counts_push tells host (barren_after h.1 n) m ds d barren h.3 small over)
+dials_push : {In Out : Type 0} (tells : Telling In Out) (text : List ℕ) (at : ℕ) (net now : NetTold) (zxid : ℤ) (ds : List Dial) (d : Dial) → AreDials tells text at net zxid ds now → d.before ≡ now → d.zxid ≡ zxid_after zxid (entries_of ds)
+    → d.host ≡ host_at text (at_after text at ds) → IsDial tells d.host d → AreDials tells text at net zxid (ds ++ d ∷ []) d.after
+dials_push tells text at net now zxid [] d dials starts asks names is = (starts ∙ dials, asks, names, is, refl)
+dials_push tells text at net now zxid (first ∷ ds) d dials starts asks names is =
+    (dials.0, dials.1, dials.2, dials.3, dials_push tells text (host_after text at) first.after now (zxid_after zxid first.entries) ds d dials.4 starts (asks ∙ zxid_join zxid first.entries (entries_of ds)) names is)
+
+counts_push : {In Out : Type 0} (tells : Telling In Out) (n m : ℕ) (ds : List Dial) (d : Dial) (barren : Bool) → CountsTo tells n ds m → m < 10 → IsOverDial tells d.host d barren → CountsTo tells n (ds ++ d ∷ []) (barren_after barren m)
+counts_push tells n m [] d barren h small over = (subst (λ (k : ℕ). k < 10) h small, barren, over, ap (barren_after barren) h)
+counts_push tells n m (first ∷ ds) d barren h small over = (h.0, h.1, h.2, counts_push tells (barren_after h.1 n) m ds d barren h.3 small over)
 
 -- a dial was made where fewer than ten in a row had given no line
-few_push : {In Out : Type 0} (tells : Telling In Out) (host : List ℕ) (n m : ℕ) (ds : List Dial) (d : Dial) → CountsTo tells host n ds m → m < 10 → AreFewEnough tells host n (ds ++ d ∷ [])
-few_push tells host n m [] d h small = subst (λ (k : ℕ). k < 10) h small
-few_push tells host n m (first ∷ []) d h small = (h.0, h.1, h.2, few_push tells host (barren_after h.1 n) m [] d h.3 small)
-few_push tells host n m (first ∷ second ∷ ds) d h small = (h.0, h.1, h.2, few_push tells host (barren_after h.1 n) m (second ∷ ds) d h.3 small)
+few_push : {In Out : Type 0} (tells : Telling In Out) (n m : ℕ) (ds : List Dial) (d : Dial) → CountsTo tells n ds m → m < 10 → AreFewEnough tells n (ds ++ d ∷ [])
+few_push tells n m [] d h small = subst (λ (k : ℕ). k < 10) h small
+few_push tells n m (first ∷ []) d h small = (h.0, h.1, h.2, few_push tells (barren_after h.1 n) m [] d h.3 small)
+few_push tells n m (first ∷ second ∷ ds) d h small = (h.0, h.1, h.2, few_push tells (barren_after h.1 n) m (second ∷ ds) d h.3 small)
 
-barren_push : {In Out : Type 0} (tells : Telling In Out) (host : List ℕ) (ds : List Dial) (d : Dial) → AreBarren tells host ds → IsOverDial tells host d true → AreBarren tells host (ds ++ d ∷ [])
-barren_push tells host [] d h over = (over, tt)
-barren_push tells host (first ∷ ds) d h over = (h.0, barren_push tells host ds d h.1 over)
+barren_push : {In Out : Type 0} (tells : Telling In Out) (ds : List Dial) (d : Dial) → AreBarren tells ds → IsOverDial tells d.host d true → AreBarren tells (ds ++ d ∷ [])
+barren_push tells [] d h over = (over, tt)
+barren_push tells (first ∷ ds) d h over = (h.0, barren_push tells ds d h.1 over)
 
-end_barren : {In Out : Type 0} (tells : Telling In Out) (host : List ℕ) (n : ℕ) (ds : List Dial) (d : Dial) (barren : Bool) → EndBarren tells host n ds → IsOverDial tells host d barren → EndBarren tells host (barren_after barren n) (ds ++ d ∷ [])
-end_barren tells host n ds d true h over = record {
+end_barren : {In Out : Type 0} (tells : Telling In Out) (n : ℕ) (ds : List Dial) (d : Dial) (barren : Bool) → EndBarren tells n ds → IsOverDial tells d.host d barren → EndBarren tells (barren_after barren n) (ds ++ d ∷ [])
+end_barren tells n ds d true h over = record {
   earlier = h.earlier;
   last = h.last ++ d ∷ [];
   split = ap (λ (l : List Dial). l ++ d ∷ []) h.split ∙ append_assoc h.earlier h.last (d ∷ []);
   count = length-append h.last (d ∷ []) ∙ ap (λ (k : ℕ). k + 1) h.count;
-  barren = barren_push tells host h.last d h.barren over;
+  barren = barren_push tells h.last d h.barren over;
 }
-end_barren tells host n ds d false h over = record { earlier = ds ++ d ∷ []; last = []; split = sym (append-nil (ds ++ d ∷ [])); count = refl; barren = tt }
+end_barren tells n ds d false h over = record { earlier = ds ++ d ∷ []; last = []; split = sym (append-nil (ds ++ d ∷ [])); count = refl; barren = tt }
 
-followed_push : {In Out : Type 0} (tells : Telling In Out) (host : List ℕ) (end : StreamEnd) (net now net' : NetTold) (zxid zxid' zxid'' : ℤ) (before list after : Published) (barren n n' : ℕ)
-    → (b : IsBetween tells host net now zxid before list zxid' barren) → barren < 10 → (o : DialsOnce tells host end now net' list after zxid' zxid'' n n') → Followed tells host net net' zxid (b.dials ++ o.dial ∷ []) o.left before after
-followed_push tells host end net now net' zxid zxid' zxid'' before list after barren n n' b small o = record {
-  dials = subst (AreDials tells host net zxid (b.dials ++ o.dial ∷ [])) o.stops
-      (dials_push tells host net now zxid b.dials o.dial (b.followed).dials o.starts (o.asks ∙ b.asks) o.is);
-  few = few_push tells host 0 barren b.dials o.dial b.counts small;
+followed_push : {In Out : Type 0} (tells : Telling In Out) (text host : List ℕ) (at : ℕ) (end : StreamEnd) (net now net' : NetTold) (zxid zxid' zxid'' : ℤ) (before list after : Published) (barren n n' : ℕ)
+    → (b : IsBetween tells text net now zxid before list zxid' barren at) → barren < 10 → host ≡ host_at text at → (o : DialsOnce tells host end now net' list after zxid' zxid'' n n') → Followed tells text net net' zxid (b.dials ++ o.dial ∷ []) o.left before after
+followed_push tells text host at end net now net' zxid zxid' zxid'' before list after barren n n' b small is_host o = record {
+  dials = subst (AreDials tells text 0 net zxid (b.dials ++ o.dial ∷ [])) o.stops
+      (dials_push tells text 0 net now zxid b.dials o.dial (b.followed).dials o.starts (o.asks ∙ b.asks) (o.names ∙ is_host ∙ ap (host_at text) b.next) o.is);
+  few = few_push tells 0 barren b.dials o.dial b.counts small;
   publishes = subst (λ (es : List Entry). Publishes (heads_of (said_of (b.dials ++ o.dial ∷ []))) es o.left before after) (sym (entries_push b.dials o.dial))
       (subst (λ (heads : List Kv). Publishes heads (entries_of b.dials ++ (o.dial).entries) o.left before after) (sym (ap heads_of (said_push b.dials o.dial) ∙ heads_join (said_of b.dials) (o.dial).said))
       (publishes_join (heads_of (said_of b.dials)) (heads_of (o.dial).said) (entries_of b.dials) (o.dial).entries o.left before list after (b.followed).publishes o.publishes));
@@ -174,67 +182,70 @@ followed_push tells host end net now net' zxid zxid' zxid'' before list after ba
 
 -- ---- all dials
 
-pub between_starts : {In Out : Type 0} (tells : Telling In Out) (host : List ℕ) (net : NetTold) (zxid : ℤ) (list : Published) → IsBetween tells host net net zxid list list zxid 0
-between_starts tells host net zxid list = record {
+pub between_starts : {In Out : Type 0} (tells : Telling In Out) (text : List ℕ) (net : NetTold) (zxid : ℤ) (list : Published) → IsBetween tells text net net zxid list list zxid 0 0
+between_starts tells text net zxid list = record {
   dials = [];
   followed = record { dials = refl; few = tt; publishes = publishes_nothing list };
   counts = refl;
+  next = refl;
   asks = refl;
   none = record { earlier = []; last = []; split = refl; count = refl; barren = tt };
 }
 
-pub between_goes : {In Out : Type 0} (tells : Telling In Out) (host : List ℕ) (why : Fault) (is_barren : Bool) (net now net' : NetTold) (zxid zxid' zxid'' : ℤ) (before list after : Published) (barren barren' n n' : ℕ)
-    → IsBetween tells host net now zxid before list zxid' barren → barren < 10 → DialsOnce tells host (stream.Over why is_barren) now net' list after zxid' zxid'' n n' → barren' ≡ barren_after is_barren barren → IsBetween tells host net net' zxid before after zxid'' barren'
-between_goes tells host why is_barren net now net' zxid zxid' zxid'' before list after barren barren' n n' b small o counted = record {
+pub between_goes : {In Out : Type 0} (tells : Telling In Out) (text host : List ℕ) (at at' : ℕ) (why : Fault) (is_barren : Bool) (net now net' : NetTold) (zxid zxid' zxid'' : ℤ) (before list after : Published) (barren barren' n n' : ℕ)
+    → IsBetween tells text net now zxid before list zxid' barren at → barren < 10 → host ≡ host_at text at → DialsOnce tells host (stream.Over why is_barren) now net' list after zxid' zxid'' n n'
+    → barren' ≡ barren_after is_barren barren → at' ≡ host_after text at → IsBetween tells text net net' zxid before after zxid'' barren' at'
+between_goes tells text host at at' why is_barren net now net' zxid zxid' zxid'' before list after barren barren' n n' b small is_host o counted turned = record {
   dials = b.dials ++ o.dial ∷ [];
-  followed = subst (λ (left : List Kv). Followed tells host net net' zxid (b.dials ++ o.dial ∷ []) left before after) (o.comes).0
-      (followed_push tells host (stream.Over why is_barren) net now net' zxid zxid' zxid'' before list after barren n n' b small o);
-  counts = subst (λ (k : ℕ). CountsTo tells host 0 (b.dials ++ o.dial ∷ []) k) (sym counted) (counts_push tells host 0 barren b.dials o.dial is_barren b.counts small (o.comes).2);
+  followed = subst (λ (left : List Kv). Followed tells text net net' zxid (b.dials ++ o.dial ∷ []) left before after) (o.comes).0
+      (followed_push tells text host at (stream.Over why is_barren) net now net' zxid zxid' zxid'' before list after barren n n' b small is_host o);
+  counts = subst (λ (k : ℕ). CountsTo tells 0 (b.dials ++ o.dial ∷ []) k) (sym counted) (counts_push tells 0 barren b.dials o.dial is_barren b.counts small (o.comes).2);
+  next = turned ∙ ap (host_after text) b.next ∙ sym (at_push text 0 b.dials o.dial);
   asks = o.zxid_is ∙ ap (λ (z : ℤ). zxid_after z (o.dial).entries) b.asks ∙ sym (zxid_join zxid (entries_of b.dials) (o.dial).entries) ∙ ap (zxid_after zxid) (sym (entries_push b.dials o.dial));
-  none = subst (λ (k : ℕ). EndBarren tells host k (b.dials ++ o.dial ∷ [])) (sym counted) (end_barren tells host barren b.dials o.dial is_barren b.none (o.comes).2);
+  none = subst (λ (k : ℕ). EndBarren tells k (b.dials ++ o.dial ∷ [])) (sym counted) (end_barren tells barren b.dials o.dial is_barren b.none (o.comes).2);
 }
 
 -- the word to stop was set, between two dials
-pub stops_between : {In Out : Type 0} (tells : Telling In Out) (host : List ℕ) (net now : NetTold) (zxid zxid' : ℤ) (before list : Published) (barren n n' : ℕ) → IsBetween tells host net now zxid before list zxid' barren → list.end ≡ None → n' ≡ one_more n
-    → Stops tells host None net now zxid before list n n'
-stops_between tells host net now zxid zxid' before list barren n n' b is_open counted = (is_open, counted, b.dials, b.followed)
+pub stops_between : {In Out : Type 0} (tells : Telling In Out) (text : List ℕ) (at : ℕ) (net now : NetTold) (zxid zxid' : ℤ) (before list : Published) (barren n n' : ℕ) → IsBetween tells text net now zxid before list zxid' barren at → list.end ≡ None → n' ≡ one_more n
+    → Stops tells text None net now zxid before list n n'
+stops_between tells text at net now zxid zxid' before list barren n n' b is_open counted = (is_open, counted, b.dials, b.followed)
 
 -- the word to stop was set while a stream was read
-pub stops_within : {In Out : Type 0} (tells : Telling In Out) (host : List ℕ) (net now net' : NetTold) (zxid zxid' zxid'' : ℤ) (before list after : Published) (barren first n n' : ℕ) → IsBetween tells host net now zxid before list zxid' barren → barren < 10
-    → DialsOnce tells host stream.Stopped now net' list after zxid' zxid'' n n' → after.end ≡ None → n ≡ first → Stops tells host None net net' zxid before after first n'
-stops_within tells host net now net' zxid zxid' zxid'' before list after barren first n n' b small o is_open unset = (
+pub stops_within : {In Out : Type 0} (tells : Telling In Out) (text host : List ℕ) (at : ℕ) (net now net' : NetTold) (zxid zxid' zxid'' : ℤ) (before list after : Published) (barren first n n' : ℕ) → IsBetween tells text net now zxid before list zxid' barren at → barren < 10
+    → host ≡ host_at text at → DialsOnce tells host stream.Stopped now net' list after zxid' zxid'' n n' → after.end ≡ None → n ≡ first → Stops tells text None net net' zxid before after first n'
+stops_within tells text host at net now net' zxid zxid' zxid'' before list after barren first n n' b small is_host o is_open unset = (
   is_open,
   (o.comes).1 ∙ ap one_more unset,
   b.dials ++ o.dial ∷ [],
-  subst (λ (left : List Kv). Followed tells host net net' zxid (b.dials ++ o.dial ∷ []) left before after) (o.comes).0
-      (followed_push tells host stream.Stopped net now net' zxid zxid' zxid'' before list after barren n n' b small o),
+  subst (λ (left : List Kv). Followed tells text net net' zxid (b.dials ++ o.dial ∷ []) left before after) (o.comes).0
+      (followed_push tells text host at stream.Stopped net now net' zxid zxid' zxid'' before list after barren n n' b small is_host o),
 )
 
-gives_up : {In Out : Type 0} (tells : Telling In Out) (host : List ℕ) (end : FeedEnd) (list : Published) (ds : List Dial) (d : Dial) (left : List Kv) → Explains end list d.said left → GivesUp tells host end list (ds ++ d ∷ []) left
-gives_up tells host (ends.Compacted rev) list ds d left why = (ds, d, refl, why)
-gives_up tells host (ends.Gap expected found) list ds d left why = (ds, d, refl, why)
-gives_up tells host (ends.Damaged key value) list ds d left why = (ds, d, refl, why)
-gives_up tells host ends.NoLine list ds d left why = absurd why.4
-gives_up tells host ends.Memory list ds d left why = (ds, d, refl, why)
+gives_up : {In Out : Type 0} (tells : Telling In Out) (end : FeedEnd) (list : Published) (ds : List Dial) (d : Dial) (left : List Kv) → Explains end list d.said left → GivesUp tells end list (ds ++ d ∷ []) left
+gives_up tells (ends.Compacted rev) list ds d left why = (ds, d, refl, why)
+gives_up tells (ends.Gap expected found) list ds d left why = (ds, d, refl, why)
+gives_up tells (ends.Damaged key value) list ds d left why = (ds, d, refl, why)
+gives_up tells ends.NoLine list ds d left why = absurd why.4
+gives_up tells ends.Memory list ds d left why = (ds, d, refl, why)
 
 -- the updates cannot be followed any further
-pub closes : {In Out : Type 0} (tells : Telling In Out) (host : List ℕ) (end : FeedEnd) (net now net' : NetTold) (zxid zxid' zxid'' : ℤ) (before list after : Published) (barren first n n' : ℕ) → IsBetween tells host net now zxid before list zxid' barren → barren < 10
-    → DialsOnce tells host (stream.Closes end) now net' list after zxid' zxid'' n n' → after.end ≡ None → n ≡ first → Stops tells host (Some end) net net' zxid before after first n'
-closes tells host end net now net' zxid zxid' zxid'' before list after barren first n n' b small o is_open unset = (
+pub closes : {In Out : Type 0} (tells : Telling In Out) (text host : List ℕ) (at : ℕ) (end : FeedEnd) (net now net' : NetTold) (zxid zxid' zxid'' : ℤ) (before list after : Published) (barren first n n' : ℕ) → IsBetween tells text net now zxid before list zxid' barren at → barren < 10
+    → host ≡ host_at text at → DialsOnce tells host (stream.Closes end) now net' list after zxid' zxid'' n n' → after.end ≡ None → n ≡ first → Stops tells text (Some end) net net' zxid before after first n'
+closes tells text host at end net now net' zxid zxid' zxid'' before list after barren first n n' b small is_host o is_open unset = (
   is_open,
   (o.comes).2 ∙ unset,
   (o.comes).0,
   b.dials ++ o.dial ∷ [],
   o.left,
-  followed_push tells host (stream.Closes end) net now net' zxid zxid' zxid'' before list after barren n n' b small o,
-  gives_up tells host end after b.dials o.dial o.left (o.comes).1,
+  followed_push tells text host at (stream.Closes end) net now net' zxid zxid' zxid'' before list after barren n n' b small is_host o,
+  gives_up tells end after b.dials o.dial o.left (o.comes).1,
 )
 
 -- ten dials in a row gave no line
-pub no_line : {In Out : Type 0} (tells : Telling In Out) (host : List ℕ) (net now : NetTold) (zxid zxid' : ℤ) (before list : Published) (barren first n : ℕ) → IsBetween tells host net now zxid before list zxid' barren → barren ≡ 10 → list.end ≡ None → n ≡ first
-    → Stops tells host (Some ends.NoLine) net now zxid before list first n
-no_line tells host net now zxid zxid' before list barren first n b ten is_open unset =
-    (is_open, unset, proper_no_line, b.dials, [], b.followed, (refl, subst (λ (k : ℕ). EndBarren tells host k b.dials) ten b.none))
+pub no_line : {In Out : Type 0} (tells : Telling In Out) (text : List ℕ) (at : ℕ) (net now : NetTold) (zxid zxid' : ℤ) (before list : Published) (barren first n : ℕ) → IsBetween tells text net now zxid before list zxid' barren at → barren ≡ 10 → list.end ≡ None → n ≡ first
+    → Stops tells text (Some ends.NoLine) net now zxid before list first n
+no_line tells text at net now zxid zxid' before list barren first n b ten is_open unset =
+    (is_open, unset, proper_no_line, b.dials, [], b.followed, (refl, subst (λ (k : ℕ). EndBarren tells k b.dials) ten b.none))
 
 pub barren_small : (is_barren : Bool) (n : ℕ) → n < 10 → barren_after is_barren n ≤ 10
 barren_small true n small = omega (arith, small)
@@ -244,7 +255,7 @@ pub ten_barren : (n : ℕ) → n ≤ 10 → 10 ≤ n → n ≡ 10
 ten_barren n most least = omega (arith, most, least)
 
 -- the list is closed for the end
-pub follows_closed : {In Out : Type 0} (tells : Telling In Out) (host : List ℕ) (end end' : FeedEnd) (net net' : NetTold) (zxid : ℤ) (before between after : Published) (n n' : ℕ) → Stops tells host (Some end) net net' zxid before between n n' → end' ≡ end → after ≡ with_end between end
-    → Follows tells host (Some end') net net' zxid before after n n'
-follows_closed tells host end end' net net' zxid before between after n n' stops same closed =
-    subst (λ (e : FeedEnd). Follows tells host (Some e) net net' zxid before after n n') (sym same) (between, stops, closed)
+pub follows_closed : {In Out : Type 0} (tells : Telling In Out) (text : List ℕ) (end end' : FeedEnd) (net net' : NetTold) (zxid : ℤ) (before between after : Published) (n n' : ℕ) → Stops tells text (Some end) net net' zxid before between n n' → end' ≡ end → after ≡ with_end between end
+    → Follows tells text (Some end') net net' zxid before after n n'
+follows_closed tells text end end' net net' zxid before between after n n' stops same closed =
+    subst (λ (e : FeedEnd). Follows tells text (Some e) net net' zxid before after n n') (sym same) (between, stops, closed)

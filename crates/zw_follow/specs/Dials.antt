@@ -1,5 +1,6 @@
 -- What a worker that follows the head comes to, over all the streams that it dials.
-use Rattle.std.specs.Prelude.{◌≡◌, ◌⊎◌, ℕ, ◌+◌, ◌<◌, ℤ, pos, ◌+ℤ◌, Bool, true, false, List, [], ◌∷◌, ◌++◌, length, codes, Option, Some, None, Result, Ok, Err}
+use Rattle.std.specs.Prelude.{◌≡◌, ◌⊎◌, ℕ, ◌+◌, ◌<◌, ℤ, pos, ◌+ℤ◌, Bool, true, false, List, [], ◌∷◌, ◌++◌, length, codes, slice_get, Option, Some, None, unwrap_or, Result, Ok, Err}
+use Rattle.ev_addresses.specs.Lists.{addresses_in, local, next_of}
 use Rattle.ev_types.specs.declared.answer.Kv.{Kv}
 use Rattle.ev_types.specs.declared.route.Route.TheVariants as route
 use Rattle.ev_json.specs.Messages.{watch_text}
@@ -67,9 +68,10 @@ pub record OpensNone {In Out : Type 0} (tells : Telling In Out) (why : HttpFault
   pub source : In
   pub answers : Answers tells (Err why) host zxid net net' source
 
--- One dial: what the net told before and after it, the zxid after whose revision it asks, the lines that its stream gave, and the
--- entries that were published of them.
+-- One dial: the address that was dialled, what the net told before and after it, the zxid after whose revision it asks, the lines that
+-- its stream gave, and the entries that were published of them.
 pub record Dial : Type 0 where
+  pub host : List ℕ
   pub before : NetTold
   pub after : NetTold
   pub zxid : ℤ
@@ -110,10 +112,23 @@ abbrev pub entries_of : List Dial → List Entry
 entries_of [] = []
 entries_of (d ∷ ds) = d.entries ++ entries_of ds
 
--- Dials in a row, each of which asks from behind the last entry that was published before it.
-abbrev pub AreDials : {In Out : Type 0} → Telling In Out → List ℕ → NetTold → ℤ → List Dial → NetTold → Type 0
-AreDials tells host net zxid [] net' = net' ≡ net
-AreDials tells host net zxid (d ∷ ds) net' = (d.before ≡ net) × (d.zxid ≡ zxid) × IsDial tells host d × AreDials tells host d.after (zxid_after zxid d.entries) ds net'
+-- the address with this number among those of a text, and the number of the next one
+abbrev pub host_at : List ℕ → ℕ → List ℕ
+host_at text at = unwrap_or (slice_get (addresses_in text) at) local
+
+abbrev pub host_after : List ℕ → ℕ → ℕ
+host_after text at = next_of (length (addresses_in text)) at
+
+-- the number of the address that is next after these dials
+abbrev pub at_after : List ℕ → ℕ → List Dial → ℕ
+at_after text at [] = at
+at_after text at (d ∷ ds) = at_after text (host_after text at) ds
+
+-- Dials in a row, of the addresses of a text in turn, each of which asks from behind the last entry that was published before it.
+abbrev pub AreDials : {In Out : Type 0} → Telling In Out → List ℕ → ℕ → NetTold → ℤ → List Dial → NetTold → Type 0
+AreDials tells text at net zxid [] net' = net' ≡ net
+AreDials tells text at net zxid (d ∷ ds) net' =
+    (d.before ≡ net) × (d.zxid ≡ zxid) × (d.host ≡ host_at text at) × IsDial tells d.host d × AreDials tells text (host_after text at) d.after (zxid_after zxid d.entries) ds net'
 
 -- how many dials in a row gave no line, with one more: one that gave a line starts the count anew
 abbrev pub barren_after : Bool → ℕ → ℕ
@@ -122,49 +137,49 @@ barren_after false n = 0
 
 -- Only a dial that is over is followed by another, and none follows on ten in a row that gave no line. So many in a row gave none before
 -- these.
-abbrev pub AreFewEnough : {In Out : Type 0} → Telling In Out → List ℕ → ℕ → List Dial → Type 0
-AreFewEnough tells host n [] = Unit {0}
-AreFewEnough tells host n (d ∷ []) = n < 10
-AreFewEnough tells host n (d ∷ next ∷ ds) = (n < 10) × (barren : Bool) × IsOverDial tells host d barren × AreFewEnough tells host (barren_after barren n) (next ∷ ds)
+abbrev pub AreFewEnough : {In Out : Type 0} → Telling In Out → ℕ → List Dial → Type 0
+AreFewEnough tells n [] = Unit {0}
+AreFewEnough tells n (d ∷ []) = n < 10
+AreFewEnough tells n (d ∷ next ∷ ds) = (n < 10) × (barren : Bool) × IsOverDial tells d.host d barren × AreFewEnough tells (barren_after barren n) (next ∷ ds)
 
 -- each of them counts as one that gave no line
-abbrev pub AreBarren : {In Out : Type 0} → Telling In Out → List ℕ → List Dial → Type 0
-AreBarren tells host [] = Unit {0}
-AreBarren tells host (d ∷ ds) = IsOverDial tells host d true × AreBarren tells host ds
+abbrev pub AreBarren : {In Out : Type 0} → Telling In Out → List Dial → Type 0
+AreBarren tells [] = Unit {0}
+AreBarren tells (d ∷ ds) = IsOverDial tells d.host d true × AreBarren tells ds
 
 -- the last n of them do
-pub record EndBarren {In Out : Type 0} (tells : Telling In Out) (host : List ℕ) (n : ℕ) (ds : List Dial) : Type 0 where
+pub record EndBarren {In Out : Type 0} (tells : Telling In Out) (n : ℕ) (ds : List Dial) : Type 0 where
   pub earlier : List Dial
   pub last : List Dial
   pub split : ds ≡ earlier ++ last
   pub count : length last ≡ n
-  pub barren : AreBarren tells host last
+  pub barren : AreBarren tells last
 
 -- ---- the whole
 
 -- These dials were made, one after the other, and the list grew by the entries of the lines that they gave, each once and in order; these
 -- heads are left.
-pub record Followed {In Out : Type 0} (tells : Telling In Out) (host : List ℕ) (net net' : NetTold) (zxid : ℤ) (ds : List Dial) (left : List Kv) (before after : Published) : Type 0 where
-  pub dials : AreDials tells host net zxid ds net'
-  pub few : AreFewEnough tells host 0 ds
+pub record Followed {In Out : Type 0} (tells : Telling In Out) (text : List ℕ) (net net' : NetTold) (zxid : ℤ) (ds : List Dial) (left : List Kv) (before after : Published) : Type 0 where
+  pub dials : AreDials tells text 0 net zxid ds net'
+  pub few : AreFewEnough tells 0 ds
   pub publishes : Publishes (heads_of (said_of ds)) (entries_of ds) left before after
 
 -- why the updates cannot be followed any further: the last ten dials in a row gave no line; or the last line of the last dial shows it
-abbrev pub GivesUp : {In Out : Type 0} → Telling In Out → List ℕ → FeedEnd → Published → List Dial → List Kv → Type 0
-GivesUp tells host ends.NoLine list ds left = (left ≡ []) × EndBarren tells host 10 ds
-GivesUp tells host end list ds left = (earlier : List Dial) × (d : Dial) × (ds ≡ earlier ++ d ∷ []) × Explains end list d.said left
+abbrev pub GivesUp : {In Out : Type 0} → Telling In Out → FeedEnd → Published → List Dial → List Kv → Type 0
+GivesUp tells ends.NoLine list ds left = (left ≡ []) × EndBarren tells 10 ds
+GivesUp tells end list ds left = (earlier : List Dial) × (d : Dial) × (ds ≡ earlier ++ d ∷ []) × Explains end list d.said left
 
 -- What all streams come to, by the readings that found the word to stop set, before and after; the list is open.
 abbrev pub Stops : {In Out : Type 0} → Telling In Out → List ℕ → Option FeedEnd → NetTold → NetTold → ℤ → Published → Published → ℕ → ℕ → Type 0
-Stops tells host None net net' zxid before after n n' = (after.end ≡ None) × (n' ≡ one_more n) × (ds : List Dial) × Followed tells host net net' zxid ds [] before after
-Stops tells host (Some end) net net' zxid before after n n' =
-    (after.end ≡ None) × (n' ≡ n) × IsProper end × (ds : List Dial) × (left : List Kv) × Followed tells host net net' zxid ds left before after × GivesUp tells host end after ds left
+Stops tells text None net net' zxid before after n n' = (after.end ≡ None) × (n' ≡ one_more n) × (ds : List Dial) × Followed tells text net net' zxid ds [] before after
+Stops tells text (Some end) net net' zxid before after n n' =
+    (after.end ≡ None) × (n' ≡ n) × IsProper end × (ds : List Dial) × (left : List Kv) × Followed tells text net net' zxid ds left before after × GivesUp tells end after ds left
 
 -- What a worker that follows the head comes to: it was told to stop, and the list is open; or the list is closed for the end that it
 -- gives.
 abbrev pub Follows : {In Out : Type 0} → Telling In Out → List ℕ → Option FeedEnd → NetTold → NetTold → ℤ → Published → Published → ℕ → ℕ → Type 0
-Follows tells host None net net' zxid before after n n' = Stops tells host None net net' zxid before after n n'
-Follows tells host (Some end) net net' zxid before after n n' = (between : Published) × Stops tells host (Some end) net net' zxid before between n n' × (after ≡ with_end between end)
+Follows tells text None net net' zxid before after n n' = Stops tells text None net net' zxid before after n n'
+Follows tells text (Some end) net net' zxid before after n n' = (between : Published) × Stops tells text (Some end) net net' zxid before between n n' × (after ≡ with_end between end)
 
 -- ---- for clauses of private functions
 
@@ -186,22 +201,24 @@ pub record DialsOnce {In Out : Type 0} (tells : Telling In Out) (host : List ℕ
   pub starts : dial.before ≡ net
   pub stops : dial.after ≡ net'
   pub asks : dial.zxid ≡ zxid
-  pub is : IsDial tells host dial
+  pub names : dial.host ≡ host
+  pub is : IsDial tells dial.host dial
   pub left : List Kv
   pub publishes : Publishes (heads_of dial.said) dial.entries left before after
   pub zxid_is : zxid' ≡ zxid_after zxid dial.entries
-  pub comes : Comes tells host end dial left after n n'
+  pub comes : Comes tells dial.host end dial left after n n'
 
 -- All of them are over, each was made where fewer than ten in a row had given no line, and so many in a row gave none before these, and
 -- with these.
-abbrev pub CountsTo : {In Out : Type 0} → Telling In Out → List ℕ → ℕ → List Dial → ℕ → Type 0
-CountsTo tells host n [] n' = n' ≡ n
-CountsTo tells host n (d ∷ ds) n' = (n < 10) × (barren : Bool) × IsOverDial tells host d barren × CountsTo tells host (barren_after barren n) ds n'
+abbrev pub CountsTo : {In Out : Type 0} → Telling In Out → ℕ → List Dial → ℕ → Type 0
+CountsTo tells n [] n' = n' ≡ n
+CountsTo tells n (d ∷ ds) n' = (n < 10) × (barren : Bool) × IsOverDial tells d.host d barren × CountsTo tells (barren_after barren n) ds n'
 
--- some dials were made, and are over
-pub record IsBetween {In Out : Type 0} (tells : Telling In Out) (host : List ℕ) (net now : NetTold) (zxid : ℤ) (before list : Published) (zxid' : ℤ) (barren : ℕ) : Type 0 where
+-- some dials were made, and are over, and the address with this number is next
+pub record IsBetween {In Out : Type 0} (tells : Telling In Out) (text : List ℕ) (net now : NetTold) (zxid : ℤ) (before list : Published) (zxid' : ℤ) (barren at : ℕ) : Type 0 where
   pub dials : List Dial
-  pub followed : Followed tells host net now zxid dials [] before list
-  pub counts : CountsTo tells host 0 dials barren
+  pub followed : Followed tells text net now zxid dials [] before list
+  pub counts : CountsTo tells 0 dials barren
+  pub next : at ≡ at_after text 0 dials
   pub asks : zxid' ≡ zxid_after zxid (entries_of dials)
-  pub none : EndBarren tells host barren dials
+  pub none : EndBarren tells barren dials

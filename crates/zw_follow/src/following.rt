@@ -10,6 +10,7 @@ ghost use Rattle.zw_follow.specs.Streams.{GoesOn};
 use crate::place::Place;
 use crate::rings::{NoBells, Rings};
 use crate::stream::{StreamEnd, open, read_stream};
+use ev_addresses::{address_at, next_of};
 use ev_words::{Fault, tell};
 use std::alloc::Global;
 use std::sync::Wait;
@@ -22,8 +23,9 @@ use zx_words::StopWord;
 const MAX_BARREN: u32 = 10;
 
 /// Follows the head from behind this revision on, at which the last update has this number, and publishes an entry for each later one
-/// (etcd API reference, "Watch"). `endpoint` is `HOST:PORT` of a JSON gateway. Both numbers are from 0 to 2^62 - 1; `number` is that
-/// of the hub's last entry, and the hub is open.
+/// (etcd API reference, "Watch"). `endpoint` names JSON gateways: the first five addresses in it that are not empty, with commas between
+/// them, each `HOST:PORT`; `localhost` where there is none. They are dialled in turn, one more for each stream that is over. Both numbers
+/// are from 0 to 2^62 - 1; `number` is that of the hub's last entry, and the hub is open.
 ///
 /// `None`: the word to stop was found set, and the hub is open. Otherwise the hub is closed for the end that is given:
 ///
@@ -136,7 +138,7 @@ fn barren_after(is_barren: bool, barren: u32) -> u32
     if is_barren { barren + 1 } else { 0 }
 }
 
-/// Follows one stream after the other.
+/// Follows one stream after the other, at one endpoint after the other.
 fn follow_streams<R: Wait + Eprint, H: Wait + Drop, N: Net, Q: StopWord, B: Rings>(
     rt: &R,
     alloc: Global,
@@ -156,16 +158,19 @@ fn follow_streams<R: Wait + Eprint, H: Wait + Drop, N: Net, Q: StopWord, B: Ring
         place.old.revision hub.old.list hub.new.list (Q.set_readings stop.old) (Q.set_readings stop.new) }
 {
     let mut barren = 0;
+    let mut at = 0;
     'streams: for _ in rt.forever() {
         if is_enough(barren) {
             return Some(FeedEnd::NoLine);
         }
-        match follow_stream(rt, alloc, net, endpoint, place, hub, stop, bells) {
+        let address = address_at(endpoint, at);
+        match follow_stream(rt, alloc, net, address, place, hub, stop, bells) {
             StreamEnd::Stopped => return None,
             StreamEnd::Closes(end) => return Some(end),
             StreamEnd::Over { fault, is_barren } => {
-                tell(rt, "watch of", endpoint, fault);
+                tell(rt, "watch of", address, fault);
                 barren = barren_after(is_barren, barren);
+                at = next_of(endpoint, at);
             }
         }
         if stop.is_set() {

@@ -1,9 +1,9 @@
 //! Follows the head of a cluster, and publishes an entry for each update at a hub.
 //!
 //! [`follow`] dials etcd's JSON gateway and asks for a watch of the head, from a known revision on. It takes the stream's lines, one
-//! after the other, and publishes their entries ([`zw_feed`] says which these are). Where the stream is over it dials again, from
-//! behind the last entry. So each update is published once, in order, over however many streams. [`follow_and_ring`] rings besides,
-//! after each line, for those who wait for entries.
+//! after the other, and publishes their entries ([`zw_feed`] says which these are). Where the stream is over it dials the next address,
+//! and asks from behind the last entry. So each update is published once, in order, over however many streams. [`follow_and_ring`]
+//! rings besides, after each line, for those who wait for entries.
 //!
 //! # The end
 //!

@@ -6,10 +6,10 @@ pub returns-in-Err : goal.returns-in-Err
 returns-in-Err g c = inl refl
 
 pub returns-in-Err-bind : goal.returns-in-Err-bind
-returns-in-Err-bind g c = unbound _ _ _ _ c.in-Err-bind.ensures.counts refl refl
+returns-in-Err-bind g c = unbound _ _ _ _ _ c.in-Err-bind.ensures.counts refl refl
 
 pub returns-then-not-write_all : goal.returns-then-not-write_all
-returns-then-not-write_all g c = unlisted _ _ _ _ _ (c.as_slice.ensures.value ∙ c.in-Ok.ensures) c.in-Ok-bind.ensures.counts refl (rw c.if-not-write_all.true at c.write_all.ensures)
+returns-then-not-write_all g c = unlisted _ _ _ _ _ _ (c.as_slice.ensures.value ∙ c.in-Ok.ensures) c.in-Ok-bind.ensures.counts refl (rw c.if-not-write_all.true at c.write_all.ensures)
 
 pub returns : goal.returns
-returns g c = listened c.serve_at.result _ _ _ _ _ _ c.serve_at.ensures (c.as_slice.ensures.value ∙ c.in-Ok.ensures) c.in-Ok-bind.ensures.counts refl (rw c.if-not-write_all.false at c.write_all.ensures)
+returns g c = listened _ c.serve_at.result _ _ _ _ _ _ c.serve_at.ensures (c.as_slice.ensures.value ∙ c.in-Ok.ensures) c.in-Ok-bind.ensures.counts refl (rw c.if-not-write_all.false at c.write_all.ensures)

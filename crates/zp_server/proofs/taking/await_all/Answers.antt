@@ -5,7 +5,7 @@ pub returns-in-Ok : goal.returns-in-Ok
 returns-in-Ok g c = rw c.in-Ok.ensures.idle at c.in-Ok.ensures.goes
 
 pub returns-in-Err-Feed : goal.returns-in-Err-Feed
-returns-in-Err-Feed g c = λ net. rest_later _ c.await_rest.result _ _ _ _ _ _ ((rw c.in-Err-Feed.field-0-is at c.in-Err-Feed.ensures.goes) net) (c.await_rest.ensures net)
+returns-in-Err-Feed g c = λ size net. rest_later _ _ c.await_rest.result _ _ _ _ _ _ ((rw c.in-Err-Feed.field-0-is at c.in-Err-Feed.ensures.goes) size net) (c.await_rest.ensures size net)
 
 pub returns-in-Err-Net : goal.returns-in-Err-Net
 returns-in-Err-Net g c = rw c.in-Err-Net.field-0-is at c.in-Err-Net.ensures.goes

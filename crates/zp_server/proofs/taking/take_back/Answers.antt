@@ -3,16 +3,16 @@ use Rattle.zp_server.proofs.Halting.{not_open, taken_closed, unbooked_closed, un
 use Rattle.zp_server.proofs.taking.take_back.Goals as goal
 
 pub returns-then-not-strike-clause-goes : goal.returns-then-not-strike-clause-goes
-returns-then-not-strike-clause-goes g c = λ net. not_open _ [] net _ _
+returns-then-not-strike-clause-goes g c = λ size net. not_open _ _ [] net _ _
 
 pub returns-in-Err-clause-goes : goal.returns-in-Err-clause-goes
-returns-in-Err-clause-goes g c = λ net. unclosed c.in-Err.stop _ _ _ _ net _ _ _ (rw c.if-not-strike.false at c.strike.ensures) c.in-Err.ensures
+returns-in-Err-clause-goes g c = λ size net. unclosed _ c.in-Err.stop _ _ _ _ net _ _ _ (rw c.if-not-strike.false at c.strike.ensures) c.in-Err.ensures
 
 pub returns-in-Err-take-clause-goes : goal.returns-in-Err-take-clause-goes
-returns-in-Err-take-clause-goes g c = λ net. unbooked_closed _ _ _ _ net _ _ _ _ (rw c.if-not-strike.false at c.strike.ensures) c.in-Ok.ensures c.in-Err-take.ensures.err
+returns-in-Err-take-clause-goes g c = λ size net. unbooked_closed _ _ _ _ _ net _ _ _ _ (rw c.if-not-strike.false at c.strike.ensures) c.in-Ok.ensures c.in-Err-take.ensures.err
 
 pub returns-in-Ok-push-clause-goes : goal.returns-in-Ok-push-clause-goes
-returns-in-Ok-push-clause-goes g c = λ net. taken_closed c.closing_of-closing.result _ _ _ _ _ _ net _ _ _ _ c.closing_of-closing.ensures (rw c.if-not-strike.false at c.strike.ensures) c.in-Ok.ensures c.in-Ok-take.ensures.ok
+returns-in-Ok-push-clause-goes g c = λ size net. taken_closed _ c.closing_of-closing.result _ _ _ _ _ _ net _ _ _ _ c.closing_of-closing.ensures (rw c.if-not-strike.false at c.strike.ensures) c.in-Ok.ensures c.in-Ok-take.ensures.ok
 
 pub returns-in-Err-push-clause-goes : goal.returns-in-Err-push-clause-goes
-returns-in-Err-push-clause-goes g c = λ net. unkept_closed _ _ _ _ net _ _ _ _ (rw c.if-not-strike.false at c.strike.ensures) c.in-Ok.ensures c.in-Ok-take.ensures.ok
+returns-in-Err-push-clause-goes g c = λ size net. unkept_closed _ _ _ _ _ net _ _ _ _ (rw c.if-not-strike.false at c.strike.ensures) c.in-Ok.ensures c.in-Ok-take.ensures.ok

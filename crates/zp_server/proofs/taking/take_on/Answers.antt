@@ -4,10 +4,10 @@ use Rattle.zp_server.proofs.Halting.{met_found}
 use Rattle.zp_server.proofs.taking.take_on.Goals as goal
 
 pub returns-in-Ok : goal.returns-in-Ok
-returns-in-Ok g c = λ net. logs_met false _ _ _ _ _ _ (c.in-Ok.ensures.goes net)
+returns-in-Ok g c = λ size net. logs_met _ false _ _ _ _ _ _ (c.in-Ok.ensures.goes size net)
 
 pub returns-in-Err-Feed : goal.returns-in-Err-Feed
-returns-in-Err-Feed g c = λ net. met_found _ _ _ _ _ ((rw c.in-Err-Feed.field-0-is at c.in-Err-Feed.ensures.goes) net)
+returns-in-Err-Feed g c = λ size net. met_found _ _ _ _ _ _ ((rw c.in-Err-Feed.field-0-is at c.in-Err-Feed.ensures.goes) size net)
 
 pub returns-in-Err-Net : goal.returns-in-Err-Net
 returns-in-Err-Net g c = rw c.in-Err-Net.field-0-is at c.in-Err-Net.ensures.goes
