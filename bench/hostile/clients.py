@@ -111,14 +111,34 @@ def a_client_that_lags(program, work):
         return it.told(f"4,336 updates in {took:.0f} s", cause)
 
 
+def clients_that_connect_a_byte_a_second(program, work):
+    """32 send a connect, a byte a second: after 10 seconds they are let go. 32 more send 31 bytes of one, and nothing else."""
+    with staged(program, work) as it:
+        streams, since = [dial(it.port) for _ in range(64)], time.time()
+        for stream in streams[32:]:
+            stream.sendall(connect()[:31])
+        for byte in connect()[:9]:
+            for stream in streams[:32]:
+                stream.sendall(bytes([byte]))
+            time.sleep(1)
+        assert all(is_cut(stream, 15) for stream in streams)
+        took = time.time() - since
+        assert 9 < took < 25, took
+        causes = it.causes(range(2, 66))
+        assert causes == ["read"] * 64, causes
+        it.bounds(64 * 1 + 10, 30)
+        return it.told(f"64 let go after {took:.0f} s")
+
+
 def clients_that_send_a_byte_a_second(program, work):
-    """32 send a connect, and then a ping, a byte a second, and are answered. When they stop, they are let go after 60 seconds."""
+    """32 send 40 bytes of a connect at once, and then the others and a ping, a byte a second, and are answered. When they stop, they are
+    let go after 60 seconds."""
     with staged(program, work) as it:
         bytes_of = connect(40_000) + request(-2, PING)
         streams = [dial(it.port) for _ in range(32)]
-        for byte in bytes_of:
+        for at in range(39, len(bytes_of)):
             for stream in streams:
-                stream.sendall(bytes([byte]))
+                stream.sendall(bytes_of[at:at + 1] if at > 39 else bytes_of[:40])
             time.sleep(1)
         for stream in streams:
             stream.settimeout(10)
@@ -279,5 +299,6 @@ def updates_with_the_longest_entries(program, work):
         return it.told(f"4,400 updates in {took:.0f} s", f"{held:.0f} MB after them")
 
 
-checks = [clients_that_read_nothing, a_client_that_lags, clients_that_send_a_byte_a_second, frames_of_1_MB_on_all_connections,
+checks = [clients_that_read_nothing, a_client_that_lags, clients_that_connect_a_byte_a_second,
+          clients_that_send_a_byte_a_second, frames_of_1_MB_on_all_connections,
           frames_that_are_none, requests_that_are_none, nodes_with_many_children, updates_with_the_longest_entries]

@@ -108,7 +108,7 @@ def staged(program, work):
 
 
 def an_etcd_that_is_flooded(program, work):
-    """5,000 connect and close; then 2,000 connect and say nothing, and are let go after 60 seconds."""
+    """5,000 connect and close; then 2,000 connect and say nothing, and are let go after 10 seconds."""
     with staged(program, work) as it:
         def harm(_number):
             for _ in range(312):

@@ -1,2 +1,4 @@
+pub mod Clocks
 pub mod Nets
 pub mod Refilling
+pub mod Silence

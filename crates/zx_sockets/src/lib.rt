@@ -9,9 +9,10 @@
 //! the peer's end the system is not asked again, and each read waits before it answers the end: for the bell, at most a second, or
 //! 10 milliseconds where there is none. A write that takes no byte within 60 seconds is a fault.
 //!
-//! A peer that was accepted and says nothing does not hold its place for good: where 60 seconds passed since its last
-//! byte, a turn in which the system has none is a fault instead. A stream that was dialled has no such limit. The system
-//! asks its peer's system for a sign of life after each minute without a byte (TCP's keepalive), and the stream is broken
+//! A peer that was accepted and says nothing does not hold its place for good. It has 10 seconds to send 32 bytes, as many
+//! as the least connect of a ZooKeeper client has: from then on a turn is a fault as long as fewer came. Once they came, a turn
+//! in which the system has no byte is a fault where 60 seconds passed since the last one. A stream that was dialled has no
+//! such limits. The system asks its peer's system for a sign of life after each minute without a byte (TCP's keepalive), and the stream is broken
 //! where six such asks, each 10 seconds after the last, got no answer.
 //!
 //! # Bells
@@ -44,6 +45,7 @@ mod bell;
 mod clock;
 mod keeping;
 mod net;
+mod patience;
 mod pauses;
 mod sink;
 mod source;

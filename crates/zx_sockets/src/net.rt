@@ -4,9 +4,10 @@ ghost use Rattle.std.specs.Prelude.{◌≡◌, false, IfSome};
 ghost use Rattle.zx_sockets.specs.Nets.{is_passing};
 
 use crate::keeping::keep_watch;
+use crate::patience::Patience;
 use crate::pauses::Pauses;
 use crate::sink::SocketSink;
-use crate::source::{Patience, SocketSource};
+use crate::source::SocketSource;
 use std::alloc::Global;
 use std::net::{Net as SystemNet, TcpListener, TcpStream, ToSocketAddrs};
 use std::sync::Arc;
@@ -20,7 +21,10 @@ const READ_WAIT: u64 = 10;
 /// How long a write waits until a byte was taken, in milliseconds.
 const WRITE_WAIT: u64 = 60_000;
 
-/// How long a peer that was accepted may say nothing, in milliseconds.
+/// How long the first bytes of a peer that was accepted may take, as many as a connect has at least, in milliseconds.
+const CONNECT_WAIT: u64 = 10_000;
+
+/// How long such a peer may say nothing from then on, in milliseconds.
 const LONGEST_SILENCE: u64 = 60_000;
 
 /// How long an address is dialled, in milliseconds.
@@ -126,7 +130,11 @@ fn next_ends<R: SystemClock + Copy>(
     for _ in 0..u64::MAX {
         match door.listener.accept() {
             Ok((stream, _)) => {
-                let patience = Patience::new(&rt, Duration::from_millis(LONGEST_SILENCE));
+                let patience = Patience::new(
+                    &rt,
+                    Duration::from_millis(CONNECT_WAIT),
+                    Duration::from_millis(LONGEST_SILENCE),
+                );
                 if let Some(ends) = ends_of(rt, alloc, stream, name, patience) {
                     return Some(ends);
                 }

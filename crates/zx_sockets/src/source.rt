@@ -4,13 +4,15 @@ ghost use Rattle.std.specs.Prelude.{◌≡◌, ◌≤◌, ◌<◌, true, false, 
 ghost use Rattle.zx_outside.specs.Adapters.{is_idle, got_of};
 ghost use Rattle.zx_outside.specs.Reading.{EndsForGood, counts_after_read};
 ghost use Rattle.zx_sockets.specs.Refilling.{Refilled};
+ghost use Rattle.zx_sockets.specs.Silence.{IsPatience, IsPatienceOf};
 
 use crate::bell::{Ear, SocketBell};
+use crate::patience::Patience;
 use std::alloc::{AllocError, Global};
 use std::io::{ErrorKind, Read};
 use std::net::{Net as SystemNet, Shutdown, TcpStream};
 use std::sync::Arc;
-use std::time::{Clock as SystemClock, Duration, Instant};
+use std::time::{Clock as SystemClock, Duration};
 use std::{io, thread};
 use zx_net::Wakes;
 use zx_outside::{Got, Source};
@@ -40,7 +42,7 @@ pub struct SocketSource<R> {
     name: u64,
     /// How many reads of the system in a row gave bytes, at most 2^32 - 1.
     row: u32,
-    /// How long the peer may say nothing, and since when it does; `None`: for ever.
+    /// How long the peer may say nothing; `None`: for ever.
     patience: Option<Patience>,
     ear: Option<Ear>,
     ghost kept: { at ≤ end },
@@ -48,36 +50,34 @@ pub struct SocketSource<R> {
     ghost over: { ended ≡ true → at ≡ end },
 }
 
-/// How long a peer may say nothing.
-#[derive(Clone, Copy, Drop)]
-pub struct Patience {
-    limit: Duration,
-    since: Instant,
-}
-
-impl Patience {
-    /// From now on; `None` where the system tells no time.
-    pub fn new<R: SystemClock>(rt: &R, limit: Duration) -> Option<Patience> {
-        let since = Instant::now(rt).ok()?;
-        Some(Patience { limit, since })
-    }
-}
-
 /// Whether the peer has said nothing for too long.
 fn is_over<R: SystemClock>(rt: &R, patience: &Option<Patience>) -> bool {
-    let Some(patience) = patience else {
-        return false;
-    };
-    match patience.since.elapsed(rt) {
-        Ok(silence) => silence >= patience.limit,
-        Err(_) => false,
+    match patience {
+        None => false,
+        Some(patience) => patience.is_over(rt),
     }
 }
 
-/// The patience after a byte came.
-fn renewed<R: SystemClock>(rt: &R, patience: &Option<Patience>) -> Option<Patience> {
-    let patience = patience.as_ref()?;
-    Patience::new(rt, patience.limit)
+/// Whether what has to come first took too long.
+fn is_late<R: SystemClock>(rt: &R, patience: &Option<Patience>) -> bool {
+    match patience {
+        None => false,
+        Some(patience) => patience.is_late(rt),
+    }
+}
+
+/// The patience after so many bytes came.
+fn patience_after<R: SystemClock>(
+    rt: &R,
+    patience: &Option<Patience>,
+    count: usize,
+) -> Option<Patience>
+    ensures { IsPatience count patience.now result }
+{
+    match patience {
+        None => None,
+        Some(patience) => patience.after(rt, count),
+    }
 }
 
 /// Whether an error of this kind says only that no byte came in time.
@@ -159,6 +159,20 @@ impl<R: SystemClock + Copy> SocketSource<R> {
         })
     }
 
+    /// Counts a fault.
+    fn fail(&mut self) -> Got
+        requires empty { self.old.at ≡ self.old.end }
+        requires open { self.old.ended ≡ false }
+        ensures filled { Refilled result self.new.at self.new.end }
+        ensures counts { record { faults = self.new.faults; idles = self.new.idles } ≡ counts_after_read result (record { faults = self.old.faults; idles = self.old.idles }) }
+        ensures end { EndsForGood result self.old.ended self.new.ended }
+        ensures named { self.new.name ≡ self.old.name }
+        ensures patience { IsPatienceOf result self.old.patience self.new.patience }
+    {
+        self.faults = self.faults.saturating_add(1);
+        Got::Failed
+    }
+
     /// Counts an idle turn.
     fn idle_turn(&mut self) -> Got
         requires empty { self.old.at ≡ self.old.end }
@@ -167,6 +181,7 @@ impl<R: SystemClock + Copy> SocketSource<R> {
         ensures counts { record { faults = self.new.faults; idles = self.new.idles } ≡ counts_after_read result (record { faults = self.old.faults; idles = self.old.idles }) }
         ensures end { EndsForGood result self.old.ended self.new.ended }
         ensures named { self.new.name ≡ self.old.name }
+        ensures patience { IsPatienceOf result self.old.patience self.new.patience }
     {
         self.row = 0;
         self.idles = self.idles.saturating_add(1);
@@ -181,10 +196,10 @@ impl<R: SystemClock + Copy> SocketSource<R> {
         ensures counts { record { faults = self.new.faults; idles = self.new.idles } ≡ counts_after_read result (record { faults = self.old.faults; idles = self.old.idles }) }
         ensures end { EndsForGood result self.old.ended self.new.ended }
         ensures named { self.new.name ≡ self.old.name }
+        ensures patience { IsPatienceOf result self.old.patience self.new.patience }
     {
         if is_over(&self.rt, &self.patience) {
-            self.faults = self.faults.saturating_add(1);
-            return Got::Failed;
+            return self.fail();
         }
         self.idle_turn()
     }
@@ -197,6 +212,7 @@ impl<R: SystemClock + Copy> SocketSource<R> {
         ensures counts { record { faults = self.new.faults; idles = self.new.idles } ≡ counts_after_read result (record { faults = self.old.faults; idles = self.old.idles }) }
         ensures end { EndsForGood result self.old.ended self.new.ended }
         ensures named { self.new.name ≡ self.old.name }
+        ensures patience { IsPatienceOf result self.old.patience self.new.patience }
     {
         if self.ended {
             rest(&self.rt, &mut self.ear);
@@ -212,11 +228,15 @@ impl<R: SystemClock + Copy> SocketSource<R> {
         let answer = judge(stream.read(self.room.as_mut_slice()));
         match answer {
             Got::Bytes(count) => {
+                let patience = patience_after(&self.rt, &self.patience, count);
+                if is_late(&self.rt, &patience) {
+                    return self.fail();
+                }
+                self.patience = patience;
                 self.at = 0;
                 self.end = count;
                 self.row = self.row.saturating_add(1);
                 note(&mut self.ear, count < self.room.len());
-                self.patience = renewed(&self.rt, &self.patience);
                 answer
             }
             Got::Nothing => {
@@ -227,10 +247,7 @@ impl<R: SystemClock + Copy> SocketSource<R> {
                 self.ended = true;
                 answer
             }
-            Got::Failed => {
-                self.faults = self.faults.saturating_add(1);
-                answer
-            }
+            Got::Failed => self.fail(),
         }
     }
 }

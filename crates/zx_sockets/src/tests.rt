@@ -1,5 +1,5 @@
 use crate::net::{connect, ends_of, prepare};
-use crate::source::Patience;
+use crate::patience::Patience;
 use crate::{SocketSink, SocketSource, StdClock, StdNet, ThreadSpawner};
 use libc::net as c;
 use std::io::Write;
@@ -8,8 +8,8 @@ use std::os::fd::AsRawFd;
 use std::sync::Arc;
 use std::sync::atomic::{AtomicU64, Ordering};
 use std::test::Fail;
-use std::thread;
-use std::time::{Duration, Instant};
+use std::time::{Clock as SystemClock, Duration, Instant};
+use std::{io, thread};
 use zx_net::{Bell, Clock, InlineSpawner, MemNet, Net, Spawner, Wakes};
 use zx_outside::{Got, Sink, Source, Took};
 
@@ -76,6 +76,17 @@ fn comes_late<S: Source>(source: &mut S) -> bool {
     false
 }
 
+/// What a read answers that gives no byte any more.
+fn drained<S: Source>(source: &mut S) -> Got {
+    for _ in 0..TURNS {
+        match turn(source) {
+            Got::Bytes(_) => {}
+            other => return other,
+        }
+    }
+    Got::Failed
+}
+
 /// What a read answers.
 fn turn<S: Source>(source: &mut S) -> Got {
     let mut one = [0u8; 1];
@@ -88,6 +99,54 @@ fn the_clock_tells_the_time(rt: HostRuntime) {
     let then = clock.now();
     assert!(rt; then > 1_700_000_000_000);
     assert!(rt; clock.another().now() > 1_700_000_000_000);
+}
+
+/// The system's clocks, in milliseconds, as a test sets them.
+#[derive(Drop)]
+struct Hands {
+    wall: AtomicU64,
+    elapsed: AtomicU64,
+}
+
+impl Hands {
+    fn set(&self, wall: u64, elapsed: u64) {
+        self.wall.store(wall, Ordering::SeqCst);
+        self.elapsed.store(elapsed, Ordering::SeqCst);
+    }
+}
+
+impl SystemClock for Hands {
+    fn monotonic(&self) -> io::Result<Duration> {
+        Ok(Duration::from_millis(self.elapsed.load(Ordering::SeqCst)))
+    }
+
+    fn since_1970(&self) -> io::Result<Duration> {
+        Ok(Duration::from_millis(self.wall.load(Ordering::SeqCst)))
+    }
+}
+
+#[test]
+fn a_clock_that_is_set_back_goes_on(rt: HostRuntime) {
+    let hands = Hands {
+        wall: AtomicU64::new(1_000_000),
+        elapsed: AtomicU64::new(50),
+    };
+    let mut clock = StdClock::new(&hands);
+    assert!(rt; clock.now() == 1_000_000);
+    // Set back by 100 seconds, 4 seconds later.
+    hands.set(904_000, 4_050);
+    assert!(rt; clock.now() == 1_003_000);
+    assert!(rt; clock.another().now() == 1_003_000);
+    hands.set(904_000, 4_050);
+    assert!(rt; clock.now() == 1_003_000);
+    // The wall clock catches up after 400 seconds.
+    hands.set(1_299_999, 400_050);
+    assert!(rt; clock.now() == 1_300_000);
+    hands.set(1_300_001, 400_051);
+    assert!(rt; clock.now() == 1_300_001);
+    // Set forward, it is followed at once.
+    hands.set(9_000_000, 400_052);
+    assert!(rt; clock.now() == 9_000_000);
 }
 
 #[test]
@@ -256,7 +315,8 @@ fn silence_is_a_fault_in_the_end(rt: HostRuntime) -> Result<(), Fail> {
     let listener = TcpListener::bind(&rt, "127.0.0.1:0")?;
     let near = TcpStream::connect(&rt, listener.local_addr()?)?;
     let (far, _) = listener.accept()?;
-    let patience = Patience::new(&rt, Duration::from_millis(0));
+    let limit = Duration::from_millis(0);
+    let patience = Patience::new(&rt, limit, limit);
     let Some((mut source, _sink)) = ends_of(rt, rt.alloc(), far, 7, patience) else {
         return Err(Fail::from("ends"));
     };
@@ -266,23 +326,49 @@ fn silence_is_a_fault_in_the_end(rt: HostRuntime) -> Result<(), Fail> {
 }
 
 #[test]
+fn a_peer_has_to_send_as_much_as_a_connect(rt: HostRuntime) -> Result<(), Fail> {
+    let listener = TcpListener::bind(&rt, "127.0.0.1:0")?;
+    let near = TcpStream::connect(&rt, listener.local_addr()?)?;
+    let (far, _) = listener.accept()?;
+    let (first, later) = (Duration::from_millis(0), Duration::from_secs(3600));
+    let patience = Patience::new(&rt, first, later);
+    let Some((mut source, _sink)) = ends_of(rt, rt.alloc(), far, 7, patience) else {
+        return Err(Fail::from("ends"));
+    };
+    // Fewer bytes than the least connect has break no silence.
+    let mut to_far: &TcpStream = &near;
+    assert!(rt; turn(&mut source) == Got::Failed);
+    assert!(rt; to_far.write(&[b'x'; 31])? == 31);
+    assert!(rt; turn(&mut source) == Got::Failed);
+    // As many bytes do, and what counts from then on is the silence after each byte.
+    assert!(rt; to_far.write(&[b'x'; 32])? == 32);
+    assert!(rt; comes_late(&mut source));
+    assert!(rt; drained(&mut source) == Got::Nothing);
+    assert!(rt; to_far.write(b"x")? == 1);
+    assert!(rt; comes_late(&mut source));
+    assert!(rt; turn(&mut source) == Got::Nothing);
+    Ok(())
+}
+
+#[test]
 fn a_byte_breaks_the_silence(rt: HostRuntime) -> Result<(), Fail> {
     let listener = TcpListener::bind(&rt, "127.0.0.1:0")?;
     let near = TcpStream::connect(&rt, listener.local_addr()?)?;
     let (far, _) = listener.accept()?;
     let limit = Duration::from_secs(1);
-    let patience = Patience::new(&rt, limit);
+    let patience = Patience::new(&rt, limit, limit);
     let Some((mut source, _sink)) = ends_of(rt, rt.alloc(), far, 7, patience) else {
         return Err(Fail::from("ends"));
     };
     thread::sleep(&rt, limit);
-    // Each byte comes after a silence that is too long. A machine that is too slow to look within the limit is asked again.
+    // The bytes come after a silence that is too long, as many at once as a connect has. A machine that is too slow to look within the
+    // limit is asked again.
     let mut to_far: &TcpStream = &near;
     for _ in 0..10u32 {
         let since = Instant::now(&rt)?;
-        assert!(rt; to_far.write(b"x")? == 1);
+        assert!(rt; to_far.write(&[b'x'; 32])? == 32);
         assert!(rt; comes_late(&mut source));
-        let answer = turn(&mut source);
+        let answer = drained(&mut source);
         if since.elapsed(&rt)? < limit {
             assert!(rt; answer == Got::Nothing);
             return Ok(());
