@@ -87,13 +87,28 @@ def a_head_that_was_deleted_ends_it(program, work):
             assert any("cannot be understood" in it for it in proxy.faults()), proxy.faults()
 
 
+def time_until_the_end(address, said):
+    """How long a peer is kept that says this and nothing more, in seconds."""
+    with socket.create_connection(address) as silent:
+        silent.sendall(said)
+        since = time.time()
+        silent.settimeout(90)
+        while silent.recv(4096):
+            pass
+        return time.time() - since
+
+
 def a_client_that_says_nothing_is_let_go(program, work):
     with two_proxies(program, work) as (_etcd, proxies):
-        with socket.create_connection(("127.0.0.1", proxies[0].port)) as silent:
-            since = time.time()
-            silent.settimeout(90)
-            assert silent.recv(1) == b"", "it says something"
-            assert 55 < time.time() - since < 75, time.time() - since
+        took = time_until_the_end(("127.0.0.1", proxies[0].port), b"")
+        assert 9 < took < 25, took
+
+
+def a_client_that_falls_silent_is_let_go(program, work):
+    # It has sent as many bytes as a connect has, but not the whole frame: no session lapses before its patience does.
+    with two_proxies(program, work) as (_etcd, proxies):
+        took = time_until_the_end(("127.0.0.1", proxies[0].port), bytes.fromhex("000000ff") + bytes(36))
+        assert 55 < took < 80, took
 
 
 def a_client_of_another_protocol_is_let_go(program, work):
@@ -131,5 +146,5 @@ def the_257th_client_waits(program, work):
 
 checks = [it_ends_after_its_limit, no_etcd_is_a_net_fault, an_address_in_use_is_a_net_fault, a_full_output_is_a_write_fault,
           words_that_are_no_command_have_the_usage, an_etcd_that_stays_away_ends_it, a_foreign_head_ends_it,
-          a_head_that_was_deleted_ends_it, a_client_that_says_nothing_is_let_go, a_client_of_another_protocol_is_let_go,
-          the_257th_client_waits]
+          a_head_that_was_deleted_ends_it, a_client_that_says_nothing_is_let_go, a_client_that_falls_silent_is_let_go,
+          a_client_of_another_protocol_is_let_go, the_257th_client_waits]
