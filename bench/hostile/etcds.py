@@ -402,7 +402,8 @@ def an_etcd_whose_door_is_full(program, work):
 
 
 checks = [answers_that_come_slowly, answers_that_never_come, answers_of_8_MB, answers_that_are_too_long, answers_of_another,
+          an_answer_that_shows_nothing,
           a_watch_with_a_line_of_8_MB_and_a_byte, a_watch_with_a_line_of_garbage_a_second, a_watch_with_a_byte_a_second,
           a_watch_that_falls_silent, a_watch_whose_peer_is_gone, a_watch_that_never_stops, an_etcd_that_says_nothing_at_first,
           an_etcd_whose_door_is_full]
-unmet = [clients_that_leave_a_silent_watch, an_answer_that_shows_nothing]
+unmet = [clients_that_leave_a_silent_watch]

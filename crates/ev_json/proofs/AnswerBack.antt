@@ -1,5 +1,5 @@
 -- Each answer that was written reads back.
-use Rattle.std.proofs.Common.{◌≡◌, ℕ, suc, Bool, true, List, [], ◌∷◌, map, Option, Some, Ok, refl, ap, ◌∙◌}
+use Rattle.std.proofs.Common.{◌≡◌, ℕ, suc, Bool, true, false, List, [], ◌∷◌, map, Option, Some, Ok, refl, ap, ◌∙◌}
 use Rattle.std.specs.Prelude.{ℤ, if◌then◌else◌}
 use Rattle.serde_json.specs.Data.{Data}
 use Rattle.serde_json.specs.View.{items_of}
@@ -10,6 +10,7 @@ use Rattle.ev_types.specs.declared.answer.Answer.{Answer}
 use Rattle.ev_types.specs.declared.answer.Answer.TheVariants as answer
 use Rattle.ev_types.specs.declared.ask.Act.{Act}
 use Rattle.ev_types.specs.declared.ask.Act.TheVariants as act
+use Rattle.ev_types.specs.declared.ask.Guard.{Guard}
 use Rattle.ev_types.specs.declared.ask.TxnReq.{TxnReq}
 use Rattle.ev_types.specs.declared.ask.Ask.{Ask}
 use Rattle.ev_types.specs.declared.ask.Ask.TheVariants as ask
@@ -19,9 +20,9 @@ use Rattle.ev_fields.specs.Names.{snake, camel}
 use Rattle.ev_fields.specs.Members.{none, object_of}
 use Rattle.ev_json.specs.Messages.{header_data, kv_data, found_data, deleted_data, part_data, txn_answer_data, range_answer_data, granted_data, alive_data, answer_data}
 use Rattle.ev_fields.specs.Kinds.{member_of, is_object, without}
-use Rattle.ev_json.specs.Answers.{revision_in, kv_in, found_in, put_done_in, deleted_in, range_part_in, part_in, parts_in, txn_answer_in, range_answer_in, granted_in, kept_in, result_in, kept_alive_in, answer_in}
+use Rattle.ev_json.specs.Answers.{revision_in, kv_in, found_in, put_done_in, deleted_in, range_part_in, part_in, parts_in, held, txn_answer_in, range_answer_in, granted_in, kept_in, result_in, kept_alive_in, answer_in}
 use Rattle.ev_fields.specs.Ranges.{IsCount, IsLease}
-use Rattle.ev_json.specs.Ranges.{KvFits, FoundFits, PartFits, PartsFit, AnswerFits}
+use Rattle.ev_json.specs.Ranges.{KvFits, FoundFits, PartFits, PartsFit, CanCome, AnswerFits}
 use Rattle.ev_fields.proofs.Backs.{in_digits, unless_zero, if_true, if_some, given-piece, number-piece, number_if-piece, true_if-piece, list_if-piece, more, count_in-back, count_in-written, lease_in-written, needed_count-back, flag_in-back, message_in-back, object_of-is_object, items_in-back, list_in-back, plain-digits, plain-flag, plain-list}
 use Rattle.ev_json.proofs.KvBack.{plain-kv, kv_back}
 use Rattle.ev_fields.proofs.Rising.{pieces, one_piece, gathered-pieces, member_one, member_two, Plain, plain-string, plain-object}
@@ -174,15 +175,21 @@ unfolding snake
 plain-txn_answer revision parts succeeded = rw (txn_answer_data-pieces revision parts succeeded)
     (plain-object 126 (txn_answer_pieces revision parts succeeded) refl (plain-header 125 revision, (plain-list 125 part_data (plain-part 121) parts, (plain-flag 126 succeeded, tt))))
 
-txn_answer_back : (t : TxnReq) (revision : ℤ) (parts : List ActAns) (succeeded : Bool) → IsCount revision → PartsFit (if succeeded then t.success else t.failure) parts → txn_answer_in t (txn_answer_data revision parts succeeded) ≡ Ok (answer.Txn revision succeeded parts)
+held_back : (guards : List Guard) (succeeded : Bool) → CanCome guards succeeded → held guards succeeded ≡ Ok succeeded
+unfolding held
+held_back [] true come = refl
+held_back [] false come = absurd cc
+held_back (guard ∷ guards) succeeded come = refl
+
+txn_answer_back : (t : TxnReq) (revision : ℤ) (parts : List ActAns) (succeeded : Bool) → IsCount revision → PartsFit (if succeeded then t.success else t.failure) parts → CanCome t.guards succeeded → txn_answer_in t (txn_answer_data revision parts succeeded) ≡ Ok (answer.Txn revision succeeded parts)
 unfolding txn_answer_in snake camel
-txn_answer_back t revision parts succeeded h k =
+txn_answer_back t revision parts succeeded h k come =
     let ps = txn_answer_pieces revision parts succeeded in
     let d = object_of (pieces ps) in
     let revised = revision_back d revision (member_one _ ps _ refl refl refl) h in
     let flag = flag_in-back field.Succeeded d succeeded (member_one _ ps _ refl refl refl) in
     let responses = items_in-back field.Responses d (map part_data parts) (member_one _ ps _ refl refl refl) in
-    rw (txn_answer_data-pieces revision parts succeeded) (rw (revised, flag, responses, parts_back (if succeeded then t.success else t.failure) parts k) refl)
+    rw (txn_answer_data-pieces revision parts succeeded) (rw (revised, flag, responses, parts_back (if succeeded then t.success else t.failure) parts k, held_back t.guards succeeded come) refl)
 
 abbrev range_answer_pieces : ℤ → RangeAns → List (Field × Option Data)
 range_answer_pieces revision found =
@@ -280,7 +287,7 @@ plain-answer (answer.Alive revision id ttl) = rw (kept_alive_data-pieces revisio
 
 pub answer_back : (asked : Ask) (a : Answer) → AnswerFits asked a → answer_in asked (answer_data a) ≡ Ok a
 unfolding answer_in answer_data
-answer_back (ask.Txn t) (answer.Txn revision succeeded parts) h = txn_answer_back t revision parts succeeded h.0 h.1
+answer_back (ask.Txn t) (answer.Txn revision succeeded parts) h = txn_answer_back t revision parts succeeded h.0 h.1.0 h.1.1
 answer_back (ask.Txn t) (answer.Range revision found) h = absurd h
 answer_back (ask.Txn t) (answer.Granted revision id ttl) h = absurd h
 answer_back (ask.Txn t) (answer.Alive revision id ttl) h = absurd h

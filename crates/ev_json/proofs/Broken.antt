@@ -8,6 +8,7 @@ use Rattle.ev_types.specs.declared.ask.Act.{Act}
 use Rattle.ev_types.specs.declared.ask.Act.TheVariants as act
 use Rattle.ev_types.specs.declared.ask.Ask.{Ask}
 use Rattle.ev_types.specs.declared.ask.Ask.TheVariants as ask
+use Rattle.ev_types.specs.declared.ask.Guard.{Guard}
 use Rattle.ev_types.specs.declared.ask.TxnReq.{TxnReq}
 use Rattle.ev_types.specs.declared.route.Route.{Route}
 use Rattle.ev_types.specs.declared.route.Route.TheVariants as route
@@ -15,8 +16,8 @@ use Rattle.ev_fields.specs.declared.field.Field.{Field}
 use Rattle.ev_fields.specs.declared.field.Field.TheVariants as field
 use Rattle.ev_json.specs.declared.line.Event.{Event}
 use Rattle.ev_json.specs.Asks.{guard_in, range_in, put_in, delete_in, range_act_in, act_in, txn_in, txn_ask_in, range_ask_in, grant_in, alive_in, ask_in, watch_in}
-use Rattle.ev_json.specs.Answers.{revision_in, kv_in, found_in, put_done_in, deleted_in, range_part_in, part_in, parts_in, txn_answer_in, range_answer_in, granted_in, kept_in, result_in, kept_alive_in, answer_in, kind_named, kind_or_put, kv_needed, unless_head, deletion_in, event_in, news_in, change_in, line_in}
-use Rattle.ev_json.specs.Breaks.{Wrong, Lacks, Excess, AnyItem, InList, InMessage, KeyBreaks, GuardBreaks, RangeBreaks, PutBreaks, DeleteBreaks, ActBreaks, TxnBreaks, GrantBreaks, AskBreaks, WatchBreaks, HeaderBreaks, KvBreaks, FoundBreaks, PartBreaks, PartsBreak, TxnAnswerBreaks, LeaseAnswerBreaks, AnswerBreaks, EventBreaks, ChangeBreaks, LineBreaks}
+use Rattle.ev_json.specs.Answers.{revision_in, kv_in, found_in, put_done_in, deleted_in, range_part_in, part_in, parts_in, held, txn_answer_in, range_answer_in, granted_in, kept_in, result_in, kept_alive_in, answer_in, kind_named, kind_or_put, kv_needed, unless_head, deletion_in, event_in, news_in, change_in, line_in}
+use Rattle.ev_json.specs.Breaks.{Wrong, Lacks, Excess, AnyItem, InList, InMessage, KeyBreaks, GuardBreaks, RangeBreaks, PutBreaks, DeleteBreaks, ActBreaks, TxnBreaks, GrantBreaks, AskBreaks, WatchBreaks, HeaderBreaks, KvBreaks, FoundBreaks, PartBreaks, PartsBreak, FailedUnguarded, TxnAnswerBreaks, LeaseAnswerBreaks, AnswerBreaks, EventBreaks, ChangeBreaks, LineBreaks}
 use Rattle.ev_fields.specs.Kinds.{◌>>=◌, member_of, has, known, known_or, optional, needed, count_of, lease_of, from_one, bytes_of, some_byte, word_of, message_of, is_object, count_in, lease_in, flag_in, bytes_in, needed_bytes, needed_count, positive_count, positive_lease, key_in, word_in, word_or_none, message_in, without, each, items_in, list_in}
 
 -- ---- one step of a reading
@@ -286,13 +287,21 @@ parts_err [] f (item d ds) e = cc
 parts_err (a ∷ acts) f no_items e = cc
 parts_err (a ∷ acts) f (item d ds) e = step (part_in a d) _ f e (part_err a f d) (λ p is e. parts_err acts f ds (last (parts_in acts ds) _ f e))
 
+held_err : (guards : List Guard) (succeeded : Bool) (f : Field) (d : Data) → flag_in field.Succeeded d ≡ Ok succeeded → held guards succeeded ≡ Err f → FailedUnguarded guards f d
+unfolding held
+held_err [] false f d flag e = (cc, refl, flag)
+held_err [] true f d flag e = absurd cc
+held_err (guard ∷ guards) succeeded f d flag e = absurd cc
+
 txn_answer_err : (t : TxnReq) (f : Field) (d : Data) → txn_answer_in t d ≡ Err f → TxnAnswerBreaks t f d
 unfolding txn_answer_in TxnAnswerBreaks
 txn_answer_err t f d e =
     step (revision_in d) _ f e (header_err f d)
     (λ n is e. step (flag_in field.Succeeded d) _ f e (flag_err field.Succeeded f d)
-    (λ succeeded flag e. step (items_in field.Responses d) _ f e (items_err field.Responses f d)
-    (λ ds items e. (succeeded, ds, flag, items, parts_err (if succeeded then t.success else t.failure) f ds (last (parts_in (if succeeded then t.success else t.failure) ds) _ f e)))))
+    (λ succeeded flag e. pass (items_in field.Responses d) _ f e (λ e. inl (inl (items_err field.Responses f d e)))
+    (λ ds items e. step (parts_in (if succeeded then t.success else t.failure) ds) _ f e
+    (λ e. inr (succeeded, ds, flag, items, parts_err (if succeeded then t.success else t.failure) f ds e))
+    (λ parts parted e. held_err t.guards succeeded f d flag (last (held t.guards succeeded) _ f e)))))
 
 granted_err : (f : Field) (d : Data) → granted_in d ≡ Err f → LeaseAnswerBreaks f d
 unfolding granted_in LeaseAnswerBreaks

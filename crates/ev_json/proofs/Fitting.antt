@@ -30,9 +30,9 @@ use Rattle.ev_fields.specs.Ranges.{IsCount, IsLease, IsPositiveCount, IsPositive
 use Rattle.ev_json.specs.declared.line.Event.{Event}
 use Rattle.ev_json.specs.declared.line.Line.{Line}
 use Rattle.ev_json.specs.declared.line.Line.TheVariants as line
-use Rattle.ev_json.specs.Answers.{revision_in, kv_in, found_in, put_done_in, deleted_in, range_part_in, part_in, parts_in, txn_answer_in, range_answer_in, granted_in, kept_in, result_in, kept_alive_in, answer_in, deletion_in, kv_needed, unless_head, event_in, puts_of, news_in, change_in, line_in}
+use Rattle.ev_json.specs.Answers.{revision_in, kv_in, found_in, put_done_in, deleted_in, range_part_in, part_in, parts_in, held, txn_answer_in, range_answer_in, granted_in, kept_in, result_in, kept_alive_in, answer_in, deletion_in, kv_needed, unless_head, event_in, puts_of, news_in, change_in, line_in}
 use Rattle.ev_json.specs.Asks.{guard_in, range_in, put_in, delete_in, range_act_in, act_in, txn_in, txn_ask_in, range_ask_in, grant_in, alive_in, ask_in, watch_in}
-use Rattle.ev_json.specs.Ranges.{GuardFits, RangeFits, ActFits, TxnFits, AskFits, KvFits, FoundFits, PartFits, PartsFit, AnswerFits, LineFits}
+use Rattle.ev_json.specs.Ranges.{GuardFits, RangeFits, ActFits, TxnFits, AskFits, KvFits, FoundFits, PartFits, PartsFit, CanCome, AnswerFits, LineFits}
 use Rattle.ev_json.proofs.Decoded.{decoded_is_bytes}
 
 -- ---- one step of a reading
@@ -246,6 +246,12 @@ parts_fit (a ∷ acts) (item d ds) ps e =
     step (parts_in acts ds) _ ps e (λ others rest e.
     subst (PartsFit (a ∷ acts)) (ok_is e) (part_fits a d p first, parts_fit acts ds others rest)))
 
+held_came : (guards : List Guard) (succeeded outcome : Bool) → held guards succeeded ≡ Ok outcome → (outcome ≡ succeeded) × CanCome guards outcome
+unfolding held
+held_came [] false outcome e = absurd cc
+held_came [] true outcome e = (sym (ok_is e), sym (ok_is e))
+held_came (guard ∷ guards) succeeded outcome e = (sym (ok_is e), tt)
+
 txn_answer_fits : (t : TxnReq) (d : Data) (a : Answer) → txn_answer_in t d ≡ Ok a → AnswerFits (ask.Txn t) a
 unfolding txn_answer_in
 txn_answer_fits t d a e =
@@ -253,7 +259,9 @@ txn_answer_fits t d a e =
     step (flag_in field.Succeeded d) _ a e (λ succeeded flagged e.
     step (items_in field.Responses d) _ a e (λ ds there e.
     step (parts_in (if succeeded then t.success else t.failure) ds) _ a e (λ parts parted e.
-    subst (AnswerFits (ask.Txn t)) (ok_is e) (revision_fits d r revised, parts_fit _ ds parts parted)))))
+    step (held t.guards succeeded) _ a e (λ outcome holding e.
+    let came = held_came t.guards succeeded outcome holding in
+    subst (AnswerFits (ask.Txn t)) (ok_is e) (revision_fits d r revised, rw came.0 (parts_fit _ ds parts parted), came.1))))))
 
 range_answer_fits : (q : RangeReq) (d : Data) (a : Answer) → range_answer_in d ≡ Ok a → AnswerFits (ask.Range q) a
 unfolding range_answer_in

@@ -12,6 +12,7 @@ use Rattle.ev_types.specs.declared.answer.Answer.{Answer}
 use Rattle.ev_types.specs.declared.answer.Answer.TheVariants as answer
 use Rattle.ev_types.specs.declared.ask.Act.{Act}
 use Rattle.ev_types.specs.declared.ask.Act.TheVariants as act
+use Rattle.ev_types.specs.declared.ask.Guard.{Guard}
 use Rattle.ev_types.specs.declared.ask.TxnReq.{TxnReq}
 use Rattle.ev_types.specs.declared.ask.Ask.{Ask}
 use Rattle.ev_types.specs.declared.ask.Ask.TheVariants as ask
@@ -86,13 +87,20 @@ parts_in (a ∷ acts) (item d ds) = do
   others ← parts_in acts ds
   Ok (first ∷ others)
 
+-- Whether the guards held. Where there are none, they did: an empty compare always holds.
+unfoldable pub held : List Guard → Bool → Result Bool Field
+held [] false = Err field.Succeeded
+held [] true = Ok true
+held (guard ∷ guards) succeeded = Ok succeeded
+
 unfoldable pub txn_answer_in : TxnReq → Data → Result Answer Field
 txn_answer_in t d = do
   revision ← revision_in d
   succeeded ← flag_in field.Succeeded d
   responses ← items_in field.Responses d
   parts ← parts_in (if succeeded then t.success else t.failure) responses
-  Ok (answer.Txn revision succeeded parts)
+  outcome ← held t.guards succeeded
+  Ok (answer.Txn revision outcome parts)
 
 unfoldable pub range_answer_in : Data → Result Answer Field
 range_answer_in d = do

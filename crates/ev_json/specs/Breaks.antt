@@ -8,6 +8,7 @@ use Rattle.ev_types.specs.declared.ask.Act.{Act}
 use Rattle.ev_types.specs.declared.ask.Act.TheVariants as act
 use Rattle.ev_types.specs.declared.ask.Ask.{Ask}
 use Rattle.ev_types.specs.declared.ask.Ask.TheVariants as ask
+use Rattle.ev_types.specs.declared.ask.Guard.{Guard}
 use Rattle.ev_types.specs.declared.ask.TxnReq.{TxnReq}
 use Rattle.ev_types.specs.declared.route.Route.{Route}
 use Rattle.ev_types.specs.declared.route.Route.TheVariants as route
@@ -128,8 +129,12 @@ PartsBreak (a ∷ acts) f (item d ds) = PartBreaks a f d ⊎ PartsBreak acts f d
 abbrev pub ResponsesBreak : TxnReq → Field → Data → Type 0
 ResponsesBreak t f d = Wrong as_array field.Responses f d ⊎ ((succeeded : Bool) × (ds : Items) × (flag_in field.Succeeded d ≡ Ok succeeded) × (items_in field.Responses d ≡ Ok ds) × PartsBreak (if succeeded then t.success else t.failure) f ds)
 
+-- there are no guards, and yet they are said to have failed
+abbrev pub FailedUnguarded : List Guard → Field → Data → Type 0
+FailedUnguarded guards f d = (f ≡ field.Succeeded) × (guards ≡ []) × (flag_in field.Succeeded d ≡ Ok false)
+
 unfoldable pub TxnAnswerBreaks : TxnReq → Field → Data → Type 0
-TxnAnswerBreaks t f d = HeaderBreaks f d ⊎ (Wrong as_bool field.Succeeded f d ⊎ ResponsesBreak t f d)
+TxnAnswerBreaks t f d = HeaderBreaks f d ⊎ (Wrong as_bool field.Succeeded f d ⊎ (ResponsesBreak t f d ⊎ FailedUnguarded t.guards f d))
 
 unfoldable pub LeaseAnswerBreaks : Field → Data → Type 0
 LeaseAnswerBreaks f d = Wrong lease_of field.Id f d ⊎ (Wrong count_of field.Ttl f d ⊎ HeaderBreaks f d)

@@ -1,6 +1,6 @@
 -- The ranges within which a message that was written reads back as itself. Their lower ends are etcd's, and their upper ends are
 -- this project's.
-use Rattle.std.specs.Prelude.{ℤ, List, [], ◌∷◌, if◌then◌else◌, ⊤}
+use Rattle.std.specs.Prelude.{◌≡◌, ℤ, Bool, true, List, [], ◌∷◌, if◌then◌else◌, ⊤}
 use Rattle.std.specs.List.{AllByRecursion}
 use Rattle.base64.specs.GeneralPurpose.{IsBytes}
 use Rattle.ev_types.specs.declared.answer.Kv.{Kv}
@@ -69,9 +69,14 @@ PartsFit [] (p ∷ ps) = ⊥
 PartsFit (a ∷ acts) [] = ⊥
 PartsFit (a ∷ acts) (p ∷ ps) = PartFits a p × PartsFit acts ps
 
--- the answer is of the ask's kind, and its numbers are in range
+-- without guards it is the success list that is carried out
+abbrev pub CanCome : List Guard → Bool → Type 0
+CanCome [] succeeded = succeeded ≡ true
+CanCome (guard ∷ guards) succeeded = ⊤
+
+-- the answer is of the ask's kind, its numbers are in range, and it is of a list that can have been carried out
 abbrev pub AnswerFits : Ask → Answer → Type 0
-AnswerFits (ask.Txn t) (answer.Txn revision succeeded parts) = IsCount revision × PartsFit (if succeeded then t.success else t.failure) parts
+AnswerFits (ask.Txn t) (answer.Txn revision succeeded parts) = IsCount revision × PartsFit (if succeeded then t.success else t.failure) parts × CanCome t.guards succeeded
 AnswerFits (ask.Txn t) (answer.Range revision found) = ⊥
 AnswerFits (ask.Txn t) (answer.Granted revision id ttl) = ⊥
 AnswerFits (ask.Txn t) (answer.Alive revision id ttl) = ⊥

@@ -4,7 +4,7 @@ ghost use Rattle.std.specs.Prelude.{◌≡◌, List, Result, map, Ok};
 ghost use Rattle.std.specs.Bool.{MatchBool};
 ghost use Rattle.serde_json.specs.Data.{Data, Items, no_items, item};
 ghost use Rattle.ev_fields.specs.Places.{data_at, items_at};
-ghost use Rattle.ev_json.specs.Answers.{revision_in, kv_in, found_in, put_done_in, deleted_in, range_part_in, part_in, parts_in, txn_answer_in, range_answer_in, granted_in, kept_in, kept_alive_in, result_in, answer_in};
+ghost use Rattle.ev_json.specs.Answers.{revision_in, kv_in, found_in, held, put_done_in, deleted_in, range_part_in, part_in, parts_in, txn_answer_in, range_answer_in, granted_in, kept_in, kept_alive_in, result_in, answer_in};
 ghost use Rattle.ev_fields.specs.Gives.{Gives, GivesAs};
 
 use crate::list::{Read, list};
@@ -14,7 +14,7 @@ use ev_fields::members::{
     broken, bytes, count, flag, items, lease, member, message, needed_bytes, needed_count, without,
 };
 use ev_fields::place::{Place, Places};
-use ev_types::{Act, ActAns, Answer, Ask, Kv, RangeAns, TxnReq};
+use ev_types::{Act, ActAns, Answer, Ask, Guard, Kv, RangeAns, TxnReq};
 use std::alloc::Global;
 use zx_base::Seq;
 
@@ -134,6 +134,17 @@ fn parts(alloc: Global, acts: &[Act], mut values: Places<'_, '_>) -> Result<Vec<
     Ok(list)
 }
 
+/// Whether the guards held, of which an answer says this. Where there are none, they cannot have failed.
+#[tactic(auto, unfolding(crate::specs::Answers::held))]
+fn held(guards: &[Guard], succeeded: bool) -> Result<bool, JsonFault>
+    ensures { Gives result (held guards.now succeeded) }
+{
+    if guards.is_empty() && !succeeded {
+        return Err(broken(Field::Succeeded));
+    }
+    Ok(succeeded)
+}
+
 #[tactic(auto, unfolding(crate::specs::Answers::txn_answer_in))]
 fn txn_answer(alloc: Global, txn: &TxnReq, value: &Place<'_, '_>) -> Result<Answer, JsonFault>
     ensures { Gives result (txn_answer_in txn.now (data_at value.now)) }
@@ -149,7 +160,7 @@ fn txn_answer(alloc: Global, txn: &TxnReq, value: &Place<'_, '_>) -> Result<Answ
     let parts = parts(alloc, acts, responses)?;
     Ok(Answer::Txn {
         revision,
-        succeeded,
+        succeeded: held(txn.guards.as_slice(), succeeded)?,
         parts: Seq::from_vec(parts),
     })
 }
