@@ -287,7 +287,7 @@ plain-answer (answer.Alive revision id ttl) = rw (kept_alive_data-pieces revisio
 
 pub answer_back : (asked : Ask) (a : Answer) → AnswerFits asked a → answer_in asked (answer_data a) ≡ Ok a
 unfolding answer_in answer_data
-answer_back (ask.Txn t) (answer.Txn revision succeeded parts) h = txn_answer_back t revision parts succeeded h.0 h.1.0 h.1.1
+answer_back (ask.Txn t) (answer.Txn revision succeeded parts) h = txn_answer_back t revision parts succeeded h.0 h.1 h.2
 answer_back (ask.Txn t) (answer.Range revision found) h = absurd h
 answer_back (ask.Txn t) (answer.Granted revision id ttl) h = absurd h
 answer_back (ask.Txn t) (answer.Alive revision id ttl) h = absurd h

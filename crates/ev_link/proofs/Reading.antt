@@ -52,7 +52,7 @@ parts_fit (a ∷ acts) [] h = absurd h
 parts_fit (a ∷ acts) (p ∷ parts) h = (part_fits a p h.0, parts_fit acts parts h.1)
 
 fits : (q : Ask) (a : Answer) → AnswerFits q a → Fits q a
-fits (ask.Txn t) (answer.Txn r succeeded parts) h = (count r h.0, parts_fit (chosen succeeded t) parts h.1.0)
+fits (ask.Txn t) (answer.Txn r succeeded parts) h = (count r h.0, parts_fit (chosen succeeded t) parts h.1)
 fits (ask.Txn t) (answer.Range r found) h = absurd h
 fits (ask.Txn t) (answer.Granted r id ttl) h = absurd h
 fits (ask.Txn t) (answer.Alive r id ttl) h = absurd h
