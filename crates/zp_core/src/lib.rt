@@ -4,6 +4,18 @@
 //! contract is the definition of a step (`Steps` in `zp_step`): contracts see a [`Core`] as the definition's core, and an input
 //! may be handed in where `MayTake` says so. [`Core::wants`] says what the connection waits for.
 //!
+//! A driver makes a core by [`Core::new`], with the number and the password that a new session would get, and repeats one turn:
+//!
+//! 1. It gets one input of the kind that [`Core::wants`] names: the client's next frame; the answer to the ask that is out, or that it
+//!    failed; or the entry after the cursor, that it is no longer kept, or that no more will come. Where a frame or an entry is wanted, it
+//!    takes whichever is there first. A length out of range and the client's end may be handed in at any time, each once all
+//!    frames before it were.
+//! 2. It reads its clock, whose time is in milliseconds, and calls [`Core::step`].
+//! 3. It does the actions in their order: it writes each packet, and it sends the one ask, whose answer is the next one that it hands in.
+//!    After a close it stops. A core that is shut wants nothing, and answers every input with nothing.
+//!
+//! Such a loop stands in `zp_conn`, over streams, and in `zp_world`, where a script says what comes next.
+//!
 //! Want of memory ends the connection: it is shut, and none of that step's actions are given. A packet whose length does not fit
 //! an int counts as want of memory, since no client has memory for it.
 //!
