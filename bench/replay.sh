@@ -1,8 +1,9 @@
 #!/usr/bin/env bash
 # How long a replay takes, and how much memory: N settled requests (half of them creates, half of them reads) on 1 and on 16
-# connections, N setDatas of one path, each planned on a kept view, and scripts of tick lines, which show that reading a script is
-# linear and keeps one line. Prints seconds and peak kilobytes, and fails where a peak is above its bound or a status is another
-# one. Of time it asserts nothing. A peak is never below that of the Python that starts the program, some 14,000 kB.
+# connections, N setDatas of one path, each planned on a kept view, one setWatches of N exist paths of absent nodes, and scripts of
+# tick lines, which show that reading a script is linear and keeps one line. Prints seconds and peak kilobytes, and fails where a
+# peak is above its bound or a status is another one. Of time it asserts nothing. A peak is never below that of the Python that
+# starts the program, some 14,000 kB.
 set -eu
 here=$(cd "$(dirname "$0")/.." && pwd)
 program=$here/crates/zetcd/out/zetcd
@@ -38,6 +39,20 @@ import sys
 for i in range(int(sys.argv[1])):
     print("frame 1 %08x00000005000000072f6e3030303030000000017%xffffffff" % (i + 2, i % 10))
     print("settle 1")
+P
+}
+
+watches() { # watches N: a script of one setWatches with N exist paths of 20 bytes
+  python3 - "$1" <<'P'
+import sys
+n = int(sys.argv[1])
+connect = "00000000" + "00" * 8 + "00007530" + "00" * 8 + "00000010" + "00" * 16 + "00"
+paths = "".join("00000014" + (b"/n%018d" % i).hex() for i in range(n))
+print("open 1 1 0000000000000011 " + "aa" * 16)
+print("frame 1 " + connect)
+print("settle 1")
+print("frame 1 fffffff800000065" + "00" * 8 + "00000000" + "%08x" % n + paths + "00000000")
+print("settle 1")
 P
 }
 
@@ -79,6 +94,10 @@ done
 for n in 1000 2000 4000; do
   sets "$n" >"$work/script"
   measure "$n setDatas of one path" "$work/script" 0 65536
+done
+for n in 2500 10000 40000; do
+  watches "$n" >"$work/script"
+  measure "a setWatches of $n paths" "$work/script" 0 262144
 done
 for n in 10000000 50000000; do
   ticks "$n" >"$work/script"

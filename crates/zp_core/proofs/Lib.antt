@@ -14,3 +14,5 @@ pub mod Lives
 pub mod Beside
 pub mod Passing
 pub mod Tasks
+pub mod StillLacking
+pub mod Fronts

@@ -2,3 +2,4 @@ pub mod Meanings
 pub mod Held
 pub mod Going
 pub mod OnKept
+pub mod Left

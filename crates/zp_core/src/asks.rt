@@ -13,19 +13,18 @@ ghost use Rattle.zn_view.specs.declared.plan.Decision.TheVariants as decision;
 use crate::client::Client;
 use crate::copies::{copy_acts, copy_guards};
 use crate::moves::{Move, only};
+use crate::round::Round;
 use crate::stage::{Commit, Stage, Task};
 use ev_types::{Ask, TxnReq};
 use std::alloc::Global;
+use std::collections::VecDeque;
 use zk_model::Request;
 use zn_multi::needs_multi;
 use zn_ops::needs as single_needs;
-use zn_view::{Plan, View, Want, Who, ranges, reading};
+use zn_view::{Plan, View, Want, Who, ranges};
 use zp_step::Action;
 use zs_close::needs_close;
 use zx_base::{Memory, Seq};
-
-/// The most ranges in one ask that reads. etcd takes 128 operations in a transaction by default (`--max-txn-ops`).
-const MAX_RANGES: usize = 100;
 
 /// What a request still has to look up.
 pub(crate) fn needs(
@@ -44,28 +43,29 @@ pub(crate) fn needs(
     }
 }
 
-fn front(wants: Seq<Want>) -> Seq<Want>
-    ensures { result ≡ take max_ranges wants }
+/// What a task still has to look up.
+pub(crate) fn lacking_of(alloc: Global, who: Who, task: &Task) -> Result<VecDeque<Want>, Memory>
+    requires { pos 1 ≤ℤ who.session }
+    ensures { IfOk result (λ ws. AreNeeds task.now.request who task.now.view ws.items) }
 {
-    let mut wants = wants.into_vec();
-    wants.truncate(MAX_RANGES);
-    Seq::from_vec(wants)
+    let lacking = needs(alloc, &task.request, who, &task.view)?;
+    Ok(VecDeque::from(lacking.into_vec()))
 }
 
-/// Asks for the first `MAX_RANGES` of what is lacking, at the view's revision.
+/// Asks for the first of what is lacking, at the view's revision. The rest is kept.
 pub(crate) fn ask_for(
     alloc: Global,
     client: &Client,
-    mut task: Box<Task>,
-    lacking: Seq<Want>,
+    task: Box<Task>,
+    lacking: VecDeque<Want>,
 ) -> Result<Move, Memory>
-    ensures { IfOk result (Leads (Is (asks_for (ready client.now) task.value.xid task.value.request task.value.view (take max_ranges lacking))) client.now) }
+    requires { AreNeeds task.value.request client.now.who task.value.view lacking.items }
+    ensures { IfOk result (Leads (Is (asks_for (ready client.now) task.value.xid task.value.request task.value.view (take max_ranges lacking.items))) client.now) }
 {
-    task.asked = front(lacking);
-    let ask = reading(alloc, task.view.revision(), task.asked.as_slice())?;
-    let actions = only(alloc, Action::Ask(ask))?;
+    let round = Round::begin(alloc, task, client.who, lacking)?;
+    let actions = only(alloc, Action::Ask(round.ask(alloc)?))?;
     Ok(Move {
-        stage: Stage::Reading(task),
+        stage: Stage::Reading(Box::new(alloc, round)?),
         actions,
     })
 }

@@ -51,7 +51,7 @@ fn answered(
         Stage::Connecting(connecting) => connect(alloc, client, connecting, Some(answer), now),
         Stage::KeepingAlive { frame } => kept_alive(alloc, client, frame, now, answer),
         Stage::Checking { frame } => checked(alloc, client, &frame, now, answer),
-        Stage::Reading(task) => read_on(alloc, client, task, now, answer),
+        Stage::Reading(round) => read_on(alloc, client, round, now, answer),
         Stage::Committing(commit) => committed(alloc, client, commit, now, answer),
         Stage::Unconnected { .. } | Stage::Ready | Stage::Waiting(_) | Stage::Shut => {
             unreachable!()

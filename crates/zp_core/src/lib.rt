@@ -20,12 +20,17 @@
 //! an int counts as want of memory, since no client has memory for it.
 //!
 //! In `specs/`, in reading order: `Meanings` (what the code keeps, as the definition's data), `Held` (what is true of every
-//! core), `Going` (how a step goes on with the frames that wait), `OnKept` (a plan on a kept view). In `proofs/`, `HeldAfter` shows
-//! that a step leaves `Held` true, and `Restaged` that most of a step does not look at the stage.
+//! core), `Going` (how a step goes on with the frames that wait), `OnKept` (a plan on a kept view), `Left` (requests whose reads no
+//! answer changes). In `proofs/`, `HeldAfter` shows that a step leaves `Held` true, `Restaged` that most of a step does not look at
+//! the stage, and `StillLacking` that of a setWatches what was left to ask is what is lacking after an answer.
 //!
 //! Views of up to 16 paths that were used are kept (`zp_kept`). An update on such a path is planned on the kept view at once, and
 //! takes one ask where that view is current; where it is not, a guard of the transaction fails and shows what is. Each answer and
 //! each refusal is by a view that was read after its frame was taken up.
+//!
+//! What a request lacks is worked out once for each of its rounds, but once for all rounds of a setWatches, whose reads no answer
+//! changes: what is behind the keys that are out is kept with them (`round`). So a setWatches takes time in proportion to the number
+//! of its paths, times the logarithm of that number.
 //!
 //! A frame is copied once, where it is handed in, and the transaction of a plan once, where it is asked: what the update leaves of
 //! its view is worked out from the plan. What a stage holds is boxed, so that a stage is short to move and to drop.
@@ -47,6 +52,7 @@ mod looks;
 mod moves;
 mod packets;
 mod replies;
+mod round;
 mod rounds;
 mod stage;
 mod steps;

@@ -1,5 +1,6 @@
 //! How far a connection has come.
 
+use crate::round::Round;
 use zk_model::{Reply, Request};
 use zk_transcript::Cause;
 use zn_view::{Arm, Plan, View, Want};
@@ -66,7 +67,7 @@ pub enum Stage {
     /// The keepalive found no seconds left: a look at the session is out.
     Checking { frame: Bytes },
     /// A round of this request is out.
-    Reading(Box<Task>),
+    Reading(Box<Round>),
     /// The transaction of this request's plan is out.
     Committing(Box<Commit>),
     /// A reply waits for its entries.

@@ -10,7 +10,7 @@ pub returns-in-Checking : goal.returns-in-Checking
 returns-in-Checking c = checked-answers c.checked.result c.args.client.now c.checked.new.client c.args.stage c.args.answer.now c.args.now c.in-Checking.frame c.in-Checking.is c.checked.ensures
 
 pub returns-in-Reading : goal.returns-in-Reading
-returns-in-Reading c = reading-answers c.read_on.result c.args.client.now c.read_on.new.client c.args.stage c.args.answer.now c.args.now c.in-Reading.task c.in-Reading.is c.read_on.ensures
+returns-in-Reading c = reading-answers c.read_on.result c.args.client.now c.read_on.new.client c.args.stage c.args.answer.now c.args.now c.in-Reading.round c.in-Reading.is c.read_on.ensures
 
 pub returns-in-Committing : goal.returns-in-Committing
 returns-in-Committing c =
