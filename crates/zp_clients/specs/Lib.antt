@@ -1,0 +1,4 @@
+pub mod Draws
+pub mod Wishes
+pub mod Sent
+pub mod Summaries
