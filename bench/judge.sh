@@ -6,7 +6,11 @@
 # and once without any watch. Prints processor seconds and peak kilobytes, and fails where a transcript is not judged lawful or a
 # peak is above its bound. Of time it asserts nothing.
 #
-# JUDGE_PROGRAM names another program to measure, and JUDGE_RUNS picks `writes` or `connections` alone.
+# Then one connection that arms N watches, each by a request of its own and on a path of its own, while another connection writes
+# to a node without a watch; at last every eighth path gets its node. And transcripts of some 10 and 100 million bytes, once of
+# writes of 64 nodes and once of pings, whose lines are the shortest: of these the peak may be six times the length.
+#
+# JUDGE_PROGRAM names another program to measure, and JUDGE_RUNS picks `writes`, `connections`, `watches` or `sizes` alone.
 set -eu
 here=$(cd "$(dirname "$0")/.." && pwd)
 program=${JUDGE_PROGRAM:-$here/crates/zetcd/out/zetcd}
@@ -14,7 +18,8 @@ program=${JUDGE_PROGRAM:-$here/crates/zetcd/out/zetcd}
 work=$(mktemp -d)
 trap 'rm -rf "$work"' EXIT
 
-transcript() { # transcript KIND N C: N writes, of `sets`, `quiets` (the same with no watch), `creates` or `multis`, on C connections
+transcript() { # transcript KIND N C: N writes, of `sets`, `quiets` (the same with no watch), `creates` or `multis`, on C connections;
+               # or N `pings` on them; or N `watches` of the first connection, with a write of the second for each four
   python3 - "$@" <<'P'
 import struct, sys
 kind, writes, connections = sys.argv[1], int(sys.argv[2]), int(sys.argv[3])
@@ -57,11 +62,11 @@ def fire(path, kind):
     for c in sorted(watching.pop(path, ())):
         queue[c].append(packet(struct.pack(">iqi", -1, -1, 0) + struct.pack(">ii", kind, 3) + text(path)))
 
-def reply(c, body):
+def reply(c, body, code=0):
     for notice in queue[c]:
         out.append("send %d %s" % (c, notice))
     queue[c] = []
-    out.append("send %d %s" % (c, packet(struct.pack(">iqi", sent[c], zxid, 0) + body)))
+    out.append("send %d %s" % (c, packet(struct.pack(">iqi", sent[c], zxid, code) + body)))
 
 def create(c, path):
     frame(c, 1, text(path) + text(b"x" * 32) + acl + struct.pack(">i", 0))
@@ -100,6 +105,18 @@ def get_data(c, path):
     watching.setdefault(path, set()).add(c)
     reply(c, text(tree[path].data) + tree[path].stat())
 
+def exists(c, path):
+    """An exists with a watch, of a node that is not there: NoNode."""
+    frame(c, 3, text(path) + b"\1")
+    watching.setdefault(path, set()).add(c)
+    reply(c, b"", -101)
+
+def ping(c):
+    """A ping has the xid -2. Its answer has the zxid of the connection's last one with the tree: that of its session."""
+    sent[c] += 1
+    out.append("frame %d %d %d %s" % (c, sent[c], zxid, struct.pack(">ii", -2, 11).hex()))
+    out.append("send %d %s" % (c, packet(struct.pack(">iqi", -2, c + 2, 0))))
+
 out.append("update 2 begin 0")
 for c in range(1, connections + 1):
     passwd = struct.pack(">i", c) * 4
@@ -117,7 +134,15 @@ def node(n):
 
 for n in range(writes):
     c = turn(n)
-    if n < NODES:
+    if kind == "pings":
+        ping(c)
+    elif kind == "watches":
+        if n == 0:
+            create(2, node(0))
+        elif n % 4 == 0:
+            set_data(2, node(0), b"%032d" % n)
+        exists(1, b"/w%07d" % n)
+    elif n < NODES:
         create(c, node(n))
     elif kind == "multis" and n % 8 == 3:
         multi(c, b"%s/%07d" % (node(n), n), n // 8 % 2)
@@ -125,8 +150,12 @@ for n in range(writes):
         create(c, b"%s/%07d" % (node(n), n))
     else:
         set_data(c, node(n * 7), b"%032d" % n)
-    if n % 8 == 7 and kind != "quiets":
+    if n % 8 == 7 and kind not in ("quiets", "pings", "watches"):
         get_data(turn(n * 5), node(n * 3) if n >= NODES else b"/")
+if kind == "watches":
+    for n in range(0, writes, 8):
+        create(2, b"/w%07d" % n)
+    exists(1, b"/last")
 out.append("done")
 print("\n".join(out))
 P
@@ -162,6 +191,19 @@ if [ "${JUDGE_RUNS:-connections}" = connections ]; then
       transcript "$kind" 10000 "$c" >"$work/transcript"
       measure "$kind on $c" 400000
     done
+  done
+fi
+if [ "${JUDGE_RUNS:-watches}" = watches ]; then
+  for n in 4000 16000 64000; do
+    transcript watches "$n" 2 >"$work/transcript"
+    measure "$n watches on one" 400000
+  done
+fi
+if [ "${JUDGE_RUNS:-sizes}" = sizes ]; then
+  for run in "sets 25000" "sets 245000" "pings 118000" "pings 1150000"; do
+    transcript ${run% *} "${run#* }" 16 >"$work/transcript"
+    size=$(stat -c %s "$work/transcript")
+    measure "$size bytes of ${run% *}" $((size * 6 / 1024))
   done
 fi
 exit "$failed"

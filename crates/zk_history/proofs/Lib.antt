@@ -4,4 +4,5 @@ pub mod Counts
 pub mod Fitting
 pub mod Marks
 pub mod Looking
+pub mod Kept
 pub mod Updates

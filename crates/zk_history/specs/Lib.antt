@@ -1,6 +1,7 @@
 pub mod Attachments
 pub mod Codes
 pub mod Commits
+pub mod Effects
 pub mod Fits
 pub mod Pasts
 pub mod Shown

@@ -7,6 +7,7 @@
 
 mod attachments;
 mod cursor;
+mod effects;
 mod ended;
 mod firsts;
 mod lines;
@@ -20,6 +21,7 @@ mod state;
 mod zxids;
 
 pub use cursor::Cursor;
+pub use effects::Effects;
 pub use lines::{Applied, apply, change, planned_commit};
 pub use outcome::{Change, Commit};
 pub use past::Past;

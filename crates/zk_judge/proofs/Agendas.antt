@@ -1,21 +1,21 @@
 -- Conversations, by the moments that they wait for.
-use Rattle.std.proofs.Common.{◌≡◌, ℕ, zero, suc, ◌+◌, ◌-◌, ◌<◌, ◌≤◌, List, [], ◌∷◌, ◌++◌, length, length-append, Option, Some, None, inl, inr, refl, ap, sym, ◌∙◌, subst, arith}
-use Rattle.std.specs.Prelude.{◌⊎◌, option_map, slice_get}
+use Rattle.std.proofs.Common.{◌≡◌, ℕ, ◌+◌, ◌<◌, ◌≤◌, Bool, true, false, List, [], ◌∷◌, ◌++◌, length, Option, Some, None, inl, inr, refl, ap, sym, ◌∙◌, subst, eqb-true, arith}
+use Rattle.std.specs.Prelude.{◌⊎◌, ◌==◌, if◌then◌else◌, nat_lt}
 use Rattle.std.specs.Global.{Vec}
 use Rattle.std.specs.List.{All, Contains}
-use Rattle.std.proofs.lemmas.Bool.{cases_eq}
-use Rattle.std.proofs.lemmas.List.Elements.{All-push, Contains-append_left, Contains-push}
+use Rattle.std.proofs.lemmas.Bool.Decides.{nat_tests}
+use Rattle.std.proofs.lemmas.List.Elements.{All-nil, All-push, Contains-append_left, Contains-push}
 use Rattle.zk_transcript.specs.declared.transcript.TranscriptLine.{TranscriptLine}
-use Rattle.zk_transcript.proofs.Lookups.{front, back, slice_get-back, slice_get-front, within}
-use Rattle.zk_least.proofs.Queues.{before-end}
-use Rattle.zk_judge.specs.Agendas.{AreWaiting, IsListed}
+use Rattle.zk_judge.specs.Agendas.{AreJudged, IsAgenda, waiting_at}
 use Rattle.zk_judge.specs.Staged.{IsStaged, IsStanding, awaited, connections}
 use Rattle.zk_judge.specs.Waiting.{IsWait}
+use Rattle.zk_judge.specs.declared.agenda.Agenda.{Agenda}
+use Rattle.zk_judge.specs.declared.agenda.Lists.{Lists}
 use Rattle.zk_judge.specs.declared.conversations.Conversation.{Conversation}
 use Rattle.zk_judge.specs.declared.conversations.Stage.{Stage}
 use Rattle.zk_judge.specs.declared.conversations.Stage.TheVariants as stage
 use Rattle.zk_judge.specs.declared.waits.Walked.TheVariants as walk
-use Rattle.zk_judge.proofs.Opened.{connections-push}
+use Rattle.zk_judge.proofs.Opened.{connections-push, none-contained}
 use Rattle.zk_judge.proofs.Stages.{attached-within}
 
 -- ---- what is known of a stage stands up to the moment that it waits for, and for good where it waits for none
@@ -51,112 +51,115 @@ ended lines from m c (stage.Refused first last r) st e = absurd (cc)
 ended lines from m c (stage.Walks (walk.Ends b)) st e = (st.0, tt)
 ended lines from m c (stage.Walks (walk.Waits x)) st e = absurd (cc)
 
--- ---- lists of conversations
+-- ---- one more conversation in the list of a moment
 
-abbrev items_of : Vec Conversation → List Conversation
-items_of list = list.items
+abbrev put : Bool → List Conversation → Conversation → List Conversation
+put b xs x = if b then xs ++ x ∷ [] else xs
 
-abbrev pub with_item : Conversation → Vec Conversation → List Conversation
-with_item x list = list.items ++ x ∷ []
+abbrev pub IsPut : Lists → Lists → ℕ → Conversation → Type 0
+IsPut before after m x = (k : ℕ) → waiting_at after k ≡ (if m == k then waiting_at before k ++ x ∷ [] else waiting_at before k)
 
-get-at : {A : Type 0} (xs : List A) (k : ℕ) → k < length xs → (x : A) × (slice_get xs k ≡ Some x)
-get-at [] k less = absurd (omega (arith, less))
-get-at (x ∷ xs) zero less = (x, refl)
-get-at (x ∷ xs) (suc k) less = get-at xs k (omega (arith, less))
+pub same-test : (m : ℕ) → (m == m) ≡ true
+same-test m = grind (arith, nat_tests)
 
--- a conversation was added to the list at a place
-pub record IsPushed (before after : List (Vec Conversation)) (place : ℕ) (x : Conversation) : Type 0 where
-  pub within : place < length before
-  pub size : length after ≡ length before
-  pub others : (j : ℕ) → (j ≡ place → ⊥) → slice_get after j ≡ slice_get before j
-  pub own : option_map (λ (list : Vec Conversation). list.items) (slice_get after place) ≡ option_map (with_item x) (slice_get before place)
+put-has : (b : Bool) (xs : List Conversation) (x : Conversation) (c : ℕ) → Contains (connections xs) c → Contains (connections (put b xs x)) c
+put-has true xs x c has = subst (λ (cs : List ℕ). Contains cs c) (sym (connections-push xs x)) (Contains-append_left (connections xs) (x.connection ∷ []) c has)
+put-has false xs x c has = has
 
-record IsLonger (lists : List (Vec Conversation)) (place : ℕ) (list : Vec Conversation) (x : Conversation) : Type 0 where
-  after : Vec Conversation
-  there : slice_get lists place ≡ Some after
-  items : after.items ≡ list.items ++ x ∷ []
+module _ (before after : Lists) (m : ℕ) (x : Conversation) (p : IsPut before after m x) where
+  pub put-kept : (c k : ℕ) → Contains (connections (waiting_at before k)) c → Contains (connections (waiting_at after k)) c
+  put-kept c k has = subst (λ (xs : List Conversation). Contains (connections xs) c) (sym (p k)) (put-has (m == k) (waiting_at before k) x c has)
 
-module _ (before after : List (Vec Conversation)) (place : ℕ) (x : Conversation) (p : IsPushed before after place x) where
-  longer : (list : Vec Conversation) → slice_get before place ≡ Some list → IsLonger after place list x
-  longer list at = by (slice_get after place) refl
+  pub put-new : Contains (connections (waiting_at after m)) x.connection
+  put-new =
+      let own : waiting_at after m ≡ waiting_at before m ++ x ∷ [] = p m ∙ ap (λ b. put b (waiting_at before m) x) (same-test m) in
+      subst (λ (cs : List ℕ). Contains cs x.connection) (sym (ap connections own ∙ connections-push (waiting_at before m) x)) (Contains-push (connections (waiting_at before m)) x.connection)
+
+  put-empty : (k : ℕ) → (m ≡ k → ⊥) → waiting_at before k ≡ [] → waiting_at after k ≡ []
+  put-empty k other none = p k ∙ by (m == k) refl ∙ none
     where
-      own : option_map (λ (l : Vec Conversation). l.items) (slice_get after place) ≡ Some (list.items ++ x ∷ [])
-      own = p.own ∙ ap (λ (o : Option (Vec Conversation)). option_map (with_item x) o) at
+      by : (b : Bool) → (m == k) ≡ b → put b (waiting_at before k) x ≡ waiting_at before k
+      by true e = absurd (other (eqb-true m k e))
+      by false e = refl
 
-      by : (o : Option (Vec Conversation)) → slice_get after place ≡ o → IsLonger after place list x
-      by None e = let none : None ≡ Some (list.items ++ x ∷ []) = ap (λ (o : Option (Vec Conversation)). option_map (λ (l : Vec Conversation). l.items) o) (sym e) ∙ own in absurd (cc)
-      by (Some l) e = let some : Some l.items ≡ Some (list.items ++ x ∷ []) = ap (λ (o : Option (Vec Conversation)). option_map (λ (m : Vec Conversation). m.items) o) (sym e) ∙ own in record { after = l; there = e; items = cc }
-
-  pub listed-kept : (c : ℕ) → IsListed before c → IsListed after c
-  listed-kept c l = elim (cases_eq l.place place) [
-    | inl same ↦
-        let at : slice_get before place ≡ Some l.list = ap (λ (k : ℕ). slice_get before k) (sym same) ∙ l.there in
-        let m = longer l.list at in
-        record {
-          place = place;
-          list = m.after;
-          there = m.there;
-          has = subst (λ (cs : List ℕ). Contains cs c) (sym (ap connections m.items ∙ connections-push l.list.items x)) (Contains-append_left (connections l.list.items) (x.connection ∷ []) c l.has);
-        }
-    | inr other ↦ record { place = l.place; list = l.list; there = p.others l.place other ∙ l.there; has = l.has }
-  ]
-
-  pub listed-new : IsListed after x.connection
-  listed-new =
-      let at = get-at before place p.within in
-      let m = longer at.0 at.1 in
-      record {
-        place = place;
-        list = m.after;
-        there = m.there;
-        has = subst (λ (cs : List ℕ). Contains cs x.connection) (sym (ap connections m.items ∙ connections-push at.0.items x)) (Contains-push (connections at.0.items) x.connection);
-      }
-
-  pub waiting-kept : (lines : List TranscriptLine) → AreWaiting lines before → IsStanding lines (length lines - place) x → AreWaiting lines after
-  waiting-kept lines waiting stands j xs there = elim (cases_eq j place) [
-    | inl same ↦
-        let at = get-at before place p.within in
-        let m = longer at.0 at.1 in
-        let is : Some xs ≡ Some m.after = sym there ∙ ap (λ (k : ℕ). slice_get after k) same ∙ m.there in
-        let items : xs.items ≡ at.0.items ++ x ∷ [] = (let one : xs ≡ m.after = cc in ap items_of one) ∙ m.items in
-        subst (λ (k : ℕ). All (IsStanding lines (length lines - k)) xs.items) (sym same)
-        (subst (λ (ys : List Conversation). All (IsStanding lines (length lines - place)) ys) (sym items)
-        (All-push (IsStanding lines (length lines - place)) at.0.items x (waiting place at.0 at.1) stands))
-    | inr other ↦ waiting j xs (sym (p.others j other) ∙ there)
-  ]
-
--- ---- the last list
-
-module _ (before rest : List (Vec Conversation)) (last : Vec Conversation) (are : before ≡ rest ++ last ∷ []) where
-  front-there : (j : ℕ) (xs : Vec Conversation) → slice_get rest j ≡ Some xs → slice_get before j ≡ Some xs
-  front-there j xs at = ap (λ (ls : List (Vec Conversation)). slice_get ls j) are ∙ slice_get-front rest (last ∷ []) j (before-end rest j xs at) ∙ at
-
-  last-there : slice_get before (length rest) ≡ Some last
-  last-there =
-      let s : length rest + 0 ≡ length rest = omega arith in
-      ap (λ (ls : List (Vec Conversation)). slice_get ls (length rest)) are ∙ ap (λ k. slice_get (rest ++ last ∷ []) k) (sym s) ∙ slice_get-back rest (last ∷ []) 0
-
-  pub rest-waiting : (lines : List TranscriptLine) → AreWaiting lines before → AreWaiting lines rest
-  rest-waiting lines waiting j xs at = waiting j xs (front-there j xs at)
-
-  pub last-size : length before ≡ length rest + 1
-  last-size = ap (λ (ls : List (Vec Conversation)). length ls) are ∙ length-append rest (last ∷ [])
-
-  pub last-stands : (lines : List TranscriptLine) (next : ℕ) → length before + next ≡ length lines + 1 → AreWaiting lines before → All (IsStanding lines next) last.items
-  last-stands lines next size waiting =
-      let s : length lines - length rest ≡ next = omega (arith, size, last-size) in
-      subst (λ (k : ℕ). All (IsStanding lines k) last.items) s (waiting (length rest) last last-there)
-
-  pub last-or-rest : (c : ℕ) → IsListed before c → Contains (connections last.items) c ⊎ IsListed rest c
-  last-or-rest c l =
-      let there : slice_get (rest ++ last ∷ []) l.place ≡ Some l.list = ap (λ (ls : List (Vec Conversation)). slice_get ls l.place) (sym are) ∙ l.there in
-      elim (within rest (last ∷ []) l.place) [
-        | front less ↦ inr (record { place = l.place; list = l.list; there = sym (slice_get-front rest (last ∷ []) l.place less) ∙ there; has = l.has })
-        | back j e ↦
-            let at : slice_get (last ∷ []) j ≡ Some l.list = sym (slice_get-back rest (last ∷ []) j) ∙ ap (λ k. slice_get (rest ++ last ∷ []) k) (sym e) ∙ there in
-            inl (subst (λ (v : Vec Conversation). Contains (connections v.items) c) (only j l.list at) l.has)
-      ]
+  put-stands : (lines : List TranscriptLine) (k : ℕ) → IsStanding lines m x → All (IsStanding lines k) (waiting_at before k) → All (IsStanding lines k) (waiting_at after k)
+  put-stands lines k stands all = subst (λ (xs : List Conversation). All (IsStanding lines k) xs) (sym (p k)) (by (m == k) refl)
     where
-      only : (j : ℕ) (v : Vec Conversation) → slice_get (last ∷ []) j ≡ Some v → v ≡ last
-      only zero v at = cc
-      only (suc j) v at = absurd (cc)
+      by : (b : Bool) → (m == k) ≡ b → All (IsStanding lines k) (put b (waiting_at before k) x)
+      by true e = All-push (IsStanding lines k) (waiting_at before k) x all (subst (λ (j : ℕ). IsStanding lines j x) (eqb-true m k e) stands)
+      by false e = all
+
+pub put-agenda : (lines : List TranscriptLine) (a b : Agenda) (m : ℕ) (x : Conversation) → IsPut a.waiting b.waiting m x → b.next ≡ a.next → b.judged ≡ a.judged → IsAgenda lines a → IsStanding lines a.next x
+    → awaited x.stage ≡ Some m → IsAgenda lines b
+put-agenda lines a b m x p next judged is stands waits =
+    let at = awaits lines a.next m x.connection x.stage stands waits in
+    let low = at.low in
+    let high = at.high in
+    record {
+      next = subst (λ (n : ℕ). n ≤ length lines + 1) (sym next) is.next;
+      past = λ k less. put-empty a.waiting b.waiting m x p k (λ same. omega (arith, low, same, less, next)) (is.past k (omega (arith, less, next)));
+      over = λ k more. put-empty a.waiting b.waiting m x p k (λ same. omega (arith, high, same, more)) (is.over k more);
+      waiting = λ k. put-stands a.waiting b.waiting m x p lines k at.stands (is.waiting k);
+      judged = subst (λ (v : Vec Conversation). AreJudged lines v.items) (sym judged) is.judged;
+    }
+
+-- ---- the list of the next moment
+
+abbrev pub IsTaken : Lists → Lists → ℕ → Type 0
+IsTaken before after m = (k : ℕ) → waiting_at after k ≡ (if m == k then [] else waiting_at before k)
+
+module _ (before after : Lists) (m : ℕ) (p : IsTaken before after m) where
+  taken-own : (k : ℕ) → m ≡ k → waiting_at after k ≡ []
+  taken-own k same = p k ∙ ap (λ b. if b then [] else waiting_at before k) (ap (λ j. m == j) (sym same) ∙ same-test m)
+
+  taken-empty : (k : ℕ) → waiting_at before k ≡ [] → waiting_at after k ≡ []
+  taken-empty k none = p k ∙ by (m == k)
+    where
+      by : (b : Bool) → (if b then [] else waiting_at before k) ≡ []
+      by true = refl
+      by false = none
+
+  taken-stands : (lines : List TranscriptLine) (k : ℕ) → All (IsStanding lines k) (waiting_at before k) → All (IsStanding lines k) (waiting_at after k)
+  taken-stands lines k all = subst (λ (xs : List Conversation). All (IsStanding lines k) xs) (sym (p k)) (by (m == k))
+    where
+      by : (b : Bool) → All (IsStanding lines k) (if b then [] else waiting_at before k)
+      by true = All-nil (IsStanding lines k)
+      by false = all
+
+  pub taken-or-left : (c k : ℕ) → Contains (connections (waiting_at before k)) c → Contains (connections (waiting_at before m)) c ⊎ ((j : ℕ) × Contains (connections (waiting_at after j)) c)
+  taken-or-left c k has = by (m == k) refl
+    where
+      by : (b : Bool) → (m == k) ≡ b → Contains (connections (waiting_at before m)) c ⊎ ((j : ℕ) × Contains (connections (waiting_at after j)) c)
+      by true e = inl (subst (λ (j : ℕ). Contains (connections (waiting_at before j)) c) (sym (eqb-true m k e)) has)
+      by false e = inr (k, subst (λ (xs : List Conversation). Contains (connections xs) c) (sym (p k ∙ ap (λ b. if b then [] else waiting_at before k) e)) has)
+
+pub taken-agenda : (lines : List TranscriptLine) (a b : Agenda) → IsTaken a.waiting b.waiting a.next → b.next ≡ a.next + 1 → b.judged ≡ a.judged → IsAgenda lines a → a.next ≤ length lines → IsAgenda lines b
+taken-agenda lines a b p next judged is within = record {
+  next = omega (arith, next, within);
+  past = λ k less. before k less (nat_lt k a.next) refl;
+  over = λ k more. taken-empty a.waiting b.waiting a.next p k (is.over k more);
+  waiting = λ k. taken-stands a.waiting b.waiting a.next p lines k (is.waiting k);
+  judged = subst (λ (v : Vec Conversation). AreJudged lines v.items) (sym judged) is.judged;
+}
+  where
+    before : (k : ℕ) → k < b.next → (t : Bool) → nat_lt k a.next ≡ t → waiting_at b.waiting k ≡ []
+    before k less true e = let early : k < a.next = grind (arith, nat_tests, e) in taken-empty a.waiting b.waiting a.next p k (is.past k early)
+    before k less false e = let late : a.next ≤ k = grind (arith, nat_tests, e) in taken-own a.waiting b.waiting a.next p k (omega (arith, less, next, late))
+
+-- no conversation is left in a list once no moment is
+pub none-listed : (lines : List TranscriptLine) (a : Agenda) (c m : ℕ) → IsAgenda lines a → a.next ≡ length lines + 1 → Contains (connections (waiting_at a.waiting m)) c → ⊥
+none-listed lines a c m is last has = none-contained (waiting_at a.waiting m) c (ap (λ (xs : List Conversation). length xs) (empty (nat_lt m a.next) refl)) has
+  where
+    empty : (t : Bool) → nat_lt m a.next ≡ t → waiting_at a.waiting m ≡ []
+    empty true e = let early : m < a.next = grind (arith, nat_tests, e) in is.past m early
+    empty false e = let late : a.next ≤ m = grind (arith, nat_tests, e) in is.over m (omega (arith, late, last))
+
+-- no conversation
+pub new-agenda : (lines : List TranscriptLine) (a : Agenda) → a.next ≡ 0 → ((m : ℕ) → waiting_at a.waiting m ≡ []) → a.judged.items ≡ [] → IsAgenda lines a
+new-agenda lines a first none judged = record {
+  next = omega (arith, first);
+  past = λ m less. none m;
+  over = λ m more. none m;
+  waiting = λ m. subst (λ (xs : List Conversation). All (IsStanding lines m) xs) (sym (none m)) (All-nil (IsStanding lines m));
+  judged = subst (λ (xs : List Conversation). AreJudged lines xs) (sym judged) (All-nil (IsStanding lines (length lines + 1)));
+}

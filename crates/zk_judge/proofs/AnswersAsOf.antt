@@ -5,7 +5,10 @@ use Rattle.std.proofs.lemmas.Bool.Decides.{nat_tests}
 use Rattle.zk_jute.specs.Requests.{Frame, read_request}
 use Rattle.zk_transcript.specs.declared.transcript.UpdateRec.{UpdateRec}
 use Rattle.zk_transcript.specs.declared.transcript.TranscriptLine.{TranscriptLine}
-use Rattle.zk_transcript.specs.Walks.{Answer, Due, Walker, answer_as_of, has_header, may_answer_at, move, own_update, placed_frame}
+use Rattle.zk_model.specs.Watches.{Watches}
+use Rattle.zk_transcript.specs.Answers.{Told, xid_of}
+use Rattle.zk_transcript.specs.Walks.{Answer, Due, Walker, answer_as_of, fired_above, has_header, may_answer_at, move, own_update, placed_frame, reply_step, reply_step_if, told_as_of}
+use Rattle.zk_judge.specs.NextFrames.{before_frame}
 use Rattle.zk_judge.specs.Seen.{answer_behind}
 
 if-is : {A : Type 0} (b : Bool) (o p : A) → b ≡ true → (if b then o else p) ≡ o
@@ -53,12 +56,30 @@ pub no-frame : (past : List TranscriptLine) (c : ℕ) (id : ℤ) (w : Walker) (o
 unfolding answer_as_of
 no-frame past c id w own = refl
 
-pub answer-framed : (lines past : List TranscriptLine) (c : ℕ) (id : ℤ) (w : Walker) (m : ℕ) (own : Option (ℕ × UpdateRec)) (f : ℕ × List ℕ)
-    → past ≡ take m lines → w.over ≡ false → m ≤ length lines → own ≡ own_update c w.next lines → Some f ≡ placed_frame c w.next lines → answer_as_of past c id w own (Some f) ≡ move lines c id w (Answer m)
-answer-framed lines past c id w m own f is over within carried framed = rw (is, carried, framed) (answer-moves lines c id w m over within)
-
 pub answer-unframed : (lines : List TranscriptLine) (c : ℕ) (id : ℤ) (w : Walker) (m : ℕ) → w.over ≡ false → m ≤ length lines → None ≡ placed_frame c w.next lines → None ≡ move lines c id w (Answer m)
 answer-unframed lines c id w m over within none =
     no-frame (take m lines) c id w (own_update c w.next lines)
     ∙ ap (answer_as_of (take m lines) c id w (own_update c w.next lines)) none
     ∙ answer-moves lines c id w m over within
+
+pub answer-asked : (lines past : List TranscriptLine) (c : ℕ) (id : ℤ) (w : Walker) (m i : ℕ) (own : Option (ℕ × UpdateRec))
+    → past ≡ take m lines → w.over ≡ false → m ≤ length lines → own ≡ own_update c i lines → i ≡ w.next → answer_as_of past c id w own (placed_frame c w.next lines) ≡ move lines c id w (Answer m)
+answer-asked lines past c id w m i own is over within carried next = rw (is, carried, next) (answer-moves lines c id w m over within)
+
+-- ---- after what fired
+
+-- of the walker only the frame that it answers next has a part in what follows
+same-next : (past : List TranscriptLine) (w : Walker) (k i : ℕ) (xid : ℤ) (ds : List Due) (o : Option (Bool × Told)) → i ≡ w.next → reply_step_if past (before_frame i) k xid ds o ≡ reply_step_if past w k xid ds o
+same-next past w k i xid ds None same = refl
+same-next past w k i xid ds (Some t) same = ap (λ (j : ℕ). Some (reply_step past (before_frame j) k xid ds t)) same
+
+pub answer-fired : (past : List TranscriptLine) (c : ℕ) (id : ℤ) (w : Walker) (own : Option (ℕ × UpdateRec)) (k i : ℕ) (x : Frame) (g : Watches × List Due) → i ≡ w.next → g ≡ fired_above past w.zxid w.watches
+    → reply_step_if past (before_frame i) k (xid_of x) g.1 (told_as_of past c id x g.0 own) ≡ answer_behind past c id w own k x
+answer-fired past c id w own k i x g next first =
+    same-next past w k i (xid_of x) g.1 (told_as_of past c id x g.0 own) next
+    ∙ ap (λ (f : Watches × List Due). reply_step_if past w k (xid_of x) f.1 (told_as_of past c id x f.0 own)) first
+
+-- the frame that is answered, as it is placed
+pub asked-placed : (lines past : List TranscriptLine) (c : ℕ) (id : ℤ) (w : Walker) (own : Option (ℕ × UpdateRec)) (i : ℕ) (f : ℕ × List ℕ) → placed_frame c i lines ≡ Some f → i ≡ w.next
+    → answer_as_of past c id w own (Some f) ≡ answer_as_of past c id w own (placed_frame c w.next lines)
+asked-placed lines past c id w own i f placed next = ap (answer_as_of past c id w own) (sym placed ∙ ap (λ (j : ℕ). placed_frame c j lines) next)

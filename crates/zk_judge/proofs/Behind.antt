@@ -1,5 +1,5 @@
 -- Packets that come first.
-use Rattle.std.proofs.Common.{◌≡◌, ℕ, zero, suc, ◌+◌, ◌<◌, ap, sym, ◌∙◌, drop, Bool, true, false, ◌&&◌, List, [], ◌∷◌, length, Option, Some, None, refl, arith}
+use Rattle.std.proofs.Common.{◌≡◌, ℕ, zero, suc, ◌+◌, ◌<◌, ◌≤◌, ap, sym, ◌∙◌, drop, Bool, true, false, ◌&&◌, List, [], ◌∷◌, length, length-drop, Option, Some, None, refl, arith}
 use Rattle.std.specs.Prelude.{nat_le, bytes_eq, if◌then◌else◌}
 use Rattle.zk_transcript.specs.Walks.{Due}
 use Rattle.zk_least.specs.LeastWalk.{behind}
@@ -13,6 +13,13 @@ pub behind-short : (ds ps : List Due) → length ps < length ds → behind ds ps
 behind-short [] ps less = absurd (omega arith)
 behind-short (d ∷ ds) [] less = refl
 behind-short (d ∷ ds) (p ∷ ps) less = either-none (nat_le d.0 p.0 && bytes_eq d.1 p.1) (behind ds ps) (behind-short ds ps (omega arith))
+
+-- packet by packet
+pub behind-refused : (d p : Due) (ds ps : List Due) → (nat_le d.0 p.0 && bytes_eq d.1 p.1) ≡ false → behind (d ∷ ds) (p ∷ ps) ≡ None
+behind-refused d p ds ps not = ap (λ (b : Bool). if b then behind ds ps else None) not
+
+pub behind-given : (d p : Due) (ds ps : List Due) → (nat_le d.0 p.0 && bytes_eq d.1 p.1) ≡ true → behind (d ∷ ds) (p ∷ ps) ≡ behind ds ps
+behind-given d p ds ps due = ap (λ (b : Bool). if b then behind ds ps else None) due
 
 -- how many packets are left after those that were due
 pub behind-length : (ds ps rest : List Due) → behind ds ps ≡ Some rest → length ds + length rest ≡ length ps
@@ -32,3 +39,10 @@ pub drop-both : (a b : ℕ) (ps : List Due) → drop b (drop a ps) ≡ drop (a +
 drop-both zero b ps = let e : b ≡ 0 + b = omega arith in ap (λ k. drop k ps) e
 drop-both (suc a) b [] = drop-nil b ∙ sym (drop-nil (suc a + b))
 drop-both (suc a) b (p ∷ ps) = let e : suc (a + b) ≡ suc a + b = omega arith in drop-both a b ps ∙ ap (λ k. drop k (p ∷ ps)) e
+
+-- one packet on
+pub drop-next : (ps qs : List Due) (i : ℕ) (p : Due) → p ∷ qs ≡ drop i ps → qs ≡ drop (i + 1) ps
+drop-next ps qs i p is = ap (drop {A = Due} 1) is ∙ drop-both i 1 ps
+
+pub next-within : (ps qs : List Due) (i : ℕ) (p : Due) → i ≤ length ps → p ∷ qs ≡ drop i ps → i + 1 ≤ length ps
+next-within ps qs i p within is = omega (arith, within, ap (λ (l : List Due). length l) is, length-drop i ps)

@@ -1,6 +1,6 @@
 -- The first lines of a transcript: what fires among them, and where their updates stand.
 use Rattle.std.proofs.Common.{◌≡◌, ℕ, zero, suc, ℤ, ◌+◌, ◌-◌, ◌<◌, ◌≤◌, Bool, true, false, List, [], ◌∷◌, ◌++◌, append-nil, length, take, drop, take-append-drop, Option, Some, None, refl, ap, sym, ◌∙◌, subst, arith}
-use Rattle.std.specs.Prelude.{nat_le, slice_get}
+use Rattle.std.specs.Prelude.{if◌then◌else◌, nat_le, slice_get}
 use Rattle.std.specs.Ordering.{int_eq}
 use Rattle.std.proofs.lemmas.Bool.Decides.{nat_tests}
 use Rattle.std.proofs.lemmas.Int.{ints}
@@ -14,6 +14,7 @@ use Rattle.zk_transcript.specs.History.{first_place, when}
 use Rattle.zk_transcript.specs.Walks.{Due, Walker, after_place, after_update, fired_above, is_above, then_fired, update_shown}
 use Rattle.zk_transcript.proofs.Appending.{first_place-push}
 use Rattle.zk_transcript.proofs.Walks.{first_place-bound}
+use Rattle.zk_least.specs.LeastQueues.{told_through}
 use Rattle.zk_least.proofs.Firing.{fired-within}
 use Rattle.zk_least.proofs.FirstPlaces.{first_place-at, first_place-none}
 use Rattle.zk_least.proofs.Queues.{none-fires, queue-law, unarmed-fires}
@@ -76,9 +77,9 @@ fired-end past p w a le none = sym (fired-over past p w a (length past) le none)
 -- an update is reached, after lines without one
 pub fired-next : (past lines : List TranscriptLine) (p : ℤ) (w : Watches) (a b : ℕ) (l : TranscriptLine) (x y : Watches × List Due) → IsFront past lines → a ≤ b → b < length past → NoUpdateBetween past a b
     → slice_get past b ≡ Some l → x ≡ fired_above (take a past) p w → y ≡ then_fired lines b (is_above p l) x → y ≡ fired_above (take (b + 1) past) p w
-fired-next past lines p w a b l x y front le within none at first then =
+fired-next past lines p w a b l x y front le within none at first fires =
     let same = fired-over past p w a b le none in
-    then
+    fires
     ∙ sym (then-in past lines b (is_above p l) x front within)
     ∙ ap (then_fired past b (is_above p l)) (first ∙ sym same)
     ∙ sym (queue-law past p w b l at)
@@ -197,3 +198,19 @@ fired-unarmed past p w a unarmed = by (nat_le a (length past)) refl
     by false e =
         let le : length past ≤ a = grind (arith, nat_tests, e) in
         ap (λ (ls : List TranscriptLine). fired_above ls p w) (take-end past a le)
+
+-- the updates through the one at a place fire, where something is still armed before it
+pub told-through : (lines : List TranscriptLine) (w : Walker) (k : ℕ) (z : ℤ) (x y : Watches × List Due) → k < length lines → x ≡ fired_above (take k lines) w.zxid w.watches → is_unarmed x.0 ≡ false
+    → ((l : TranscriptLine) → slice_get lines k ≡ Some l → y ≡ then_fired lines k (is_above w.zxid l) x) → Some (record w { zxid = z; since = k + 1; watches = y.0 }, y.1) ≡ told_through lines w (Some (k, z))
+told-through lines w k z x y less first armed fires =
+    let here = line-at lines k less in
+    let same : y ≡ fired_above (take (k + 1) lines) w.zxid w.watches =
+    fires here.0 here.1 ∙ ap (then_fired lines k (is_above w.zxid here.0)) first ∙ sym (queue-law lines w.zxid w.watches k here.0 here.1) in
+    by (is_unarmed (fired_above (take k lines) w.zxid w.watches).0) (ap (λ (q : Watches × List Due). is_unarmed q.0) (sym first) ∙ armed) same
+  where
+    after : Watches × List Due → Walker × List Due
+    after q = (record w { zxid = z; since = k + 1; watches = q.0 }, q.1)
+
+    by : (b : Bool) → b ≡ false → y ≡ fired_above (take (k + 1) lines) w.zxid w.watches → Some (after y) ≡ (if b then None else Some (after (fired_above (take (k + 1) lines) w.zxid w.watches)))
+    by true e same = absurd (cc)
+    by false e same = ap (λ (q : Watches × List Due). Some (after q)) same

@@ -1,7 +1,9 @@
 pub mod Agendas
 pub mod AnswersAsOf
+pub mod ArmedReads
 pub mod Behind
 pub mod EachVerdict
+pub mod FrontPackets
 pub mod Fronts
 pub mod HeaderBytes
 pub mod Lawful
@@ -13,6 +15,7 @@ pub mod Tries
 pub mod Replied
 pub mod Stages
 pub mod Placed
+pub mod PlainAnswers
 pub mod Running
 pub mod Sendable
 pub mod Telling

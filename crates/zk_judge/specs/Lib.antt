@@ -1,6 +1,8 @@
 pub mod Agendas
+pub mod Arming
 pub mod Faults
 pub mod Fronts
+pub mod NextFrames
 pub mod Seen
 pub mod Staged
 pub mod Verdicts

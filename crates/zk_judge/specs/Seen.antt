@@ -1,8 +1,9 @@
 -- What the program sees, as the definitions' data.
-use Rattle.std.specs.Prelude.{◌≡◌, ◌≤◌, ℕ, ℤ, Bool, List, Option, length, drop}
+use Rattle.std.specs.Prelude.{◌≡◌, ◌≤◌, ℕ, ℤ, Bool, List, Option, length, drop, option_map}
 use Rattle.zk_jute.specs.Requests.{Frame, NoHeader, Unreadable, Unknown, Asks, read_request}
 use Rattle.zk_model.specs.Limits.{max_frame}
 use Rattle.zk_model.specs.Watches.{Watches}
+use Rattle.zk_model.specs.declared.reply.Reply.{Reply}
 use Rattle.zk_transcript.specs.declared.transcript.UpdateRec.{UpdateRec}
 use Rattle.zk_transcript.specs.declared.transcript.TranscriptLine.{TranscriptLine}
 use Rattle.zk_transcript.specs.Answers.{Told, xid_of}
@@ -15,6 +16,10 @@ use Rattle.zk_judge.specs.declared.walker.Step.{Step}
 use Rattle.zk_judge.specs.declared.walker.Fired.{Fired}
 use Rattle.zk_judge.specs.declared.queues.Taken.{Taken}
 use Rattle.zk_judge.specs.declared.answers.Ending.{Ending}
+
+-- the reply of what is told
+abbrev pub reply_in : Option Told → Option Reply
+reply_in o = option_map (λ (t : Told). t.reply) o
 
 abbrev pub frame_as : FrameRead → Frame
 frame_as read.NoHeader = NoHeader

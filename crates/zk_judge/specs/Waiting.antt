@@ -1,7 +1,7 @@
 -- A conversation as far as it is judged: whether its least walk gives the packets, or which moments are tried next for it.
 use Rattle.std.specs.Prelude.{◌≡◌, ℕ, ℤ, pos, ◌-◌, ◌<◌, ◌≤◌, ◌<ℤ◌, Bool, false, List, [], ◌∷◌, drop, length, take, Option, Some, None, option_to_list, if◌then◌else◌, ⊤}
 use Rattle.zk_transcript.specs.declared.transcript.TranscriptLine.{TranscriptLine}
-use Rattle.zk_transcript.specs.Walks.{Answer, Due, Walker, may_answer_at, move}
+use Rattle.zk_transcript.specs.Walks.{Answer, Due, Walker, may_answer_at, move, packets}
 use Rattle.zk_least.specs.LeastMoments.{first_of}
 use Rattle.zk_least.specs.LeastReplies.{given_at}
 use Rattle.zk_least.specs.LeastSteps.{is_least_behind}
@@ -28,7 +28,7 @@ goes_on lines c id w ps ms = is_least_behind lines c id (given_at lines c id w p
 -- whether the least walk gives the packets: it is known, or it depends on the moments to try
 abbrev pub is_walked : List TranscriptLine → Walked → Bool
 is_walked lines (walk.Ends b) = b
-is_walked lines (walk.Waits x) = goes_on lines x.party.connection x.party.session (walker_of x.walker) (drop x.taken x.packets.items) (x.first ∷ option_to_list x.second)
+is_walked lines (walk.Waits x) = goes_on lines x.party.connection x.party.session (walker_of x.walker) (drop x.taken (packets x.party.connection lines)) (x.first ∷ option_to_list x.second)
 
 -- no reply may be answered as of a moment before this one
 abbrev pub IsEarliest : List TranscriptLine → Walker → ℕ → Type 0
@@ -45,13 +45,13 @@ pub record IsWait (lines : List TranscriptLine) (from : ℕ) (x : Wait) : Type 0
   pub second : IsNotBefore x.first x.second
   pub above : pos 0 <ℤ x.walker.zxid
   pub told : IsTold lines (walker_of x.walker)
-  pub taken : x.taken ≤ length x.packets.items
+  pub taken : x.taken ≤ length (packets x.party.connection lines)
 
 abbrev pub IsWaiting : List TranscriptLine → ℕ → Walked → Type 0
 IsWaiting lines from (walk.Ends b) = ⊤
 IsWaiting lines from (walk.Waits x) = IsWait lines from x
 
 -- how many packets are left
-abbrev pub left_of : Walked → ℕ
-left_of (walk.Ends b) = 0
-left_of (walk.Waits x) = length x.packets.items - x.taken
+abbrev pub left_of : List TranscriptLine → Walked → ℕ
+left_of lines (walk.Ends b) = 0
+left_of lines (walk.Waits x) = length (packets x.party.connection lines) - x.taken

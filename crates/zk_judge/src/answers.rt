@@ -1,26 +1,29 @@
 //! What is told in answer to a frame as of a moment.
 
-ghost use Rattle.std.specs.Prelude.{◌≡◌, ◌<◌, Some, length, option_map, slice_get, IfOk, IfSome};
+ghost use Rattle.std.specs.Prelude.{◌≡◌, ◌<◌, ℕ, ℤ, Some, length, option_map, slice_get, IfOk};
 ghost use Rattle.zk_transcript.specs.declared.transcript.TranscriptLine.TheVariants.{Update};
 ghost use Rattle.zk_model.specs.declared.reply.Reply.TheVariants as reply;
 ghost use Rattle.zk_transcript.specs.History.{after, session_at};
-ghost use Rattle.zk_transcript.specs.Answers.{limit_in, plain_reply as plain_reply_of, session_refusal as session_refusal_of};
+ghost use Rattle.zk_jute.specs.Requests.{Frame};
+ghost use Rattle.zk_transcript.specs.Answers.{limit_in, only, plain_reply as plain_reply_of, session_refusal as session_refusal_of};
 ghost use Rattle.zk_transcript.specs.Walks.{closes_session as closes_session_of, looked as looked_of, response_at as response_at_of, told_as_of as told_as_of_of, told_by_state as told_by_state_of};
 ghost use Rattle.zk_model.specs.Limits.{max_owned};
 ghost use Rattle.zk_plain.specs.Faults.{IsWhole};
 ghost use Rattle.zk_answers.specs.Outcomes.{told_of};
 ghost use Rattle.zk_judge.specs.Fronts.{IsFront};
+ghost use Rattle.zk_judge.specs.NextFrames.{IsNextFrame};
 ghost use Rattle.zk_judge.specs.Seen.{IsShortFrame, ending_of, frame_as};
 
+use crate::arming::tree_answer;
 use crate::bodies::copy_of_body;
-use crate::frames::{FrameRead, plain_reply, refused};
+use crate::frames::{FrameRead, plain_reply};
 use crate::index::Index;
+use crate::next_frame::NextFrame;
 use crate::walker::Party;
 use std::alloc::Global;
-use zk_answers::{Told, Watches, tree_reply};
-use zk_history::{Fault, State};
+use zk_answers::{Told, Watches};
+use zk_history::State;
 use zk_model::code::{SESSION_EXPIRED, SESSION_MOVED};
-use zk_model::limit::MAX_OWNED;
 use zk_model::{Body, Reply};
 use zk_transcript::{TranscriptLine, UpdateKind, UpdateRec};
 use zx_base::{Memory, Seq};
@@ -50,34 +53,34 @@ fn session_refusal(party: Party, state: &State) -> Option<i32>
     }
 }
 
+/// The refusal of the session test, which leaves the watches as they are.
+fn refused(alloc: Global, watches: Watches, code: i32) -> Told
+    ensures { told_of result ≡ only watches (reply.Refused code) }
+{
+    Told {
+        reply: Reply::Refused(code),
+        notices: Seq::new(alloc),
+        watches,
+    }
+}
+
 /// The tree's answer to a frame that is not answered without it.
 fn looked(
     alloc: Global,
     state: &State,
     party: Party,
     frame: &FrameRead,
-    watches: &Watches,
+    watches: Watches,
 ) -> Result<Option<Told>, Memory>
     requires whole { IsWhole state.now.tree }
     requires short { IsShortFrame (frame_as frame.now) }
-    ensures { IfOk result (λ o. option_map told_of o ≡ looked_of state.now max_owned party.session watches.now (frame_as frame.now) (plain_reply_of watches.now (frame_as frame.now))) }
+    ensures { IfOk result (λ o. option_map told_of o ≡ looked_of state.now max_owned party.session watches (frame_as frame.now) (plain_reply_of watches (frame_as frame.now))) }
 {
-    if plain_reply(alloc, watches, frame)?.is_some() {
+    if plain_reply(alloc, frame)?.is_some() {
         return Ok(None);
     }
     match frame {
-        FrameRead::Asks { request, .. } => match tree_reply(
-            alloc,
-            state.tree(),
-            MAX_OWNED,
-            party.session,
-            watches,
-            request,
-        ) {
-            Ok(told) => Ok(told),
-            Err(Fault::Memory) => Err(Memory),
-            Err(Fault::Beyond) => unreachable!(),
-        },
+        FrameRead::Asks { request, .. } => { tree_answer(alloc, state, party, watches, request) }
         FrameRead::NoHeader => Ok(None),
         FrameRead::Unreadable { .. } => Ok(None),
         FrameRead::Unknown { .. } => Ok(None),
@@ -90,15 +93,15 @@ fn told_by_state(
     state: &State,
     party: Party,
     frame: &FrameRead,
-    watches: &Watches,
+    watches: Watches,
 ) -> Result<Option<Ending>, Memory>
     requires whole { IsWhole state.now.tree }
     requires short { IsShortFrame (frame_as frame.now) }
-    ensures { IfOk result (λ o. option_map ending_of o ≡ told_by_state_of state.now party.connection party.session (frame_as frame.now) watches.now) }
+    ensures { IfOk result (λ o. option_map ending_of o ≡ told_by_state_of state.now party.connection party.session (frame_as frame.now) watches) }
 {
     match session_refusal(party, state) {
         Some(code) => Ok(Some(Ending {
-            told: refused(alloc, watches, code)?,
+            told: refused(alloc, watches, code),
             is_over: true,
         })),
         None => match looked(alloc, state, party, frame, watches)? {
@@ -147,15 +150,13 @@ fn told_of_own(
     alloc: Global,
     index: &Index,
     past: &[TranscriptLine],
-    party: Party,
-    frame: &FrameRead,
-    watches: &Watches,
+    watches: Watches,
     place: usize,
     update: UpdateRec,
 ) -> Result<Option<Ending>, Memory>
     requires front { IsFront past.now index.now.lines.now }
     requires update { slice_get index.now.lines.now place ≡ Some (Update update) }
-    ensures { IfOk result (λ o. option_map ending_of o ≡ told_as_of_of past.now party.connection party.session (frame_as frame.now) watches.now (Some (place, update))) }
+    ensures { IfOk result (λ o. (c : ℕ) (id : ℤ) (x : Frame) → option_map ending_of o ≡ told_as_of_of past.now c id x watches (Some (place, update))) }
 {
     if past.len() == 0 || past.len() - 1 != place {
         return Ok(None);
@@ -165,7 +166,7 @@ fn told_of_own(
             told: Told {
                 reply: Reply::Good(response),
                 notices: Seq::new(alloc),
-                watches: watches.copy()?,
+                watches,
             },
             is_over: closes_session(update.kind),
         })),
@@ -173,7 +174,8 @@ fn told_of_own(
     }
 }
 
-/// What is told as of the moment after the lines `past`, which lead to `state`.
+/// What is told in answer to a frame as of the moment after the lines `past`, which lead to `state`. The watches are those that are
+/// armed then.
 #[tactic(auto, unfolding(zk_transcript::specs::Walks::told_as_of))]
 pub fn told_as_of(
     alloc: Global,
@@ -181,20 +183,16 @@ pub fn told_as_of(
     past: &[TranscriptLine],
     state: &State,
     party: Party,
-    frame: &FrameRead,
-    watches: &Watches,
-    own: Option<(usize, UpdateRec)>,
+    asked: &NextFrame,
+    watches: Watches,
 ) -> Result<Option<Ending>, Memory>
     requires front { IsFront past.now index.now.lines.now }
-    requires own { IfSome own (λ u. slice_get index.now.lines.now u.0 ≡ Some (Update u.1)) }
     requires state { state.now ≡ after past.now }
-    requires short { IsShortFrame (frame_as frame.now) }
-    ensures { IfOk result (λ o. option_map ending_of o ≡ told_as_of_of past.now party.connection party.session (frame_as frame.now) watches.now own) }
+    requires asked { IsNextFrame index.now.lines.now party.connection asked.now }
+    ensures { IfOk result (λ o. option_map ending_of o ≡ told_as_of_of past.now party.connection party.session (frame_as asked.now.read) watches asked.now.own) }
 {
-    match own {
-        Some((place, update)) => told_of_own(
-            alloc, index, past, party, frame, watches, place, update,
-        ),
-        None => told_by_state(alloc, state, party, frame, watches),
+    match asked.own {
+        Some((place, update)) => told_of_own(alloc, index, past, watches, place, update),
+        None => told_by_state(alloc, state, party, &asked.read, watches),
     }
 }

@@ -4,7 +4,7 @@ ghost use Rattle.std.specs.Prelude.{◌≡◌, ◌<◌, ◌≤◌, ◌+◌, ◌�
 ghost use Rattle.zk_transcript.specs.declared.transcript.TranscriptLine.{TranscriptLine as AnyLine};
 ghost use Rattle.zk_transcript.specs.History.{connect as connect_of, state_at};
 ghost use Rattle.zk_transcript.specs.Legal.{attach_of as attach_of_of};
-ghost use Rattle.zk_transcript.specs.Walks.{packets as packets_to, placed_frame as placed_frame_of};
+ghost use Rattle.zk_transcript.specs.Walks.{placed_frame as placed_frame_of};
 ghost use Rattle.zk_transcript.specs.Conversations.{IsLawfulAndFresh, IsRefused, are_before_close as are_before_close_of};
 ghost use Rattle.zk_legal.specs.Faults.{history_fault};
 ghost use Rattle.zk_judge.specs.Staged.{IsDeciding, IsStaged, IsStanding, MayBeRefused, awaited as awaited_of};
@@ -12,7 +12,7 @@ ghost use Rattle.zk_judge.specs.Waiting.{IsWaiting, is_walked};
 
 use crate::connects::{is_welcomed, may_refuse, refusal_packet};
 use crate::index::Index;
-use crate::packets::{Due, first_packet};
+use crate::packets::first_packet;
 use crate::waits::{Walked, settle, walk_on};
 use crate::walker::{Party, Walker};
 use std::alloc::Global;
@@ -47,16 +47,17 @@ pub struct Conversation {
 }
 
 /// Whether no packet stands after the connection's close.
-fn are_before_close(index: &Index, connection: u32, packets: &[Due]) -> bool
-    requires { packets.now ≡ packets_to connection index.now.lines.now }
+fn are_before_close(index: &Index, connection: u32) -> bool
     ensures { result ≡ are_before_close_of index.now.lines.now connection }
 {
     match index.close_place(connection) {
         Some(close) => {
-            for (place, _) in packets {
-                if close <= *place {
+            let mut left = index.packets_of(connection);
+            'packets: while let Some((place, _, rest)) = left.split() {
+                if close <= place {
                     return false;
                 }
+                left = rest;
             }
             true
         }
@@ -100,11 +101,11 @@ fn unattached(alloc: Global, index: &Index, connection: u32) -> Result<Stage, Me
     requires unattached { attach_of_of connection index.now.lines.now ≡ None }
     ensures { IfOk result (λ s. IsDeciding index.now.lines.now 0 (IsLawfulAndFresh index.now.lines.now connection) s) }
 {
-    let packets = index.packets_of(alloc, connection)?;
-    if !are_before_close(index, connection, &packets) {
+    let packets = index.packets_of(connection);
+    if !are_before_close(index, connection) {
         return Ok(Stage::Walks(Walked::Ends(false)));
     }
-    let Some((place, bytes)) = first_packet(&packets) else {
+    let Some((place, bytes)) = first_packet(packets) else {
         return Ok(Stage::Walks(Walked::Ends(true)));
     };
     if packets.len() != 1 {
@@ -129,18 +130,18 @@ fn welcomed(
     ensures walked { IfOk result (λ w. IsTrue (is_walked index.now.lines.now w) ↔ IsLawfulAndFresh index.now.lines.now party.connection) }
     ensures waits { IfOk result (λ w. IsWaiting index.now.lines.now (place + 1) w) }
 {
-    let packets = index.packets_of(alloc, party.connection)?;
-    if !are_before_close(index, party.connection, &packets) {
+    let packets = index.packets_of(party.connection);
+    if !are_before_close(index, party.connection) {
         return Ok(Walked::Ends(false));
     }
-    let Some((first, bytes)) = first_packet(&packets) else {
+    let Some((first, bytes)) = first_packet(packets) else {
         return Ok(Walked::Ends(true));
     };
     if !is_welcomed(alloc, index, state, party, place, first, bytes)? {
         return Ok(Walked::Ends(false));
     }
     let walker = Walker::new(alloc, zxid, place + 1);
-    settle(alloc, index, place + 1, party, walker, packets, 1)
+    settle(alloc, index, place + 1, party, walker, 1)
 }
 
 /// The stage after this moment of a connection to which the update at `place` attaches its session; the moment is no later than

@@ -40,18 +40,18 @@ fn is_above(line: &TranscriptLine, zxid: i64) -> bool
     }
 }
 
-/// What is armed and what is due after the line at a place, which fires where it is an update above the walker's zxid.
-fn then_fire(
+/// What is armed and what is due after the line at a place, which fires where it is an update above a zxid.
+pub fn then_fire(
     alloc: Global,
     index: &Index,
     place: usize,
-    walker: &Walker,
+    zxid: i64,
     fired: Fired,
 ) -> Result<Fired, Memory>
     requires { place < length index.now.lines.now }
-    ensures { IfOk result (λ f. (l : Line) → slice_get index.now.lines.now place ≡ Some l → fired_of f ≡ then_fired index.now.lines.now place (is_above_of walker.now.zxid l) (fired_of fired)) }
+    ensures { IfOk result (λ f. (l : Line) → slice_get index.now.lines.now place ≡ Some l → fired_of f ≡ then_fired index.now.lines.now place (is_above_of zxid l) (fired_of fired)) }
 {
-    if is_above(&index.lines[place], walker.zxid) {
+    if is_above(&index.lines[place], zxid) {
         fire_at(alloc, index, place, fired)
     } else {
         Ok(fired)
@@ -59,28 +59,30 @@ fn then_fire(
 }
 
 /// What is armed and what is due after the updates among these first lines that are above the walker's zxid fire in order. Lines up
-/// to the walker's last update and lines without an update are passed over, and all lines once nothing is armed.
+/// to the walker's last update and lines without an update are passed over, and all lines once nothing is armed. The walker's
+/// watches are taken over, so an update takes the logarithm of their number for each of its triggers.
 pub fn fire_above(
     alloc: Global,
     index: &Index,
     past: &[TranscriptLine],
-    walker: &Walker,
+    walker: Walker,
 ) -> Result<Fired, Memory>
     requires front { IsFront past.now index.now.lines.now }
-    requires told { IsTold index.now.lines.now (walker_of walker.now) }
-    ensures { IfOk result (λ f. fired_of f ≡ fired_above_of past.now walker.now.zxid walker.now.watches) }
+    requires told { IsTold index.now.lines.now (walker_of walker) }
+    ensures { IfOk result (λ f. fired_of f ≡ fired_above_of past.now walker.zxid walker.watches) }
 {
+    let zxid = walker.zxid;
+    let mut at = walker.since;
     let mut fired = Fired {
-        watches: walker.watches.copy()?,
+        watches: walker.watches,
         due: Vec::new(alloc),
     };
-    let mut at = walker.since;
     'updates: while at < past.len() && !fired.watches.is_unarmed() {
         let place = index.next_update(at);
         if past.len() <= place {
             return Ok(fired);
         }
-        fired = then_fire(alloc, index, place, walker, fired)?;
+        fired = then_fire(alloc, index, place, zxid, fired)?;
         at = place + 1;
     }
     Ok(fired)

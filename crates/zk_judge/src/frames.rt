@@ -1,19 +1,18 @@
 //! The frames of a connection as requests, and their answers without the tree.
 
-ghost use Rattle.std.specs.Prelude.{◌≡◌, option_map, IfOk};
-ghost use Rattle.zk_model.specs.declared.reply.Reply.TheVariants as reply;
+ghost use Rattle.std.specs.Prelude.{◌≡◌, IfOk};
+ghost use Rattle.zk_model.specs.Watches.{no_watches};
 ghost use Rattle.zk_jute.specs.Requests.{read_request as read_request_of};
-ghost use Rattle.zk_transcript.specs.Answers.{only, plain_reply as plain_reply_of, xid_of as xid_of_of};
+ghost use Rattle.zk_transcript.specs.Answers.{plain_reply as plain_reply_of, plain_request as plain_request_of, xid_of as xid_of_of};
 ghost use Rattle.zk_transcript.specs.Walks.{has_header as has_header_of};
-ghost use Rattle.zk_answers.specs.Outcomes.{told_of};
-ghost use Rattle.zk_judge.specs.Seen.{frame_as};
+ghost use Rattle.zk_judge.specs.Seen.{frame_as, reply_in};
 
 use std::alloc::Global;
-use zk_answers::{Told, Watches, plain_request};
+use zk_answers::{Watches, plain_request};
 use zk_model::code::{MARSHALLING_ERROR, UNIMPLEMENTED};
 use zk_model::{Reply, Request};
 use zk_wire::{WireFault, read_request};
-use zx_base::{Memory, Seq};
+use zx_base::Memory;
 
 /// What a frame is read as.
 #[derive(Drop)]
@@ -65,29 +64,24 @@ pub fn has_header(frame: &FrameRead) -> bool
     }
 }
 
-/// A refusal, which leaves the watches as they are.
-pub fn refused(alloc: Global, watches: &Watches, code: i32) -> Result<Told, Memory>
-    ensures { IfOk result (λ t. told_of t ≡ only watches.now (reply.Refused code)) }
+/// The reply to a request where the tree does not decide it.
+fn plain_answer(alloc: Global, request: &Request) -> Result<Option<Reply>, Memory>
+    ensures { IfOk result (λ o. o ≡ reply_in (plain_request_of no_watches request.now)) }
 {
-    Ok(Told {
-        reply: Reply::Refused(code),
-        notices: Seq::new(alloc),
-        watches: watches.copy()?,
-    })
+    match plain_request(alloc, &Watches::new(alloc), request)? {
+        Some(told) => Ok(Some(told.reply)),
+        None => Ok(None),
+    }
 }
 
-/// The answer to a frame where the tree does not decide it.
-pub fn plain_reply(
-    alloc: Global,
-    watches: &Watches,
-    frame: &FrameRead,
-) -> Result<Option<Told>, Memory>
-    ensures { IfOk result (λ o. option_map told_of o ≡ plain_reply_of watches.now (frame_as frame.now)) }
+/// The reply to a frame where the tree does not decide it. No watch has a part in it, and it arms none.
+pub fn plain_reply(alloc: Global, frame: &FrameRead) -> Result<Option<Reply>, Memory>
+    ensures { IfOk result (λ o. o ≡ reply_in (plain_reply_of no_watches (frame_as frame.now))) }
 {
     match frame {
         FrameRead::NoHeader => Ok(None),
-        FrameRead::Unreadable { .. } => Ok(Some(refused(alloc, watches, MARSHALLING_ERROR)?)),
-        FrameRead::Unknown { .. } => Ok(Some(refused(alloc, watches, UNIMPLEMENTED)?)),
-        FrameRead::Asks { request, .. } => plain_request(alloc, watches, request),
+        FrameRead::Unreadable { .. } => Ok(Some(Reply::Refused(MARSHALLING_ERROR))),
+        FrameRead::Unknown { .. } => Ok(Some(Reply::Refused(UNIMPLEMENTED))),
+        FrameRead::Asks { request, .. } => plain_answer(alloc, request),
     }
 }

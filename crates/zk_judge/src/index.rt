@@ -13,10 +13,9 @@ ghost use Rattle.zk_legal.specs.Passwords.{OfferPasswords};
 ghost use Rattle.zk_history.specs.Commits.{response_in};
 ghost use Rattle.zk_history.specs.Pasts.{lines_of};
 ghost use Rattle.zk_history.specs.Shown.{placed_attachment, placed_bytes};
-ghost use Rattle.zk_judge.specs.Sent.{AreSent};
+ghost use Rattle.zk_judge.specs.Sent.{AreSent, packets_in};
 
-use crate::packets::Due;
-use crate::sent::Sent;
+use crate::sent::{Packets, Sent};
 use std::alloc::Global;
 use zk_effects::Effects;
 use zk_history::{Fault, Past};
@@ -101,10 +100,10 @@ impl<'a> Index<'a> {
     }
 
     /// The packets of a connection with their places, in order.
-    pub fn packets_of(&self, alloc: Global, connection: u32) -> Result<Vec<Due>, Memory>
-        ensures { IfOk result (λ v. v.items ≡ packets connection self.now.lines.now) }
+    pub fn packets_of(&self, connection: u32) -> Packets<'_>
+        ensures { packets_in result ≡ packets connection self.now.lines.now }
     {
-        self.sent.packets_of(alloc, self.lines, connection)
+        self.sent.packets_of(self.lines, connection)
     }
 
     /// The line that carries out a request of a connection: its place, and the update.

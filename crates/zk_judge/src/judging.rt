@@ -47,7 +47,7 @@ fn with_opened(
     ensures opened { IfOk result (λ a. (before : List AnyLine) → AreOpened before (HasConversation agenda) → AreOpened (before ++ line.now ∷ []) (HasConversation a)) }
 {
     match opened_by(line) {
-        Some(connection) => agenda.with(index, Conversation::new(alloc, index, connection)?),
+        Some(connection) => agenda.with(alloc, index, Conversation::new(alloc, index, connection)?),
         None => Ok(agenda),
     }
 }
@@ -59,7 +59,7 @@ fn opened(alloc: Global, index: &Index) -> Result<Agenda, Memory>
     ensures next { IfOk result (λ a. a.next ≡ 0) }
     ensures opened { IfOk result (λ a. AreOpened index.now.lines.now (HasConversation a)) }
 {
-    let mut agenda = Agenda::new(alloc, index)?;
+    let mut agenda = Agenda::new(alloc);
     for line in index.lines {
         agenda = with_opened(alloc, index, agenda, line)?;
     }
@@ -78,9 +78,13 @@ fn advanced(alloc: Global, index: &Index, state: &State, agenda: Agenda) -> Resu
 {
     let moment = agenda.next;
     prove!(moment <= index.lines.len());
-    let (mut due, mut later) = agenda.due();
+    let (mut due, mut later) = agenda.due(alloc);
     'conversations: while let Some(conversation) = due.pop() {
-        later = later.with(index, conversation.advanced(alloc, index, state, moment)?)?;
+        later = later.with(
+            alloc,
+            index,
+            conversation.advanced(alloc, index, state, moment)?,
+        )?;
     }
     Ok(later)
 }

@@ -1,63 +1,33 @@
-//! The packets that a connection was sent, and those that are due.
+//! The packets that are due, and those that a connection was sent.
 
 ghost use Rattle.std.specs.Prelude.{◌≡◌, ◌&&◌, ◌++◌, ◌∷◌, [], ℕ, List, bytes_eq, drop, length, nat_le, take, if◌then◌else◌, slice_get, slice_index, Some, None, option_map, IfOk, IsTrue, OnOk, ◌≤◌};
 ghost use Rattle.std.specs.Int.{from_be_bytes, w32, w64};
 ghost use Rattle.std.specs.List.{All};
 ghost use Rattle.zk_jute.specs.Packets.{CanBeSent, NoticeCanBeSent, notice_packet as notice_packet_of, reply_packet as reply_packet_of};
-ghost use Rattle.zk_transcript.specs.Walks.{due_notices, packets_from};
+ghost use Rattle.zk_transcript.specs.Walks.{due_notices};
 ghost use Rattle.zk_least.specs.LeastWalk.{behind, next_reply as next_reply_of, zxid_in as zxid_in_of};
 ghost use Rattle.zk_least.specs.LeastMoments.{code_in as code_in_of};
 ghost use Rattle.zk_history.specs.Shown.{placed_bytes};
+ghost use Rattle.zk_judge.specs.Sent.{packets_in};
 ghost use Rattle.zk_least.specs.LeastQueues.{is_apart as is_apart_of, is_front as is_front_of};
 
+use crate::sent::Packets;
 use std::alloc::Global;
 use zk_model::{Notice, Reply};
-use zk_transcript::TranscriptLine;
 use zk_wire::{write_notice, write_reply};
 use zx_base::{Bytes, Memory};
 
-/// A packet that is due, and the first place where its line may stand; or a packet that was sent, and the place of its line.
+/// A packet that is due, and the first place where its line may stand.
 pub type Due = (usize, Bytes);
 
-/// Adds the packet of a line, where it is sent to a connection.
-pub fn push_sent(
-    alloc: Global,
-    sent: &mut Vec<Due>,
-    connection: u32,
-    place: usize,
-    line: &TranscriptLine,
-) -> Result<(), Memory>
-    ensures { OnOk result (sent.new.items ≡ sent.old.items ++ packets_from connection place (line.now ∷ [])) }
-{
-    if let TranscriptLine::Send {
-        connection: receiver,
-        bytes,
-    } = line
-    {
-        if connection == *receiver {
-            sent.push((place, Bytes::copy_of(alloc, bytes.as_slice())?))?;
-        }
-    }
-    Ok(())
-}
-
 /// The first packet, with its place.
-pub fn first_packet(packets: &[Due]) -> Option<(usize, &[u8])>
-    ensures { option_map placed_bytes result ≡ slice_get packets.now 0 }
+pub fn first_packet<'a>(packets: Packets<'a>) -> Option<(usize, &'a [u8])>
+    ensures { option_map placed_bytes result ≡ slice_get (packets_in packets.entry) 0 }
 {
-    if packets.len() == 0 {
-        return None;
+    match packets.split() {
+        Some((place, bytes, _)) => Some((place, bytes)),
+        None => None,
     }
-    let (place, bytes) = &packets[0];
-    Some((*place, bytes.as_slice()))
-}
-
-/// The packets after the first ones, of which there are `taken`.
-pub fn packets_behind(packets: &Vec<Due>, taken: usize) -> &[Due]
-    requires { taken ≤ length packets.now.items }
-    ensures { result.now ≡ drop taken packets.now.items }
-{
-    &packets[taken..]
 }
 
 /// The packet of a reply.
@@ -148,38 +118,41 @@ pub fn code_in(packet: &[u8]) -> i32
 }
 
 /// The first packet that is no notice.
-pub fn next_reply(packets: &[Due]) -> Option<&[u8]>
-    ensures { option_map (λ b. b.now) result ≡ next_reply_of packets.now }
+pub fn next_reply<'a>(packets: Packets<'a>) -> Option<&'a [u8]>
+    ensures { option_map (λ b. b.now) result ≡ next_reply_of (packets_in packets.entry) }
 {
-    for (_, bytes) in packets {
-        if zxid_in(bytes.as_slice()) != -1 {
-            return Some(bytes.as_slice());
+    let mut left = packets;
+    'packets: while let Some((_, bytes, rest)) = left.split() {
+        if zxid_in(bytes) != -1 {
+            return Some(bytes);
         }
+        left = rest;
     }
     None
 }
 
 /// Whether a packet is the one that is due, and does not stand before the first place where it may.
-fn is_given(due: &Due, packet: &Due) -> bool
-    ensures { result ≡ (nat_le due.now.0 packet.now.0 && bytes_eq due.now.1 packet.now.1) }
+fn is_given(due: &Due, place: usize, bytes: &[u8]) -> bool
+    ensures { result ≡ (nat_le due.now.0 place && bytes_eq due.now.1 bytes.now) }
 {
     let (first, wanted) = due;
-    let (place, found) = packet;
-    *first <= *place && wanted.is(found.as_slice())
+    *first <= place && wanted.is(bytes)
 }
 
 /// Whether the packets that are due come next, none before the first place where it may stand.
-pub fn come_first(due: &[Due], packets: &[Due]) -> bool
-    ensures within { IsTrue result → length due.now ≤ length packets.now }
-    ensures rest { behind due.now packets.now ≡ (if result then Some (drop (length due.now) packets.now) else None) }
+pub fn come_first(due: &[Due], packets: Packets<'_>) -> bool
+    ensures within { IsTrue result → length due.now ≤ length (packets_in packets.entry) }
+    ensures rest { behind due.now (packets_in packets.entry) ≡ (if result then Some (drop (length due.now) (packets_in packets.entry)) else None) }
 {
-    if packets.len() < due.len() {
-        return false;
-    }
-    for at in 0..due.len() {
-        if !is_given(&due[at], &packets[at]) {
+    let mut left = packets;
+    for wanted in due {
+        let Some((place, bytes, rest)) = left.split() else {
+            return false;
+        };
+        if !is_given(wanted, place, bytes) {
             return false;
         }
+        left = rest;
     }
     true
 }
@@ -195,16 +168,21 @@ fn is_apart(place: usize, later: &[Due]) -> bool
 }
 
 /// Whether the packets are the front of a queue, which ends with the last notice of an update.
-pub fn is_front(packets: &[Due], queue: &[Due]) -> bool
-    ensures { result ≡ is_front_of packets.now queue.now }
+pub fn is_front(packets: Packets<'_>, queue: &[Due]) -> bool
+    ensures { result ≡ is_front_of (packets_in packets.entry) queue.now }
 {
-    for (at, packet) in packets.iter().enumerate() {
-        if queue.len() <= at || !is_given(&queue[at], packet) {
+    let mut left = packets;
+    for (at, wanted) in queue.iter().enumerate() {
+        let Some((place, bytes, rest)) = left.split() else {
+            return true;
+        };
+        if !is_given(wanted, place, bytes) {
             return false;
         }
-        if at + 1 == packets.len() {
-            return is_apart(queue[at].0, &queue[at + 1..]);
+        if rest.len() == 0 {
+            return is_apart(wanted.0, &queue[at + 1..]);
         }
+        left = rest;
     }
-    true
+    left.len() == 0
 }

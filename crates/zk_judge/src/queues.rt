@@ -5,11 +5,13 @@ ghost use Rattle.zk_least.specs.LeastQueues.{told_through as told_through_of, to
 ghost use Rattle.zk_transcript.specs.Walks.{Plain, move};
 ghost use Rattle.zk_least.specs.LeastWalk.{given as given_of, zxid_in as zxid_in_of};
 ghost use Rattle.zk_judge.specs.Fronts.{IsTold};
+ghost use Rattle.zk_judge.specs.Sent.{packets_in};
 ghost use Rattle.zk_judge.specs.Seen.{left_by, step_of, taken_by, walker_of};
 
-use crate::firing::fire_above;
+use crate::firing::{fire_above, then_fire};
 use crate::index::Index;
-use crate::packets::{Due, zxid_in};
+use crate::packets::zxid_in;
+use crate::sent::Packets;
 use crate::steps::answer_plainly;
 use crate::walker::{Party, Step, Walker};
 use crate::walks::given;
@@ -28,21 +30,23 @@ fn told_through(
     requires place { place < length index.now.lines.now }
     ensures { IfOk result (λ o. option_map step_of o ≡ told_through_of index.now.lines.now (walker_of walker) (Some (place, zxid))) }
 {
-    if fire_above(alloc, index, &index.lines[..place], &walker)?
-        .watches
-        .is_unarmed()
-    {
+    let told = walker.zxid;
+    let next = walker.next;
+    let moment = walker.moment;
+    let is_over = walker.is_over;
+    let before = fire_above(alloc, index, &index.lines[..place], walker)?;
+    if before.watches.is_unarmed() {
         return Ok(None);
     }
-    let fired = fire_above(alloc, index, &index.lines[..place + 1], &walker)?;
+    let fired = then_fire(alloc, index, place, told, before)?;
     Ok(Some(Step {
         walker: Walker {
             zxid,
             since: place + 1,
             watches: fired.watches,
-            next: walker.next,
-            moment: walker.moment,
-            is_over: walker.is_over,
+            next,
+            moment,
+            is_over,
         },
         due: fired.due,
     }))
@@ -83,12 +87,12 @@ fn told_given(
     alloc: Global,
     index: &Index,
     walker: Walker,
-    packets: &[Due],
+    packets: Packets<'_>,
     reply: &[u8],
 ) -> Result<Option<Step>, Memory>
     requires told { IsTold index.now.lines.now (walker_of walker) }
-    ensures within { IfOk result (λ o. IfSome o (λ s. length s.due.items ≤ length packets.now)) }
-    ensures step { IfOk result (λ o. option_map (left_by packets.now) o ≡ given_of packets.now (told_up_to_of index.now.lines.now (walker_of walker) (zxid_in_of reply.now))) }
+    ensures within { IfOk result (λ o. IfSome o (λ s. length s.due.items ≤ length (packets_in packets.entry))) }
+    ensures step { IfOk result (λ o. option_map (left_by (packets_in packets.entry)) o ≡ given_of (packets_in packets.entry) (told_up_to_of index.now.lines.now (walker_of walker) (zxid_in_of reply.now))) }
 {
     let told = told_up_to(alloc, index, walker, reply)?;
     Ok(given(told, packets))
@@ -100,15 +104,15 @@ fn answered_plainly(
     index: &Index,
     party: Party,
     told: Step,
-    packets: &[Due],
+    packets: Packets<'_>,
 ) -> Result<Option<Taken>, Memory>
-    requires within { length told.due.items ≤ length packets.now }
-    ensures within { IfOk result (λ o. IfSome o (λ t. t.count ≤ length packets.now)) }
-    ensures taken { IfOk result (λ o. option_map (taken_by packets.now) o ≡ given_of (drop (length told.due.items) packets.now) (move index.now.lines.now party.connection party.session (walker_of told.walker) Plain)) }
+    requires within { length told.due.items ≤ length (packets_in packets) }
+    ensures within { IfOk result (λ o. IfSome o (λ t. t.count ≤ length (packets_in packets.entry))) }
+    ensures taken { IfOk result (λ o. option_map (taken_by (packets_in packets.entry)) o ≡ given_of (drop (length told.due.items) (packets_in packets.entry)) (move index.now.lines.now party.connection party.session (walker_of told.walker) Plain)) }
 {
     let count = told.due.len();
-    let answer = answer_plainly(alloc, index, party, &told.walker)?;
-    match given(answer, &packets[count..]) {
+    let answer = answer_plainly(alloc, index, party, told.walker)?;
+    match given(answer, packets.behind(count)) {
         Some(step) => Ok(Some(Taken {
             count: count + step.due.len(),
             walker: step.walker,
@@ -123,12 +127,12 @@ pub fn plain_reply_given(
     index: &Index,
     party: Party,
     walker: Walker,
-    packets: &[Due],
+    packets: Packets<'_>,
     reply: &[u8],
 ) -> Result<Option<Taken>, Memory>
     requires told { IsTold index.now.lines.now (walker_of walker) }
-    ensures within { IfOk result (λ o. IfSome o (λ t. t.count ≤ length packets.now)) }
-    ensures taken { IfOk result (λ o. option_map (taken_by packets.now) o ≡ then_plainly index.now.lines.now party.connection party.session (given_of packets.now (told_up_to_of index.now.lines.now (walker_of walker) (zxid_in_of reply.now)))) }
+    ensures within { IfOk result (λ o. IfSome o (λ t. t.count ≤ length (packets_in packets.entry))) }
+    ensures taken { IfOk result (λ o. option_map (taken_by (packets_in packets.entry)) o ≡ then_plainly index.now.lines.now party.connection party.session (given_of (packets_in packets.entry) (told_up_to_of index.now.lines.now (walker_of walker) (zxid_in_of reply.now)))) }
 {
     match told_given(alloc, index, walker, packets, reply)? {
         Some(told) => answered_plainly(alloc, index, party, told, packets),

@@ -1,10 +1,9 @@
 //! Where the packets of each connection stand.
 
-ghost use Rattle.std.specs.Prelude.{◌≡◌, ◌==◌, ◌<◌, ◌++◌, ◌∷◌, [], ℕ, get_or, length, if◌then◌else◌, IfOk};
+ghost use Rattle.std.specs.Prelude.{◌≡◌, ◌==◌, ◌≤◌, ◌++◌, ◌∷◌, [], ℕ, drop, length, slice_get, if◌then◌else◌, IfOk, MatchOption};
 ghost use Rattle.zk_transcript.specs.Walks.{packets};
-ghost use Rattle.zk_judge.specs.Sent.{AreSent, places_in, sent_from};
+ghost use Rattle.zk_judge.specs.Sent.{AreSent, packets_in, places_in, sent_bytes, sent_from};
 
-use crate::packets::{Due, push_sent};
 use std::alloc::Global;
 use std::collections::BTreeMap;
 use zk_transcript::TranscriptLine;
@@ -16,28 +15,70 @@ pub struct Sent {
     places: BTreeMap<u32, Vec<usize>>,
 }
 
-fn line_at(lines: &[TranscriptLine], place: usize) -> &TranscriptLine
-    requires { place < length lines.now }
-    ensures { result.now ≡ get_or lines.now place result.now }
+/// The bytes of the packet that the line at a place sends.
+fn bytes_at(lines: &[TranscriptLine], place: usize) -> &[u8]
+    ensures { result.now ≡ sent_bytes (slice_get lines.now place) }
 {
-    &lines[place]
+    if lines.len() <= place {
+        return &[];
+    }
+    match &lines[place] {
+        TranscriptLine::Send { bytes, .. } => bytes.as_slice(),
+        _ => &[],
+    }
 }
 
-/// The packets at these places.
-fn packets_at(
-    alloc: Global,
-    lines: &[TranscriptLine],
-    connection: u32,
-    places: &[usize],
-) -> Result<Vec<Due>, Memory>
-    requires { places.now ≡ sent_from connection 0 lines.now }
-    ensures { IfOk result (λ v. v.items ≡ packets connection lines.now) }
+/// The places after the first ones, of which there are `taken`.
+fn places_behind(places: &[usize], taken: usize) -> &[usize]
+    requires { taken ≤ length places.now }
+    ensures { result.now ≡ drop taken places.now }
 {
-    let mut sent = Vec::new(alloc);
-    for place in places {
-        push_sent(alloc, &mut sent, connection, *place, line_at(lines, *place))?;
+    &places[taken..]
+}
+
+/// Packets of a connection, in order. They stay in the lines that sent them.
+#[derive(Clone, Copy)]
+pub struct Packets<'a> {
+    lines: &'a [TranscriptLine],
+    /// The places of their lines.
+    places: &'a [usize],
+}
+
+impl<'a> Packets<'a> {
+    /// How many there are.
+    pub fn len(self) -> usize
+        ensures { result ≡ length (packets_in self.entry) }
+    {
+        self.places.len()
     }
-    Ok(sent)
+
+    /// The first packet, by the place of its line and its bytes, and the others.
+    pub fn split(self) -> Option<(usize, &'a [u8], Packets<'a>)>
+        ensures { MatchOption result (packets_in self.entry ≡ []) (λ x. packets_in self.entry ≡ (x.0, x.1.now) ∷ packets_in x.2) }
+    {
+        match self.places {
+            [] => None,
+            [place, rest @ ..] => Some((
+                *place,
+                bytes_at(self.lines, *place),
+                Packets {
+                    lines: self.lines,
+                    places: rest,
+                },
+            )),
+        }
+    }
+
+    /// The packets after the first ones, of which there are `taken`.
+    pub fn behind(self, taken: usize) -> Packets<'a>
+        requires { taken ≤ length (packets_in self) }
+        ensures { packets_in result ≡ drop taken (packets_in self.entry) }
+    {
+        Packets {
+            lines: self.lines,
+            places: places_behind(self.places, taken),
+        }
+    }
 }
 
 impl Sent {
@@ -83,19 +124,17 @@ impl Sent {
         Ok(sent)
     }
 
-    /// The packets of a connection with their places, in order; `lines` are the lines that the table was made of.
-    pub fn packets_of(
-        &self,
-        alloc: Global,
-        lines: &[TranscriptLine],
-        connection: u32,
-    ) -> Result<Vec<Due>, Memory>
+    /// The packets of a connection; `lines` are the lines that the table was made of.
+    pub fn packets_of<'a>(&'a self, lines: &'a [TranscriptLine], connection: u32) -> Packets<'a>
         requires { AreSent lines.now self.now }
-        ensures { IfOk result (λ v. v.items ≡ packets connection lines.now) }
+        ensures { packets_in result ≡ packets connection lines.now }
     {
         match self.places.get(&connection) {
-            Some(places) => packets_at(alloc, lines, connection, places.as_slice()),
-            None => Ok(Vec::new(alloc)),
+            Some(places) => Packets {
+                lines,
+                places: places.as_slice(),
+            },
+            None => Packets { lines, places: &[] },
         }
     }
 }

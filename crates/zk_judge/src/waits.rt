@@ -2,6 +2,7 @@
 
 ghost use Rattle.std.specs.Prelude.{◌≡◌, ◌⊎◌, ◌+◌, ◌-◌, ◌<◌, ◌≤◌, ◌<ℤ◌, ◌∷◌, pos, None, drop, length, option_to_list, IfOk, IfSome};
 ghost use Rattle.zk_transcript.specs.History.{state_at};
+ghost use Rattle.zk_transcript.specs.Walks.{packets};
 ghost use Rattle.zk_least.specs.LeastSteps.{is_least};
 ghost use Rattle.zk_legal.specs.Faults.{history_fault};
 ghost use Rattle.zk_judge.specs.Fronts.{IsTold};
@@ -12,7 +13,7 @@ ghost use Rattle.zk_judge.specs.declared.waits.Walked.TheVariants as walk;
 
 use crate::firing::fire_above;
 use crate::index::Index;
-use crate::packets::{Due, is_front, next_reply, packets_behind};
+use crate::packets::{is_front, next_reply};
 use crate::queues::plain_reply_given;
 use crate::walker::{Party, Step, Walker};
 use crate::walks::{allowed, moments, repeats};
@@ -25,8 +26,7 @@ use zx_base::Memory;
 pub struct Wait {
     pub party: Party,
     pub walker: Walker,
-    /// What it was sent, the welcome included, and how many of these packets have been accounted for.
-    pub packets: Vec<Due>,
+    /// How many of the packets that it was sent have been accounted for, the welcome included.
     pub taken: usize,
     /// The moment that is tried next, and the one that is tried after it.
     pub first: usize,
@@ -60,7 +60,6 @@ fn wait_between(
     from: usize,
     party: Party,
     walker: Walker,
-    packets: Vec<Due>,
     taken: usize,
     first: usize,
     second: Option<usize>,
@@ -68,17 +67,16 @@ fn wait_between(
     requires early { IsEarliest index.now.lines.now (walker_of walker) from }
     requires above { pos 0 <ℤ walker.zxid }
     requires told { IsTold index.now.lines.now (walker_of walker) }
-    requires within { taken ≤ length packets.items }
+    requires within { taken ≤ length (packets party.connection index.now.lines.now) }
     requires rises { IsNotBefore first second }
-    ensures walked { is_walked index.now.lines.now result ≡ goes_on index.now.lines.now party.connection party.session (walker_of walker) (drop taken packets.items) (first ∷ option_to_list second) }
+    ensures walked { is_walked index.now.lines.now result ≡ goes_on index.now.lines.now party.connection party.session (walker_of walker) (drop taken (packets party.connection index.now.lines.now)) (first ∷ option_to_list second) }
     ensures waits { IsWaiting index.now.lines.now from result }
-    ensures fewer { left_of result ≤ length packets.items - taken }
+    ensures fewer { left_of index.now.lines.now result ≤ length (packets party.connection index.now.lines.now) - taken }
 {
     if from <= first && first <= index.lines.len() {
         return Walked::Waits(Wait {
             party,
             walker,
-            packets,
             taken,
             first,
             second,
@@ -88,7 +86,6 @@ fn wait_between(
         Some(second) if from <= second && second <= index.lines.len() => Walked::Waits(Wait {
             party,
             walker,
-            packets,
             taken,
             first: second,
             second: None,
@@ -103,23 +100,20 @@ fn wait_for_tries(
     from: usize,
     party: Party,
     walker: Walker,
-    packets: Vec<Due>,
     taken: usize,
     tries: Option<(usize, Option<usize>)>,
 ) -> Walked
     requires early { IsEarliest index.now.lines.now (walker_of walker) from }
     requires above { pos 0 <ℤ walker.zxid }
     requires told { IsTold index.now.lines.now (walker_of walker) }
-    requires within { taken ≤ length packets.items }
+    requires within { taken ≤ length (packets party.connection index.now.lines.now) }
     requires rises { IfSome tries (λ t. IsNotBefore t.0 t.1) }
-    ensures walked { is_walked index.now.lines.now result ≡ goes_on index.now.lines.now party.connection party.session (walker_of walker) (drop taken packets.items) (tries_of tries) }
+    ensures walked { is_walked index.now.lines.now result ≡ goes_on index.now.lines.now party.connection party.session (walker_of walker) (drop taken (packets party.connection index.now.lines.now)) (tries_of tries) }
     ensures waits { IsWaiting index.now.lines.now from result }
-    ensures fewer { left_of result ≤ length packets.items - taken }
+    ensures fewer { left_of index.now.lines.now result ≤ length (packets party.connection index.now.lines.now) - taken }
 {
     match tries {
-        Some((first, second)) => wait_between(
-            index, from, party, walker, packets, taken, first, second,
-        ),
+        Some((first, second)) => wait_between(index, from, party, walker, taken, first, second),
         None => Walked::Ends(false),
     }
 }
@@ -132,29 +126,29 @@ pub fn settle(
     from: usize,
     party: Party,
     walker: Walker,
-    packets: Vec<Due>,
     taken: usize,
 ) -> Result<Walked, Memory>
     requires run { history_fault index.now.lines.now ≡ None }
     requires early { IsEarliest index.now.lines.now (walker_of walker) from }
     requires above { pos 0 <ℤ walker.zxid }
     requires told { IsTold index.now.lines.now (walker_of walker) }
-    requires within { taken ≤ length packets.items }
-    ensures walked { IfOk result (λ r. is_walked index.now.lines.now r ≡ is_least index.now.lines.now party.connection party.session (walker_of walker) (drop taken packets.items)) }
+    requires within { taken ≤ length (packets party.connection index.now.lines.now) }
+    ensures walked { IfOk result (λ r. is_walked index.now.lines.now r ≡ is_least index.now.lines.now party.connection party.session (walker_of walker) (drop taken (packets party.connection index.now.lines.now))) }
     ensures waits { IfOk result (λ r. IsWaiting index.now.lines.now from r) }
-    ensures fewer { IfOk result (λ r. left_of r ≤ length packets.items - taken) }
+    ensures fewer { IfOk result (λ r. left_of index.now.lines.now r ≤ length (packets party.connection index.now.lines.now) - taken) }
 {
     let mut walker = walker;
     let mut taken = taken;
+    let packets = index.packets_of(party.connection);
     'replies: loop {
-        let left = packets_behind(&packets, taken);
+        let left = packets.behind(taken);
         let Some(reply) = next_reply(left) else {
-            let fired = fire_above(alloc, index, index.lines, &walker)?;
+            let fired = fire_above(alloc, index, index.lines, walker)?;
             return Ok(Walked::Ends(is_front(left, &fired.due)));
         };
         if !repeats(alloc, index, party, &walker, reply)? {
             let tries = moments(index, party, &walker, reply);
-            return Ok(wait_for_tries(index, from, party, walker, packets, taken, tries));
+            return Ok(wait_for_tries(index, from, party, walker, taken, tries));
         }
         match plain_reply_given(alloc, index, party, walker, left, reply)? {
             Some(step) => {
@@ -169,7 +163,7 @@ pub fn settle(
 /// Waits for the second moment, where the first failed.
 fn retry(index: &Index, wait: Wait) -> Walked
     requires stands { IsWait index.now.lines.now wait.first wait }
-    requires failed { None ≡ tried_of index.now.lines.now wait.party.connection wait.party.session (walker_of wait.walker) (drop wait.taken wait.packets.items) wait.first }
+    requires failed { None ≡ tried_of index.now.lines.now wait.party.connection wait.party.session (walker_of wait.walker) (drop wait.taken (packets wait.party.connection index.now.lines.now)) wait.first }
     ensures walked { is_walked index.now.lines.now result ≡ is_walked index.now.lines.now (walk.Waits wait) }
     ensures waits { IsWaiting index.now.lines.now (wait.first + 1) result }
 {
@@ -178,7 +172,6 @@ fn retry(index: &Index, wait: Wait) -> Walked
         Some(second) if moment < second && second <= index.lines.len() => Walked::Waits(Wait {
             party: wait.party,
             walker: wait.walker,
-            packets: wait.packets,
             taken: wait.taken,
             first: second,
             second: None,
@@ -187,14 +180,15 @@ fn retry(index: &Index, wait: Wait) -> Walked
     }
 }
 
-/// Tries the next reply as of its first moment; `state` is the state then.
-fn try_first(alloc: Global, index: &Index, state: &State, wait: Wait) -> Result<Walked, Memory>
+/// Tries the next reply as of its only moment; `state` is the state then.
+fn try_only(alloc: Global, index: &Index, state: &State, wait: Wait) -> Result<Walked, Memory>
     requires run { history_fault index.now.lines.now ≡ None }
     requires stands { IsWait index.now.lines.now wait.first wait }
+    requires only { wait.second ≡ None }
     requires state { state.now ≡ state_at index.now.lines.now wait.first }
     ensures walked { IfOk result (λ r. is_walked index.now.lines.now r ≡ is_walked index.now.lines.now (walk.Waits wait)) }
     ensures waits { IfOk result (λ r. IsWaiting index.now.lines.now wait.first r) }
-    ensures fewer { IfOk result (λ r. IsWaiting index.now.lines.now (wait.first + 1) r ⊎ (left_of r < left_of (walk.Waits wait))) }
+    ensures fewer { IfOk result (λ r. IsWaiting index.now.lines.now (wait.first + 1) r ⊎ (left_of index.now.lines.now r < left_of index.now.lines.now (walk.Waits wait))) }
 {
     let moment = wait.first;
     let tried = allowed(
@@ -202,8 +196,8 @@ fn try_first(alloc: Global, index: &Index, state: &State, wait: Wait) -> Result<
         index,
         state,
         wait.party,
-        &wait.walker,
-        packets_behind(&wait.packets, wait.taken),
+        wait.walker,
+        index.packets_of(wait.party.connection).behind(wait.taken),
         moment,
     )?;
     match tried {
@@ -213,10 +207,59 @@ fn try_first(alloc: Global, index: &Index, state: &State, wait: Wait) -> Result<
             moment,
             wait.party,
             walker,
-            wait.packets,
+            wait.taken + due.len(),
+        ),
+        None => Ok(Walked::Ends(false)),
+    }
+}
+
+/// Tries the next reply as of the first of its two moments; `state` is the state then. What is armed is copied for the second.
+fn try_first(alloc: Global, index: &Index, state: &State, wait: Wait) -> Result<Walked, Memory>
+    requires run { history_fault index.now.lines.now ≡ None }
+    requires stands { IsWait index.now.lines.now wait.first wait }
+    requires state { state.now ≡ state_at index.now.lines.now wait.first }
+    ensures walked { IfOk result (λ r. is_walked index.now.lines.now r ≡ is_walked index.now.lines.now (walk.Waits wait)) }
+    ensures waits { IfOk result (λ r. IsWaiting index.now.lines.now wait.first r) }
+    ensures fewer { IfOk result (λ r. IsWaiting index.now.lines.now (wait.first + 1) r ⊎ (left_of index.now.lines.now r < left_of index.now.lines.now (walk.Waits wait))) }
+{
+    let moment = wait.first;
+    let walker = wait.walker.copy()?;
+    let tried = allowed(
+        alloc,
+        index,
+        state,
+        wait.party,
+        walker,
+        index.packets_of(wait.party.connection).behind(wait.taken),
+        moment,
+    )?;
+    match tried {
+        Some(Step { walker, due }) => settle(
+            alloc,
+            index,
+            moment,
+            wait.party,
+            walker,
             wait.taken + due.len(),
         ),
         None => Ok(retry(index, wait)),
+    }
+}
+
+/// Tries the next reply as of the moment that it waits for; `state` is the state then. A reply has a second moment only where it
+/// says that the session has expired. No request is answered after such a reply, so a connection's watches are copied for at most
+/// two of them.
+fn try_next(alloc: Global, index: &Index, state: &State, wait: Wait) -> Result<Walked, Memory>
+    requires run { history_fault index.now.lines.now ≡ None }
+    requires stands { IsWait index.now.lines.now wait.first wait }
+    requires state { state.now ≡ state_at index.now.lines.now wait.first }
+    ensures walked { IfOk result (λ r. is_walked index.now.lines.now r ≡ is_walked index.now.lines.now (walk.Waits wait)) }
+    ensures waits { IfOk result (λ r. IsWaiting index.now.lines.now wait.first r) }
+    ensures fewer { IfOk result (λ r. IsWaiting index.now.lines.now (wait.first + 1) r ⊎ (left_of index.now.lines.now r < left_of index.now.lines.now (walk.Waits wait))) }
+{
+    match wait.second {
+        Some(_) => try_first(alloc, index, state, wait),
+        None => try_only(alloc, index, state, wait),
     }
 }
 
@@ -237,7 +280,7 @@ fn answer_all(
 {
     let mut wait = wait;
     'replies: loop {
-        match try_first(alloc, index, state, wait)? {
+        match try_next(alloc, index, state, wait)? {
             Walked::Ends(is_least) => return Ok(Walked::Ends(is_least)),
             Walked::Waits(next) => {
                 if next.first != moment {

@@ -1,12 +1,13 @@
 //! How far a connection has come.
 
-ghost use Rattle.std.specs.Prelude.{◌≡◌};
+ghost use Rattle.std.specs.Prelude.{◌≡◌, IfOk};
 ghost use Rattle.zk_transcript.specs.Walks.{at_start};
 ghost use Rattle.zk_judge.specs.Seen.{walker_of};
 
 use crate::packets::Due;
 use std::alloc::Global;
 use zk_answers::Watches;
+use zx_base::Memory;
 
 /// The connection whose conversation is judged: its number, and the session that its own line attached to it.
 #[derive(Clone, Copy)]
@@ -43,6 +44,20 @@ impl Walker {
             moment: 0,
             is_over: false,
         }
+    }
+
+    /// A copy, which takes a step for each watch.
+    pub fn copy(&self) -> Result<Walker, Memory>
+        ensures { IfOk result (λ w. w ≡ self.now) }
+    {
+        Ok(Walker {
+            zxid: self.zxid,
+            since: self.since,
+            watches: self.watches.copy()?,
+            next: self.next,
+            moment: self.moment,
+            is_over: self.is_over,
+        })
     }
 }
 

@@ -1,38 +1,48 @@
 //! The replies of a connection: those that frames get without the tree, and the moments to try for the others.
 
-ghost use Rattle.std.specs.Prelude.{◌≡◌, ◌<◌, ◌≤◌, ◌∷◌, [], Some, None, if◌then◌else◌, length, option_map, option_to_list, IfOk, IfSome};
+ghost use Rattle.std.specs.Prelude.{◌≡◌, ◌<◌, ◌≤◌, ◌∷◌, [], Some, None, bytes_eq, if◌then◌else◌, length, option_map, option_to_list, IfOk, IfSome};
 ghost use Rattle.std.specs.Ordering.{int_eq};
+ghost use Rattle.zk_jute.specs.Packets.{CanBeSent, reply_packet as reply_packet_of};
 ghost use Rattle.zk_model.specs.Codes.{session_expired};
+ghost use Rattle.zk_transcript.specs.Answers.{xid_of as xid_of_of};
 ghost use Rattle.zk_transcript.specs.History.{state_at};
 ghost use Rattle.zk_transcript.specs.Walks.{later_of as later_of_of, own_update as own_update_of, placed_frame as placed_frame_of};
 ghost use Rattle.zk_least.specs.LeastMoments.{code_in as code_in_of, lapsed_from as lapsed_from_of, moments_for, moments_to_try};
-ghost use Rattle.zk_least.specs.LeastWalk.{given as given_of, repeats as repeats_of};
+ghost use Rattle.zk_least.specs.LeastWalk.{given as given_of, repeats as repeats_of, zxid_in as zxid_in_of};
 ghost use Rattle.zk_judge.specs.Fronts.{IsTold};
-ghost use Rattle.zk_judge.specs.Seen.{left_by, step_of, walker_of};
+ghost use Rattle.zk_judge.specs.Sent.{packets_in};
+ghost use Rattle.zk_judge.specs.Seen.{frame_as, left_by, step_of, walker_of};
 ghost use Rattle.zk_judge.specs.Waiting.{IsNotBefore, tried, tries_of};
 
-use crate::frames::{frame_of, plain_reply, xid_of};
+use crate::frames::{FrameRead, frame_of, plain_reply, xid_of};
 use crate::index::Index;
-use crate::packets::{Due, code_in, come_first, reply_packet, zxid_in};
+use crate::packets::{code_in, come_first, reply_packet, zxid_in};
 use crate::places::lapsed_from;
+use crate::sent::Packets;
 use crate::steps::{answer_as_of, later_of};
 use crate::walker::{Party, Step, Walker};
 use std::alloc::Global;
-use zk_answers::Watches;
 use zk_history::State;
+use zk_model::Reply;
 use zk_model::code::SESSION_EXPIRED;
 use zx_base::Memory;
+
+/// Whether a packet is this reply to a frame, with whatever zxid.
+fn is_reply(alloc: Global, frame: &FrameRead, answer: &Reply, packet: &[u8]) -> Result<bool, Memory>
+    requires { CanBeSent answer.now }
+    ensures { IfOk result (λ b. b ≡ bytes_eq packet.now (reply_packet_of (xid_of_of (frame_as frame.now)) (zxid_in_of packet.now) answer.now)) }
+{
+    let wanted = reply_packet(alloc, xid_of(frame), zxid_in(packet), answer)?;
+    Ok(packet == wanted.as_slice())
+}
 
 /// Whether a reply is a frame's answer without the tree, with whatever zxid.
 fn is_plain(alloc: Global, bytes: &[u8], reply: &[u8]) -> Result<bool, Memory>
     ensures { IfOk result (λ b. b ≡ repeats_of (Some (0, bytes.now)) reply.now) }
 {
     let frame = frame_of(alloc, bytes)?;
-    match plain_reply(alloc, &Watches::new(alloc), &frame)? {
-        Some(told) => {
-            let packet = reply_packet(alloc, xid_of(&frame), zxid_in(reply), &told.reply)?;
-            Ok(reply == packet.as_slice())
-        }
+    match plain_reply(alloc, &frame)? {
+        Some(answer) => is_reply(alloc, &frame, &answer, reply),
         None => Ok(false),
     }
 }
@@ -54,9 +64,9 @@ pub fn repeats(
 }
 
 /// The step, where the packets that are due with it come next.
-pub fn given(step: Option<Step>, packets: &[Due]) -> Option<Step>
-    ensures within { IfSome result (λ s. length s.due.items ≤ length packets.now) }
-    ensures step { option_map (left_by packets.now) result ≡ given_of packets.now (option_map step_of step) }
+pub fn given(step: Option<Step>, packets: Packets<'_>) -> Option<Step>
+    ensures within { IfSome result (λ s. length s.due.items ≤ length (packets_in packets.entry)) }
+    ensures step { option_map (left_by (packets_in packets.entry)) result ≡ given_of (packets_in packets.entry) (option_map step_of step) }
 {
     match step {
         Some(step) => {
@@ -77,14 +87,14 @@ pub fn allowed(
     index: &Index,
     state: &State,
     party: Party,
-    walker: &Walker,
-    packets: &[Due],
+    walker: Walker,
+    packets: Packets<'_>,
     moment: usize,
 ) -> Result<Option<Step>, Memory>
-    requires told { IsTold index.now.lines.now (walker_of walker.now) }
+    requires told { IsTold index.now.lines.now (walker_of walker) }
     requires state { state.now ≡ state_at index.now.lines.now moment }
-    ensures within { IfOk result (λ o. IfSome o (λ s. length s.due.items ≤ length packets.now)) }
-    ensures step { IfOk result (λ o. option_map (left_by packets.now) o ≡ tried index.now.lines.now party.connection party.session (walker_of walker.now) packets.now moment) }
+    ensures within { IfOk result (λ o. IfSome o (λ s. length s.due.items ≤ length (packets_in packets.entry))) }
+    ensures step { IfOk result (λ o. option_map (left_by (packets_in packets.entry)) o ≡ tried index.now.lines.now party.connection party.session (walker_of walker) (packets_in packets.entry) moment) }
 {
     match index.placed_frame(party.connection, walker.next) {
         Some((place, _)) => {

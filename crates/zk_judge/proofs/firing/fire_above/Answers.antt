@@ -9,13 +9,13 @@ use Rattle.zk_judge.proofs.firing.fire_above.Goals as goal
 use Rattle.zk_judge.proofs.firing.fire_above.Goals.{then-updates-test+else-not-is_unarmed, else-updates-test}
 
 pub updates-init : goal.updates-init
-updates-init c = rw (c.in_ok-copy.ensures, c.new.ensures.items) (fired-start c.args.past.now c.args.index.now.lines.now (walker_of c.args.walker.now) c.requires.front c.requires.told)
+updates-init c = rw c.new.ensures.items (fired-start c.args.past.now c.args.index.now.lines.now (walker_of c.args.walker) c.requires.front c.requires.told)
 
 pub returns-then-past-place : goal.returns-then-past-place
 returns-then-past-place c =
     let place = c.next_update-place.ensures in
     c.updates.invariant
-    ∙ fired-end c.args.past.now c.args.walker.now.zxid c.args.walker.now.watches c.updates.at (omega (arith, c.updates-test.true))
+    ∙ fired-end c.args.past.now c.args.walker.zxid c.args.walker.watches c.updates.at (omega (arith, c.updates-test.true))
     (λ k u low high at. place.none k u low (omega (arith, high, c.if-past-place.true)) (front-get c.args.past.now c.args.index.now.lines.now k _ c.requires.front at))
 
 pub updates-preserved : goal.updates-preserved
@@ -24,15 +24,15 @@ updates-preserved c =
     let lines = c.args.index.now.lines.now in
     let place = c.next_update-place.ensures in
     let here = line-at past c.next_update-place.result c.if-past-place.false in
-    fired-next past lines c.args.walker.now.zxid c.args.walker.now.watches c.updates.at c.next_update-place.result here.0 _ _ c.requires.front place.from c.if-past-place.false
+    fired-next past lines c.args.walker.zxid c.args.walker.watches c.updates.at c.next_update-place.result here.0 _ _ c.requires.front place.from c.if-past-place.false
     (λ k u low high at. place.none k u low high (front-get past lines k _ c.requires.front at))
     here.1 c.updates.invariant (c.in_ok-fired.ensures here.0 (front-get past lines c.next_update-place.result here.0 c.requires.front here.1))
 
 pub returns : goal.returns
 returns c =
     let past = c.args.past.now in
-    let zxid = c.args.walker.now.zxid in
-    let watches = c.args.walker.now.watches in
+    let zxid = c.args.walker.zxid in
+    let watches = c.args.walker.watches in
     let at = c.updates.at in
     elim c.updates-test.branch [
       | then-updates-test+else-not-is_unarmed w ↦

@@ -13,5 +13,5 @@ loop-moment-preserved c = record {
 pub returns-clause-opened : goal.returns-clause-opened
 returns-clause-opened c = λ d is.
     let lines = c.args.index.now.lines.now in
-    let next : c.in_ok-over.over.next ≡ length lines + 1 = omega (arith, c.in_ok-over.ensures.agenda.size, c.in_ok-over.ensures.next, c.loop-moment.invariant.next, c.loop-moment-test.false) in
+    let next : c.in_ok-over.over.next ≡ length lines + 1 = omega (arith, c.in_ok-over.ensures.agenda.next, c.in_ok-over.ensures.next, c.loop-moment.invariant.next, c.loop-moment-test.false) in
     c.into_judged.ensures.all lines d c.in_ok-over.ensures.agenda next (c.in_ok-over.ensures.kept d (c.loop-moment.invariant.opened d is))

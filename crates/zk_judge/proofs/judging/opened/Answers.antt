@@ -12,7 +12,7 @@ loop-line-preserved c =
     let line = c.line-item.result in
     let next = ap (λ (l : TranscriptLine). take k lines ++ l ∷ []) c.line-item.is ∙ sym (take_more lines k line c.loop-line-test.true) in
     record {
-      agenda = c.in_ok-agenda-2.ensures.agenda;
-      next = c.in_ok-agenda-2.ensures.next;
-      opened = subst (λ (ls : List TranscriptLine). AreOpened ls (HasConversation c.in_ok-agenda-2.agenda)) next (c.in_ok-agenda-2.ensures.opened (take k lines) c.loop-line.invariant.opened);
+      agenda = c.in_ok-agenda.ensures.agenda;
+      next = c.in_ok-agenda.ensures.next;
+      opened = subst (λ (ls : List TranscriptLine). AreOpened ls (HasConversation c.in_ok-agenda.agenda)) next (c.in_ok-agenda.ensures.opened (take k lines) c.loop-line.invariant.opened);
     }

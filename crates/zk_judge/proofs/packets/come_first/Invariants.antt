@@ -1,6 +1,12 @@
-use Rattle.std.proofs.Common.{◌≡◌, drop}
+use Rattle.std.proofs.Common.{◌≡◌, ◌≤◌, drop, length}
 use Rattle.zk_least.specs.LeastWalk.{behind}
+use Rattle.zk_judge.specs.Sent.{packets_in}
 use Rattle.zk_judge.proofs.packets.come_first.Given as goal
 
-abbrev pub invariant-loop-at : goal.invariant-loop-at
-invariant-loop-at l = behind l.due l.packets ≡ behind (drop l.at l.due) (drop l.at l.packets)
+abbrev pub invariant-loop-wanted : goal.invariant-loop-wanted
+invariant-loop-wanted l = record {
+  rest : behind l.due (packets_in l.packets) ≡ behind (drop l.wanted-index l.due) (packets_in l.left);
+  left : packets_in l.left ≡ drop l.wanted-index (packets_in l.packets);
+  within : l.wanted-index ≤ length (packets_in l.packets);
+  few : l.wanted-index ≤ length l.due;
+}

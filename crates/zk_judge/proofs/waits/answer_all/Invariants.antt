@@ -1,4 +1,5 @@
 use Rattle.std.proofs.Common.{◌≡◌, ◌-◌, length}
+use Rattle.zk_transcript.specs.Walks.{packets}
 use Rattle.zk_judge.specs.Waiting.{IsWait, is_walked}
 use Rattle.zk_judge.specs.declared.waits.Walked.TheVariants as walk
 use Rattle.zk_judge.proofs.waits.answer_all.Given as goal
@@ -11,4 +12,4 @@ invariant-replies l = record {
 }
 
 abbrev pub decreases-replies : goal.decreases-replies
-decreases-replies l = length l.wait.packets.items - l.wait.taken
+decreases-replies l = length (packets l.wait.party.connection l.index.lines.now) - l.wait.taken

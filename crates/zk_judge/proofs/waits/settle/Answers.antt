@@ -1,11 +1,12 @@
 use Rattle.std.proofs.Common.{◌≡◌, ◌≤◌, List, Option, Some, None, true, false, ap, sym, ◌∙◌, drop, length, length-drop, subst, arith}
 use Rattle.std.specs.Prelude.{option_map, IfSome}
 use Rattle.zk_judge.specs.declared.queues.Taken.{Taken}
-use Rattle.zk_transcript.specs.Walks.{Due, placed_frame}
+use Rattle.zk_transcript.specs.Walks.{Due, placed_frame, packets}
 use Rattle.zk_least.specs.LeastQueues.{is_front, then_plainly, told_up_to}
 use Rattle.zk_least.specs.LeastMoments.{moments_for}
 use Rattle.zk_least.specs.LeastSteps.{is_least}
 use Rattle.zk_least.specs.LeastWalk.{given, repeats, zxid_in}
+use Rattle.zk_judge.specs.Sent.{packets_in}
 use Rattle.zk_judge.specs.Seen.{taken_by, walker_of}
 use Rattle.zk_judge.specs.Waiting.{goes_on}
 use Rattle.zk_model.specs.Watches.{Watches}
@@ -16,8 +17,8 @@ use Rattle.zk_judge.proofs.waits.settle.Goals as goal
 pub returns-in_default-clause-walked : goal.returns-in_default-clause-walked
 returns-in_default-clause-walked c =
     let w = walker_of c.replies.walker in
-    let ps = c.packets_behind-left.result.now in
-    let here = c.packets_behind-left.ensures in
+    let ps = packets_in c.behind-left.result in
+    let here = c.behind-left.ensures ∙ ap (λ (ds : List Due). drop c.replies.taken ds) c.packets_of-packets.ensures in
     let lines = c.args.index.now.lines.now in
     let conn = c.args.party.connection in
     let id = c.args.party.session in
@@ -31,14 +32,14 @@ returns-in_default-clause-walked c =
 pub returns-then-not-branch-clause-walked : goal.returns-then-not-branch-clause-walked
 returns-then-not-branch-clause-walked c =
     let w = walker_of c.replies.walker in
-    let ps = c.packets_behind-left.result.now in
-    let here = c.packets_behind-left.ensures in
+    let ps = packets_in c.behind-left.result in
+    let here = c.behind-left.ensures ∙ ap (λ (ds : List Due). drop c.replies.taken ds) c.packets_of-packets.ensures in
     let lines = c.args.index.now.lines.now in
     let conn = c.args.party.connection in
     let id = c.args.party.session in
     let apart : repeats (placed_frame conn c.replies.walker.next lines) c.in-Some.reply.now ≡ false = sym c.in_ok-repeats.ensures ∙ c.if-not-branch.true in
     c.wait_for_tries.ensures.walked
-    ∙ ap (goes_on lines conn id w (drop c.replies.taken c.args.packets.items)) c.moments-tries.ensures.tries
+    ∙ ap (goes_on lines conn id w (drop c.replies.taken (packets c.args.party.connection c.args.index.now.lines.now))) c.moments-tries.ensures.tries
     ∙ ap (λ qs. goes_on lines conn id w qs (moments_for lines conn id w c.in-Some.reply.now (placed_frame conn c.replies.walker.next lines))) (sym here)
     ∙ sym (at-moments lines conn id w ps c.in-Some.reply.now c.requires.run c.replies.invariant.above (sym c.in-Some.ensures) apart)
     ∙ ap (is_least lines conn id w) here
@@ -47,8 +48,8 @@ returns-then-not-branch-clause-walked c =
 pub replies-smaller : goal.replies-smaller
 replies-smaller c =
     let w = walker_of c.replies.walker in
-    let ps = c.packets_behind-left.result.now in
-    let here = c.packets_behind-left.ensures in
+    let ps = packets_in c.behind-left.result in
+    let here = c.behind-left.ensures ∙ ap (λ (ds : List Due). drop c.replies.taken ds) c.packets_of-packets.ensures in
     let lines = c.args.index.now.lines.now in
     let conn = c.args.party.connection in
     let id = c.args.party.session in
@@ -56,13 +57,13 @@ replies-smaller c =
     let g = plain-on lines conn id w ps (zxid_in c.in-Some.reply.now) (taken_by ps c.in-Some-2.step) c.requires.run c.replies.invariant.above c.replies.invariant.told (sym is) in
     let fewer = g.fewer in
     let size = ap (λ (ds : List Due). length ds) here in
-    omega (arith, fewer, size, length-drop c.in-Some-2.step.count ps, length-drop c.replies.taken c.args.packets.items)
+    omega (arith, fewer, size, length-drop c.in-Some-2.step.count ps, length-drop c.replies.taken (packets c.args.party.connection c.args.index.now.lines.now))
 
 pub replies-preserved : goal.replies-preserved
 replies-preserved c =
     let w = walker_of c.replies.walker in
-    let ps = c.packets_behind-left.result.now in
-    let here = c.packets_behind-left.ensures in
+    let ps = packets_in c.behind-left.result in
+    let here = c.behind-left.ensures ∙ ap (λ (ds : List Due). drop c.replies.taken ds) c.packets_of-packets.ensures in
     let lines = c.args.index.now.lines.now in
     let conn = c.args.party.connection in
     let id = c.args.party.session in
@@ -76,7 +77,7 @@ replies-preserved c =
     let size = ap (λ (ds : List Due). length ds) here in
     let v = walker_of c.in-Some-2.step.walker in
     record {
-      least = ap (is_least lines conn id v) (sym (drop-both c.replies.taken c.in-Some-2.step.count c.args.packets.items))
+      least = ap (is_least lines conn id v) (sym (drop-both c.replies.taken c.in-Some-2.step.count (packets c.args.party.connection c.args.index.now.lines.now)))
           ∙ ap (λ (ds : List Due). is_least lines conn id v (drop c.in-Some-2.step.count ds)) (sym here)
           ∙ plain-some lines conn id w ps c.in-Some.reply.now (taken_by ps c.in-Some-2.step) c.requires.run c.replies.invariant.above (sym c.in-Some.ensures) plain is
           ∙ ap (is_least lines conn id w) here
@@ -84,15 +85,15 @@ replies-preserved c =
       early = g.earliest c.args.from c.replies.invariant.early;
       told = g.told;
       above = g.above;
-      within = omega (arith, most, within, size, length-drop c.replies.taken c.args.packets.items);
+      within = omega (arith, most, within, size, length-drop c.replies.taken (packets c.args.party.connection c.args.index.now.lines.now));
       more = omega (arith, more);
     }
 
 pub returns-in-None-clause-walked : goal.returns-in-None-clause-walked
 returns-in-None-clause-walked c =
     let w = walker_of c.replies.walker in
-    let ps = c.packets_behind-left.result.now in
-    let here = c.packets_behind-left.ensures in
+    let ps = packets_in c.behind-left.result in
+    let here = c.behind-left.ensures ∙ ap (λ (ds : List Due). drop c.replies.taken ds) c.packets_of-packets.ensures in
     let lines = c.args.index.now.lines.now in
     let conn = c.args.party.connection in
     let id = c.args.party.session in

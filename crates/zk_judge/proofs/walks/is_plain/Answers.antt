@@ -1,8 +1,25 @@
-use Rattle.std.proofs.Common.{ap, sym, ◌∙◌}
-use Rattle.std.specs.Prelude.{option_map}
-use Rattle.zk_answers.specs.Outcomes.{told_of}
-use Rattle.zk_judge.proofs.Telling.{plain-fits}
+use Rattle.std.proofs.Common.{◌≡◌, Bool, Some, None, ap, sym, ◌∙◌, subst, IfOk}
+use Rattle.zk_jute.specs.Requests.{Frame}
+use Rattle.zk_model.specs.Watches.{no_watches}
+use Rattle.zk_transcript.specs.Answers.{plain_reply}
+use Rattle.zk_least.specs.LeastWalk.{is_plain}
+use Rattle.zk_judge.specs.Seen.{frame_as, reply_in}
+use Rattle.zk_judge.proofs.PlainAnswers.{plain-is, plain-is-not, plain-sent}
 use Rattle.zk_judge.proofs.walks.is_plain.Goals as goal
 
-pub reply_packet-requires : goal.reply_packet-requires
-reply_packet-requires c = (plain-fits _ _ c.in-Some.told (sym (ap (option_map told_of) c.in-Some.is) ∙ c.in_ok-told.ensures)).reply
+pub is_reply-requires : goal.is_reply-requires
+is_reply-requires c = plain-sent (frame_as c.in_ok-frame.frame) c.in-Some.answer (sym c.in-Some.is ∙ c.in_ok-answer.ensures)
+
+pub returns-in-Some : goal.returns-in-Some
+returns-in-Some c =
+    let x = frame_as c.in_ok-frame.frame in
+    let answered : Some c.in-Some.answer ≡ reply_in (plain_reply no_watches x) = sym c.in-Some.is ∙ c.in_ok-answer.ensures in
+    let same =
+    plain-is x (plain_reply no_watches x) c.in-Some.answer c.args.reply.now answered ∙ ap (λ (y : Frame). is_plain y (plain_reply no_watches y) c.args.reply.now) c.in_ok-frame.ensures in
+    subst (λ (b : Bool). IfOk c.is_reply.result (λ r. r ≡ b)) same c.is_reply.ensures
+
+pub returns-in-None : goal.returns-in-None
+returns-in-None c =
+    let x = frame_as c.in_ok-frame.frame in
+    let unanswered : None ≡ reply_in (plain_reply no_watches x) = sym c.in-None.is ∙ c.in_ok-answer.ensures in
+    plain-is-not x (plain_reply no_watches x) c.args.reply.now unanswered ∙ ap (λ (y : Frame). is_plain y (plain_reply no_watches y) c.args.reply.now) c.in_ok-frame.ensures

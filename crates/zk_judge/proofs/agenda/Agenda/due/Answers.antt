@@ -1,24 +1,21 @@
-use Rattle.std.proofs.Common.{inl, inr, arith}
-use Rattle.zk_judge.proofs.Agendas.{last-or-rest, last-size, last-stands, rest-waiting}
+use Rattle.std.proofs.Common.{List, inl, inr, refl, ap, sym, ◌∙◌, subst}
+use Rattle.std.specs.List.{All, Contains}
+use Rattle.zk_judge.specs.Staged.{IsStanding, connections}
+use Rattle.zk_judge.specs.declared.conversations.Conversation.{Conversation}
+use Rattle.zk_judge.proofs.Agendas.{taken-agenda, taken-or-left}
 use Rattle.zk_judge.proofs.agenda.Agenda.due.Goals as goal
 
 pub returns-clause-due : goal.returns-clause-due
-returns-clause-due c = λ lines a. last-stands c.args.self.waiting.items c.pop.new.self.items c.in-Some.due c.in-Some.ensures.items lines c.args.self.next a.size a.waiting
+returns-clause-due c = λ lines is. subst (λ (xs : List Conversation). All (IsStanding lines c.args.self.next) xs) (sym c.without-taken.ensures.own) (is.waiting c.args.self.next)
 
 pub returns-clause-agenda : goal.returns-clause-agenda
-returns-clause-agenda c = λ lines a.
-    let before = c.args.self.waiting.items in
-    let rest = c.pop.new.self.items in
-    let size = a.size in
-    let longer = last-size before rest c.in-Some.due c.in-Some.ensures.items in
-    record {
-      size = omega (arith, size, longer);
-      waiting = rest-waiting before rest c.in-Some.due c.in-Some.ensures.items lines a.waiting;
-      judged = a.judged;
-    }
+returns-clause-agenda c = λ lines is within. taken-agenda lines c.args.self _ c.without-taken.ensures.others refl refl is within
 
 pub returns-clause-kept : goal.returns-clause-kept
 returns-clause-kept c = λ n has. elim has [
-  | inl e ↦ elim (last-or-rest c.args.self.waiting.items c.pop.new.self.items c.in-Some.due c.in-Some.ensures.items n e) [ inl f ↦ inl f | inr f ↦ inr (inl f) ]
+  | inl e ↦ elim (taken-or-left c.args.self.waiting c.without-taken.result.1 c.args.self.next c.without-taken.ensures.others n e.0 e.1) [
+    | inl f ↦ inl (subst (λ (xs : List Conversation). Contains (connections xs) n) (sym c.without-taken.ensures.own) f)
+    | inr f ↦ inr (inl f)
+  ]
   | inr e ↦ inr (inr e)
 ]

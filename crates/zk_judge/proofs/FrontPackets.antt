@@ -1,0 +1,35 @@
+-- Packets that are the front of a queue, packet by packet.
+use Rattle.std.proofs.Common.{◌≡◌, ◌≢◌, Bool, true, false, ◌&&◌, List, [], ◌∷◌, length, refl}
+use Rattle.std.specs.Prelude.{◌==◌, bytes_eq, nat_le}
+use Rattle.zk_transcript.specs.Walks.{Due}
+use Rattle.zk_least.specs.LeastQueues.{is_apart, is_front}
+
+-- the packet is the one that is due, and stands where it may
+abbrev pub is_due : Due → Due → Bool
+is_due d p = nat_le d.0 p.0 && bytes_eq d.1 p.1
+
+refused : (a b c : Bool) → (a && b) ≡ false → (a && b && c) ≡ false
+refused true true c e = absurd (cc)
+refused true false c e = refl
+refused false b c e = refl
+
+given : (a b c : Bool) → (a && b) ≡ true → (a && b && c) ≡ c
+given true true c e = refl
+given true false c e = absurd (cc)
+given false b c e = absurd (cc)
+
+pub front-refused : (d p : Due) (ds ps : List Due) → is_due d p ≡ false → is_front (p ∷ ps) (d ∷ ds) ≡ false
+front-refused d p ds [] not = refused (nat_le d.0 p.0) (bytes_eq d.1 p.1) (is_apart d ds) not
+front-refused d p ds (q ∷ ps) not = refused (nat_le d.0 p.0) (bytes_eq d.1 p.1) (is_front (q ∷ ps) ds) not
+
+pub front-last : (d p : Due) (ds ps : List Due) → length ps ≡ 0 → is_due d p ≡ true → is_front (p ∷ ps) (d ∷ ds) ≡ is_apart d ds
+front-last d p ds [] last is = given (nat_le d.0 p.0) (bytes_eq d.1 p.1) (is_apart d ds) is
+front-last d p ds (q ∷ ps) last is = absurd (cc)
+
+pub front-more : (d p : Due) (ds ps : List Due) → length ps ≢ 0 → is_due d p ≡ true → is_front (p ∷ ps) (d ∷ ds) ≡ is_front ps ds
+front-more d p ds [] more is = absurd (more refl)
+front-more d p ds (q ∷ ps) more is = given (nat_le d.0 p.0) (bytes_eq d.1 p.1) (is_front (q ∷ ps) ds) is
+
+pub front-over : (ps : List Due) → is_front ps [] ≡ (length ps == 0)
+front-over [] = refl
+front-over (p ∷ ps) = refl

@@ -1,0 +1,61 @@
+use Rattle.std.proofs.Common.{◌≡◌, ◌≢◌, ◌+◌, ◌∷◌, List, false, true, length, drop, sym, ap, ◌∙◌, rules}
+use Rattle.std.specs.Prelude.{◌==◌}
+use Rattle.std.proofs.lemmas.List.{at_drop_all, at_drop_more}
+use Rattle.zk_transcript.specs.Walks.{Due}
+use Rattle.zk_least.specs.LeastQueues.{is_front}
+use Rattle.zk_judge.specs.Sent.{packets_in}
+use Rattle.zk_judge.proofs.FrontPackets.{front-last, front-more, front-over, front-refused, is_due}
+use Rattle.zk_judge.proofs.packets.is_front.Goals as goal
+
+pub returns-then-not-is_given : goal.returns-then-not-is_given
+returns-then-not-is_given c =
+    let queue = c.args.queue.now in
+    let at = c.loop-at.at in
+    let d : Due = c.index-queue-at.result in
+    let p : Due = (c.in-Some.place, c.in-Some.bytes.now) in
+    let ps = packets_in c.in-Some.rest in
+    let ds = drop (at + 1) queue in
+    let not : is_due d p ≡ false = sym c.is_given.ensures ∙ c.if-not-is_given.true in
+    sym (c.loop-at.invariant ∙ ap (λ (qs : List Due). is_front qs (drop at queue)) c.in-Some.ensures
+    ∙ at_drop_more (is_front (p ∷ ps)) queue at d c.loop-at-test.true
+    ∙ ap (λ (e : Due). is_front (p ∷ ps) (e ∷ ds)) (sym c.index-queue-at.is)
+    ∙ front-refused d p ds ps not)
+
+pub returns-then-len-eq0 : goal.returns-then-len-eq0
+returns-then-len-eq0 c =
+    let queue = c.args.queue.now in
+    let at = c.loop-at.at in
+    let d : Due = c.index-queue-at.result in
+    let p : Due = (c.in-Some.place, c.in-Some.bytes.now) in
+    let ps = packets_in c.in-Some.rest in
+    let ds = drop (at + 1) queue in
+    let due : is_due d p ≡ true = sym c.is_given.ensures ∙ c.if-not-is_given.false in
+    let last : length ps ≡ 0 = search rules in
+    sym (c.loop-at.invariant ∙ ap (λ (qs : List Due). is_front qs (drop at queue)) c.in-Some.ensures
+    ∙ at_drop_more (is_front (p ∷ ps)) queue at d c.loop-at-test.true
+    ∙ ap (λ (e : Due). is_front (p ∷ ps) (e ∷ ds)) (sym c.index-queue-at.is)
+    ∙ front-last d p ds ps last due ∙ sym (c.is_apart.ensures d.1))
+
+pub loop-at-preserved : goal.loop-at-preserved
+loop-at-preserved c =
+    let queue = c.args.queue.now in
+    let at = c.loop-at.at in
+    let d : Due = c.index-queue-at.result in
+    let p : Due = (c.in-Some.place, c.in-Some.bytes.now) in
+    let ps = packets_in c.in-Some.rest in
+    let ds = drop (at + 1) queue in
+    let due : is_due d p ≡ true = sym c.is_given.ensures ∙ c.if-not-is_given.false in
+    let more : length ps ≢ 0 = search rules in
+    c.loop-at.invariant ∙ ap (λ (qs : List Due). is_front qs (drop at queue)) c.in-Some.ensures
+    ∙ at_drop_more (is_front (p ∷ ps)) queue at d c.loop-at-test.true
+    ∙ ap (λ (e : Due). is_front (p ∷ ps) (e ∷ ds)) (sym c.index-queue-at.is)
+    ∙ front-more d p ds ps more due
+
+pub returns-in_default : goal.returns-in_default
+returns-in_default c = sym (c.loop-at.invariant ∙ ap (λ (qs : List Due). is_front qs (drop c.loop-at.at c.args.queue.now)) c.in_default.ensures)
+
+pub returns : goal.returns
+returns c =
+    let left = packets_in c.loop-at.left in
+    ap (λ n. n == 0) c.len.ensures
+    ∙ sym (c.loop-at.invariant ∙ at_drop_all (is_front left) c.args.queue.now c.loop-at.at c.loop-at-test.false ∙ front-over left)
