@@ -255,5 +255,5 @@ def watches_that_are_left(program, work):
         return it.told(100, text)
 
 
-checks = [an_etcd_that_is_flooded, asks_that_nobody_reads, bodies_of_8_MB, asks_of_1_MB_on_256_connections, asks_that_are_none]
-unmet = [watches_that_are_left]
+checks = [an_etcd_that_is_flooded, asks_that_nobody_reads, bodies_of_8_MB, asks_of_1_MB_on_256_connections, asks_that_are_none,
+          watches_that_are_left]

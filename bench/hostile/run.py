@@ -13,7 +13,7 @@ import watches
 
 PARTS = {"clients": clients.checks, "floods": floods.checks, "etcds": etcds.checks, "watches": watches.checks, "memory": memory.checks}
 # What is demanded and not met yet: only where it is named.
-UNMET = {"unmet": etcds.unmet + memory.unmet}
+UNMET = {"unmet": etcds.unmet}
 
 
 def main():

@@ -1,3 +1,4 @@
 pub mod Ending
+pub mod Looking
 pub mod Reading
 pub mod Streaming

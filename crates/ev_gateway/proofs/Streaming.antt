@@ -12,8 +12,13 @@ use Rattle.ev_http.specs.declared.fault.HttpFault.TheVariants as http
 use Rattle.ev_http.specs.Chunked.{last_chunk}
 use Rattle.ev_http.specs.Sending.{Sends, Wrote}
 use Rattle.ev_http.proofs.Sending.{wrote_both}
+use Rattle.ev_http.specs.Taking.{Told}
+use Rattle.ev_gateway.specs.Looking.{Looks, Waits}
 use Rattle.ev_gateway.specs.Sinks.{Rests, SinkTold}
-use Rattle.ev_gateway.specs.Streaming.{IsEnding, IsPut, Rise, Streams, WroteFront, begun, line_chunk, put_line, put_lines}
+use Rattle.ev_gateway.specs.Streaming.{IsEnding, IsPut, Rise, Streams, StreamsOn, Watches, WroteFront, begun, line_chunk, put_line, put_lines, told_whole}
+use Rattle.ev_gateway.specs.declared.watching.WatchEnd.{WatchEnd}
+use Rattle.ev_gateway.specs.declared.watching.WatchEnd.TheVariants as over
+use Rattle.ev_gateway.proofs.Looking.{no_look}
 
 -- nothing at all is a front
 pub starves : (bytes : List ℕ) (k k' : SinkTold) → Rests k k' → WroteFront (Err http.Memory) bytes k k'
@@ -93,18 +98,26 @@ rise_more : (key : List ℕ) (from : ℕ) (puts : List Kv) (next : ℕ) (kv : Kv
 rise_more key from [] next kv rise put = (subst (λ (n : ℕ). IsPut key n kv) (sym rise) put, refl)
 rise_more key from (first ∷ puts) next kv rise put = (rise.0, rise_more key (nat_abs first.mod_revision + 1) puts next kv rise.1 put)
 
--- how far a stream came
+-- A put that comes no earlier than one revision comes no earlier than one before it.
+put_since : (key : List ℕ) (last next : ℕ) (kv : Kv) → last ≤ next → IsPut key next kv → IsPut key last kv
+put_since key last next kv le put = (put.0, omega (arith, put.1, le), put.2)
+
+-- how far a stream came: every put before the next revision was told
 pub record Came (key : List ℕ) (from next : ℕ) (k k' : SinkTold) : Type 0 where
   pub created : ℤ
   pub puts : List Kv
-  pub rise : Rise key from puts next
+  pub last : ℕ
+  pub rise : Rise key from puts last
+  pub within : last ≤ next
   pub wrote : WroteFront (Ok tt) (so_far created puts) k k'
 
 pub began : (key : List ℕ) (from : ℕ) (created : ℤ) (k k' : SinkTold) → WroteFront (Ok tt) (begun created) k k' → Came key from from k k'
 began key from created k k' wrote = record {
   created = created;
   puts = [];
+  last = from;
   rise = refl;
+  within = omega arith;
   wrote = subst (λ (b : List ℕ). WroteFront (Ok tt) b k k') (sym (append-nil (begun created))) wrote;
 }
 
@@ -112,56 +125,93 @@ pub more : (key : List ℕ) (from next : ℕ) (kv : Kv) (k m k' : SinkTold) → 
 more key from next kv k m k' came put wrote = record {
   created = came.created;
   puts = came.puts ++ kv ∷ [];
-  rise = rise_more key from came.puts next kv came.rise put;
+  last = nat_abs kv.mod_revision + 1;
+  rise = rise_more key from came.puts came.last kv came.rise (put_since key came.last next kv came.within put);
+  within = omega arith;
   wrote =
       subst (λ (b : List ℕ). WroteFront (Ok tt) b k k')
       (append_assoc (begun came.created) (put_lines came.puts) (put_line kv) ∙ ap (λ (t : List ℕ). begun came.created ++ t) (sym (lines_more came.puts kv)))
       (both (Ok tt) (so_far came.created came.puts) (put_line kv) k m k' came.wrote wrote);
 }
 
+-- nothing was told up to a later revision
+pub further : (key : List ℕ) (from next later : ℕ) (k k' : SinkTold) → Came key from next k k' → next ≤ later → Came key from later k k'
+further key from next later k k' came le = record {
+  created = came.created;
+  puts = came.puts;
+  last = came.last;
+  rise = came.rise;
+  within = omega (arith, came.within, le);
+  wrote = came.wrote;
+}
+
 -- ---- how it ends
 
-over : (r : Result (Unit {0}) HttpFault) (key : List ℕ) (from next : ℕ) (ending : List ℕ) (k m k' : SinkTold) → Came key from next k m → IsEnding next ending → WroteFront r ending m k' → Streams r key from k k'
+over : (r : Result (Unit {0}) HttpFault) (key : List ℕ) (from next : ℕ) (ending : List ℕ) (k m k' : SinkTold) (came : Came key from next k m) → IsEnding came.last ending → WroteFront r ending m k' → Streams r key from k k'
 over r key from next ending k m k' came ends wrote = record {
   bytes = so_far came.created came.puts ++ ending;
-  stream = record { created = came.created; puts = came.puts; next = next; ending = ending; rise = came.rise; ends = ends; bytes_are = refl };
+  stream = record { created = came.created; puts = came.puts; next = came.last; ending = ending; rise = came.rise; ends = ends; bytes_are = refl };
   wrote = both r (so_far came.created came.puts) ending k m k' came.wrote wrote;
 }
 
+whole : (r : Result (Unit {0}) HttpFault) (key : List ℕ) (from : ℕ) (s s' : Told) (k k' : SinkTold) → Streams r key from k k' → Waits s s' → Watches (told_whole r) key from s s' k k'
+whole (Ok u) key from s s' k k' streams waits = (streams, waits)
+whole (Err f) key from s s' k k' streams waits = (streams, waits)
+
 -- the store was closed
-pub closed : (r : Result (Unit {0}) HttpFault) (key : List ℕ) (from next : ℕ) (k m k' : SinkTold) → Came key from next k m → WroteFront r last_chunk m k' → Streams r key from k k'
-closed r key from next k m k' came wrote = over r key from next last_chunk k m k' came (inl refl) wrote
+pub closed : (result : Result WatchEnd HttpFault) (r : Result (Unit {0}) HttpFault) (key : List ℕ) (from next : ℕ) (s s' : Told) (k m k' : SinkTold) → result ≡ told_whole r
+    → Came key from next k m → Waits s s' → WroteFront r last_chunk m k' → Watches result key from s s' k k'
+closed result r key from next s s' k m k' is came waits wrote =
+    subst (λ (x : Result WatchEnd HttpFault). Watches x key from s s' k k') (sym is) (whole r key from s s' k k' (over r key from next last_chunk k m k' came (inl refl) wrote) waits)
 
 -- the revision to go on from was compacted
-pub canceled : (r : Result (Unit {0}) HttpFault) (key : List ℕ) (from next : ℕ) (floor now : ℤ) (k m k' : SinkTold) → Came key from next k m → pos next <ℤ floor → WroteFront r (line_chunk (canceled_text floor now) ++ last_chunk) m k' → Streams r key from k k'
-canceled r key from next floor now k m k' came below wrote = over r key from next (line_chunk (canceled_text floor now) ++ last_chunk) k m k' came (inr (floor, now, below, refl)) wrote
+pub canceled : (result : Result WatchEnd HttpFault) (r : Result (Unit {0}) HttpFault) (key : List ℕ) (from next : ℕ) (floor now : ℤ) (s s' : Told) (k m k' : SinkTold) → result ≡ told_whole r
+    → Came key from next k m → Waits s s' → pos next <ℤ floor → WroteFront r (line_chunk (canceled_text floor now) ++ last_chunk) m k' → Watches result key from s s' k k'
+canceled result r key from next floor now s s' k m k' is came waits below wrote =
+    let earlier : pos came.last <ℤ floor = omega (arith, below, came.within) in
+    subst (λ (x : Result WatchEnd HttpFault). Watches x key from s s' k k') (sym is)
+    (whole r key from s s' k k' (over r key from next (line_chunk (canceled_text floor now) ++ last_chunk) k m k' came (inr (floor, now, earlier, refl)) wrote) waits)
+
+-- the client left
+pub left : (key : List ℕ) (from next : ℕ) (s here s' : Told) (k k' : SinkTold) → Came key from next k k' → Waits s here → Looks false here s' → Watches (Ok over.Left) key from s s' k k'
+left key from next s here s' k k' came waits look =
+    (record { created = came.created; puts = came.puts; next = came.last; rise = came.rise; wrote = came.wrote }, here, waits, look)
 
 -- a fault before the first put
-pub unbegun : (f : HttpFault) (key : List ℕ) (from : ℕ) (created : ℤ) (k k' : SinkTold) → WroteFront (Err f) (begun created) k k' → Streams (Err f) key from k k'
-unbegun f key from created k k' wrote = record {
-  bytes = so_far created [] ++ last_chunk;
-  stream = record { created = created; puts = []; next = from; ending = last_chunk; rise = refl; ends = inl refl; bytes_are = refl };
-  wrote = cut f (so_far created []) last_chunk k k' (cut f (begun created) [] k k' wrote);
-}
+pub unbegun : (f : HttpFault) (key : List ℕ) (from : ℕ) (created : ℤ) (s : Told) (k k' : SinkTold) → WroteFront (Err f) (begun created) k k' → Watches (Err f) key from s s k k'
+unbegun f key from created s k k' wrote = (
+  record {
+    bytes = so_far created [] ++ last_chunk;
+    stream = record { created = created; puts = []; next = from; ending = last_chunk; rise = refl; ends = inl refl; bytes_are = refl };
+    wrote = cut f (so_far created []) last_chunk k k' (cut f (begun created) [] k k' wrote);
+  },
+  no_look s,
+)
 
 -- a fault at a put
-pub broken : (f : HttpFault) (key : List ℕ) (from next : ℕ) (kv : Kv) (k m k' : SinkTold) → Came key from next k m → IsPut key next kv → WroteFront (Err f) (put_line kv) m k' → Streams (Err f) key from k k'
-broken f key from next kv k m k' came put wrote =
+pub broken : (f : HttpFault) (key : List ℕ) (from next : ℕ) (kv : Kv) (s s' : Told) (k m k' : SinkTold) → Came key from next k m → Waits s s' → IsPut key next kv → WroteFront (Err f) (put_line kv) m k' → Watches (Err f) key from s s' k k'
+broken f key from next kv s s' k m k' came waits put wrote =
     let puts = came.puts ++ kv ∷ [] in
     let here : WroteFront (Err f) (so_far came.created puts) k k' =
     subst (λ (b : List ℕ). WroteFront (Err f) b k k')
     (append_assoc (begun came.created) (put_lines came.puts) (put_line kv) ∙ ap (λ (t : List ℕ). begun came.created ++ t) (sym (lines_more came.puts kv)))
     (both (Err f) (so_far came.created came.puts) (put_line kv) k m k' came.wrote wrote) in
-    record {
-      bytes = so_far came.created puts ++ last_chunk;
-      stream = record { created = came.created; puts = puts; next = nat_abs kv.mod_revision + 1; ending = last_chunk; rise = rise_more key from came.puts next kv came.rise put; ends = inl refl; bytes_are = refl };
-      wrote = cut f (so_far came.created puts) last_chunk k k' here;
-    }
+    let since = put_since key came.last next kv came.within put in (
+      record {
+        bytes = so_far came.created puts ++ last_chunk;
+        stream = record { created = came.created; puts = puts; next = nat_abs kv.mod_revision + 1; ending = last_chunk; rise = rise_more key from came.puts came.last kv came.rise since; ends = inl refl; bytes_are = refl };
+        wrote = cut f (so_far came.created puts) last_chunk k k' here;
+      },
+      waits,
+    )
 
 -- memory ran out
-pub starved : (key : List ℕ) (from next : ℕ) (k m : SinkTold) → Came key from next k m → Streams (Err http.Memory) key from k m
-starved key from next k m came = record {
-  bytes = so_far came.created came.puts ++ last_chunk;
-  stream = record { created = came.created; puts = came.puts; next = next; ending = last_chunk; rise = came.rise; ends = inl refl; bytes_are = refl };
-  wrote = both (Err http.Memory) (so_far came.created came.puts) last_chunk k m m came.wrote (starves last_chunk m m (refl, refl, refl));
-}
+pub starved : (key : List ℕ) (from next : ℕ) (s s' : Told) (k m : SinkTold) → Came key from next k m → Waits s s' → Watches (Err http.Memory) key from s s' k m
+starved key from next s s' k m came waits = (
+  record {
+    bytes = so_far came.created came.puts ++ last_chunk;
+    stream = record { created = came.created; puts = came.puts; next = came.last; ending = last_chunk; rise = came.rise; ends = inl refl; bytes_are = refl };
+    wrote = both (Err http.Memory) (so_far came.created came.puts) last_chunk k m m came.wrote (starves last_chunk m m (refl, refl, refl));
+  },
+  waits,
+)

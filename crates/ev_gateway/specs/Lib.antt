@@ -1,3 +1,4 @@
+pub mod Looking
 pub mod Serving
 pub mod Sinks
 pub mod Streaming

@@ -18,7 +18,10 @@ use Rattle.ev_http.specs.Messages.{HoldsRequest, ReadsRequestBody, RequestAnswer
 use Rattle.ev_http.specs.Sending.{Sends, response_head}
 use Rattle.ev_http.specs.Taking.{Told, Took, failed, fresh}
 use Rattle.ev_gateway.specs.Sinks.{Rests, SinkTold}
-use Rattle.ev_gateway.specs.Streaming.{Streams}
+use Rattle.ev_gateway.specs.Looking.{Leaves, Waits}
+use Rattle.ev_gateway.specs.Streaming.{Streams, StreamsOn}
+use Rattle.ev_gateway.specs.declared.watching.WatchEnd.{WatchEnd}
+use Rattle.ev_gateway.specs.declared.watching.WatchEnd.TheVariants as over
 use Rattle.ev_gateway.specs.declared.connection.GatewayEnd.{GatewayEnd}
 use Rattle.ev_gateway.specs.declared.connection.GatewayEnd.TheVariants as ends
 
@@ -71,43 +74,54 @@ Responds result status text sink sink' = Writes result (response_head status (le
 abbrev pub AnswersOnce : Result (Unit {0}) HttpFault → Route → List ℕ → SinkTold → SinkTold → Type 0
 AnswersOnce result to body sink sink' = (to ≢ route.Watch) × (status : ℕ) × (text : List ℕ) × Replies to body status text × Responds result status text sink sink'
 
--- a request to watch a key is answered by a stream of its puts, or by one response where it cannot be read
-abbrev pub AnswersWatch : Result (Unit {0}) HttpFault → Route → List ℕ → SinkTold → SinkTold → Type 0
-AnswersWatch result to body sink sink' =
-    (to ≡ route.Watch) × (((status : ℕ) × (text : List ℕ) × RefusesWatch body status text × Responds result status text sink sink')
-    ⊎ ((from : ℤ) × (key : List ℕ) × reads_watch body from key × Streams result key (nat_abs from) sink sink'))
+-- a request to watch a key is answered by a stream of its puts, during which its client waits, or by one response where it cannot be read
+abbrev pub AnswersWatch : Result (Unit {0}) HttpFault → Route → List ℕ → Told → Told → SinkTold → SinkTold → Type 0
+AnswersWatch result to body source source' sink sink' =
+    (to ≡ route.Watch) × (((status : ℕ) × (text : List ℕ) × RefusesWatch body status text × Responds result status text sink sink' × (source' ≡ source))
+    ⊎ ((from : ℤ) × (key : List ℕ) × reads_watch body from key × Streams result key (nat_abs from) sink sink' × Waits source source'))
 
-abbrev pub Answers : Result (Unit {0}) HttpFault → Route → List ℕ → SinkTold → SinkTold → Type 0
-Answers result to body sink sink' = AnswersOnce result to body sink sink' ⊎ AnswersWatch result to body sink sink'
+abbrev pub Answers : Result (Unit {0}) HttpFault → Route → List ℕ → Told → Told → SinkTold → SinkTold → Type 0
+Answers result to body source source' sink sink' = (AnswersOnce result to body sink sink' × (source' ≡ source)) ⊎ AnswersWatch result to body source source' sink sink'
 
--- the request is answered, or the answer was not sent; where memory ran out, nothing was, or a front of a watch's stream
-abbrev pub AnswersOr : Result (Unit {0}) GatewayEnd → Route → List ℕ → SinkTold → SinkTold → Type 0
-AnswersOr (Ok _) to body sink sink' = Answers (Ok tt) to body sink sink'
-AnswersOr (Err (ends.Http f)) to body sink sink' = (f ≡ http.WriteFault) × Answers (Err http.WriteFault) to body sink sink'
-AnswersOr (Err ends.Memory) to body sink sink' =
-    Rests sink sink' ⊎ ((to ≡ route.Watch) × (from : ℤ) × (key : List ℕ) × reads_watch body from key × Streams (Err http.Memory) key (nat_abs from) sink sink')
-AnswersOr (Err ends.Ended) to body sink sink' = ⊥
-AnswersOr (Err ends.Limit) to body sink sink' = ⊥
+-- a request to watch a key was answered by the lines of a stream, until the client left
+abbrev pub IsLeft : Route → List ℕ → Told → Told → SinkTold → SinkTold → Type 0
+IsLeft to body source source' sink sink' = (to ≡ route.Watch) × (from : ℤ) × (key : List ℕ) × reads_watch body from key × StreamsOn key (nat_abs from) sink sink' × Leaves source source'
+
+-- nothing was sent for want of memory, or a front of a watch's stream
+abbrev pub Starves : Route → List ℕ → Told → Told → SinkTold → SinkTold → Type 0
+Starves to body source source' sink sink' =
+    (Rests sink sink' × (source' ≡ source)) ⊎ ((to ≡ route.Watch) × (from : ℤ) × (key : List ℕ) × reads_watch body from key × Streams (Err http.Memory) key (nat_abs from) sink sink' × Waits source source')
+
+-- the request is answered, or the answer was not sent, or its client left
+abbrev pub AnswersOr : Result (Unit {0}) GatewayEnd → Route → List ℕ → Told → Told → SinkTold → SinkTold → Type 0
+AnswersOr (Ok _) to body source source' sink sink' = Answers (Ok tt) to body source source' sink sink'
+AnswersOr (Err (ends.Http f)) to body source source' sink sink' = (f ≡ http.WriteFault) × Answers (Err http.WriteFault) to body source source' sink sink'
+AnswersOr (Err ends.Memory) to body source source' sink sink' = Starves to body source source' sink sink'
+AnswersOr (Err ends.Left) to body source source' sink sink' = IsLeft to body source source' sink sink'
+AnswersOr (Err ends.Ended) to body source source' sink sink' = ⊥
+AnswersOr (Err ends.Limit) to body source source' sink sink' = ⊥
 
 -- what a fault of a request ends the connection with
 abbrev pub IsCutBy : HttpFault → GatewayEnd → Type 0
 IsCutBy f ends.Ended = f ≡ http.Ended 0
 IsCutBy f ends.Memory = f ≡ http.Memory
 IsCutBy f (ends.Http g) = (g ≡ f) × (f ≢ http.Memory) × (f ≢ http.Ended 0)
+IsCutBy f ends.Left = ⊥
 IsCutBy f ends.Limit = ⊥
 
 -- What one turn came to: a request was read and answered; or the source ended between two messages; or there is a fault of the
 -- message that came, which is neither want of memory nor that end, or of the sink; or memory ran out while a request was read, or
--- was answered.
+-- was answered; or the client left a watch.
 abbrev pub Turns : Result (Unit {0}) GatewayEnd → Told → Told → SinkTold → SinkTold → Type 0
-Turns (Ok _) source source' sink sink' = (to : Route) × (body : Vec ℕ) × Receives (Ok (to, body)) source source' × Answers (Ok tt) to body.items sink sink'
+Turns (Ok _) source source' sink sink' = (to : Route) × (body : Vec ℕ) × (asked : Told) × Receives (Ok (to, body)) source asked × Answers (Ok tt) to body.items asked source' sink sink'
 Turns (Err ends.Ended) source source' sink sink' = Receives (Err (http.Ended 0)) source source' × (sink' ≡ sink)
 Turns (Err (ends.Http f)) source source' sink sink' =
     (Receives (Err f) source source' × IsCutBy f (ends.Http f) × (sink' ≡ sink))
-    ⊎ ((f ≡ http.WriteFault) × (to : Route) × (body : Vec ℕ) × Receives (Ok (to, body)) source source' × Answers (Err http.WriteFault) to body.items sink sink')
+    ⊎ ((f ≡ http.WriteFault) × (to : Route) × (body : Vec ℕ) × (asked : Told) × Receives (Ok (to, body)) source asked × Answers (Err http.WriteFault) to body.items asked source' sink sink')
 Turns (Err ends.Memory) source source' sink sink' =
     (Receives (Err http.Memory) source source' × (sink' ≡ sink))
-    ⊎ ((to : Route) × (body : Vec ℕ) × Receives (Ok (to, body)) source source' × AnswersOr (Err ends.Memory) to body.items sink sink')
+    ⊎ ((to : Route) × (body : Vec ℕ) × (asked : Told) × Receives (Ok (to, body)) source asked × Starves to body.items asked source' sink sink')
+Turns (Err ends.Left) source source' sink sink' = (to : Route) × (body : Vec ℕ) × (asked : Told) × Receives (Ok (to, body)) source asked × IsLeft to body.items asked source' sink sink'
 Turns (Err ends.Limit) source source' sink sink' = ⊥
 
 -- So many requests were read and answered, one after the other.
@@ -132,4 +146,11 @@ RespondsOr (Ok _) status text sink sink' = Responds (Ok tt) status text sink sin
 RespondsOr (Err (ends.Http f)) status text sink sink' = (f ≡ http.WriteFault) × Responds (Err http.WriteFault) status text sink sink'
 RespondsOr (Err ends.Memory) status text sink sink' = Rests sink sink'
 RespondsOr (Err ends.Ended) status text sink sink' = ⊥
+RespondsOr (Err ends.Left) status text sink sink' = ⊥
 RespondsOr (Err ends.Limit) status text sink sink' = ⊥
+
+-- what the end of a watch ends the connection with
+abbrev pub end_of_watch : Result WatchEnd HttpFault → Result (Unit {0}) GatewayEnd
+end_of_watch (Ok over.Told) = Ok tt
+end_of_watch (Ok over.Left) = Err ends.Left
+end_of_watch (Err f) = end_of (Err f)

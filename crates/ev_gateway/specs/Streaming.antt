@@ -7,7 +7,11 @@ use Rattle.ev_http.specs.declared.fault.HttpFault.{HttpFault}
 use Rattle.ev_http.specs.declared.fault.HttpFault.TheVariants as http
 use Rattle.ev_http.specs.Chunked.{chunk, last_chunk, stream_head}
 use Rattle.ev_http.specs.Sending.{Wrote}
+use Rattle.ev_http.specs.Taking.{Told}
+use Rattle.ev_gateway.specs.Looking.{Leaves, Waits}
 use Rattle.ev_gateway.specs.Sinks.{SinkTold}
+use Rattle.ev_gateway.specs.declared.watching.WatchEnd.{WatchEnd}
+use Rattle.ev_gateway.specs.declared.watching.WatchEnd.TheVariants as over
 
 -- a line with its line feed, as one chunk
 abbrev pub line_chunk : List ℕ → List ℕ
@@ -60,3 +64,23 @@ pub record Streams (result : Result (Unit {0}) HttpFault) (key : List ℕ) (from
   pub bytes : List ℕ
   pub stream : IsStream key from bytes
   pub wrote : WroteFront result bytes sink sink'
+
+-- A stream of this key from this revision on has come to the end of a line: no line is cut, and it has no end yet.
+pub record StreamsOn (key : List ℕ) (from : ℕ) (sink sink' : SinkTold) : Type 0 where
+  pub created : ℤ
+  pub puts : List Kv
+  pub next : ℕ
+  pub rise : Rise key from puts next
+  pub wrote : WroteFront (Ok tt) (begun created ++ put_lines puts) sink sink'
+
+-- How a watch ended: its stream was sent to its end; or its client left it between two lines; or there was a fault of the sink, or want
+-- of memory. Its client was looked after meanwhile.
+abbrev pub Watches : Result WatchEnd HttpFault → List ℕ → ℕ → Told → Told → SinkTold → SinkTold → Type 0
+Watches (Ok over.Told) key from source source' sink sink' = Streams (Ok tt) key from sink sink' × Waits source source'
+Watches (Ok over.Left) key from source source' sink sink' = StreamsOn key from sink sink' × Leaves source source'
+Watches (Err f) key from source source' sink sink' = Streams (Err f) key from sink sink' × Waits source source'
+
+-- how a watch ended whose stream was sent to its end
+abbrev pub told_whole : Result (Unit {0}) HttpFault → Result WatchEnd HttpFault
+told_whole (Ok _) = Ok over.Told
+told_whole (Err f) = Err f

@@ -1,19 +1,20 @@
 //! One connection.
 
 ghost use Rattle.std.specs.Prelude.{◌≡◌, ◌≢◌};
-ghost use Rattle.ev_http.specs.Taking.{told};
-ghost use Rattle.ev_gateway.specs.Serving.{AnswersOr, EndsBy, IsCutBy, Receives, RespondsOr, Turns, end_of, unreadable_text};
+ghost use Rattle.ev_http.specs.Taking.{Told, told};
+ghost use Rattle.ev_gateway.specs.Serving.{AnswersOr, EndsBy, IsCutBy, Receives, RespondsOr, Turns, end_of, end_of_watch, unreadable_text};
 ghost use Rattle.ev_gateway.specs.Sinks.{sink_told};
 ghost use Rattle.ev_types.specs.declared.route.Route.TheVariants as routes;
 
 use crate::reply::{Reply, refusal, reply_to};
-use crate::watching::watch;
+use crate::watching::{WatchEnd, watch};
 use ev_http::{HttpFault, read_request, send_response};
 use ev_json::{JsonFault, read_watch, what_is_read_fits};
 use ev_shared::SharedStore;
 use ev_types::Route;
 use std::alloc::Global;
 use std::sync::Wait;
+use std::time::Clock as SystemClock;
 use zx_net::Clock;
 use zx_outside::{Sink, Source};
 
@@ -24,6 +25,8 @@ pub enum GatewayEnd {
     Ended,
     /// What came is no request, the source was idle or had a fault, or a write failed. Never want of memory.
     Http(HttpFault),
+    /// The client of a watch went away, or sent more before the watch had ended.
+    Left,
     /// As many messages were answered as the limit allows.
     Limit,
     /// The allocator refused memory.
@@ -38,6 +41,17 @@ fn end_of(sent: Result<(), HttpFault>) -> Result<(), GatewayEnd>
         Ok(()) => Ok(()),
         Err(HttpFault::Memory) => Err(GatewayEnd::Memory),
         Err(fault) => Err(GatewayEnd::Http(fault)),
+    }
+}
+
+/// What the end of a watch ends the connection with.
+fn end_of_watch(end: Result<WatchEnd, HttpFault>) -> Result<(), GatewayEnd>
+    ensures { result ≡ end_of_watch end }
+{
+    match end {
+        Ok(WatchEnd::Told) => Ok(()),
+        Ok(WatchEnd::Left) => Err(GatewayEnd::Left),
+        Err(fault) => end_of(Err(fault)),
     }
 }
 
@@ -78,22 +92,26 @@ fn refuse<K: Sink>(alloc: Global, sink: &mut K) -> Result<(), GatewayEnd>
 
 /// Answers a request to watch a key.
 #[tactic(auto, using(crate::proofs::Ending::watched, crate::proofs::Ending::refused, crate::proofs::Ending::unsent, crate::proofs::Reading::watchable))]
-fn answer_watch<R: Wait, K: Sink>(
+fn answer_watch<R: Wait + SystemClock, S: Source, K: Sink>(
     rt: &R,
     alloc: Global,
     store: &SharedStore,
+    source: &mut S,
     sink: &mut K,
     route: Route,
     body: &[u8],
 ) -> Result<(), GatewayEnd>
     requires { route ≡ routes.Watch }
-    ensures { AnswersOr result route body.now (sink_told K.taken K.counts K.name sink.old) (sink_told K.taken K.counts K.name sink.new) }
+    ensures { AnswersOr result route body.now (told S.given S.left S.counts S.ended S.name source.old) (told S.given S.left S.counts S.ended S.name source.new) (sink_told K.taken K.counts K.name sink.old) (sink_told K.taken K.counts K.name sink.new) }
 {
     match read_watch(alloc, body) {
         Ok((from, key)) => {
             what_is_read_fits();
             let first = from.unsigned_abs();
-            end_of(watch(rt, alloc, store, sink, key.as_slice(), first))
+            store.begin_watch(rt);
+            let end = watch(rt, alloc, store, source, sink, key.as_slice(), first);
+            store.end_watch(rt);
+            end_of_watch(end)
         }
         Err(JsonFault::Memory) => Err(GatewayEnd::Memory),
         Err(_) => refuse(alloc, sink),
@@ -112,7 +130,7 @@ fn answer_ask<R: Wait, K: Sink>(
     body: &[u8],
 ) -> Result<(), GatewayEnd>
     requires { route ≢ routes.Watch }
-    ensures { AnswersOr result route body.now (sink_told K.taken K.counts K.name sink.old) (sink_told K.taken K.counts K.name sink.new) }
+    ensures { (source : Told) → AnswersOr result route body.now source source (sink_told K.taken K.counts K.name sink.old) (sink_told K.taken K.counts K.name sink.new) }
 {
     match reply_to(rt, alloc, store, now, route, body) {
         Ok(reply) => respond(alloc, sink, &reply),
@@ -129,19 +147,20 @@ fn receive<S: Source>(alloc: Global, source: &mut S) -> Result<(Route, Vec<u8>),
 }
 
 /// Answers a request.
-fn answer<R: Wait, K: Sink, C: Clock>(
+fn answer<R: Wait + SystemClock, S: Source, K: Sink, C: Clock>(
     rt: &R,
     alloc: Global,
     store: &SharedStore,
+    source: &mut S,
     sink: &mut K,
     clock: &mut C,
     route: Route,
     body: &[u8],
 ) -> Result<(), GatewayEnd>
-    ensures { AnswersOr result route body.now (sink_told K.taken K.counts K.name sink.old) (sink_told K.taken K.counts K.name sink.new) }
+    ensures { AnswersOr result route body.now (told S.given S.left S.counts S.ended S.name source.old) (told S.given S.left S.counts S.ended S.name source.new) (sink_told K.taken K.counts K.name sink.old) (sink_told K.taken K.counts K.name sink.new) }
 {
     match route {
-        Route::Watch => answer_watch(rt, alloc, store, sink, route, body),
+        Route::Watch => answer_watch(rt, alloc, store, source, sink, route, body),
         _ => {
             let now = clock.now();
             answer_ask(rt, alloc, store, sink, now, route, body)
@@ -151,7 +170,7 @@ fn answer<R: Wait, K: Sink, C: Clock>(
 
 /// Reads the next request and answers it.
 #[tactic(auto, using(crate::proofs::Ending::turned, crate::proofs::Ending::cut))]
-fn turn<R: Wait, S: Source, K: Sink, C: Clock>(
+fn turn<R: Wait + SystemClock, S: Source, K: Sink, C: Clock>(
     rt: &R,
     alloc: Global,
     store: &SharedStore,
@@ -162,7 +181,10 @@ fn turn<R: Wait, S: Source, K: Sink, C: Clock>(
     ensures { Turns result (told S.given S.left S.counts S.ended S.name source.old) (told S.given S.left S.counts S.ended S.name source.new) (sink_told K.taken K.counts K.name sink.old) (sink_told K.taken K.counts K.name sink.new) }
 {
     match receive(alloc, source) {
-        Ok((route, body)) => answer(rt, alloc, store, sink, clock, route, body.as_slice()),
+        Ok((route, body)) => {
+            let body = body.as_slice();
+            answer(rt, alloc, store, source, sink, clock, route, body)
+        }
         Err(fault) => Err(cut_by(fault)),
     }
 }
@@ -170,7 +192,7 @@ fn turn<R: Wait, S: Source, K: Sink, C: Clock>(
 /// Serves one connection to the etcd in memory, until it ends: reads a request, answers it, and so on, at most `limit` times. The
 /// store stays open. Its leases lapse by this clock.
 #[tactic(auto, using(crate::proofs::Ending::ended, crate::proofs::Ending::served_more))]
-pub fn gateway<R: Wait, S: Source, K: Sink, C: Clock>(
+pub fn gateway<R: Wait + SystemClock, S: Source, K: Sink, C: Clock>(
     rt: &R,
     alloc: Global,
     store: &SharedStore,

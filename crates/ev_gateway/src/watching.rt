@@ -2,9 +2,11 @@
 
 ghost use Rattle.std.specs.Prelude.{◌≡◌, ◌<◌, ◌≤◌, ◌+◌, ◌≤ℤ◌, ◌<ℤ◌, ◌^◌, ◌++◌, ◌∷◌, [], pos, nat_abs, length, IfOk};
 ghost use Rattle.ev_http.specs.Chunked.{last_chunk};
+ghost use Rattle.ev_http.specs.Taking.{told};
 ghost use Rattle.ev_json.specs.Messages.{canceled_text, line_text};
 ghost use Rattle.ev_gateway.specs.Sinks.{sink_told};
-ghost use Rattle.ev_gateway.specs.Streaming.{Streams, WroteFront, begun, line_chunk, put_line};
+ghost use Rattle.ev_gateway.specs.Looking.{Looks, is_quiet};
+ghost use Rattle.ev_gateway.specs.Streaming.{Watches, WroteFront, begun, line_chunk, put_line, told_whole};
 
 use ev_http::{HttpFault, send_chunk, send_last_chunk, send_stream_head};
 use ev_json::{write_canceled, write_line};
@@ -12,8 +14,9 @@ use ev_shared::{SharedStore, Watched};
 use ev_types::Kv;
 use std::alloc::Global;
 use std::sync::Wait;
+use std::time::Clock as SystemClock;
 use zx_base::Memory;
-use zx_outside::Sink;
+use zx_outside::{Got, Sink, Source};
 
 /// The line with a line feed behind it.
 fn with_feed(line: Vec<u8>) -> Result<Vec<u8>, Memory>
@@ -107,20 +110,61 @@ fn after(revision: i64) -> u64
     revision.unsigned_abs() + 1
 }
 
+/// How a watch ended, where nothing failed.
+#[derive(Clone, Copy, PartialEq, Eq)]
+pub enum WatchEnd {
+    /// The store was closed, or the revision to go on from was compacted: the stream was sent to its end.
+    Told,
+    /// The client went away, or sent more before the stream had ended.
+    Left,
+}
+
+/// Whether a read found neither a byte nor an end. A fault may say no more than that the peer has been silent for long, as one is
+/// that watches.
+fn is_quiet(found: &Got) -> bool
+    ensures { result ≡ is_quiet found.now }
+{
+    match found {
+        Got::Nothing | Got::Failed => true,
+        Got::Bytes(_) | Got::End => false,
+    }
+}
+
+/// Looks once whether the client of a watch is still there and quiet.
+#[tactic(auto, using(crate::proofs::Looking::looked))]
+fn waits<S: Source>(source: &mut S) -> bool
+    ensures { Looks result (told S.given S.left S.counts S.ended S.name source.old) (told S.given S.left S.counts S.ended S.name source.new) }
+{
+    let mut one = [0u8; 1];
+    let found = source.read(&mut one);
+    is_quiet(&found)
+}
+
+/// How a watch ended whose stream was sent to its end.
+fn told_whole(sent: Result<(), HttpFault>) -> Result<WatchEnd, HttpFault>
+    ensures { result ≡ told_whole sent }
+{
+    match sent {
+        Ok(()) => Ok(WatchEnd::Told),
+        Err(fault) => Err(fault),
+    }
+}
+
 /// Answers a request to watch a key from a revision on: a line that says that the watch was created, and then a line for each
-/// revision that puts the key, until the store is closed.
-#[tactic(auto, using(crate::proofs::Streaming::by_wrote, crate::proofs::Streaming::began, crate::proofs::Streaming::more, crate::proofs::Streaming::closed, crate::proofs::Streaming::canceled, crate::proofs::Streaming::unbegun, crate::proofs::Streaming::broken, crate::proofs::Streaming::starved))]
-pub fn watch<R: Wait, K: Sink>(
+/// revision that puts the key, until the store is closed or the client goes away. About once a second it looks whether it did.
+#[tactic(auto, using(crate::proofs::Streaming::by_wrote, crate::proofs::Streaming::began, crate::proofs::Streaming::more, crate::proofs::Streaming::closed, crate::proofs::Streaming::canceled, crate::proofs::Streaming::unbegun, crate::proofs::Streaming::broken, crate::proofs::Streaming::starved, crate::proofs::Streaming::left, crate::proofs::Streaming::further, crate::proofs::Looking::no_look, crate::proofs::Looking::one_look_more))]
+pub fn watch<R: Wait + SystemClock, S: Source, K: Sink>(
     rt: &R,
     alloc: Global,
     store: &SharedStore,
+    source: &mut S,
     sink: &mut K,
     key: &[u8],
     from: u64,
-) -> Result<(), HttpFault>
+) -> Result<WatchEnd, HttpFault>
     requires first { 1 ≤ from }
     requires small { from ≤ 2 ^ 62 }
-    ensures { Streams result key.now from (sink_told K.taken K.counts K.name sink.old) (sink_told K.taken K.counts K.name sink.new) }
+    ensures { Watches result key.now from (told S.given S.left S.counts S.ended S.name source.old) (told S.given S.left S.counts S.ended S.name source.new) (sink_told K.taken K.counts K.name sink.old) (sink_told K.taken K.counts K.name sink.new) }
 {
     if let Err(fault) = begin(alloc, sink, store.revision(rt)) {
         return Err(fault);
@@ -135,8 +179,16 @@ pub fn watch<R: Wait, K: Sink>(
                 }
                 next = after(revision);
             }
-            Watched::Compacted(floor) => return cancel(alloc, sink, floor, store.revision(rt)),
-            Watched::Closed => return send_last_chunk(sink),
+            Watched::Waits(revision) => {
+                if !waits(source) {
+                    return Ok(WatchEnd::Left);
+                }
+                next = revision;
+            }
+            Watched::Compacted(floor) => {
+                return told_whole(cancel(alloc, sink, floor, store.revision(rt)));
+            }
+            Watched::Closed => return told_whole(send_last_chunk(sink)),
             Watched::Memory => return Err(HttpFault::Memory),
         }
     }

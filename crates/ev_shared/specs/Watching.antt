@@ -35,11 +35,12 @@ Looks s k from (look.Put kv) = (n : ℕ) × (from ≤ n) × (n < 2 ^ 62) × (put
 Looks s k from (look.Waits next) = (from ≤ next) × (length s.revisions < next) × (next ≤ 2 ^ 62) × NonePut s k from next
 Looks s k from (look.Compacted floor) = (floor ≡ s.floor) × (pos from <ℤ floor)
 
--- What a watch of this key is told next: a put of the key, at the revision that it waits for or a later one, below 2^62; or, where the
--- revision that it waits for was compacted, the least that was not.
+-- What a watch of this key is told next: a put of the key, at the revision that it waits for or a later one, below 2^62; or where to go
+-- on from, which is no earlier; or, where the revision that it waits for was compacted, the least that was not.
 abbrev pub IsNext : Bytes → ℕ → Watched → Type 0
 IsNext k from (watched.Put kv) = (kv.key ≡ k) × (pos from ≤ℤ kv.mod_revision) × (kv.mod_revision <ℤ pos (2 ^ 62))
 IsNext k from (watched.Compacted floor) = pos from <ℤ floor
+IsNext k from (watched.Waits next) = (from ≤ next) × (next ≤ 2 ^ 62)
 IsNext k from watched.Closed = Unit {0}
 IsNext k from watched.Memory = Unit {0}
 

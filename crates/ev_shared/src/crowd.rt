@@ -2,7 +2,7 @@
 
 use std::sync::{Condvar, Mutex, Wait};
 
-/// How many use a store, and how many of these wait in a watch.
+/// How many use a store, and how many of these watch.
 #[derive(Clone, Copy, Drop)]
 struct Counts {
     present: u64,
@@ -43,7 +43,7 @@ impl Crowd {
         self.thinned.notify_all();
     }
 
-    /// One of them begins to wait in a watch.
+    /// One of them begins a watch.
     pub fn begin_watch<R: Wait>(&self, rt: &R) {
         let mut counts = self.counts.lock(rt);
         counts.watching = counts.watching.saturating_add(1);
@@ -51,13 +51,13 @@ impl Crowd {
         self.thinned.notify_all();
     }
 
-    /// One of them was woken in a watch.
+    /// One of them ends its watch.
     pub fn end_watch<R: Wait>(&self, rt: &R) {
         let mut counts = self.counts.lock(rt);
         counts.watching = counts.watching.saturating_sub(1);
     }
 
-    /// Waits until each of them waits in a watch, or there is nobody.
+    /// Waits until each of them watches, or there is nobody.
     pub fn wait_for_watches<R: Wait>(&self, rt: &R) {
         let mut counts = self.counts.lock(rt);
         for _ in rt.forever() {

@@ -11,7 +11,12 @@ use crate::watch::Look;
 use ev_store::{Store, StoreFault};
 use ev_types::{Answer, Ask, Kv};
 use std::alloc::Global;
-use std::sync::{Condvar, Mutex, Wait};
+use std::io;
+use std::sync::{Condvar, CondvarTimeouts, Mutex, Wait};
+use std::time::{Clock as SystemClock, Duration, Instant};
+
+/// How long a watch waits before it looks at other things, in milliseconds. One that is woken just before waits as long again.
+const LONGEST_WAIT: u64 = 1000;
 
 /// An etcd in memory under one lock, for many threads. The locked value has in its type that its state is what the history of its
 /// asks and lapses leads to.
@@ -30,10 +35,23 @@ pub enum Watched {
     Put(Kv),
     /// The revision to go on from was compacted; the least one that can be named.
     Compacted(i64),
+    /// No such put came within a second or two. The revision to go on from: none before it is such a put.
+    Waits(u64),
     /// The store was closed.
     Closed,
     /// The allocator refused memory.
     Memory,
+}
+
+/// Whether a watch has waited for long enough.
+fn has_waited<R: SystemClock>(rt: &R, since: &io::Result<Instant>) -> bool {
+    let Ok(since) = since else {
+        return true;
+    };
+    match since.elapsed(rt) {
+        Ok(waited) => waited >= Duration::from_millis(LONGEST_WAIT),
+        Err(_) => true,
+    }
 }
 
 impl SharedStore {
@@ -70,14 +88,21 @@ impl SharedStore {
         self.kept.lock(rt).revision()
     }
 
-    /// Waits for the first revision from `from` on that puts the key, from 1 to 2^62. A removal is no put. The revision of a put is
-    /// below 2^62, and one that was compacted is below the least that can be named.
+    /// Waits for the first revision from `from` on that puts the key, from 1 to 2^62, for a second or two. A removal is no put. The
+    /// revision of a put is below 2^62, and one that was compacted is below the least that can be named.
     #[tactic(auto, using(crate::proofs::Shown::gone_next))]
-    pub fn next_put<R: Wait>(&self, rt: &R, alloc: Global, key: &[u8], from: u64) -> Watched
+    pub fn next_put<R: Wait + SystemClock>(
+        &self,
+        rt: &R,
+        alloc: Global,
+        key: &[u8],
+        from: u64,
+    ) -> Watched
         requires first { 1 ≤ from }
         requires small { from ≤ 2 ^ 62 }
         ensures { IsNext key.now from result }
     {
+        let since = Instant::now(rt);
         let mut guard = self.kept.lock(rt);
         let mut next = from;
         'looks: for _ in rt.forever() {
@@ -90,9 +115,11 @@ impl SharedStore {
             if guard.is_closed() {
                 return Watched::Closed;
             }
-            self.crowd.begin_watch(rt);
-            guard = self.changed.wait(rt, guard);
-            self.crowd.end_watch(rt);
+            if has_waited(rt, &since) {
+                return Watched::Waits(next);
+            }
+            let longest = Duration::from_millis(LONGEST_WAIT);
+            guard = self.changed.wait_timeout(rt, guard, longest).0;
         }
         unreachable!()
     }
@@ -103,8 +130,7 @@ impl SharedStore {
         self.changed.notify_all();
     }
 
-    /// Counts one more who uses the store, until it [leaves](SharedStore::leave). Who calls [`SharedStore::next_put`] is to be
-    /// counted, where [`SharedStore::wait_for_watches`] is called.
+    /// Counts one more who uses the store, until it [leaves](SharedStore::leave).
     pub fn enter<R: Wait>(&self, rt: &R) {
         self.crowd.enter(rt);
     }
@@ -114,7 +140,17 @@ impl SharedStore {
         self.crowd.leave(rt);
     }
 
-    /// Waits until each one who entered has left, or waits for a put in [`SharedStore::next_put`].
+    /// Counts one more of those who use the store as one who watches, until it [ends its watch](SharedStore::end_watch).
+    pub fn begin_watch<R: Wait>(&self, rt: &R) {
+        self.crowd.begin_watch(rt);
+    }
+
+    /// Counts one less who watches.
+    pub fn end_watch<R: Wait>(&self, rt: &R) {
+        self.crowd.end_watch(rt);
+    }
+
+    /// Waits until each one who entered has left, or watches.
     pub fn wait_for_watches<R: Wait>(&self, rt: &R) {
         self.crowd.wait_for_watches(rt);
     }

@@ -8,6 +8,7 @@
 //! |---|---|
 //! | `gateway LIMIT STEP BYTES` | how the gateway ended, and what it sent, where these bytes came to it; its store is new and closed, so that no watch waits, and its clock goes STEP milliseconds further at each reading |
 //! | `compacted FLOOR BYTES` | the same, of a store in which the key `a` was put at the revisions 2, 3 and 4, and which was then compacted to revision FLOOR |
+//! | `open BYTES` | the same of a new store that is open, whose client is gone once it has sent these bytes |
 //! | `link CALLS BYTES` | what so many calls of a link came to that asked for the key `zk/head`, where these bytes came to it; then why it failed, with the status where it was one, or `open` |
 //! | `dial FAILING CALLS BYTES` | the same of a link that dials, where its first connection gives these bytes and each later one none, and the dial with the number FAILING fails, 0 for none; `anew`; what one more call came to, after it was told its address anew; `end` |
 //! | `named ADDRESS BYTES` | what two calls of a link that dials came to where only this address can be dialled, which gives these bytes: one before it was told an address; `anew`; and one after it was told `x`; `end` |
@@ -26,6 +27,7 @@ use row_files::{Rows, status_of, try_file};
 use std::alloc::Global;
 use std::process::ExitCode;
 use std::sync::Wait;
+use std::time::Clock;
 use zx_base::Memory;
 
 /// The rows of the file.
@@ -34,7 +36,7 @@ struct Messages<'a, R> {
     rt: &'a R,
 }
 
-impl<R: Wait + Copy + Drop> Rows for Messages<'_, R> {
+impl<R: Wait + Clock + Copy + Drop> Rows for Messages<'_, R> {
     fn found(&mut self, alloc: Global, left: &str) -> Result<Option<String>, Memory> {
         let Some((call, given)) = left.split_once(' ') else {
             return Ok(None);
@@ -44,6 +46,9 @@ impl<R: Wait + Copy + Drop> Rows for Messages<'_, R> {
         }
         if call == "compacted" {
             return serving::compacted(self.rt, alloc, given);
+        }
+        if call == "open" {
+            return serving::open(self.rt, alloc, given);
         }
         if call == "link" {
             return calls::made(alloc, given);

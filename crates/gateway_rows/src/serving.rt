@@ -13,11 +13,16 @@ use ev_types::{Act, Ask, TxnReq};
 use row_files::Words;
 use std::alloc::Global;
 use std::sync::Wait;
+use std::time::Clock;
 use zx_base::{Bytes, Memory, Seq};
 use zx_outside::{MemSink, MemSource};
 
 /// How the gateway ended, and what it sent.
-pub fn served<R: Wait>(rt: &R, alloc: Global, given: &str) -> Result<Option<String>, Memory> {
+pub fn served<R: Wait + Clock>(
+    rt: &R,
+    alloc: Global,
+    given: &str,
+) -> Result<Option<String>, Memory> {
     let Some((limit, rest)) = given.split_once(' ') else {
         return Ok(None);
     };
@@ -28,10 +33,19 @@ pub fn served<R: Wait>(rt: &R, alloc: Global, given: &str) -> Result<Option<Stri
         return Ok(None);
     };
     let bytes = unescaped(alloc, bytes)?;
-    Ok(Some(serve(rt, alloc, Store::new(alloc)?, limit, step, bytes)?))
+    let store = SharedStore::new(alloc, Store::new(alloc)?);
+    store.close(rt);
+    Ok(Some(serve(rt, alloc, &store, limit, step, bytes)?))
 }
 
-/// How many messages are answered over a store that was compacted: more than come.
+/// The same over a store that is open.
+pub fn open<R: Wait + Clock>(rt: &R, alloc: Global, bytes: &str) -> Result<Option<String>, Memory> {
+    let bytes = unescaped(alloc, bytes)?;
+    let store = SharedStore::new(alloc, Store::new(alloc)?);
+    Ok(Some(serve(rt, alloc, &store, MANY, 0, bytes)?))
+}
+
+/// How many messages are answered at most: more than come.
 const MANY: u64 = 9;
 
 /// How often the key was put in such a store.
@@ -55,7 +69,11 @@ fn put(alloc: Global) -> Result<Ask, Memory>
 }
 
 /// The same over a store in which the key `a` was put at the revisions 2, 3 and 4, and which was then compacted to this one.
-pub fn compacted<R: Wait>(rt: &R, alloc: Global, given: &str) -> Result<Option<String>, Memory> {
+pub fn compacted<R: Wait + Clock>(
+    rt: &R,
+    alloc: Global,
+    given: &str,
+) -> Result<Option<String>, Memory> {
     let Some((floor, bytes)) = given.split_once(' ') else {
         return Ok(None);
     };
@@ -69,23 +87,23 @@ pub fn compacted<R: Wait>(rt: &R, alloc: Global, given: &str) -> Result<Option<S
         let _answer = store.carry_out(&ask);
     }
     let _compacted = store.compact(i64::from(floor));
-    Ok(Some(serve(rt, alloc, store, MANY, 0, bytes)?))
+    let store = SharedStore::new(alloc, store);
+    store.close(rt);
+    Ok(Some(serve(rt, alloc, &store, MANY, 0, bytes)?))
 }
 
-fn serve<R: Wait>(
+fn serve<R: Wait + Clock>(
     rt: &R,
     alloc: Global,
-    store: Store,
+    store: &SharedStore,
     limit: u64,
     step: u64,
     bytes: Vec<u8>,
 ) -> Result<String, Memory> {
-    let store = SharedStore::new(alloc, store);
     let mut source = MemSource::new(bytes, Vec::new(alloc), Vec::new(alloc));
     let mut sink = MemSink::new(alloc, Vec::new(alloc));
     let mut clock = Ticking { now: 0, step };
-    store.close(rt);
-    let end = gateway(rt, alloc, &store, &mut source, &mut sink, &mut clock, limit);
+    let end = gateway(rt, alloc, store, &mut source, &mut sink, &mut clock, limit);
     let mut found = String::from_str(alloc, name_of(end))?;
     found.push(' ')?;
     push_escaped(&mut found, sink.bytes())?;
@@ -95,6 +113,7 @@ fn serve<R: Wait>(
 fn name_of(end: GatewayEnd) -> &'static str {
     match end {
         GatewayEnd::Ended => "ended",
+        GatewayEnd::Left => "left",
         GatewayEnd::Limit => "limit",
         GatewayEnd::Memory => "memory",
         GatewayEnd::Http(fault) => fault_of(fault),

@@ -9,6 +9,7 @@ use ev_shared::SharedStore;
 use ev_store::Store;
 use std::alloc::Global;
 use std::sync::{Arc, Wait};
+use std::time::Clock as SystemClock;
 use zx_base::Memory;
 use zx_net::{Clock, Net, Spawner};
 use zx_outside::Sink;
@@ -49,7 +50,7 @@ fn new_store(alloc: Global) -> Result<Arc<SharedStore, Global>, Memory> {
 
 /// Has a connection served by a job of its own, or in place where the job is handed back.
 fn serve_one<
-    W: Wait + Copy + Send + Drop + 'static,
+    W: Wait + SystemClock + Copy + Send + Drop + 'static,
     N: Net,
     P: Spawner,
     C: Clock + Send + Drop + 'static,
@@ -84,7 +85,7 @@ fn serve_one<
 /// Accepts the next connection and has it served.
 #[tactic(auto, using(crate::proofs::Counting::stopped_first))]
 fn accept_one<
-    W: Wait + Copy + Send + Drop + 'static,
+    W: Wait + SystemClock + Copy + Send + Drop + 'static,
     N: Net,
     P: Spawner,
     C: Clock + Send + Drop + 'static,
@@ -114,7 +115,7 @@ fn accept_one<
 /// Accepts as many connections as the limit allows.
 #[tactic(auto, using(crate::proofs::Counting::accepts_none, crate::proofs::Counting::accepts_one, crate::proofs::Counting::stopped_later))]
 fn accept_all<
-    W: Wait + Copy + Send + Drop + 'static,
+    W: Wait + SystemClock + Copy + Send + Drop + 'static,
     N: Net,
     P: Spawner,
     C: Clock + Send + Drop + 'static,
@@ -181,7 +182,7 @@ fn finish<W: Wait, O: Sink>(
 /// Serves at a door that listens.
 #[tactic(auto, using(crate::proofs::Ending::served))]
 fn serve<
-    W: Wait + Copy + Send + Drop + 'static,
+    W: Wait + SystemClock + Copy + Send + Drop + 'static,
     O: Sink,
     N: Net,
     P: Spawner,
@@ -211,7 +212,7 @@ fn serve<
 /// `listen` and a line feed. Where the net has a fault it writes `net fault` and a line feed.
 #[tactic(auto, using(crate::proofs::Ending::listened, crate::proofs::Ending::unbound, crate::proofs::Ending::unwritten, crate::proofs::Ending::refused))]
 pub fn etcd<
-    W: Wait + Copy + Send + Drop + 'static,
+    W: Wait + SystemClock + Copy + Send + Drop + 'static,
     O: Sink,
     N: Net,
     P: Spawner,
