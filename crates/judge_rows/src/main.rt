@@ -16,7 +16,7 @@ use std::process::ExitCode;
 use std::rt::Files;
 use std::{env, fs};
 use zk_judge::{Verdict, judge};
-use zk_lines::{TranscriptFault, read_transcript};
+use zt_lines::{TranscriptFault, read_transcript};
 use zk_transcript::TranscriptLine;
 use zx_base::Memory;
 

@@ -8,7 +8,7 @@ use std::mem;
 use zk_answers::{Told, Watches, plain_request, tree_reply};
 use zk_history::{Applied, Commit, Past, Session, State, apply, commit};
 use zk_model::{ConnectRequest, Reply, Request};
-use zk_plain::{Fault, Turn, begin};
+use zk_machine::{Fault, Turn, begin};
 use zk_transcript::{TranscriptLine, UpdateKind, UpdateRec};
 use zx_base::{Bytes, Memory, Seq};
 

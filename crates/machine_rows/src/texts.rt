@@ -5,7 +5,7 @@ use row_words::trigger_word;
 use std::alloc::Global;
 use zk_history::Session;
 use zk_model::{Body, PartResult, Reply, Stat, Trigger};
-use zk_plain::Tree;
+use zk_machine::Tree;
 use zx_base::{Memory, Text};
 
 /// A reply: a refusal's code, or what the body shows.

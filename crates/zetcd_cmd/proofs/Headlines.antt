@@ -8,8 +8,8 @@ use Rattle.zt_text.specs.Faults.{done_text, fault_text}
 use Rattle.zt_text.specs.Transcripts.{transcript_text}
 use Rattle.zx_outside.specs.Counts.{InputCounts}
 use Rattle.zx_outside.specs.Writing.{Takes}
-use Rattle.zk_lines.specs.Readable.{IsReason}
-use Rattle.zk_lines.specs.Words.{max_place}
+use Rattle.zt_lines.specs.Readable.{IsReason}
+use Rattle.zt_lines.specs.Words.{max_place}
 use Rattle.zetcd_cmd.specs.declared.report.End.{End}
 use Rattle.zetcd_cmd.specs.declared.report.End.TheVariants as end
 use Rattle.zetcd_cmd.specs.declared.script.Script.{Script}

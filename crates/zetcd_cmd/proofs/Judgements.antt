@@ -3,8 +3,8 @@ use Rattle.std.proofs.Common.{◌≡◌, ℕ, ◌+◌, ◌<◌, ◌⊎◌, List,
 use Rattle.std.specs.Prelude.{Option, Some, None, Bool, true, false, is_some, nat_lt, if◌then◌else◌}
 use Rattle.std.proofs.lemmas.Bool.{lt-ltb}
 use Rattle.zk_transcript.specs.declared.transcript.TranscriptLine.{TranscriptLine}
-use Rattle.zk_lines.specs.Lines.{line_read}
-use Rattle.zk_lines.specs.Transcripts.{Transcript, is_last_line, lines_from, nothing_behind, then_lines, transcript}
+use Rattle.zt_lines.specs.Lines.{line_read}
+use Rattle.zt_lines.specs.Transcripts.{Transcript, is_last_line, lines_from, nothing_behind, then_lines, transcript}
 use Rattle.zt_text.specs.Scripts.{max_script, pieces}
 use Rattle.zt_text.proofs.PieceLaws.{pieces-some}
 use Rattle.zx_outside.specs.Reading.{Gives}

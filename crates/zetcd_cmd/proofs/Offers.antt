@@ -7,7 +7,7 @@ use Rattle.zk_model.specs.Limits.{max_long}
 use Rattle.zt_text.specs.declared.script.Happening.{Happening}
 use Rattle.zt_text.specs.declared.script.Happening.TheVariants as line
 use Rattle.zt_text.specs.Scripts.{as_session_id, bytes_line, digits_value, foreign_line, four_words, frame_line, happening, hex, hex_byte, hex_digit, hex_pairs, lapse_line, line_of_form, line_read, max_line, number, number_and_bytes, numbered_line, of_number, one_word, open_line, password, pieces, reap_line, session_id, three_words, two_words, ◌>>=◌}
-use Rattle.zp_lawful.specs.Written.{NamesSession}
+use Rattle.zp_verdict_laws.specs.Written.{NamesSession}
 use Rattle.zp_world.specs.Applying.{IsOfScript}
 
 -- ---- what is read in steps

@@ -7,8 +7,8 @@ use Rattle.zt_text.specs.declared.script.Happening.{Happening}
 use Rattle.zt_text.specs.declared.script.Unread.{Unread}
 use Rattle.zt_text.specs.declared.script.Unread.TheVariants.{Unreadable, TooLong}
 use Rattle.zt_text.specs.Scripts.{Script as Reading, then_script, last_line, line_read, max_line, max_script, script, script_from}
-use Rattle.zp_happen.specs.Worlds.{World}
-use Rattle.zp_happen.specs.Faults.{fault}
+use Rattle.zp_script.specs.Worlds.{World}
+use Rattle.zp_script.specs.Faults.{fault}
 use Rattle.zetcd_cmd.specs.Reached.{Reached}
 use Rattle.zetcd_cmd.specs.declared.script.Script.{Script}
 use Rattle.zetcd_cmd.specs.declared.script.Stop.{Stop}

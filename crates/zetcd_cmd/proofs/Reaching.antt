@@ -2,21 +2,21 @@
 use Rattle.std.proofs.Common.{◌≡◌, ℕ, List, [], ◌∷◌, ◌++◌, refl, sym, ap, ◌∙◌, subst, arith}
 use Rattle.std.proofs.lemmas.List.Elements.{All-append, All-cons, All-nil}
 use Rattle.std.specs.Prelude.{All, length, ◌<◌, ◌⊎◌}
-use Rattle.zk_lines.specs.Readable.{IsLastLine}
+use Rattle.zt_lines.specs.Readable.{IsLastLine}
 use Rattle.zk_transcript.specs.Legal.{Tick}
 use Rattle.zk_transcript.specs.declared.transcript.TranscriptLine.{TranscriptLine}
 use Rattle.zt_text.specs.Transcripts.{transcript_text}
 use Rattle.zt_text.specs.declared.script.Happening.{Happening}
-use Rattle.zp_happen.specs.Happens.{Happens}
-use Rattle.zp_happen.specs.Runs.{IsFirst, Runs, RunsFrom, tick_of}
-use Rattle.zp_happen.specs.Worlds.{World}
-use Rattle.zp_lawful.proofs.Fitting.{all-offer, lines-of-runs-fit, written-replays-are-lawful}
-use Rattle.zp_lawful.proofs.Running.{few-counted}
-use Rattle.zp_lawful.proofs.Verdict.{every-replay-lawful}
-use Rattle.zp_lawful.specs.Written.{AreTyped, NamesSession}
+use Rattle.zp_script.specs.Happens.{Happens}
+use Rattle.zp_script.specs.Runs.{IsFirst, Runs, RunsFrom, tick_of}
+use Rattle.zp_script.specs.Worlds.{World}
+use Rattle.zp_verdict_laws.proofs.Fitting.{all-offer, lines-of-runs-fit, written-replays-are-lawful}
+use Rattle.zp_verdict_laws.proofs.Running.{few-counted}
+use Rattle.zp_verdict_laws.proofs.Verdict.{every-replay-lawful}
+use Rattle.zp_verdict_laws.specs.Written.{AreTyped, NamesSession}
 use Rattle.zp_step.specs.Stages.{max_count}
-use Rattle.zp_whole.proofs.Timing.{every-run-served}
-use Rattle.zp_whole.specs.Accounting.{IsWithinCounts}
+use Rattle.zp_world_laws.proofs.Timing.{every-run-served}
+use Rattle.zp_world_laws.specs.Accounting.{IsWithinCounts}
 use Rattle.zetcd_cmd.specs.Claims.{IsLawfulWithin, IsOneRun}
 use Rattle.zetcd_cmd.specs.Reached.{Reached}
 

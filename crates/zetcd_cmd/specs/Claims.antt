@@ -3,11 +3,11 @@ use Rattle.std.specs.List.{AllByRecursion}
 use Rattle.std.specs.Prelude.{List, length, true, ℕ, ◌≡◌, ◌≤◌}
 use Rattle.zk_judge.specs.Verdicts.{IsVerdict}
 use Rattle.zk_judge.specs.declared.verdict.Verdict.TheVariants.{Lawful}
-use Rattle.zk_lines.specs.Readable.{FitsLine}
+use Rattle.zt_lines.specs.Readable.{FitsLine}
 use Rattle.zk_transcript.specs.Conversations.{IsServed, IsShownFresh}
 use Rattle.zk_transcript.specs.Legal.{IsPunctual, Tick, is_legal, is_ordered}
 use Rattle.zk_transcript.specs.declared.transcript.TranscriptLine.{TranscriptLine}
-use Rattle.zp_lawful.specs.Written.{AreShort, IsJudgedLawful}
+use Rattle.zp_verdict_laws.specs.Written.{AreShort, IsJudgedLawful}
 use Rattle.zt_text.specs.Scripts.{max_script}
 
 pub record IsOneRun (ticks : List Tick) (lines : List TranscriptLine) : Type 0 where

@@ -4,7 +4,7 @@ use Rattle.zk_transcript.specs.declared.transcript.TranscriptLine.{TranscriptLin
 use Rattle.zk_judge.specs.declared.verdict.Verdict.{Verdict}
 use Rattle.zk_judge.specs.declared.verdict.Verdict.TheVariants.{Lawful, History, Order, Conversation}
 use Rattle.zk_judge.specs.Verdicts.{IsVerdict}
-use Rattle.zk_lines.specs.Transcripts.{transcript}
+use Rattle.zt_lines.specs.Transcripts.{transcript}
 use Rattle.zt_text.specs.declared.script.Unread.TheVariants.{Unreadable}
 use Rattle.zt_text.specs.Faults.{fault_text, unread_text}
 use Rattle.zetcd_cmd.specs.declared.status.Status.{Status}

@@ -1,10 +1,10 @@
 -- The worlds that the lines of a script lead to.
 use Rattle.std.specs.Prelude.{All, List}
 use Rattle.zk_transcript.specs.Legal.{Tick}
-use Rattle.zp_happen.specs.Runs.{Runs}
-use Rattle.zp_happen.specs.Worlds.{World}
-use Rattle.zp_lawful.specs.Written.{NamesSession}
-use Rattle.zp_whole.specs.Accounting.{IsWithinCounts}
+use Rattle.zp_script.specs.Runs.{Runs}
+use Rattle.zp_script.specs.Worlds.{World}
+use Rattle.zp_verdict_laws.specs.Written.{NamesSession}
+use Rattle.zp_world_laws.specs.Accounting.{IsWithinCounts}
 use Rattle.zt_text.specs.declared.script.Happening.{Happening}
 
 -- These happenings lead to this world. Each connection that they open offers a session's number and a password in their ranges, each

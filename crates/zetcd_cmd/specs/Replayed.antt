@@ -7,9 +7,9 @@ use Rattle.zt_text.specs.Scripts.{script, IsWholeLines, max_line, max_script}
 use Rattle.zt_text.specs.Transcripts.{transcript_text}
 use Rattle.zt_text.specs.Faults.{why_text, unread_text, done_text, fault_text}
 use Rattle.zk_transcript.specs.Legal.{Tick}
-use Rattle.zp_happen.specs.Runs.{Runs}
-use Rattle.zp_happen.specs.Worlds.{World}
-use Rattle.zp_happen.specs.Faults.{fault}
+use Rattle.zp_script.specs.Runs.{Runs}
+use Rattle.zp_script.specs.Worlds.{World}
+use Rattle.zp_script.specs.Faults.{fault}
 use Rattle.zetcd_cmd.specs.Claims.{IsLawfulWithin, IsOneRun}
 
 -- The whole input is a script, and the output is the transcript of a run to which exactly its happenings were applied.

@@ -5,8 +5,8 @@ use Rattle.zt_text.specs.declared.script.Unread.{Unread}
 use Rattle.zt_text.specs.declared.script.Unread.TheVariants.{Unreadable}
 use Rattle.zt_text.specs.Scripts.{Script as Reading, lines_from, pieces, script, line_read, max_line, max_script}
 use Rattle.zt_text.specs.Scripts.{IsWholeLines}
-use Rattle.zp_happen.specs.Worlds.{World}
-use Rattle.zp_happen.specs.Faults.{fault}
+use Rattle.zp_script.specs.Worlds.{World}
+use Rattle.zp_script.specs.Faults.{fault}
 use Rattle.zetcd_cmd.specs.Reached.{Reached}
 use Rattle.zetcd_cmd.specs.Replayed.{IsOver, StandsAgainst}
 use Rattle.zetcd_cmd.specs.Reporting.{stop_text}

@@ -12,7 +12,7 @@ use crate::status::Status;
 use crate::streams::{Piece, next_piece, write_all};
 use std::alloc::Global;
 use zk_judge::{Verdict, judge as verdict_on};
-use zk_lines::{TranscriptFault, read_transcript};
+use zt_lines::{TranscriptFault, read_transcript};
 use zk_transcript::TranscriptLine;
 use zt_text::{MAX_SCRIPT, Unread, push_number, push_unread};
 use zx_base::Memory;

@@ -2,14 +2,14 @@
 
 ghost use Rattle.std.specs.Prelude.{◌≡◌, ◌+◌, ◌-◌, ◌^◌, ◌<◌, ◌≤◌, ◌++◌, ◌∷◌, [], ℕ, List, length, IfOk, OnOk, IfErr, MatchOption};
 ghost use Rattle.zt_text.specs.Scripts.{max_line, max_script};
-ghost use Rattle.zk_lines.specs.Words.{max_place};
-ghost use Rattle.zp_lawful.specs.Written.{AreTyped};
+ghost use Rattle.zt_lines.specs.Words.{max_place};
+ghost use Rattle.zp_verdict_laws.specs.Written.{AreTyped};
 ghost use Rattle.zetcd_cmd.specs.Replayed.{IsOver};
 ghost use Rattle.zetcd_cmd.specs.Scripting.{HasNoLineFeed, IsFirstLine, Plays, Halts, HasRead, Stands, IsApplied, Ends, EndsEarly, IsOverAt, IsKeptOut};
 
 use std::alloc::Global;
 use zk_transcript::TranscriptLine;
-use zp_lawful::lines_are_typed;
+use zp_verdict_laws::lines_are_typed;
 use zp_world::{ApplyFault, World};
 use zt_text::{MAX_LINE, MAX_SCRIPT, Unread, Why, read_line};
 use zx_base::Memory;

@@ -3,7 +3,7 @@ use Rattle.std.specs.Prelude.{◌≤◌, ℕ, ℤ, length}
 use Rattle.zk_model.specs.declared.request.Request.{Request}
 use Rattle.zk_model.specs.declared.request.Request.TheVariants as req
 use Rattle.zk_model.specs.Znodes.{Tree}
-use Rattle.zk_plain.specs.Faults.{IsWithin, StaysWithin}
+use Rattle.zk_machine.specs.Faults.{IsWithin, StaysWithin}
 use Rattle.zk_model.specs.Limits.{max_frame}
 
 -- the numbers of the tree are within their fields, and so are those of each tree on which a part of a multi is done; the data of a

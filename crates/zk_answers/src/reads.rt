@@ -5,7 +5,7 @@ ghost use Rattle.std.specs.FinMap.{get};
 ghost use Rattle.zk_model.specs.declared.reply.Body.TheVariants as body;
 ghost use Rattle.zk_transcript.specs.Answers.{about, listing, armed_data, armed_children};
 ghost use Rattle.zk_model.specs.Znodes.{stat_of, child_names};
-ghost use Rattle.zk_plain.specs.Faults.{BeyondUnless, IsWithin};
+ghost use Rattle.zk_machine.specs.Faults.{BeyondUnless, IsWithin};
 ghost use Rattle.zk_answers.specs.Outcomes.{told_of};
 
 use crate::listings::{names_and_stat_fit, names_fit};
@@ -14,7 +14,7 @@ use crate::watches::Watches;
 use std::alloc::Global;
 use zk_model::code::{NO_NODE, SYSTEM_ERROR};
 use zk_model::{Body, Node, Stat};
-use zk_plain::{Fault, Tree, stat};
+use zk_machine::{Fault, Tree, stat};
 use zx_base::{Bytes, Memory, Text};
 
 /// The watches, with a data watch on the path where one is asked for.

@@ -5,8 +5,8 @@ ghost use Rattle.zk_model.specs.declared.reply.Body.TheVariants as body;
 ghost use Rattle.zk_model.specs.declared.reply.Reply.TheVariants as reply;
 ghost use Rattle.zk_transcript.specs.Answers.{told, checked, refusal_of, refusal_of_several, rearmed, tree_reply};
 ghost use Rattle.zk_model.specs.Znodes.{Tree as Nodes};
-ghost use Rattle.zk_plain.specs.Faults.{BeyondUnless};
-ghost use Rattle.zk_plain.specs.Outcomes.{outcome_of, several_as};
+ghost use Rattle.zk_machine.specs.Faults.{BeyondUnless};
+ghost use Rattle.zk_machine.specs.Outcomes.{outcome_of, several_as};
 ghost use Rattle.zk_answers.specs.Fits.{FitsRequest};
 ghost use Rattle.zk_answers.specs.Outcomes.{seen_of, told_of};
 
@@ -16,7 +16,7 @@ use crate::told::{Told, good, refused};
 use crate::watches::{Seen, Watches};
 use std::alloc::Global;
 use zk_model::{Body, Reply, Request};
-use zk_plain::{
+use zk_machine::{
     Fault, Outcome, Transaction, Tree, Turn, several, single_check, single_create, single_delete,
     single_set_data,
 };

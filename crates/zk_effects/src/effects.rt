@@ -5,7 +5,7 @@ ghost use Rattle.zk_transcript.specs.declared.transcript.UpdateRec.{UpdateRec as
 ghost use Rattle.zk_transcript.specs.declared.transcript.TranscriptLine.{TranscriptLine as Line};
 ghost use Rattle.zk_transcript.specs.declared.transcript.TranscriptLine.TheVariants.{Update};
 ghost use Rattle.zk_transcript.specs.History.{state_at};
-ghost use Rattle.zk_plain.specs.Faults.{BeyondUnless};
+ghost use Rattle.zk_machine.specs.Faults.{BeyondUnless};
 ghost use Rattle.zk_history.specs.Commits.{response_in};
 ghost use Rattle.zk_history.specs.Fits.{AllFit};
 ghost use Rattle.zk_effects.specs.Effects.{AreEffects, AreNexts, IsEffect, IsNext, effect_at};

@@ -7,7 +7,7 @@ use Rattle.zk_model.specs.declared.node.Trigger.{Trigger}
 use Rattle.zk_model.specs.declared.node.Trigger.TheVariants.{Created, Deleted, Changed, Children}
 use Rattle.zk_model.specs.Znodes.{Tree}
 use Rattle.zk_transcript.specs.History.{Session, Sessions, State}
-use Rattle.zk_plain.specs.Entries.{coded_tree}
+use Rattle.zk_machine.specs.Entries.{coded_tree}
 
 abbrev pub coded_session : Coded Session
 coded_session = code_by (List ℕ × (ℤ × (ℕ × (ℤ × Bool)))) (coded× (coded_list coded_ℕ) (coded× coded_ℤ (coded× coded_ℕ (coded× coded_ℤ coded_bool))))

@@ -2,8 +2,8 @@
 use Rattle.std.specs.Prelude.{ℤ, List, Option, None, option_map}
 use Rattle.zk_model.specs.declared.reply.Body.{Body}
 use Rattle.zk_model.specs.Znodes.{Tree}
-use Rattle.zk_plain.specs.Edits.{edited_if}
-use Rattle.zk_plain.specs.Writes.{written_all}
+use Rattle.zk_machine.specs.Edits.{edited_if}
+use Rattle.zk_machine.specs.Writes.{written_all}
 use Rattle.zk_history.specs.declared.outcome.Change.{Change}
 use Rattle.zk_history.specs.declared.outcome.Change.TheVariants.{Edited, Written}
 use Rattle.zk_history.specs.declared.outcome.Commit.{Commit as Answer}

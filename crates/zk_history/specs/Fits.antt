@@ -11,7 +11,7 @@ use Rattle.zk_transcript.specs.declared.transcript.TranscriptLine.TheVariants.{U
 use Rattle.zk_transcript.specs.History.{State, after, request, session_of}
 use Rattle.zk_model.specs.Multi.{data_len}
 use Rattle.zk_model.specs.Znodes.{Tree}
-use Rattle.zk_plain.specs.Faults.{IsWithin, StaysWithin}
+use Rattle.zk_machine.specs.Faults.{IsWithin, StaysWithin}
 use Rattle.zk_model.specs.Limits.{max_frame, max_owned}
 
 -- the numbers of the tree are within their fields, and the part's data fit a frame

@@ -3,7 +3,7 @@
 ghost use Rattle.std.specs.Prelude.{◌≡◌, ◌+◌, ◌<◌, ◌≤◌, Some, length, slice_get, IfErr, IfOk};
 ghost use Rattle.zk_transcript.specs.declared.transcript.TranscriptLine.{TranscriptLine as Line};
 ghost use Rattle.zk_transcript.specs.History.{after, state_at};
-ghost use Rattle.zk_plain.specs.Faults.{BeyondUnless};
+ghost use Rattle.zk_machine.specs.Faults.{BeyondUnless};
 ghost use Rattle.zk_history.specs.Commits.{response_to};
 ghost use Rattle.zk_history.specs.Fits.{AllFit};
 ghost use Rattle.zk_history.specs.Pasts.{lines_of};
@@ -13,7 +13,7 @@ use crate::past::{Past, line_at};
 use crate::state::State;
 use std::alloc::Global;
 use zk_model::Body;
-use zk_plain::Fault;
+use zk_machine::Fault;
 use zk_transcript::TranscriptLine;
 
 /// A moment of a transcript, which is a place between two lines, and the state at it. It moves on without going over the earlier

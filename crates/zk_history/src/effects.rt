@@ -6,7 +6,7 @@ ghost use Rattle.zk_transcript.specs.declared.transcript.UpdateRec.{UpdateRec as
 ghost use Rattle.zk_transcript.specs.declared.transcript.TranscriptLine.{TranscriptLine as Line};
 ghost use Rattle.zk_transcript.specs.declared.transcript.TranscriptLine.TheVariants.{Update};
 ghost use Rattle.zk_transcript.specs.History.{state_at};
-ghost use Rattle.zk_plain.specs.Faults.{BeyondUnless};
+ghost use Rattle.zk_machine.specs.Faults.{BeyondUnless};
 ghost use Rattle.zk_history.specs.Commits.{response_in};
 ghost use Rattle.zk_history.specs.Effects.{AreKept, AreNexts, IsKept, IsNext};
 ghost use Rattle.zk_history.specs.Fits.{AllFit};
@@ -15,7 +15,7 @@ use crate::cursor::Cursor;
 use crate::past::update_zxid;
 use std::alloc::Global;
 use zk_model::{Body, Trigger};
-use zk_plain::Fault;
+use zk_machine::Fault;
 use zk_transcript::TranscriptLine;
 use zx_base::{Memory, Seq};
 

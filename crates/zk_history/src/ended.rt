@@ -3,13 +3,13 @@
 ghost use Rattle.std.specs.Prelude.{◌≡◌, ◌++◌, flat_map, IfOk, IfErr, OnOk};
 ghost use Rattle.zk_model.specs.Single.{removal};
 ghost use Rattle.zk_transcript.specs.History.{removed_all, session_ended};
-ghost use Rattle.zk_plain.specs.Faults.{BeyondUnless};
+ghost use Rattle.zk_machine.specs.Faults.{BeyondUnless};
 ghost use Rattle.zk_history.specs.Fits.{IsCountable};
 
 use crate::state::State;
 use std::alloc::Global;
 use zk_model::{Path, Trigger};
-use zk_plain::{Fault, Tree};
+use zk_machine::{Fault, Tree};
 use zx_base::{Memory, Seq};
 
 /// The tree without these nodes, removed one by one at one zxid.

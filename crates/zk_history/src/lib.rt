@@ -28,4 +28,4 @@ pub use past::Past;
 pub use requests::commit;
 pub use session::Session;
 pub use state::State;
-pub use zk_plain::Fault;
+pub use zk_machine::Fault;

@@ -3,7 +3,7 @@
 ghost use Rattle.std.specs.Prelude.{◌≡◌, ℕ, List, None, option_map, IfOk, IfErr};
 ghost use Rattle.zk_transcript.specs.declared.transcript.UpdateKind.TheVariants as kind;
 ghost use Rattle.zk_transcript.specs.History.{State, attached_anew, asked_commit, change, committed, lapsed_in, request, session_at, session_of, updated};
-ghost use Rattle.zk_plain.specs.Faults.{BeyondUnless};
+ghost use Rattle.zk_machine.specs.Faults.{BeyondUnless};
 ghost use Rattle.zk_history.specs.Commits.{commit_of, response_in, response_to};
 ghost use Rattle.zk_history.specs.Pasts.{lines_of};
 ghost use Rattle.zk_history.specs.Fits.{AskedFits, Fits, IsCountable, IsTime, UpdateFits};
@@ -17,7 +17,7 @@ use crate::state::State;
 use std::alloc::Global;
 use zk_model::Body;
 use zk_model::limit::MAX_OWNED;
-use zk_plain::{Fault, Turn, begin};
+use zk_machine::{Fault, Turn, begin};
 use zk_transcript::{TranscriptLine, UpdateKind, UpdateRec};
 use zx_base::{Memory, Seq};
 

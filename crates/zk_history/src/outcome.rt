@@ -5,7 +5,7 @@ ghost use Rattle.zk_history.specs.Commits.{changed};
 
 use std::alloc::Global;
 use zk_model::{Body, Trigger};
-use zk_plain::{Edit, Tree, Write};
+use zk_machine::{Edit, Tree, Write};
 use zx_base::{Memory, Seq};
 
 /// What a request changes of a tree.

@@ -5,15 +5,15 @@ ghost use Rattle.zk_transcript.specs.History.{response_of, commit_single, commit
 ghost use Rattle.zk_model.specs.Single.{single};
 ghost use Rattle.zk_model.specs.Multi.{several};
 ghost use Rattle.zk_model.specs.Znodes.{Tree as Nodes};
-ghost use Rattle.zk_plain.specs.Faults.{BeyondUnless, StaysWithin};
-ghost use Rattle.zk_plain.specs.Outcomes.{outcome_of, several_as};
+ghost use Rattle.zk_machine.specs.Faults.{BeyondUnless, StaysWithin};
+ghost use Rattle.zk_machine.specs.Outcomes.{outcome_of, several_as};
 ghost use Rattle.zk_history.specs.Commits.{commit_of};
 ghost use Rattle.zk_history.specs.Fits.{PartFits, RequestFits};
 
 use crate::outcome::{Change, Commit};
 use std::alloc::Global;
 use zk_model::{Body, Part, PartResult, Request};
-use zk_plain::{Fault, Outcome, Transaction, Tree, Turn, several, single};
+use zk_machine::{Fault, Outcome, Transaction, Tree, Turn, several, single};
 
 fn response_of(outcome: PartResult) -> Body
     ensures { result ≡ response_of outcome }

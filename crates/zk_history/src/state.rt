@@ -4,7 +4,7 @@ ghost use Rattle.std.specs.Prelude.{◌≡◌, [], ◌+◌, ◌<◌, option_map,
 ghost use Rattle.std.specs.FinMap.{empty, insert, remove};
 ghost use Rattle.zk_transcript.specs.History.{advanced, attached_session, nothing_yet, removed_all, session_at};
 ghost use Rattle.zk_history.specs.Commits.{changed};
-ghost use Rattle.zk_plain.specs.Faults.{BeyondUnless};
+ghost use Rattle.zk_machine.specs.Faults.{BeyondUnless};
 
 use crate::ended::removed_all;
 use crate::outcome::Change;
@@ -13,7 +13,7 @@ use crate::sessions::Sessions;
 use std::alloc::Global;
 use std::marker::Model;
 use zk_model::{Path, Trigger};
-use zk_plain::{Fault, Tree};
+use zk_machine::{Fault, Tree};
 use zx_base::{Memory, Seq};
 
 /// The state of the service: its tree, its open sessions, and of the last update the zxid, the number and what watches see.

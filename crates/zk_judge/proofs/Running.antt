@@ -18,10 +18,10 @@ use Rattle.zk_transcript.proofs.Histories.{first_shown-push}
 use Rattle.zk_transcript.proofs.Lookups.{first_shown-new}
 use Rattle.zk_transcript.proofs.SoundEffects.{IsShort}
 use Rattle.zk_least.proofs.FirstPlaces.{first_place-at}
-use Rattle.zk_plain.specs.Faults.{BeyondUnless, IsWhole}
-use Rattle.zk_plain.specs.declared.fault.Fault.{Fault}
-use Rattle.zk_plain.specs.declared.fault.Fault.TheVariants.{Beyond}
-use Rattle.zk_plain.proofs.WholeTrees.{parts-within}
+use Rattle.zk_machine.specs.Faults.{BeyondUnless, IsWhole}
+use Rattle.zk_machine.specs.declared.fault.Fault.{Fault}
+use Rattle.zk_machine.specs.declared.fault.Fault.TheVariants.{Beyond}
+use Rattle.zk_machine.proofs.WholeTrees.{parts-within}
 use Rattle.zk_answers.specs.Fits.{FitsRequest}
 use Rattle.zk_history.specs.Shown.{placed_bytes}
 use Rattle.zk_legal.specs.Faults.{history_fault}

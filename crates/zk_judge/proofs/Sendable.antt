@@ -41,7 +41,7 @@ use Rattle.zk_jute.proofs.Lists.{both_of}
 use Rattle.zk_jute.proofs.RequestLaws.{found}
 use Rattle.zk_transcript.specs.Answers.{Told, about, checked, fits_reply, listing, only, plain_reply, plain_request, refusal_of, refusal_of_several, told, told_refusal, tree_reply}
 use Rattle.zk_transcript.specs.Legal.{is_within_parts}
-use Rattle.zk_plain.specs.Faults.{IsWhole}
+use Rattle.zk_machine.specs.Faults.{IsWhole}
 use Rattle.zk_legal.specs.Short.{AreShort, IsShortBody, IsShortResult}
 use Rattle.zk_legal.proofs.ShortPaths.{SeveralGives, several-gives}
 use Rattle.zk_judge.specs.Seen.{IsShortFrame}

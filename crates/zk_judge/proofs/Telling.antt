@@ -17,7 +17,7 @@ use Rattle.zk_transcript.specs.declared.transcript.TranscriptLine.TheVariants.{U
 use Rattle.zk_transcript.specs.Answers.{Told, limit_in, plain_reply, session_refusal}
 use Rattle.zk_transcript.specs.History.{Commit, Session, State, after, asked_commit, session_at}
 use Rattle.zk_transcript.specs.Walks.{closes_session, looked, response_at, seen_told, told_as_of, told_by_state, told_response, with_end}
-use Rattle.zk_plain.specs.Faults.{IsWhole}
+use Rattle.zk_machine.specs.Faults.{IsWhole}
 use Rattle.zk_answers.specs.Outcomes.{told_of}
 use Rattle.zk_answers.specs.declared.told.Told.{Told as Reported}
 use Rattle.zk_legal.specs.Faults.{history_fault}

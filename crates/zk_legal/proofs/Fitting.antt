@@ -26,8 +26,8 @@ use Rattle.zk_transcript.specs.Legal.{is_next_zxid, is_small_frame, is_within_pa
 use Rattle.zk_transcript.proofs.Appending.{after-push}
 use Rattle.zk_transcript.proofs.SoundEffects.{IsShort, IsSmallPart}
 use Rattle.zk_transcript.proofs.SoundHistories.{legal-sound}
-use Rattle.zk_plain.specs.Faults.{IsWhole}
-use Rattle.zk_plain.proofs.WholeTrees.{empty-whole, parts-within, sound-whole}
+use Rattle.zk_machine.specs.Faults.{IsWhole}
+use Rattle.zk_machine.proofs.WholeTrees.{empty-whole, parts-within, sound-whole}
 use Rattle.zk_history.specs.Fits.{AllFit, AskedFits, Fits, IsTime, RequestFits, UpdateFits}
 use Rattle.zk_history.proofs.Counts.{change-updates}
 use Rattle.zk_legal.specs.Formed.{frames_of, has_begun, is_formed_line}

@@ -26,7 +26,7 @@ use Rattle.zk_model.proofs.ValidPaths.{parent-valid, valid-from}
 use Rattle.zk_jute.proofs.Lists.{both_of}
 use Rattle.zk_transcript.specs.History.{Commit, commit, commit_several, commit_single, response_of}
 use Rattle.zk_transcript.specs.Legal.{is_within_parts}
-use Rattle.zk_plain.proofs.WholeTrees.{parent-made}
+use Rattle.zk_machine.proofs.WholeTrees.{parent-made}
 use Rattle.zk_legal.specs.Short.{AreShort, IsShortBody, IsShortResult}
 use Rattle.zk_model.specs.Watches.{trigger_path}
 

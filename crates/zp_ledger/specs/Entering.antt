@@ -3,7 +3,7 @@ use Rattle.std.specs.Prelude.{◌≡◌, ℕ, pos, ◌+◌, List, [], ◌∷◌,
 use Rattle.ev_types.specs.declared.answer.Kv.{Kv}
 use Rattle.zn_layout.specs.declared.entry.Entry.{Entry}
 use Rattle.zn_layout.specs.Records.{IsHeadRec}
-use Rattle.zp_happen.specs.Entries.{IsEntryOf}
+use Rattle.zp_script.specs.Entries.{IsEntryOf}
 
 pub record IsNumbered (n : ℕ) (e : Entry) : Type 0 where
   pub number : e.number ≡ pos n

@@ -3,7 +3,7 @@
 ghost use Rattle.std.specs.Prelude.{◌≡◌, ◌++◌, ◌==◌, ℕ, IfOk, OnOk, filter, map, slice_get};
 ghost use Rattle.std.specs.List.{filter_map};
 ghost use Rattle.std.specs.Option.{option_to_list};
-ghost use Rattle.zp_happen.specs.Conversing.{conversation, conversations, is_line_of, opened_by};
+ghost use Rattle.zp_script.specs.Conversing.{conversation, conversations, is_line_of, opened_by};
 ghost use Rattle.zp_ledger.specs.Grouping.{is_number, placed, places_at};
 
 use std::alloc::Global;

@@ -5,7 +5,7 @@ ghost use Rattle.std.specs.Arc.{arc_value};
 ghost use Rattle.std.specs.Option.{option_map};
 ghost use Rattle.ev_types.specs.Store.{mod_of};
 ghost use Rattle.zn_layout.specs.Records.{IsHeadRec};
-ghost use Rattle.zp_happen.specs.Entries.{AreTriggersOf, entry_behind};
+ghost use Rattle.zp_script.specs.Entries.{AreTriggersOf, entry_behind};
 ghost use Rattle.zp_ledger.specs.Entering.{AreNumbered, IsAdded};
 
 use ev_types::Kv;

@@ -4,7 +4,7 @@ ghost use Rattle.std.specs.Prelude.{◌≡◌, ◌++◌, ◌∷◌, [], None, If
 ghost use Rattle.std.specs.List.{AllByRecursion};
 ghost use Rattle.zk_transcript.specs.declared.transcript.TranscriptLine.TheVariants.{Update};
 ghost use Rattle.zk_transcript.specs.History.{update_in, updates as updates_of};
-ghost use Rattle.zp_happen.specs.Conversing.{conversations};
+ghost use Rattle.zp_script.specs.Conversing.{conversations};
 ghost use Rattle.zt_text.specs.Transcripts.{IsWellFormed, IsWellFormedKind};
 
 use crate::conversations::conversations_in;

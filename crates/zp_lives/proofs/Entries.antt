@@ -15,13 +15,13 @@ use Rattle.zk_transcript.specs.declared.transcript.TranscriptLine.{TranscriptLin
 use Rattle.zn_layout.proofs.ListRecords.{head_value-injective}
 use Rattle.zn_layout.specs.StandsFor.{HeadMeans, IsHead, at}
 use Rattle.zn_layout.specs.declared.entry.Entry.{Entry}
-use Rattle.zp_happen.specs.Entries.{AreTriggersOf, entry_behind}
+use Rattle.zp_script.specs.Entries.{AreTriggersOf, entry_behind}
 use Rattle.zp_laws.proofs.Updates.{IsLast, last-update, same-count}
 use Rattle.zp_laws.specs.Inputs.{IsEntryOf}
 use Rattle.zp_lives.specs.Feeding.{IsEntryIn}
-use Rattle.zp_whole.proofs.Arrivals.{nat-either}
-use Rattle.zp_whole.specs.Entering.{AreEntries}
-use Rattle.zp_whole.specs.Serving.{Serves, moment_of}
+use Rattle.zp_world_laws.proofs.Arrivals.{nat-either}
+use Rattle.zp_world_laws.specs.Entering.{AreEntries}
+use Rattle.zp_world_laws.specs.Serving.{Serves, moment_of}
 
 -- ---- two moments with one number of updates show the same triggers
 

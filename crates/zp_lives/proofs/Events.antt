@@ -1,7 +1,7 @@
 -- What each event of a list keeps is kept by all of them. Another way of taking steps, as of a connection that is answered from a
 -- copy of the store, has the same law.
 use Rattle.std.proofs.Common.{List, subst, sym}
-use Rattle.zp_happen.specs.Worlds.{World}
+use Rattle.zp_script.specs.Worlds.{World}
 use Rattle.zp_lives.specs.Events.{Events, beside, ends, takes}
 use Rattle.zp_run.specs.Runs.{Step}
 

@@ -14,23 +14,23 @@ use Rattle.ev_types.specs.Store.{mod_of}
 use Rattle.zn_layout.specs.Keys.{HeadKey}
 use Rattle.zn_layout.specs.StandsFor.{HeadMeans, at}
 use Rattle.zn_layout.specs.declared.entry.Entry.{Entry}
-use Rattle.zp_happen.specs.Carrying.{CarriedBy, Executes, HasStore, ShowsUpdate, update_line}
-use Rattle.zp_happen.specs.Entries.{IsEntryOf}
-use Rattle.zp_happen.specs.Faults.{fault, flight_at, if_fails, is_to_carry_out}
-use Rattle.zp_happen.specs.Happens.{Happens}
-use Rattle.zp_happen.specs.Worlds.{Actor, Conn, Connection, World, conn_at, is_closed, with_conn, zxid_at}
-use Rattle.zp_happen.specs.declared.flight.Asking.{Asking}
-use Rattle.zp_happen.specs.declared.flight.Flight.TheVariants.{Carried, Out}
-use Rattle.zp_happen.specs.declared.flight.Flight.{Flight}
+use Rattle.zp_script.specs.Carrying.{CarriedBy, Executes, HasStore, ShowsUpdate, update_line}
+use Rattle.zp_script.specs.Entries.{IsEntryOf}
+use Rattle.zp_script.specs.Faults.{fault, flight_at, if_fails, is_to_carry_out}
+use Rattle.zp_script.specs.Happens.{Happens}
+use Rattle.zp_script.specs.Worlds.{Actor, Conn, Connection, World, conn_at, is_closed, with_conn, zxid_at}
+use Rattle.zp_script.specs.declared.flight.Asking.{Asking}
+use Rattle.zp_script.specs.declared.flight.Flight.TheVariants.{Carried, Out}
+use Rattle.zp_script.specs.declared.flight.Flight.{Flight}
 use Rattle.zp_step.specs.Stages.{Core}
-use Rattle.zp_whole.proofs.Accounts.{exec-accounted}
-use Rattle.zp_whole.proofs.Carrying.{air-outcome}
-use Rattle.zp_whole.proofs.Commits.{stands-now}
-use Rattle.zp_whole.proofs.Effects.{stored-in}
-use Rattle.zp_whole.proofs.Numbers.{conn-here}
-use Rattle.zp_whole.specs.Accounting.{IsAccounted}
-use Rattle.zp_whole.specs.Holding.{Of, air, out_in, out_of}
-use Rattle.zp_whole.specs.Serving.{Serves, kind_lines, update_lines}
+use Rattle.zp_world_laws.proofs.Accounts.{exec-accounted}
+use Rattle.zp_world_laws.proofs.Carrying.{air-outcome}
+use Rattle.zp_world_laws.proofs.Commits.{stands-now}
+use Rattle.zp_world_laws.proofs.Effects.{stored-in}
+use Rattle.zp_world_laws.proofs.Numbers.{conn-here}
+use Rattle.zp_world_laws.specs.Accounting.{IsAccounted}
+use Rattle.zp_world_laws.specs.Holding.{Of, air, out_in, out_of}
+use Rattle.zp_world_laws.specs.Serving.{Serves, kind_lines, update_lines}
 use Rattle.zt_text.specs.declared.script.Happening.TheVariants as line
 use Rattle.zt_text.specs.declared.script.Why.TheVariants as why
 use Rattle.zt_text.specs.declared.script.Why.{Why}

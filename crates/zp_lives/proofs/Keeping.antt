@@ -7,16 +7,16 @@ use Rattle.std.specs.Prelude.{All, MatchBool, None, Option, Some}
 use Rattle.zk_model.specs.Limits.{max_frame}
 use Rattle.zk_transcript.specs.declared.transcript.Cause.{Cause}
 use Rattle.zk_transcript.specs.declared.transcript.Cause.TheVariants as cause
-use Rattle.zp_happen.specs.Arriving.{FramesArrive, shown_frame}
-use Rattle.zp_happen.specs.Effects.{Delivers}
-use Rattle.zp_happen.specs.Faults.{flight_at}
-use Rattle.zp_happen.specs.Handing.{AnswerComes, AnswerComesTo, Handed, landed, landed_conn}
-use Rattle.zp_happen.specs.Happens.{Happens}
-use Rattle.zp_happen.specs.Kinds.{kind_asked}
-use Rattle.zp_happen.specs.Runs.{tick_of}
-use Rattle.zp_happen.specs.StepOutcomes.{acts_all, leaves}
-use Rattle.zp_happen.specs.Worlds.{Conn, Connection, World, behind_step, conn_at, is_open_conn}
-use Rattle.zp_happen.specs.declared.flight.Flight.TheVariants.{Carried}
+use Rattle.zp_script.specs.Arriving.{FramesArrive, shown_frame}
+use Rattle.zp_script.specs.Effects.{Delivers}
+use Rattle.zp_script.specs.Faults.{flight_at}
+use Rattle.zp_script.specs.Handing.{AnswerComes, AnswerComesTo, Handed, landed, landed_conn}
+use Rattle.zp_script.specs.Happens.{Happens}
+use Rattle.zp_script.specs.Kinds.{kind_asked}
+use Rattle.zp_script.specs.Runs.{tick_of}
+use Rattle.zp_script.specs.StepOutcomes.{acts_all, leaves}
+use Rattle.zp_script.specs.Worlds.{Conn, Connection, World, behind_step, conn_at, is_open_conn}
+use Rattle.zp_script.specs.declared.flight.Flight.TheVariants.{Carried}
 use Rattle.zp_lives.proofs.Events.{events-keep}
 use Rattle.zp_lives.specs.Lives.{AccountedAreServed, HappensBeside, IsHanded, Lives, LivesAreAccounted, Takes, TakesBy, at_time}
 use Rattle.zp_run.specs.Runs.{Step}
@@ -25,16 +25,16 @@ use Rattle.zp_step.specs.Stages.{counted_up, is_shut, max_count}
 use Rattle.zp_step.specs.Steps.{MayTake}
 use Rattle.zp_step.specs.declared.input.Input.TheVariants as input
 use Rattle.zp_step.specs.declared.input.Input.{Input}
-use Rattle.zp_whole.proofs.Accounts.{tick-accounted}
-use Rattle.zp_whole.proofs.Arrivals.{acts-accounted, frames-accounted}
-use Rattle.zp_whole.proofs.Closing.{but-of}
-use Rattle.zp_whole.proofs.Giving.{whole-gives}
-use Rattle.zp_whole.proofs.Lives.{answer-acts, entry-acts}
-use Rattle.zp_whole.proofs.Numbers.{conn-here}
-use Rattle.zp_whole.proofs.Rising.{Grown, delivers-grown, frames-grown, leaves-grown}
-use Rattle.zp_whole.proofs.Running.{happens-accounted, runs-grown, within-before}
-use Rattle.zp_whole.proofs.Stepping.{closes-acts}
-use Rattle.zp_whole.specs.Accounting.{IsAccounted, IsWithinCounts}
+use Rattle.zp_world_laws.proofs.Accounts.{tick-accounted}
+use Rattle.zp_world_laws.proofs.Arrivals.{acts-accounted, frames-accounted}
+use Rattle.zp_world_laws.proofs.Closing.{but-of}
+use Rattle.zp_world_laws.proofs.Giving.{whole-gives}
+use Rattle.zp_world_laws.proofs.Lives.{answer-acts, entry-acts}
+use Rattle.zp_world_laws.proofs.Numbers.{conn-here}
+use Rattle.zp_world_laws.proofs.Rising.{Grown, delivers-grown, frames-grown, leaves-grown}
+use Rattle.zp_world_laws.proofs.Running.{happens-accounted, runs-grown, within-before}
+use Rattle.zp_world_laws.proofs.Stepping.{closes-acts}
+use Rattle.zp_world_laws.specs.Accounting.{IsAccounted, IsWithinCounts}
 use Rattle.zx_base.proofs.Options.{some_is}
 
 -- ---- what is handed in, as a line of a script would

@@ -10,9 +10,9 @@ use Rattle.std.specs.Prelude.{None, Option, Some, filter_map, if◌then◌else�
 use Rattle.zk_transcript.specs.declared.transcript.Cause.{Cause}
 use Rattle.zk_transcript.specs.declared.transcript.TranscriptLine.TheVariants.{Open}
 use Rattle.zk_transcript.specs.declared.transcript.TranscriptLine.{TranscriptLine}
-use Rattle.zp_happen.specs.Effects.{new_conn, opened}
-use Rattle.zp_happen.specs.Runs.{world_over}
-use Rattle.zp_happen.specs.Worlds.{Closed, Conn, Connection, World, conn_at}
+use Rattle.zp_script.specs.Effects.{new_conn, opened}
+use Rattle.zp_script.specs.Runs.{world_over}
+use Rattle.zp_script.specs.Worlds.{Closed, Conn, Connection, World, conn_at}
 use Rattle.zp_laws.specs.Ending.{asked_by, closes}
 use Rattle.zp_lives.proofs.Keeping.{accounted-served}
 use Rattle.zp_lives.proofs.Stepping.{IsAtCore, IsFedFrom, IsStepped, IsTaken, asks_out, left_asks, listed, open-now, step_of, takes-any}
@@ -30,11 +30,11 @@ use Rattle.zp_step.specs.Steps.{Steps}
 use Rattle.zp_step.specs.declared.action.Action.{Action}
 use Rattle.zp_step.specs.declared.input.Input.TheVariants as input
 use Rattle.zp_step.specs.declared.input.Input.{Input}
-use Rattle.zp_whole.proofs.Accounts.{open-accounted}
-use Rattle.zp_whole.proofs.Kept.{true-false}
-use Rattle.zp_whole.proofs.Numbers.{conn-here}
-use Rattle.zp_whole.proofs.Running.{first-accounted}
-use Rattle.zp_whole.specs.Accounting.{IsAccounted}
+use Rattle.zp_world_laws.proofs.Accounts.{open-accounted}
+use Rattle.zp_world_laws.proofs.Kept.{true-false}
+use Rattle.zp_world_laws.proofs.Numbers.{conn-here}
+use Rattle.zp_world_laws.proofs.Running.{first-accounted}
+use Rattle.zp_world_laws.specs.Accounting.{IsAccounted}
 use Rattle.zs_session.specs.declared.connect.Fresh.{Fresh}
 use Rattle.zx_base.proofs.Options.{none_some, some_is}
 

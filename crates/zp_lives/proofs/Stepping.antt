@@ -17,16 +17,16 @@ use Rattle.zk_transcript.specs.declared.transcript.TranscriptLine.{TranscriptLin
 use Rattle.zk_transcript.specs.declared.transcript.UpdateKind.{UpdateKind}
 use Rattle.zn_layout.specs.declared.entry.Entry.{Entry}
 use Rattle.zn_view.specs.declared.plan.Who.{Who}
-use Rattle.zp_happen.specs.Arriving.{shown_frame}
-use Rattle.zp_happen.specs.Entries.{cursor_of, cursor_wanted, entry_behind, next_entry}
-use Rattle.zp_happen.specs.Faults.{flight_at}
-use Rattle.zp_happen.specs.Handing.{Handed, landed}
-use Rattle.zp_happen.specs.Kinds.{kind_asked}
-use Rattle.zp_happen.specs.StepOutcomes.{StepOutcome, acts_all, leaves}
-use Rattle.zp_happen.specs.Worlds.{Conn, Connection, World, behind_step, conn_at, with_conn, zxid_at}
-use Rattle.zp_happen.specs.declared.flight.Asking.{Asking}
-use Rattle.zp_happen.specs.declared.flight.Flight.TheVariants.{Carried, Denied, Out}
-use Rattle.zp_happen.specs.declared.flight.Flight.{Flight}
+use Rattle.zp_script.specs.Arriving.{shown_frame}
+use Rattle.zp_script.specs.Entries.{cursor_of, cursor_wanted, entry_behind, next_entry}
+use Rattle.zp_script.specs.Faults.{flight_at}
+use Rattle.zp_script.specs.Handing.{Handed, landed}
+use Rattle.zp_script.specs.Kinds.{kind_asked}
+use Rattle.zp_script.specs.StepOutcomes.{StepOutcome, acts_all, leaves}
+use Rattle.zp_script.specs.Worlds.{Conn, Connection, World, behind_step, conn_at, with_conn, zxid_at}
+use Rattle.zp_script.specs.declared.flight.Asking.{Asking}
+use Rattle.zp_script.specs.declared.flight.Flight.TheVariants.{Carried, Denied, Out}
+use Rattle.zp_script.specs.declared.flight.Flight.{Flight}
 use Rattle.zp_laws.proofs.Counting.{counted-small}
 use Rattle.zp_laws.proofs.Ending.{steps_end_well}
 use Rattle.zp_laws.specs.Ending.{EndsWell, asked_by, closes}
@@ -50,16 +50,16 @@ use Rattle.zp_step.specs.declared.action.Action.{Action}
 use Rattle.zp_step.specs.declared.input.Input.TheVariants as input
 use Rattle.zp_step.specs.declared.input.Input.{Input}
 use Rattle.zp_step.specs.declared.wants.Wants.TheVariants as wants
-use Rattle.zp_whole.proofs.Actions.{Asks, Closes, Rests, Split, Tail, asked_in as asked_last, is_closing, said, split, split-asked, split-closes, split-outcome, tail_outcome}
-use Rattle.zp_whole.proofs.Arrivals.{core-of}
-use Rattle.zp_whole.proofs.Arriving.{Arrived, Queues, Shuts, arrived, is_busy}
-use Rattle.zp_whole.proofs.Ends.{landed-is}
-use Rattle.zp_whole.proofs.Kept.{true-false}
-use Rattle.zp_whole.proofs.Numbers.{conn-here}
-use Rattle.zp_whole.specs.Accounting.{IsAccounted}
-use Rattle.zp_whole.specs.Connecting.{IsConnectFlight, IsInStage}
-use Rattle.zp_whole.specs.Connections.{IsFlying, IsServing}
-use Rattle.zp_whole.specs.Serving.{update_lines}
+use Rattle.zp_world_laws.proofs.Actions.{Asks, Closes, Rests, Split, Tail, asked_in as asked_last, is_closing, said, split, split-asked, split-closes, split-outcome, tail_outcome}
+use Rattle.zp_world_laws.proofs.Arrivals.{core-of}
+use Rattle.zp_world_laws.proofs.Arriving.{Arrived, Queues, Shuts, arrived, is_busy}
+use Rattle.zp_world_laws.proofs.Ends.{landed-is}
+use Rattle.zp_world_laws.proofs.Kept.{true-false}
+use Rattle.zp_world_laws.proofs.Numbers.{conn-here}
+use Rattle.zp_world_laws.specs.Accounting.{IsAccounted}
+use Rattle.zp_world_laws.specs.Connecting.{IsConnectFlight, IsInStage}
+use Rattle.zp_world_laws.specs.Connections.{IsFlying, IsServing}
+use Rattle.zp_world_laws.specs.Serving.{update_lines}
 use Rattle.zs_session.specs.Answering.{IsAwaited}
 use Rattle.zs_session.specs.Connecting.{asked_in}
 use Rattle.zs_session.specs.declared.connect.Connect.{Connect}

@@ -10,15 +10,15 @@ use Rattle.zk_transcript.specs.declared.transcript.Ended.TheVariants as ended
 use Rattle.zk_transcript.specs.declared.transcript.TranscriptLine.TheVariants.{Close, Frame as FrameLine, Lapse, Open, Send, Update}
 use Rattle.zk_transcript.specs.declared.transcript.TranscriptLine.{TranscriptLine}
 use Rattle.zk_transcript.specs.declared.transcript.UpdateKind.{UpdateKind}
-use Rattle.zp_happen.specs.StepOutcomes.{StepOutcome, acts, acts_all, quiet}
-use Rattle.zp_happen.specs.Worlds.{zxid_at}
-use Rattle.zp_happen.specs.declared.flight.Flight.{Flight}
+use Rattle.zp_script.specs.StepOutcomes.{StepOutcome, acts, acts_all, quiet}
+use Rattle.zp_script.specs.Worlds.{zxid_at}
+use Rattle.zp_script.specs.declared.flight.Flight.{Flight}
 use Rattle.zp_lives.specs.Showing.{Came, Ends, Sent, Shown, shown_act, shown_by, shown_of}
 use Rattle.zp_step.specs.declared.action.Action.TheVariants as action
 use Rattle.zp_step.specs.declared.action.Action.{Action}
-use Rattle.zp_whole.proofs.Executing.{same-nat}
-use Rattle.zp_whole.specs.Naming.{is_unnamed, names}
-use Rattle.zp_whole.specs.Serving.{kind_lines, update_lines}
+use Rattle.zp_world_laws.proofs.Executing.{same-nat}
+use Rattle.zp_world_laws.specs.Naming.{is_unnamed, names}
+use Rattle.zp_world_laws.specs.Serving.{kind_lines, update_lines}
 
 pub shown-append : (c : ℕ) (xs ys : List TranscriptLine) → shown_of c (xs ++ ys) ≡ shown_of c xs ++ shown_of c ys
 shown-append c xs ys = filter_map-append (shown_by c) xs ys

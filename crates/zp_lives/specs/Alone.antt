@@ -7,14 +7,14 @@ use Rattle.ev_types.specs.Denials.{carry}
 use Rattle.ev_types.specs.Store.{Store, new_store}
 use Rattle.ev_types.specs.declared.answer.Answer.{Answer}
 use Rattle.zn_layout.specs.Begin.{begin_ask}
-use Rattle.zp_happen.specs.Effects.{opened}
-use Rattle.zp_happen.specs.Happens.{Happens}
-use Rattle.zp_happen.specs.Runs.{world_over}
-use Rattle.zp_happen.specs.Worlds.{World, conn_at}
+use Rattle.zp_script.specs.Effects.{opened}
+use Rattle.zp_script.specs.Happens.{Happens}
+use Rattle.zp_script.specs.Runs.{world_over}
+use Rattle.zp_script.specs.Worlds.{World, conn_at}
 use Rattle.zt_text.specs.declared.script.Happening.TheVariants as line
 use Rattle.zp_run.specs.Runs.{Runs, Step, answers_of, asks_of, frames_of}
-use Rattle.zp_whole.specs.Accounting.{IsAccounted}
-use Rattle.zp_whole.specs.Connecting.{IsOffer}
+use Rattle.zp_world_laws.specs.Accounting.{IsAccounted}
+use Rattle.zp_world_laws.specs.Connecting.{IsOffer}
 use Rattle.zp_lives.specs.Events.{Events}
 use Rattle.zp_lives.specs.Feeding.{AreAnswered, IsFedBy}
 use Rattle.zp_lives.specs.Lives.{IsServedIn, Takes}

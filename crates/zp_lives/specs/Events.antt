@@ -1,6 +1,6 @@
 -- A list of events: the steps of one connection, in order, and what happens beside them.
 use Rattle.std.specs.Prelude.{◌≡◌, List, [], ◌∷◌}
-use Rattle.zp_happen.specs.Worlds.{World}
+use Rattle.zp_script.specs.Worlds.{World}
 use Rattle.zp_run.specs.Runs.{Step}
 
 -- They lead from a world to a world. `Takes` says how a step is taken, and `Beside` what may happen at any other time.

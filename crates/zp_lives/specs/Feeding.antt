@@ -8,7 +8,7 @@ use Rattle.ev_types.specs.declared.ask.Ask.{Ask}
 use Rattle.zn_layout.specs.Keys.{HeadKey}
 use Rattle.zn_layout.specs.StandsFor.{at}
 use Rattle.zn_layout.specs.declared.entry.Entry.{Entry}
-use Rattle.zp_happen.specs.Entries.{AreTriggersOf}
+use Rattle.zp_script.specs.Entries.{AreTriggersOf}
 use Rattle.zp_run.specs.Runs.{Step, answers_of, asks_of, entry_in}
 
 -- ---- answers

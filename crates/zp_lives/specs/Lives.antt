@@ -6,18 +6,18 @@ use Rattle.zk_transcript.specs.declared.transcript.TranscriptLine.{TranscriptLin
 use Rattle.zp_step.specs.declared.input.Input.{Input}
 use Rattle.zp_step.specs.declared.input.Input.TheVariants as input
 use Rattle.zp_step.specs.Steps.{MayTake}
-use Rattle.zp_happen.specs.Arriving.{shown_frame}
-use Rattle.zp_happen.specs.Entries.{next_entry}
-use Rattle.zp_happen.specs.Faults.{flight_at}
-use Rattle.zp_happen.specs.Handing.{Handed, landed}
-use Rattle.zp_happen.specs.Happens.{Happens}
-use Rattle.zp_happen.specs.Worlds.{Conn, World, conn_at}
-use Rattle.zp_happen.specs.declared.flight.Flight.TheVariants.{Carried}
+use Rattle.zp_script.specs.Arriving.{shown_frame}
+use Rattle.zp_script.specs.Entries.{next_entry}
+use Rattle.zp_script.specs.Faults.{flight_at}
+use Rattle.zp_script.specs.Handing.{Handed, landed}
+use Rattle.zp_script.specs.Happens.{Happens}
+use Rattle.zp_script.specs.Worlds.{Conn, World, conn_at}
+use Rattle.zp_script.specs.declared.flight.Flight.TheVariants.{Carried}
 use Rattle.zt_text.specs.declared.script.Happening.{Happening}
 use Rattle.zt_text.specs.declared.script.Happening.TheVariants as line
 use Rattle.zp_run.specs.Runs.{Step}
-use Rattle.zp_whole.specs.Accounting.{IsAccounted, IsWithinCounts, OffersSession}
-use Rattle.zp_whole.specs.Giving.{IsOneHistory}
+use Rattle.zp_world_laws.specs.Accounting.{IsAccounted, IsWithinCounts, OffersSession}
+use Rattle.zp_world_laws.specs.Giving.{IsOneHistory}
 use Rattle.zp_lives.specs.Events.{Events}
 
 -- ---- one step of connection c

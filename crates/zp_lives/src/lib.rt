@@ -1,7 +1,7 @@
 //! One connection's run in worlds, and one connection alone: laws without code.
 //!
 //! A run of a connection's steps (`zp_run`) says what was handed in and what came of it. Here each step is taken in a world
-//! (`zp_happen`) that gives its input, and whatever else may happen stands between two steps. So what holds of every world of which
+//! (`zp_script`) that gives its input, and whatever else may happen stands between two steps. So what holds of every world of which
 //! all is accounted for holds of whoever drives a connection: its conversation is an answer to its connect and then a walk of one
 //! history, fresh and in turn ([`connections_live_in_worlds`]).
 //!

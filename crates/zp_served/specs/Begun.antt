@@ -10,11 +10,11 @@ use Rattle.zs_session.specs.declared.connect.Fresh.{Fresh}
 use Rattle.zp_step.specs.Stages.{max_count}
 use Rattle.zp_run.specs.Runs.{frames_of}
 use Rattle.zp_conn.specs.Serving.{Serves, Told}
-use Rattle.zp_happen.specs.Effects.{opened}
-use Rattle.zp_happen.specs.Runs.{world_over}
+use Rattle.zp_script.specs.Effects.{opened}
+use Rattle.zp_script.specs.Runs.{world_over}
 use Rattle.zp_lives.specs.Alone.{IsAlone}
 use Rattle.zp_served.specs.Honest.{IsInTime}
-use Rattle.zp_whole.specs.Connecting.{IsOffer}
+use Rattle.zp_world_laws.specs.Connecting.{IsOffer}
 
 -- the tree was begun, at time 0, and nothing was asked since
 abbrev pub IsBegun : List Call → Type 0

@@ -10,7 +10,7 @@ use Rattle.zp_step.specs.Stages.{max_count}
 use Rattle.zp_run.specs.Runs.{Step, answers_of, asks_of, entry_in, frames_of}
 use Rattle.zp_conn.specs.Serving.{LinkTold, Told}
 use Rattle.zp_lives.specs.Feeding.{AreAnswered, IsEntryIn}
-use Rattle.zp_whole.specs.Connecting.{IsOffer}
+use Rattle.zp_world_laws.specs.Connecting.{IsOffer}
 
 -- The link tells its calls. What came of those since the first is what this store gives, in order, and nobody else changes it.
 pub record IsHonestOver (s : Store) (old new : LinkTold) : Type 0 where

@@ -7,12 +7,12 @@ use Rattle.zk_transcript.specs.declared.transcript.Cause.{Cause}
 use Rattle.zn_layout.specs.Begin.{begin_ask}
 use Rattle.zs_session.specs.declared.connect.Fresh.{Fresh}
 use Rattle.zp_conn.specs.Serving.{Serves, Told}
-use Rattle.zp_happen.specs.Effects.{opened}
-use Rattle.zp_happen.specs.Runs.{world_over}
-use Rattle.zp_happen.specs.Worlds.{World, conn_at}
+use Rattle.zp_script.specs.Effects.{opened}
+use Rattle.zp_script.specs.Runs.{world_over}
+use Rattle.zp_script.specs.Worlds.{World, conn_at}
 use Rattle.zp_lives.specs.Alone.{IsAlone, IsRunAlone}
 use Rattle.zp_served.specs.Honest.{AreEntriesOf, IsInTime, IsServedOver}
-use Rattle.zp_whole.specs.Accounting.{IsAccounted}
+use Rattle.zp_world_laws.specs.Accounting.{IsAccounted}
 
 -- a call's run is that of one connection alone over the store
 abbrev pub ServedAreFed : Type 0

@@ -12,11 +12,11 @@ use Rattle.zk_transcript.specs.declared.transcript.UpdateKind.{UpdateKind}
 use Rattle.zx_base.proofs.Options.{none_some}
 use Rattle.zt_text.specs.Transcripts.{IsWellFormedKind}
 use Rattle.zp_core.specs.Held.{IsHeld}
-use Rattle.zp_happen.specs.declared.flight.Flight.{Flight}
-use Rattle.zp_happen.specs.declared.flight.Flight.TheVariants.{Out}
-use Rattle.zp_happen.specs.Arriving.{frame_lines}
-use Rattle.zp_happen.specs.StepOutcomes.{StepOutcome, acts, acts_all, leaves, left_by, quiet}
-use Rattle.zp_happen.specs.Worlds.{Actor, Conns, Connection, Closed, World}
+use Rattle.zp_script.specs.declared.flight.Flight.{Flight}
+use Rattle.zp_script.specs.declared.flight.Flight.TheVariants.{Out}
+use Rattle.zp_script.specs.Arriving.{frame_lines}
+use Rattle.zp_script.specs.StepOutcomes.{StepOutcome, acts, acts_all, leaves, left_by, quiet}
+use Rattle.zp_script.specs.Worlds.{Actor, Conns, Connection, Closed, World}
 use Rattle.zp_laws.specs.Ending.{is_end}
 use Rattle.zp_step.specs.Stages.{Core, counted_up, is_shut}
 use Rattle.zp_step.specs.declared.action.Action.{Action}

@@ -7,8 +7,8 @@ use Rattle.std.specs.Ordering.{eq_by_cmp, is_eq, nat_cmp}
 use Rattle.std.specs.FinMap.{get, get-insert, get-remove, insert, remove, same_map}
 use Rattle.std.proofs.lemmas.Cmp.{nat_cmp_total, tied_itself}
 use Rattle.std.proofs.lemmas.Map.Lookups.{exact_unsigned}
-use Rattle.zp_happen.specs.StepOutcomes.{StepOutcome, leaves}
-use Rattle.zp_happen.specs.Worlds.{Actor, Conn, Conns, World, conn_at, with_conn}
+use Rattle.zp_script.specs.StepOutcomes.{StepOutcome, leaves}
+use Rattle.zp_script.specs.Worlds.{Actor, Conn, Conns, World, conn_at, with_conn}
 use Rattle.zp_world.specs.Doing.{without}
 
 -- ---- in a map

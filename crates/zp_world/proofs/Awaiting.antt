@@ -3,9 +3,9 @@ use Rattle.std.proofs.Common.{◌≡◌, ℕ, refl, sym, ap, ◌∙◌, Bool, tr
 use Rattle.std.specs.Prelude.{Some, None, List, ℤ, pos, negsuc, ◌+ℤ◌}
 use Rattle.std.specs.Option.{option_and_then}
 use Rattle.zk_model.specs.Watches.{is_unarmed}
-use Rattle.zp_happen.specs.Entries.{cursor_at, cursor_of, cursor_wanted, entry_behind}
-use Rattle.zp_happen.specs.Faults.{flight_at}
-use Rattle.zp_happen.specs.Worlds.{Conn, Connection, World, conn_at}
+use Rattle.zp_script.specs.Entries.{cursor_at, cursor_of, cursor_wanted, entry_behind}
+use Rattle.zp_script.specs.Faults.{flight_at}
+use Rattle.zp_script.specs.Worlds.{Conn, Connection, World, conn_at}
 use Rattle.zn_layout.specs.declared.entry.Entry.{Entry}
 use Rattle.zp_ledger.specs.Entering.{AreNumbered}
 use Rattle.zp_step.specs.Stages.{Core, Stage, Unconnected, Connecting, Ready, KeepingAlive, Checking, Reading, Committing, Waiting, Shut, wanted_in, wants_of}

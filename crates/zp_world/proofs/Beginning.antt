@@ -18,9 +18,9 @@ use Rattle.zn_layout.specs.declared.entry.Entry.{Entry}
 use Rattle.zn_layout.specs.declared.record.HeadRec.{HeadRec}
 use Rattle.zn_layout.proofs.First.{after-begin, first_state}
 use Rattle.zn_layout.proofs.ListRecords.{head_value-injective}
-use Rattle.zp_happen.specs.Entries.{AreTriggersOf, IsEntryOf, triggers_of}
-use Rattle.zp_happen.specs.Runs.{first_entry, world_over}
-use Rattle.zp_happen.specs.Worlds.{World}
+use Rattle.zp_script.specs.Entries.{AreTriggersOf, IsEntryOf, triggers_of}
+use Rattle.zp_script.specs.Runs.{first_entry, world_over}
+use Rattle.zp_script.specs.Worlds.{World}
 use Rattle.zp_ledger.specs.Entering.{IsAdded}
 use Rattle.zx_base.proofs.Options.{some_is}
 use Rattle.zx_base.specs.Maps.{Bytes}

@@ -19,15 +19,15 @@ use Rattle.ev_types.specs.declared.ask.Ask.TheVariants as ask
 use Rattle.zk_transcript.specs.declared.transcript.UpdateKind.{UpdateKind}
 use Rattle.zn_view.specs.Adding.{AreNumbersIn}
 use Rattle.zn_view.specs.Seen.{AreCounts}
-use Rattle.zp_happen.specs.Carrying.{CarriedBy, CarriesOut, Executes, ExecutesStray, ShowsUpdate}
+use Rattle.zp_script.specs.Carrying.{CarriedBy, CarriesOut, Executes, ExecutesStray, ShowsUpdate}
 use Rattle.zt_text.specs.declared.script.Happening.TheVariants as line
 use Rattle.zt_text.specs.declared.script.Why.{Why}
 use Rattle.zt_text.specs.declared.script.Why.TheVariants as why
-use Rattle.zp_happen.specs.Faults.{fault, if_fails, is_to_carry_out, left_at}
-use Rattle.zp_happen.specs.Worlds.{Actor, Conn, Conns, Connection, Reaper, Closed, World, conn_at, is_closed, with_conn, zxid_at}
-use Rattle.zp_happen.specs.declared.flight.Asking.{Asking}
-use Rattle.zp_happen.specs.declared.flight.Flight.{Flight}
-use Rattle.zp_happen.specs.declared.flight.Flight.TheVariants.{Out, Carried, Denied}
+use Rattle.zp_script.specs.Faults.{fault, if_fails, is_to_carry_out, left_at}
+use Rattle.zp_script.specs.Worlds.{Actor, Conn, Conns, Connection, Reaper, Closed, World, conn_at, is_closed, with_conn, zxid_at}
+use Rattle.zp_script.specs.declared.flight.Asking.{Asking}
+use Rattle.zp_script.specs.declared.flight.Flight.{Flight}
+use Rattle.zp_script.specs.declared.flight.Flight.TheVariants.{Out, Carried, Denied}
 use Rattle.zp_step.specs.Stages.{Core, asked_of}
 use Rattle.zs_reap.specs.Steps.{IsOfTxn, IsTxn}
 use Rattle.zs_reap.specs.declared.reap.Reap.{Reap}

@@ -2,9 +2,9 @@
 use Rattle.std.proofs.Common.{◌≡◌, ℕ, refl, sym, ap, ◌∙◌, true, false, []}
 use Rattle.std.specs.Prelude.{Option, Some, ℤ, not}
 use Rattle.zx_base.proofs.Options.{some_is}
-use Rattle.zp_happen.specs.Arriving.{EndsBadly}
-use Rattle.zp_happen.specs.Handing.{Handed}
-use Rattle.zp_happen.specs.Worlds.{Actor, Closed, Conn, Conns, Connection, Reaper, World, conn_at, is_closed, is_open_conn, is_reaper, with_conn}
+use Rattle.zp_script.specs.Arriving.{EndsBadly}
+use Rattle.zp_script.specs.Handing.{Handed}
+use Rattle.zp_script.specs.Worlds.{Actor, Closed, Conn, Conns, Connection, Reaper, World, conn_at, is_closed, is_open_conn, is_reaper, with_conn}
 use Rattle.zp_step.specs.Stages.{Core}
 use Rattle.zp_step.specs.declared.input.Input.TheVariants as input
 use Rattle.std.specs.FinMap.{insert, remove}
@@ -12,7 +12,7 @@ use Rattle.zk_wire.specs.Cutting.{Stream}
 use Rattle.zp_world.proofs.Apart.{with_conn-without}
 use Rattle.zp_world.specs.Doing.{seated}
 use Rattle.zp_world.specs.declared.activity.Seat.{Seat}
-use Rattle.zp_happen.specs.declared.flight.Flight.{Flight}
+use Rattle.zp_script.specs.declared.flight.Flight.{Flight}
 use Rattle.zp_world.specs.Taking.{IsConnectionAt}
 
 -- ---- a length out of range

@@ -11,14 +11,14 @@ use Rattle.zk_transcript.specs.declared.transcript.Ended.{Ended}
 use Rattle.zk_transcript.specs.declared.transcript.Ended.TheVariants as finish
 use Rattle.zk_transcript.specs.declared.transcript.TranscriptLine.TheVariants.{Close}
 use Rattle.zk_transcript.specs.declared.transcript.UpdateKind.{UpdateKind}
-use Rattle.zp_happen.specs.declared.flight.Flight.{Flight}
-use Rattle.zp_happen.specs.declared.flight.Flight.TheVariants.{Out, Carried, Denied}
-use Rattle.zp_happen.specs.Effects.{Delivers, new_conn, new_reap, new_reaper}
-use Rattle.zp_happen.specs.Faults.{flight_at}
-use Rattle.zp_happen.specs.Handing.{AnswerComes, AnswerComesTo, FailureComes, FailureComesTo, Handed, Reaps, landed, landed_conn}
-use Rattle.zp_happen.specs.Kinds.{kind_asked, kind_of_reap}
-use Rattle.zp_happen.specs.StepOutcomes.{acts_all, ended_by, ends, leaves, left_by, quiet, reap_acts}
-use Rattle.zp_happen.specs.Worlds.{Actor, Closed, Conn, Conns, Connection, Reaper, World, behind_reap, behind_step, conn_at, with_conn}
+use Rattle.zp_script.specs.declared.flight.Flight.{Flight}
+use Rattle.zp_script.specs.declared.flight.Flight.TheVariants.{Out, Carried, Denied}
+use Rattle.zp_script.specs.Effects.{Delivers, new_conn, new_reap, new_reaper}
+use Rattle.zp_script.specs.Faults.{flight_at}
+use Rattle.zp_script.specs.Handing.{AnswerComes, AnswerComesTo, FailureComes, FailureComesTo, Handed, Reaps, landed, landed_conn}
+use Rattle.zp_script.specs.Kinds.{kind_asked, kind_of_reap}
+use Rattle.zp_script.specs.StepOutcomes.{acts_all, ended_by, ends, leaves, left_by, quiet, reap_acts}
+use Rattle.zp_script.specs.Worlds.{Actor, Closed, Conn, Conns, Connection, Reaper, World, behind_reap, behind_step, conn_at, with_conn}
 use Rattle.zp_step.specs.Stages.{Core}
 use Rattle.zp_step.specs.declared.input.Input.{Input}
 use Rattle.zp_step.specs.declared.input.Input.TheVariants as input

@@ -3,10 +3,10 @@ use Rattle.std.proofs.Common.{◌≡◌, ℕ, ◌+◌, ◌-◌, ℤ, sym, ◌∙
 use Rattle.std.specs.Prelude.{Some, OnOk, Result, pos}
 use Rattle.std.proofs.lemmas.Result.{on_ok_weaker}
 use Rattle.zn_layout.specs.declared.entry.Entry.{Entry}
-use Rattle.zp_happen.specs.Effects.{EndsBy, EntersBy, IsEntry, LagsBy}
-use Rattle.zp_happen.specs.Entries.{cursor_at, entry_behind, max_kept, next_entry}
-use Rattle.zp_happen.specs.Handing.{Handed}
-use Rattle.zp_happen.specs.Worlds.{Conn, Connection, World, conn_at}
+use Rattle.zp_script.specs.Effects.{EndsBy, EntersBy, IsEntry, LagsBy}
+use Rattle.zp_script.specs.Entries.{cursor_at, entry_behind, max_kept, next_entry}
+use Rattle.zp_script.specs.Handing.{Handed}
+use Rattle.zp_script.specs.Worlds.{Conn, Connection, World, conn_at}
 use Rattle.zp_step.specs.Stages.{Core, counted_up}
 use Rattle.zp_step.specs.declared.input.Input.{Input}
 use Rattle.zp_step.specs.declared.input.Input.TheVariants as input

@@ -14,7 +14,7 @@ use Rattle.zk_jute.specs.JuteValues.{Spelled}
 use Rattle.zk_jute.specs.JuteWriting.{int_bytes, with_length}
 use Rattle.zk_model.specs.Limits.{max_frame}
 use Rattle.zk_wire.specs.Cutting.{Hands, Refuses, Stands, Stream, unread}
-use Rattle.zp_happen.specs.Arriving.{Cuts}
+use Rattle.zp_script.specs.Arriving.{Cuts}
 use Rattle.zp_step.specs.Stages.{counted_up, max_count}
 use Rattle.zp_world.proofs.Shortness.{spelled-short}
 use Rattle.zp_world.specs.Framing.{framed_size}

@@ -4,8 +4,8 @@ use Rattle.std.specs.Prelude.{Some, ℤ}
 use Rattle.ev_types.specs.Lapses.{foreign, lapse}
 use Rattle.ev_types.specs.Store.{Store, revision}
 use Rattle.zk_transcript.specs.declared.transcript.TranscriptLine.TheVariants.{Lapse as LapseLine}
-use Rattle.zp_happen.specs.Effects.{LapsesTo, PutTo}
-use Rattle.zp_happen.specs.Worlds.{World}
+use Rattle.zp_script.specs.Effects.{LapsesTo, PutTo}
+use Rattle.zp_script.specs.Worlds.{World}
 use Rattle.zx_base.specs.Maps.{Bytes}
 
 pub lapses-to : (v w w' : World) (s : Store) (id : ℤ) → v ≡ w → lapse v.store id ≡ Some s → w' ≡ record v { store = s; lines = v.lines ++ LapseLine (revision s) id ∷ [] } → LapsesTo id w w' (lapse w.store id)

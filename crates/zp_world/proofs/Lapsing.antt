@@ -13,7 +13,7 @@ use Rattle.ev_types.specs.Store.{Puts, Store, grown, revision}
 use Rattle.ev_types.proofs.Lapsed.{lapse-there}
 use Rattle.zt_text.specs.declared.script.Why.{Why}
 use Rattle.zt_text.specs.declared.script.Why.TheVariants as why
-use Rattle.zp_happen.specs.Faults.{full_fault, if_fails, is_kept_key}
+use Rattle.zp_script.specs.Faults.{full_fault, if_fails, is_kept_key}
 use Rattle.zx_base.proofs.Options.{none_some, some_is}
 use Rattle.zx_base.specs.Maps.{Bytes}
 

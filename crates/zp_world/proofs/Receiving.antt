@@ -3,7 +3,7 @@ use Rattle.std.proofs.Common.{◌≡◌, ℕ, subst, List}
 use Rattle.std.specs.Prelude.{Option, ℤ}
 use Rattle.zk_wire.specs.Cutting.{Stream}
 use Rattle.zt_text.specs.declared.script.Why.TheVariants as why
-use Rattle.zp_happen.specs.Arriving.{Cuts}
+use Rattle.zp_script.specs.Arriving.{Cuts}
 
 -- ---- what is cut of what came
 

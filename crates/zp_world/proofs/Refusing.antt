@@ -9,9 +9,9 @@ use Rattle.zt_text.specs.declared.script.Happening.{Happening}
 use Rattle.zt_text.specs.declared.script.Happening.TheVariants as line
 use Rattle.zt_text.specs.declared.script.Why.{Why}
 use Rattle.zt_text.specs.declared.script.Why.TheVariants as why
-use Rattle.zp_happen.specs.Entries.{is_lagging}
-use Rattle.zp_happen.specs.Faults.{fault, if_fails, new_fault, open_fault, connection_fault, ask_fault, carry_fault, entry_fault, flight_at, full_fault, has_part, is_kept_key, is_reaper_at, is_to_carry_out, left_at}
-use Rattle.zp_happen.specs.Worlds.{World, Conn, conn_at, is_closed}
+use Rattle.zp_script.specs.Entries.{is_lagging}
+use Rattle.zp_script.specs.Faults.{fault, if_fails, new_fault, open_fault, connection_fault, ask_fault, carry_fault, entry_fault, flight_at, full_fault, has_part, is_kept_key, is_reaper_at, is_to_carry_out, left_at}
+use Rattle.zp_script.specs.Worlds.{World, Conn, conn_at, is_closed}
 use Rattle.zp_world.specs.declared.fault.ApplyFault.{ApplyFault}
 use Rattle.zp_world.specs.declared.fault.ApplyFault.TheVariants.{NotPossible}
 use Rattle.zp_world.specs.Applying.{Applies}

@@ -9,14 +9,14 @@ use Rattle.zk_model.specs.Limits.{max_frame}
 use Rattle.zk_wire.specs.Cutting.{Stream}
 use Rattle.zt_text.specs.declared.script.Why.{Why}
 use Rattle.zt_text.specs.declared.script.Why.TheVariants as why
-use Rattle.zp_happen.specs.Arriving.{Arrives, Cuts, EndsBadly, FramesArrive, frame_lines, shown_frame}
-use Rattle.zp_happen.specs.Faults.{connection_fault, if_fails}
-use Rattle.zp_happen.specs.Handing.{Handed}
-use Rattle.zp_happen.specs.StepOutcomes.{StepOutcome, acts_all, leaves}
-use Rattle.zp_happen.specs.Kinds.{kind_asked}
-use Rattle.zp_happen.specs.Worlds.{Actor, Closed, Conn, Conns, Connection, Reaper, World, behind_step, conn_at, is_closed, is_open_conn, is_reaper, with_conn, zxid_at}
-use Rattle.zp_happen.specs.declared.flight.Flight.{Flight}
-use Rattle.zp_happen.specs.declared.flight.Flight.TheVariants.{Out, Carried, Denied}
+use Rattle.zp_script.specs.Arriving.{Arrives, Cuts, EndsBadly, FramesArrive, frame_lines, shown_frame}
+use Rattle.zp_script.specs.Faults.{connection_fault, if_fails}
+use Rattle.zp_script.specs.Handing.{Handed}
+use Rattle.zp_script.specs.StepOutcomes.{StepOutcome, acts_all, leaves}
+use Rattle.zp_script.specs.Kinds.{kind_asked}
+use Rattle.zp_script.specs.Worlds.{Actor, Closed, Conn, Conns, Connection, Reaper, World, behind_step, conn_at, is_closed, is_open_conn, is_reaper, with_conn, zxid_at}
+use Rattle.zp_script.specs.declared.flight.Flight.{Flight}
+use Rattle.zp_script.specs.declared.flight.Flight.TheVariants.{Out, Carried, Denied}
 use Rattle.zp_step.specs.declared.action.Action.{Action}
 use Rattle.zp_step.specs.Steps.{Steps}
 use Rattle.zp_step.specs.Stages.{Core, counted_up, is_shut}

@@ -1,14 +1,14 @@
 -- Settle does one line after the other.
 use Rattle.std.proofs.Common.{◌≡◌, ℕ, zero, suc, refl, sym, ap, ◌∙◌, subst, Bool, true, false}
 use Rattle.std.specs.Prelude.{Option, Some, None, if◌then◌else◌, is_none, is_some, not}
-use Rattle.zp_happen.specs.declared.flight.Asking.{Asking}
-use Rattle.zp_happen.specs.declared.flight.Flight.{Flight}
-use Rattle.zp_happen.specs.declared.flight.Flight.TheVariants.{Out, Carried, Denied}
-use Rattle.zp_happen.specs.Effects.{Does}
-use Rattle.zp_happen.specs.Entries.{next_entry}
-use Rattle.zp_happen.specs.Faults.{fault, flight_at, if_fails, is_reaper_at, is_to_carry_out}
-use Rattle.zp_happen.specs.Happens.{Settles, entry_line, flight_line, is_waiting, settling, settling_conn}
-use Rattle.zp_happen.specs.Worlds.{Actor, Closed, Conn, Connection, Reaper, World, conn_at, is_closed, is_reaper}
+use Rattle.zp_script.specs.declared.flight.Asking.{Asking}
+use Rattle.zp_script.specs.declared.flight.Flight.{Flight}
+use Rattle.zp_script.specs.declared.flight.Flight.TheVariants.{Out, Carried, Denied}
+use Rattle.zp_script.specs.Effects.{Does}
+use Rattle.zp_script.specs.Entries.{next_entry}
+use Rattle.zp_script.specs.Faults.{fault, flight_at, if_fails, is_reaper_at, is_to_carry_out}
+use Rattle.zp_script.specs.Happens.{Settles, entry_line, flight_line, is_waiting, settling, settling_conn}
+use Rattle.zp_script.specs.Worlds.{Actor, Closed, Conn, Connection, Reaper, World, conn_at, is_closed, is_reaper}
 use Rattle.zt_text.specs.declared.script.Happening.{Happening}
 use Rattle.zt_text.specs.declared.script.Happening.TheVariants as line
 use Rattle.zt_text.specs.declared.script.Why.{Why}

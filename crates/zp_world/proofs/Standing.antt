@@ -10,8 +10,8 @@ use Rattle.zk_transcript.specs.Walks.{has_header}
 use Rattle.zk_jute.specs.Requests.{read_request}
 use Rattle.zs_session.specs.Answering.{IsAwaited}
 use Rattle.zx_base.proofs.Options.{none_some, some_none}
-use Rattle.zp_happen.specs.declared.flight.Flight.{Flight}
-use Rattle.zp_happen.specs.declared.flight.Flight.TheVariants.{Out, Carried, Denied}
+use Rattle.zp_script.specs.declared.flight.Flight.{Flight}
+use Rattle.zp_script.specs.declared.flight.Flight.TheVariants.{Out, Carried, Denied}
 use Rattle.zp_laws.proofs.Ending.{steps_end_well}
 use Rattle.zp_laws.specs.Ending.{EndsWell, asked_by, closes, ends_well}
 use Rattle.zp_step.proofs.Shutting.{ends-named, goes-still, steps-open}

@@ -5,11 +5,11 @@ use Rattle.std.specs.FinMap.{remove}
 use Rattle.zk_transcript.specs.declared.transcript.Ended.{Ended}
 use Rattle.zk_transcript.specs.declared.transcript.TranscriptLine.{TranscriptLine}
 use Rattle.zk_transcript.specs.declared.transcript.TranscriptLine.TheVariants.{Close as CloseLine}
-use Rattle.zp_happen.specs.declared.flight.Flight.{Flight}
-use Rattle.zp_happen.specs.Handing.{Handed}
-use Rattle.zp_happen.specs.Kinds.{kind_asked}
-use Rattle.zp_happen.specs.StepOutcomes.{StepOutcome, acts_all, ends, leaves, left_by, quiet}
-use Rattle.zp_happen.specs.Worlds.{Actor, Conn, Conns, Connection, Closed, World, behind_step, conn_at, with_conn}
+use Rattle.zp_script.specs.declared.flight.Flight.{Flight}
+use Rattle.zp_script.specs.Handing.{Handed}
+use Rattle.zp_script.specs.Kinds.{kind_asked}
+use Rattle.zp_script.specs.StepOutcomes.{StepOutcome, acts_all, ends, leaves, left_by, quiet}
+use Rattle.zp_script.specs.Worlds.{Actor, Conn, Conns, Connection, Closed, World, behind_step, conn_at, with_conn}
 use Rattle.zp_step.specs.Stages.{Core, is_shut}
 use Rattle.zp_step.specs.Steps.{Steps}
 use Rattle.zp_step.specs.declared.action.Action.{Action}

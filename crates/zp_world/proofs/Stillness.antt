@@ -6,7 +6,7 @@ use Rattle.ev_types.specs.Store.{Change, Store, carried_out, grown, store_at, su
 use Rattle.ev_types.specs.declared.answer.Answer.{Answer}
 use Rattle.ev_types.specs.declared.ask.Ask.{Ask}
 use Rattle.ev_types.specs.declared.ask.Ask.TheVariants as ask
-use Rattle.zp_happen.specs.Worlds.{zxid_at}
+use Rattle.zp_script.specs.Worlds.{zxid_at}
 use Rattle.zx_base.proofs.Options.{none_some, some_is}
 
 pub carried-is : (s : Store) (q : Ask) (x : Store × Answer) → carry s q ≡ Some x → carried_out s q ≡ x

@@ -11,7 +11,7 @@ use Rattle.std.proofs.lemmas.Cmp.{nat_cmp_total}
 use Rattle.std.proofs.lemmas.Map.Lookups.{exact_unsigned}
 use Rattle.ev_store.proofs.Entries.{entries_from_gets, get-lookup}
 use Rattle.zx_base.proofs.Options.{none_some, some_is}
-use Rattle.zp_happen.specs.Worlds.{Conn, Conns}
+use Rattle.zp_script.specs.Worlds.{Conn, Conns}
 use Rattle.zp_step.specs.Stages.{max_count}
 use Rattle.zp_world.specs.Activities.{AreWithin}
 

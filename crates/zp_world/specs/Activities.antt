@@ -1,9 +1,9 @@
 -- What answers to a number, as a world has it.
 use Rattle.std.specs.Prelude.{◌≡◌, ◌<◌, ℕ, List, Some, filter, map}
 use Rattle.std.specs.FinMap.{entries, get}
-use Rattle.zp_happen.specs.Effects.{is_open_at}
-use Rattle.zp_happen.specs.Worlds as worlds
-use Rattle.zp_happen.specs.Worlds.{Conn, Conns}
+use Rattle.zp_script.specs.Effects.{is_open_at}
+use Rattle.zp_script.specs.Worlds as worlds
+use Rattle.zp_script.specs.Worlds.{Conn, Conns}
 use Rattle.zp_step.specs.Stages.{max_count}
 use Rattle.zp_world.specs.declared.activity.Actor.{Actor}
 use Rattle.zp_world.specs.declared.activity.Actor.TheVariants.{Connection, Reaper, Closed}

@@ -1,7 +1,7 @@
 -- What the actions of a step add to a world, one by one.
 use Rattle.std.specs.Prelude.{ℕ, List, [], ◌++◌}
-use Rattle.zp_happen.specs.StepOutcomes.{StepOutcome}
-use Rattle.zp_happen.specs.Worlds.{World}
+use Rattle.zp_script.specs.StepOutcomes.{StepOutcome}
+use Rattle.zp_script.specs.Worlds.{World}
 use Rattle.zp_step.specs.declared.action.Action.{Action}
 use Rattle.zp_step.specs.declared.action.Action.TheVariants as action
 

@@ -2,9 +2,9 @@
 use Rattle.std.specs.Prelude.{◌≡◌, pos, ◌≤ℤ◌, [], Some, Result, Ok, Err}
 use Rattle.zt_text.specs.declared.script.Happening.{Happening}
 use Rattle.zt_text.specs.declared.script.Happening.TheVariants as line
-use Rattle.zp_happen.specs.Faults.{fault}
-use Rattle.zp_happen.specs.Happens.{Happens}
-use Rattle.zp_happen.specs.Worlds.{World}
+use Rattle.zp_script.specs.Faults.{fault}
+use Rattle.zp_script.specs.Happens.{Happens}
+use Rattle.zp_script.specs.Worlds.{World}
 use Rattle.zp_world.specs.declared.fault.ApplyFault.{ApplyFault}
 use Rattle.zp_world.specs.declared.fault.ApplyFault.TheVariants.{NotPossible, Memory}
 

@@ -6,11 +6,11 @@ use Rattle.ev_types.specs.Store.{Store}
 use Rattle.ev_types.specs.declared.answer.Answer.{Answer}
 use Rattle.ev_types.specs.declared.ask.Ask.{Ask}
 use Rattle.zk_transcript.specs.declared.transcript.UpdateKind.{UpdateKind}
-use Rattle.zp_happen.specs.Carrying.{ShowsUpdate}
-use Rattle.zp_happen.specs.Worlds.{World, zxid_at}
-use Rattle.zp_happen.specs.declared.flight.Asking.{Asking}
-use Rattle.zp_happen.specs.declared.flight.Flight.{Flight}
-use Rattle.zp_happen.specs.declared.flight.Flight.TheVariants.{Out}
+use Rattle.zp_script.specs.Carrying.{ShowsUpdate}
+use Rattle.zp_script.specs.Worlds.{World, zxid_at}
+use Rattle.zp_script.specs.declared.flight.Asking.{Asking}
+use Rattle.zp_script.specs.declared.flight.Flight.{Flight}
+use Rattle.zp_script.specs.declared.flight.Flight.TheVariants.{Out}
 
 -- what is still to be carried out
 abbrev pub asked_out : Option Flight → Option Asking

@@ -4,10 +4,10 @@ use Rattle.std.specs.FinMap.{remove}
 use Rattle.zk_transcript.specs.declared.transcript.Ended.{Ended}
 use Rattle.zk_transcript.specs.declared.transcript.TranscriptLine.{TranscriptLine}
 use Rattle.zk_transcript.specs.declared.transcript.TranscriptLine.TheVariants as line
-use Rattle.zp_happen.specs.declared.flight.Flight.{Flight}
-use Rattle.zp_happen.specs.Kinds.{kind_asked}
-use Rattle.zp_happen.specs.StepOutcomes.{acts_all, leaves, left_by}
-use Rattle.zp_happen.specs.Worlds.{Actor, Conn, Connection, Closed, World, behind_step, with_conn}
+use Rattle.zp_script.specs.declared.flight.Flight.{Flight}
+use Rattle.zp_script.specs.Kinds.{kind_asked}
+use Rattle.zp_script.specs.StepOutcomes.{acts_all, leaves, left_by}
+use Rattle.zp_script.specs.Worlds.{Actor, Conn, Connection, Closed, World, behind_step, with_conn}
 use Rattle.zp_step.specs.Stages.{Core}
 use Rattle.zp_step.specs.Steps.{Steps}
 use Rattle.zp_step.specs.declared.action.Action.{Action}

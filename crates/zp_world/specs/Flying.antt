@@ -5,10 +5,10 @@ use Rattle.ev_types.specs.declared.ask.Ask.{Ask}
 use Rattle.zk_transcript.specs.declared.transcript.Cause.{Cause}
 use Rattle.zk_transcript.specs.declared.transcript.UpdateKind.{UpdateKind}
 use Rattle.zk_transcript.specs.declared.transcript.UpdateKind.TheVariants as kind
-use Rattle.zp_happen.specs.declared.flight.Asking.{Asking}
-use Rattle.zp_happen.specs.declared.flight.Flight.{Flight}
-use Rattle.zp_happen.specs.declared.flight.Flight.TheVariants.{Out, Carried, Denied}
-use Rattle.zp_happen.specs.Worlds.{Actor, Connection, Reaper, Closed}
+use Rattle.zp_script.specs.declared.flight.Asking.{Asking}
+use Rattle.zp_script.specs.declared.flight.Flight.{Flight}
+use Rattle.zp_script.specs.declared.flight.Flight.TheVariants.{Out, Carried, Denied}
+use Rattle.zp_script.specs.Worlds.{Actor, Connection, Reaper, Closed}
 use Rattle.zp_step.specs.Laws.{end_by}
 use Rattle.zp_step.specs.Stages.{Core, asked_of, is_shut}
 use Rattle.zp_step.specs.declared.input.Input.{Input}

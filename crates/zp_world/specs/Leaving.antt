@@ -2,8 +2,8 @@
 use Rattle.std.specs.Prelude.{◌≡◌, true, false, List, fold, Option, Some, None}
 use Rattle.ev_types.specs.declared.ask.Ask.{Ask}
 use Rattle.zk_transcript.specs.declared.transcript.UpdateKind.{UpdateKind}
-use Rattle.zp_happen.specs.declared.flight.Flight.{Flight}
-use Rattle.zp_happen.specs.declared.flight.Flight.TheVariants.{Out}
+use Rattle.zp_script.specs.declared.flight.Flight.{Flight}
+use Rattle.zp_script.specs.declared.flight.Flight.TheVariants.{Out}
 use Rattle.zp_laws.specs.Ending.{asked_by, closes, ends_well}
 use Rattle.zp_step.specs.Stages.{Core, asked_of, is_shut}
 use Rattle.zp_step.specs.declared.action.Action.{Action}

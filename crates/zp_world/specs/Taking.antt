@@ -1,9 +1,9 @@
 -- Frames come to a connection, one after the other.
 use Rattle.std.specs.Prelude.{◌≡◌, ◌⊎◌, ℕ, ◌+◌, ℤ, true, false, List, [], ◌∷◌, ◌++◌, if◌then◌else◌, Some}
 use Rattle.zk_transcript.specs.declared.transcript.TranscriptLine.TheVariants.{Frame as FrameLine}
-use Rattle.zp_happen.specs.Arriving.{frame_lines, shown_frame}
-use Rattle.zp_happen.specs.Handing.{Handed}
-use Rattle.zp_happen.specs.Worlds.{Conn, World, conn_at, is_closed, is_open_conn, is_reaper, zxid_at}
+use Rattle.zp_script.specs.Arriving.{frame_lines, shown_frame}
+use Rattle.zp_script.specs.Handing.{Handed}
+use Rattle.zp_script.specs.Worlds.{Conn, World, conn_at, is_closed, is_open_conn, is_reaper, zxid_at}
 use Rattle.zp_step.specs.Stages.{counted_up}
 use Rattle.zp_step.specs.declared.input.Input.TheVariants as input
 use Rattle.zp_world.specs.Doing.{left}

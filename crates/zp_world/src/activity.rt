@@ -2,13 +2,13 @@
 
 ghost use Rattle.std.specs.Prelude.{◌≡◌, ◌+◌, ◌<◌, length, Some};
 ghost use Rattle.std.specs.Option.{option_map};
-ghost use Rattle.zp_happen.specs.Effects.{is_open_at};
-ghost use Rattle.zp_happen.specs.Entries.{cursor_of};
-ghost use Rattle.zp_happen.specs.Faults.{has_part};
-ghost use Rattle.zp_happen.specs.Effects.{new_conn};
-ghost use Rattle.zp_happen.specs.Happens.{asks_at, is_waiting};
+ghost use Rattle.zp_script.specs.Effects.{is_open_at};
+ghost use Rattle.zp_script.specs.Entries.{cursor_of};
+ghost use Rattle.zp_script.specs.Faults.{has_part};
+ghost use Rattle.zp_script.specs.Effects.{new_conn};
+ghost use Rattle.zp_script.specs.Happens.{asks_at, is_waiting};
 ghost use Rattle.zp_step.specs.Stages.{counted_up, max_count};
-ghost use Rattle.zp_happen.specs.Worlds as worlds;
+ghost use Rattle.zp_script.specs.Worlds as worlds;
 ghost use Rattle.zp_world.specs.Doing.{left};
 ghost use Rattle.zp_world.specs.Flying.{IsActive};
 
@@ -17,7 +17,7 @@ use crate::inbox::Inbox;
 use std::alloc::Global;
 use std::marker::Model;
 use zp_core::Core;
-use zp_happen::Flight;
+use zp_script::Flight;
 use zp_step::Wants;
 use zs_reap::Reaper;
 
@@ -49,7 +49,7 @@ pub struct Activity {
 impl Model for Activity {
     ghost use Rattle.std.specs.Coded.{codes};
     ghost use Rattle.zk_model.specs.PathSets.{coded_watches};
-    ghost use Rattle.zp_happen.specs.Worlds.{Conn};
+    ghost use Rattle.zp_script.specs.Worlds.{Conn};
 
     ghost Value = { Conn };
 

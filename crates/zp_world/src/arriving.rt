@@ -4,12 +4,12 @@ ghost use Rattle.std.specs.Prelude.{◌≡◌, ◌+◌, ◌++◌, ◌∷◌, ◌
 ghost use Rattle.std.specs.Vec.Iter.{into_iter_items};
 ghost use Rattle.zk_model.specs.Limits.{max_frame};
 ghost use Rattle.zk_transcript.specs.declared.transcript.TranscriptLine.TheVariants.{Frame as FrameLine};
-ghost use Rattle.zp_happen.specs.Arriving.{Arrives, Cuts, EndsBadly, FramesArrive, frame_lines};
-ghost use Rattle.zp_happen.specs.Effects.{opened};
-ghost use Rattle.zp_happen.specs.Faults.{connection_fault};
-ghost use Rattle.zp_happen.specs.Worlds.{Conn, Connection, behind_step, conn_at, is_open_conn, with_conn, zxid_at};
-ghost use Rattle.zp_happen.specs.Kinds.{kind_asked};
-ghost use Rattle.zp_happen.specs.StepOutcomes.{acts_all, leaves};
+ghost use Rattle.zp_script.specs.Arriving.{Arrives, Cuts, EndsBadly, FramesArrive, frame_lines};
+ghost use Rattle.zp_script.specs.Effects.{opened};
+ghost use Rattle.zp_script.specs.Faults.{connection_fault};
+ghost use Rattle.zp_script.specs.Worlds.{Conn, Connection, behind_step, conn_at, is_open_conn, with_conn, zxid_at};
+ghost use Rattle.zp_script.specs.Kinds.{kind_asked};
+ghost use Rattle.zp_script.specs.StepOutcomes.{acts_all, leaves};
 ghost use Rattle.zp_step.specs.Stages.{Core as AnyCore, counted_up, is_shut};
 ghost use Rattle.zp_step.specs.Steps.{Steps};
 ghost use Rattle.zp_step.specs.declared.input.Input.TheVariants as input;
@@ -27,7 +27,7 @@ use std::alloc::Global;
 use std::vec::IntoIter;
 use zk_transcript::TranscriptLine;
 use zp_core::Core;
-use zp_happen::Flight;
+use zp_script::Flight;
 use zp_step::{Action, Fresh, Input};
 use zx_base::{Bytes, Memory};
 

@@ -5,9 +5,9 @@ ghost use Rattle.ev_store.specs.Asks.{IsGrantable};
 ghost use Rattle.zs_session.specs.Answering.{IsAnswerTo};
 ghost use Rattle.zt_text.specs.declared.script.Happening.TheVariants as line;
 ghost use Rattle.zt_text.specs.Transcripts.{IsWellFormedKind};
-ghost use Rattle.zp_happen.specs.Carrying.{CarriesOut, Executes, ExecutesStray, ShowsUpdate};
-ghost use Rattle.zp_happen.specs.Faults.{fault};
-ghost use Rattle.zp_happen.specs.Worlds.{zxid_at};
+ghost use Rattle.zp_script.specs.Carrying.{CarriesOut, Executes, ExecutesStray, ShowsUpdate};
+ghost use Rattle.zp_script.specs.Faults.{fault};
+ghost use Rattle.zp_script.specs.Worlds.{zxid_at};
 ghost use Rattle.zp_world.specs.Asking.{Asks, Shows, asked_out};
 ghost use Rattle.zp_world.specs.Flying.{IsCarried, IsFit};
 
@@ -17,7 +17,7 @@ use crate::world::World;
 use ev_store::StoreFault;
 use ev_types::{Answer, Ask};
 use zk_transcript::UpdateKind;
-use zp_happen::{Asking, Flight};
+use zp_script::{Asking, Flight};
 use zx_base::Memory;
 
 /// More updates than any memory holds, since each has an entry.

@@ -4,7 +4,7 @@ ghost use Rattle.std.specs.Prelude.{◌≡◌, ◌+◌, ◌≤◌, min, nat_lt, 
 ghost use Rattle.zk_jute.specs.Frames.{bad_length};
 ghost use Rattle.zk_jute.specs.JuteWriting.{with_length};
 ghost use Rattle.zk_model.specs.Limits.{max_frame};
-ghost use Rattle.zp_happen.specs.Arriving.{Cuts};
+ghost use Rattle.zp_script.specs.Arriving.{Cuts};
 ghost use Rattle.zk_wire.specs.Cutting.{Stands, unread};
 ghost use Rattle.zp_step.specs.Stages.{counted_up};
 ghost use Rattle.zp_world.specs.Framing.{framed_size};

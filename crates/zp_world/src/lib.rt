@@ -6,7 +6,7 @@
 //! script may let others happen in between, lose an answer, or carry out an ask whose asker has ended. Each happening leaves its
 //! lines in the world's transcript, [`World::lines`]. One that is not possible is refused with its cause and changes nothing.
 //!
-//! What each line of a script does is said in `zp_happen`: `fault`, which tests it makes, and `Happens`, what it leaves. A
+//! What each line of a script does is said in `zp_script`: `fault`, which tests it makes, and `Happens`, what it leaves. A
 //! connection is a [`Core`](zp_core::Core), a reaper a [`Reaper`](zs_reap::Reaper): a world only carries what they ask to the
 //! store and hands them what they wait for. It does not look into a request.
 //!
@@ -14,7 +14,7 @@
 //! found by its number in the logarithm of their count. Bytes that come in pieces are copied once more with each piece until
 //! their frame is whole.
 //!
-//! In `specs/`: `Applying` (what `apply` answers), `Activities` (a number's activity as `zp_happen` sees it), `Flying` (what is
+//! In `specs/`: `Applying` (what `apply` answers), `Activities` (a number's activity as `zp_script` sees it), `Flying` (what is
 //! known of an ask until its answer is delivered), `Doing` (a step of what is held apart from its world). The others say what one
 //! function of this crate hands to the next.
 //!

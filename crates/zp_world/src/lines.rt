@@ -6,7 +6,7 @@ ghost use Rattle.ev_types.specs.Denials.{has_lease};
 ghost use Rattle.ev_types.specs.Lapses.{leased_keys, removals};
 ghost use Rattle.ev_types.specs.Store.{Store as AnyStore};
 ghost use Rattle.zt_text.specs.declared.script.Happening.TheVariants as line;
-ghost use Rattle.zp_happen.specs.Faults.{full_fault, if_fails, is_kept_key};
+ghost use Rattle.zp_script.specs.Faults.{full_fault, if_fails, is_kept_key};
 ghost use Rattle.zp_world.specs.Applying.{Applies};
 
 use crate::fault::{ApplyFault, refused};

@@ -3,14 +3,14 @@
 ghost use Rattle.std.specs.Prelude.{◌≡◌, ◌∷◌, pos, length, nat_lt, is_some, is_none, Some, None, not, IfOk, IfErr, IfNone};
 ghost use Rattle.ev_types.specs.Store.{Change};
 ghost use Rattle.zk_model.specs.Limits.{max_frame};
-ghost use Rattle.zp_happen.specs.Entries.{cursor_at, next_entry, is_lagging};
-ghost use Rattle.zp_happen.specs.Faults.{new_fault, open_fault, connection_fault, carry_fault, ask_fault, entry_fault, if_fails, has_part, flight_at, is_to_carry_out, left_at};
-ghost use Rattle.zp_happen.specs.Worlds.{conn_at};
+ghost use Rattle.zp_script.specs.Entries.{cursor_at, next_entry, is_lagging};
+ghost use Rattle.zp_script.specs.Faults.{new_fault, open_fault, connection_fault, carry_fault, ask_fault, entry_fault, if_fails, has_part, flight_at, is_to_carry_out, left_at};
+ghost use Rattle.zp_script.specs.Worlds.{conn_at};
 
 use crate::activity::Activity;
 use crate::world::World;
 use zk_model::limit::MAX_FRAME;
-use zp_happen::Flight;
+use zp_script::Flight;
 use zt_text::Why;
 
 /// A connection lags where more entries than this follow its cursor.

@@ -2,16 +2,16 @@
 
 ghost use Rattle.std.specs.Prelude.{◌≡◌, None, OnOk};
 ghost use Rattle.std.specs.Option.{option_map};
-ghost use Rattle.zp_happen.specs.Effects.{Does};
-ghost use Rattle.zp_happen.specs.Faults.{fault};
-ghost use Rattle.zp_happen.specs.Happens.{Settles, asks_at, max_settling, settling};
-ghost use Rattle.zp_happen.specs.Worlds.{conn_at};
+ghost use Rattle.zp_script.specs.Effects.{Does};
+ghost use Rattle.zp_script.specs.Faults.{fault};
+ghost use Rattle.zp_script.specs.Happens.{Settles, asks_at, max_settling, settling};
+ghost use Rattle.zp_script.specs.Worlds.{conn_at};
 ghost use Rattle.zp_step.specs.Stages.{counted_up};
 ghost use Rattle.zp_world.specs.Moving.{line_of};
 ghost use Rattle.zt_text.specs.declared.script.Happening.TheVariants as line;
 
 use crate::world::World;
-use zp_happen::Flight;
+use zp_script::Flight;
 use zx_base::Memory;
 
 /// What settle does next.

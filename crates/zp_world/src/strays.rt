@@ -1,13 +1,13 @@
 //! Strays: asks whose askers ended before they were carried out.
 
 ghost use Rattle.std.specs.Prelude.{◌≡◌, ◌++◌, ◌∷◌, ◌-◌, [], Some, None, is_some, slice_set, OnOk, IfSome};
-ghost use Rattle.zp_happen.specs.Faults.{left_at};
+ghost use Rattle.zp_script.specs.Faults.{left_at};
 ghost use Rattle.zp_world.specs.Flying.{IsFit};
 
 use std::alloc::Global;
 use std::marker::Model;
 use std::mem;
-use zp_happen::Asking;
+use zp_script::Asking;
 use zx_base::Memory;
 
 /// The strays in the order in which they arose, numbered from 1. `None` stands for one that was carried out since.
@@ -18,7 +18,7 @@ pub struct Strays {
 
 impl Model for Strays {
     ghost use Rattle.std.specs.Prelude.{List, Option};
-    ghost use Rattle.zp_happen.specs.declared.flight.Asking.{Asking};
+    ghost use Rattle.zp_script.specs.declared.flight.Asking.{Asking};
     ghost use Rattle.zp_world.specs.Flying.{AreFit};
 
     ghost Value = { List (Option Asking) };

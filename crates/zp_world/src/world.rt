@@ -8,8 +8,8 @@ ghost use Rattle.ev_types.specs.declared.answer.Answer.{Answer as AnyAnswer};
 ghost use Rattle.zk_transcript.specs.History.{after, updates as updates_of};
 ghost use Rattle.zn_layout.specs.Begin.{begin_ask as first_ask, begin_lines};
 ghost use Rattle.zn_layout.specs.StandsFor.{StandsFor};
-ghost use Rattle.zp_happen.specs.Conversing.{conversations as conversations_of};
-ghost use Rattle.zp_happen.specs.Runs.{IsFirst, world_over};
+ghost use Rattle.zp_script.specs.Conversing.{conversations as conversations_of};
+ghost use Rattle.zp_script.specs.Runs.{IsFirst, world_over};
 ghost use Rattle.zt_text.specs.Transcripts.{IsWellFormed};
 ghost use Rattle.zp_world.specs.Activities.{AreWithin};
 ghost use Rattle.zp_world.specs.Applying.{Applies, IsOfScript, IsSpent};
@@ -48,7 +48,7 @@ impl Model for World {
     ghost use Rattle.ev_store.specs.Codes.{store_code};
     ghost use Rattle.zk_model.specs.PathSets.{coded_watches};
     ghost use Rattle.std.specs.Ordering.{nat_cmp};
-    ghost use Rattle.zp_happen.specs.Worlds.{World as TheWorld, Conn, zxid_at};
+    ghost use Rattle.zp_script.specs.Worlds.{World as TheWorld, Conn, zxid_at};
     ghost use Rattle.zk_model.specs.Limits.{max_time};
 
     ghost Value = { TheWorld };

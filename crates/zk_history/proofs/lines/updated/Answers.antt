@@ -5,9 +5,9 @@ use Rattle.zk_transcript.specs.declared.transcript.UpdateKind.{UpdateKind}
 use Rattle.zk_transcript.specs.declared.transcript.UpdateKind.TheVariants.{Asked}
 use Rattle.zk_transcript.specs.declared.transcript.TranscriptLine.{TranscriptLine}
 use Rattle.zk_transcript.specs.History.{State, request, session_of}
-use Rattle.zk_plain.specs.declared.fault.Fault.{Fault}
-use Rattle.zk_plain.specs.Faults.{BeyondUnless}
-use Rattle.zk_plain.proofs.FaultLaws.{beyond-weaker}
+use Rattle.zk_machine.specs.declared.fault.Fault.{Fault}
+use Rattle.zk_machine.specs.Faults.{BeyondUnless}
+use Rattle.zk_machine.proofs.FaultLaws.{beyond-weaker}
 use Rattle.zk_history.specs.Fits.{AskedFits, IsCountable, IsTime, UpdateFits}
 use Rattle.zk_history.specs.Pasts.{lines_of}
 use Rattle.zk_history.proofs.lines.updated.Goals as goal

@@ -2,7 +2,7 @@ use Rattle.std.proofs.Common.{◌<◌, ◌++◌, length, ap, sym, ◌∙◌, ari
 use Rattle.std.proofs.lemmas.List.{map-append}
 use Rattle.std.specs.List.{filter_map}
 use Rattle.std.specs.Option.{option_to_list}
-use Rattle.zp_happen.specs.Conversing.{conversation, opened_by}
+use Rattle.zp_script.specs.Conversing.{conversation, opened_by}
 use Rattle.zp_ledger.proofs.Grouping.{given_more}
 use Rattle.zp_ledger.proofs.conversations.conversations_in.Goals as goal
 

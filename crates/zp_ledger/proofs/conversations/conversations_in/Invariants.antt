@@ -2,7 +2,7 @@
 use Rattle.std.proofs.Common.{◌≡◌, take}
 use Rattle.std.specs.Prelude.{map}
 use Rattle.std.specs.List.{filter_map}
-use Rattle.zp_happen.specs.Conversing.{conversation, opened_by}
+use Rattle.zp_script.specs.Conversing.{conversation, opened_by}
 use Rattle.zp_ledger.proofs.conversations.conversations_in.Given as goal
 
 abbrev pub invariant-loop-line : goal.invariant-loop-line

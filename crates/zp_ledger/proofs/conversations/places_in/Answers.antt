@@ -1,7 +1,7 @@
 use Rattle.std.proofs.Common.{◌<◌, length, ap, ◌∙◌, arith, rules}
 use Rattle.std.specs.Prelude.{slice_get}
 use Rattle.std.specs.List.{filter_map}
-use Rattle.zp_happen.specs.Conversing.{is_line_of}
+use Rattle.zp_script.specs.Conversing.{is_line_of}
 use Rattle.zp_ledger.proofs.Grouping.{places_more}
 use Rattle.zp_ledger.proofs.conversations.places_in.Goals as goal
 

@@ -2,7 +2,7 @@
 use Rattle.std.proofs.Common.{◌≡◌, ℕ, take}
 use Rattle.std.specs.Prelude.{filter, slice_get}
 use Rattle.std.specs.List.{filter_map}
-use Rattle.zp_happen.specs.Conversing.{is_line_of}
+use Rattle.zp_script.specs.Conversing.{is_line_of}
 use Rattle.zp_ledger.specs.Grouping.{places_at}
 use Rattle.zp_ledger.proofs.conversations.places_in.Given as goal
 

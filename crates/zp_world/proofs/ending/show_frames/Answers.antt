@@ -2,7 +2,7 @@ use Rattle.std.proofs.Common.{◌≡◌, ◌++◌, subst, arith, ap, ◌∙◌, 
 use Rattle.std.specs.Prelude.{ℤ, []}
 use Rattle.std.specs.Vec.Iter.{into_iter_items}
 use Rattle.std.proofs.lemmas.Int.{to_z-of_z}
-use Rattle.zp_happen.specs.Arriving.{frame_lines}
+use Rattle.zp_script.specs.Arriving.{frame_lines}
 use Rattle.zt_text.specs.Transcripts.{AreBytes}
 use Rattle.zp_world.proofs.Acting.{shown-none, shown-more}
 use Rattle.zp_world.proofs.Within.{nothing-left}

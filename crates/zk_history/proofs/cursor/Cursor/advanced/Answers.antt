@@ -5,7 +5,7 @@ use Rattle.std.proofs.lemmas.Option.{get_or_from_slice_get}
 use Rattle.zk_transcript.specs.declared.transcript.TranscriptLine.{TranscriptLine}
 use Rattle.zk_transcript.specs.History.{State, after, change}
 use Rattle.zk_transcript.proofs.Appending.{after-push}
-use Rattle.zk_plain.proofs.FaultLaws.{beyond-weaker}
+use Rattle.zk_machine.proofs.FaultLaws.{beyond-weaker}
 use Rattle.zk_history.specs.Commits.{response_to}
 use Rattle.zk_history.proofs.Counts.{change-updates}
 use Rattle.zk_history.proofs.Fitting.{line-fits}

@@ -1,6 +1,6 @@
 use Rattle.std.proofs.Common.{List, sym, subst, ℕ}
 use Rattle.std.specs.FinMap.{from_entries}
-use Rattle.zp_happen.specs.Worlds.{Conn}
+use Rattle.zp_script.specs.Worlds.{Conn}
 use Rattle.zp_world.specs.Activities.{AreWithin}
 use Rattle.zp_world.proofs.Within.{within-empty}
 use Rattle.zp_world.proofs.activities.Activities.new.Goals as goal

@@ -1,6 +1,6 @@
 use Rattle.std.proofs.Common.{◌++◌, sym, ap, ◌∙◌}
 use Rattle.std.specs.FinMap.{entries}
-use Rattle.zp_happen.specs.Worlds.{Conns}
+use Rattle.zp_script.specs.Worlds.{Conns}
 use Rattle.zp_world.proofs.Restarting.{numbers_among}
 use Rattle.zp_world.proofs.Within.{entries-same}
 use Rattle.zp_world.proofs.activities.Activities.open_at.Goals as goal

@@ -3,7 +3,7 @@ use Rattle.std.specs.Cmp.{nat_cmp_total}
 use Rattle.std.specs.FinMap.{from_entries, insert}
 use Rattle.std.proofs.lemmas.Map.Lookups.{exact_unsigned}
 use Rattle.ev_store.proofs.Entries.{from_entries-update}
-use Rattle.zp_happen.specs.Worlds.{Conn}
+use Rattle.zp_script.specs.Worlds.{Conn}
 use Rattle.zp_world.specs.Activities.{AreWithin}
 use Rattle.zp_world.proofs.Within.{within-inserted}
 use Rattle.zp_world.proofs.activities.Activities.put.Goals as goal

@@ -1,7 +1,7 @@
 use Rattle.std.proofs.Common.{◌≡◌, ◌++◌, ◌∷◌, [], rules}
 use Rattle.std.specs.Prelude.{Some, Option, IfSome}
 use Rattle.std.proofs.lemmas.List.Elements.{All-push}
-use Rattle.zp_happen.specs.declared.flight.Asking.{Asking}
+use Rattle.zp_script.specs.declared.flight.Asking.{Asking}
 use Rattle.zp_world.specs.Flying.{IsFit}
 use Rattle.zp_world.proofs.strays.Strays.leave.Goals as goal
 

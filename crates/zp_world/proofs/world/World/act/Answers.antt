@@ -1,5 +1,5 @@
 use Rattle.std.proofs.Common.{refl, sym, subst}
-use Rattle.zp_happen.specs.Worlds.{Actor}
+use Rattle.zp_script.specs.Worlds.{Actor}
 use Rattle.zp_step.specs.Stages.{is_shut}
 use Rattle.zp_world.specs.Flying.{IsActive}
 use Rattle.zp_world.proofs.Acting.{active-behind}

@@ -2,8 +2,8 @@ use Rattle.std.proofs.Common.{w64, to_z, of_z}
 use Rattle.std.specs.Prelude.{ℤ}
 use Rattle.std.specs.Vec.Iter.{into_iter_items}
 use Rattle.std.proofs.lemmas.Int.{to_z-of_z}
-use Rattle.zp_happen.specs.Kinds.{kind_asked}
-use Rattle.zp_happen.specs.Worlds.{Connection}
+use Rattle.zp_script.specs.Kinds.{kind_asked}
+use Rattle.zp_script.specs.Worlds.{Connection}
 use Rattle.zp_world.proofs.Acting.{acted-at, begin-acting, end-acting, fit-acting, more-acting}
 use Rattle.zp_world.proofs.Within.{nothing-left}
 use Rattle.zp_world.proofs.world.World.act_all.Goals as goal

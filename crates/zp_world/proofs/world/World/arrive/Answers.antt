@@ -2,8 +2,8 @@ use Rattle.std.proofs.Common.{◌≡◌, ap, ◌∙◌, subst, of_z, to_z, w64, 
 use Rattle.std.specs.Prelude.{ℤ, ℕ}
 use Rattle.std.proofs.lemmas.Int.{to_z-of_z}
 use Rattle.std.proofs.lemmas.Result.{on_ok_weaker}
-use Rattle.zp_happen.specs.Arriving.{EndsBadly}
-use Rattle.zp_happen.specs.Worlds.{World, conn_at, with_conn}
+use Rattle.zp_script.specs.Arriving.{EndsBadly}
+use Rattle.zp_script.specs.Worlds.{World, conn_at, with_conn}
 use Rattle.zp_world.proofs.Serving.{all-arrive}
 use Rattle.zp_world.proofs.world.World.arrive.Goals as goal
 

@@ -1,5 +1,5 @@
 use Rattle.std.proofs.Common.{◌≡◌, Some, sym, ◌∙◌, rules}
-use Rattle.zp_happen.specs.Worlds.{conn_at}
+use Rattle.zp_script.specs.Worlds.{conn_at}
 use Rattle.zp_world.proofs.Receiving.{cut-at}
 use Rattle.zp_world.proofs.Refusing.{refuses, bytes-line}
 use Rattle.zp_world.proofs.world.World.bytes_line.Goals as goal

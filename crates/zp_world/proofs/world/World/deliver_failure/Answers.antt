@@ -1,5 +1,5 @@
 use Rattle.std.proofs.Common.{◌≡◌, refl, subst, true, false, inr}
-use Rattle.zp_happen.specs.Worlds.{is_closed}
+use Rattle.zp_script.specs.Worlds.{is_closed}
 use Rattle.zp_world.specs.Activities.{actor_of}
 use Rattle.zp_world.specs.declared.activity.Actor.{Actor}
 use Rattle.zp_world.proofs.Delivered.{failure-ends, failure-steps}

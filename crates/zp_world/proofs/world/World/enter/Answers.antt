@@ -1,7 +1,7 @@
 use Rattle.std.proofs.Common.{◌≡◌, sym, ap, ◌∙◌, refl, rules, inl}
 use Rattle.std.specs.Prelude.{None, Some, pos, ◌+ℤ◌}
 use Rattle.std.specs.Arc.{arc_value}
-use Rattle.zp_happen.specs.Entries.{cursor_at, entry_behind}
+use Rattle.zp_script.specs.Entries.{cursor_at, entry_behind}
 use Rattle.zp_world.proofs.Awaiting.{awaits-next, cursor-is, cursor-wanted, flight-none, next-number}
 use Rattle.zp_world.proofs.Entered.{entered}
 use Rattle.zp_world.proofs.Possible.{entry-cursor, entry-missing, entry-serves}

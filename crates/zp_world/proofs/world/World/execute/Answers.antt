@@ -1,7 +1,7 @@
 use Rattle.std.proofs.Common.{◌≡◌, sym, ap, ◌∙◌, subst, true}
 use Rattle.std.proofs.lemmas.Result.{on_ok_weaker}
-use Rattle.zp_happen.specs.Faults.{is_to_carry_out}
-use Rattle.zp_happen.specs.Worlds.{Conn, World, conn_at}
+use Rattle.zp_script.specs.Faults.{is_to_carry_out}
+use Rattle.zp_script.specs.Worlds.{Conn, World, conn_at}
 use Rattle.zp_world.specs.Activities.{actor_of}
 use Rattle.zp_world.specs.Flying.{IsActive}
 use Rattle.zp_world.proofs.Carried.{carried-active, exec-out, exec-there, executes, none-out, out-fit, out-is}

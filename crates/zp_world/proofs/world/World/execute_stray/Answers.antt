@@ -1,6 +1,6 @@
 use Rattle.std.proofs.Common.{sym, ap, ◌∙◌}
-use Rattle.zp_happen.specs.Faults.{left_at}
-use Rattle.zp_happen.specs.Worlds.{World}
+use Rattle.zp_script.specs.Faults.{left_at}
+use Rattle.zp_script.specs.Worlds.{World}
 use Rattle.zp_world.proofs.Carried.{executes-stray, stray-left}
 use Rattle.zp_world.proofs.world.World.execute_stray.Goals as goal
 

@@ -4,8 +4,8 @@ use Rattle.ev_store.specs.FirstDenial.{foreign_denial}
 use Rattle.ev_types.specs.Lapses.{foreign}
 use Rattle.ev_types.specs.Store.{Puts}
 use Rattle.zt_text.specs.declared.script.Why.TheVariants as why
-use Rattle.zp_happen.specs.Faults.{full_fault, if_fails, is_kept_key}
-use Rattle.zp_happen.specs.Worlds.{World}
+use Rattle.zp_script.specs.Faults.{full_fault, if_fails, is_kept_key}
+use Rattle.zp_script.specs.Worlds.{World}
 use Rattle.zp_world.proofs.Happening.{put-to}
 use Rattle.zp_world.proofs.Lapsing.{foreign-full, foreign-kept, foreign-possible}
 use Rattle.zp_world.proofs.Refusing.{foreign-line, refuses, refuses-same}

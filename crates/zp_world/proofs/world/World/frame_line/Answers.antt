@@ -1,6 +1,6 @@
 use Rattle.std.proofs.Common.{◌≡◌, Some, refl, sym, ◌∙◌, rules, length}
 use Rattle.zk_jute.specs.JuteWriting.{with_length}
-use Rattle.zp_happen.specs.Worlds.{conn_at}
+use Rattle.zp_script.specs.Worlds.{conn_at}
 use Rattle.zp_world.proofs.Receiving.{cut-at}
 use Rattle.zp_world.proofs.Refusing.{refuses, frame-of}
 use Rattle.zp_world.proofs.world.World.frame_line.Goals as goal

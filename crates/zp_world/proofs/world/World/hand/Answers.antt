@@ -3,8 +3,8 @@ use Rattle.std.specs.Prelude.{Option, Some, []}
 use Rattle.std.specs.FinMap.{get}
 use Rattle.std.proofs.lemmas.Result.{on_ok_weaker}
 use Rattle.zx_base.proofs.Options.{some_is}
-use Rattle.zp_happen.specs.declared.flight.Flight.{Flight}
-use Rattle.zp_happen.specs.Worlds.{Conn, Connection, World, conn_at}
+use Rattle.zp_script.specs.declared.flight.Flight.{Flight}
+use Rattle.zp_script.specs.Worlds.{Conn, Connection, World, conn_at}
 use Rattle.zp_world.specs.Activities.{actor_of}
 use Rattle.zp_world.specs.Doing.{Stepped, left}
 use Rattle.zp_world.specs.Flying.{LeavesFree}

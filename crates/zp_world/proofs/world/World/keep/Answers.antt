@@ -2,7 +2,7 @@ use Rattle.std.proofs.Common.{◌≡◌, ap, sym, ◌∙◌}
 use Rattle.std.specs.FinMap.{get}
 use Rattle.std.specs.Prelude.{Some}
 use Rattle.std.proofs.lemmas.Result.{on_ok_weaker}
-use Rattle.zp_happen.specs.Worlds.{World, conn_at}
+use Rattle.zp_script.specs.Worlds.{World, conn_at}
 use Rattle.zp_world.specs.Activities.{actor_of}
 use Rattle.zp_world.proofs.Coming.{kept-inbox}
 use Rattle.zp_world.proofs.world.World.keep.Goals as goal

@@ -1,7 +1,7 @@
 use Rattle.std.proofs.Common.{◌≡◌, ◌-◌, ℤ, subst, sym, ap, ◌∙◌, refl, rules, arith, inr, true, w64, to_z, of_z}
 use Rattle.std.specs.Prelude.{OnOk, Some, pos, ◌+ℤ◌, int_lt, length}
 use Rattle.std.proofs.lemmas.Int.{ints}
-use Rattle.zp_happen.specs.Entries.{cursor_at, is_lagging_at, max_kept}
+use Rattle.zp_script.specs.Entries.{cursor_at, is_lagging_at, max_kept}
 use Rattle.zp_step.specs.declared.input.Input.TheVariants.{Lagged}
 use Rattle.zp_world.proofs.Awaiting.{awaits-next, cursor-is, cursor-wanted}
 use Rattle.zp_world.proofs.Entered.{HandsTo, lagged}

@@ -5,8 +5,8 @@ use Rattle.ev_types.specs.Denials.{has_lease}
 use Rattle.ev_types.specs.Lapses.{lapse, leased_keys, removals}
 use Rattle.ev_store.specs.FirstDenial.{lapse_denial}
 use Rattle.zt_text.specs.declared.script.Why.TheVariants as why
-use Rattle.zp_happen.specs.Faults.{full_fault, if_fails}
-use Rattle.zp_happen.specs.Worlds.{World}
+use Rattle.zp_script.specs.Faults.{full_fault, if_fails}
+use Rattle.zp_script.specs.Worlds.{World}
 use Rattle.zp_world.proofs.Happening.{lapses-to}
 use Rattle.zp_world.proofs.Lapsing.{lapse-least, lapse-possible}
 use Rattle.zp_world.proofs.Refusing.{lapse-line, refuses-same}

@@ -1,5 +1,5 @@
 use Rattle.std.proofs.Common.{rules, ◌≡◌, subst, arith}
-use Rattle.zp_happen.specs.Worlds.{World}
+use Rattle.zp_script.specs.Worlds.{World}
 use Rattle.zp_world.specs.Activities.{AreWithin}
 use Rattle.zp_world.proofs.Beginning.{begun-stands}
 use Rattle.zp_world.proofs.world.World.new.Goals as goal

@@ -1,7 +1,7 @@
 use Rattle.std.proofs.Common.{sym, ap, ◌∙◌, w64}
 use Rattle.std.specs.Prelude.{ℤ}
 use Rattle.std.proofs.lemmas.Int.{to_z-of_z}
-use Rattle.zp_happen.specs.Effects.{opened}
+use Rattle.zp_script.specs.Effects.{opened}
 use Rattle.zp_world.proofs.Refusing.{refuses, open-line}
 use Rattle.zp_world.proofs.world.World.open_line.Goals as goal
 

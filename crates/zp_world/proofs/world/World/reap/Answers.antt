@@ -1,6 +1,6 @@
 use Rattle.std.proofs.Common.{◌≡◌, ap, ◌∙◌, w64, to_z, of_z}
 use Rattle.std.proofs.lemmas.Int.{to_z-of_z}
-use Rattle.zp_happen.specs.Effects.{new_reap}
+use Rattle.zp_script.specs.Effects.{new_reap}
 use Rattle.zp_world.proofs.Delivered.{reap-begins}
 use Rattle.zp_world.proofs.world.World.reap.Goals as goal
 

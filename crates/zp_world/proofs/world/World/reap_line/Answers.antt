@@ -1,8 +1,8 @@
 use Rattle.std.proofs.Common.{◌≡◌, ℤ, sym, ◌∙◌, subst, w64, to_z, of_z}
 use Rattle.std.specs.Prelude.{None}
 use Rattle.std.proofs.lemmas.Int.{to_z-of_z}
-use Rattle.zp_happen.specs.Effects.{new_reap, new_reaper}
-use Rattle.zp_happen.specs.Handing.{Reaps}
+use Rattle.zp_script.specs.Effects.{new_reap, new_reaper}
+use Rattle.zp_script.specs.Handing.{Reaps}
 use Rattle.zp_world.proofs.Possible.{new-free}
 use Rattle.zp_world.proofs.Refusing.{refuses, reap-line}
 use Rattle.zp_world.proofs.world.World.reap_line.Goals as goal

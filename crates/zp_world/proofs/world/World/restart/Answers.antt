@@ -1,6 +1,6 @@
 use Rattle.std.proofs.Common.{ap, ◌∙◌}
 use Rattle.std.specs.Vec.Iter.{into_iter_items}
-use Rattle.zp_happen.specs.Worlds.{World}
+use Rattle.zp_script.specs.Worlds.{World}
 use Rattle.zp_world.specs.Activities.{open_numbers}
 use Rattle.zp_world.proofs.Restarting.{begin-stopping, end-stopping, more-stopping}
 use Rattle.zp_world.proofs.Within.{nothing-left}

@@ -1,5 +1,5 @@
 use Rattle.std.proofs.Common.{◌≡◌, ℕ, suc, ◌+◌, ◌-◌, refl, sym, subst, arith}
-use Rattle.zp_happen.specs.Happens.{Settles}
+use Rattle.zp_script.specs.Happens.{Settles}
 use Rattle.zp_world.proofs.Settled.{move-possible, settles-more, settles-none}
 use Rattle.zp_world.specs.Moving.{line_of}
 use Rattle.zp_world.proofs.world.World.settle.Goals as goal

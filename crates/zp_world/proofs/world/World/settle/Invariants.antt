@@ -1,7 +1,7 @@
 -- What settles the rest settles all of it.
 use Rattle.std.proofs.Common.{◌-◌}
-use Rattle.zp_happen.specs.Happens.{Settles}
-use Rattle.zp_happen.specs.Worlds.{World}
+use Rattle.zp_script.specs.Happens.{Settles}
+use Rattle.zp_script.specs.Worlds.{World}
 use Rattle.zp_world.proofs.world.World.settle.Given as goal
 
 abbrev pub invariant-loop-done : goal.invariant-loop-done

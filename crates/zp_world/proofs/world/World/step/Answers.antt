@@ -1,7 +1,7 @@
 use Rattle.std.proofs.Common.{ap, refl, ◌∙◌}
 use Rattle.std.proofs.lemmas.Result.{on_ok_weaker}
-use Rattle.zp_happen.specs.Arriving.{frame_lines}
-use Rattle.zp_happen.specs.Worlds.{World}
+use Rattle.zp_script.specs.Arriving.{frame_lines}
+use Rattle.zp_script.specs.Worlds.{World}
 use Rattle.zp_world.specs.Doing.{left}
 use Rattle.zp_world.proofs.Stepping.{leaves-free, stepped-by}
 use Rattle.zp_world.proofs.world.World.step.Goals as goal

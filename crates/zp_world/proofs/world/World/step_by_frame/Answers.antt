@@ -2,13 +2,13 @@ use Rattle.std.proofs.Common.{◌+◌, ap, of_z, to_z, w64}
 use Rattle.std.specs.Prelude.{ℤ}
 use Rattle.std.specs.Vec.Iter.{into_iter_items}
 use Rattle.std.proofs.lemmas.Int.{to_z-of_z}
-use Rattle.zp_happen.specs.Arriving.{frame_lines}
-use Rattle.zp_happen.specs.Kinds.{kind_asked}
-use Rattle.zp_happen.specs.StepOutcomes.{acts_all}
+use Rattle.zp_script.specs.Arriving.{frame_lines}
+use Rattle.zp_script.specs.Kinds.{kind_asked}
+use Rattle.zp_script.specs.StepOutcomes.{acts_all}
 use Rattle.zp_step.specs.Stages.{counted_up}
 use Rattle.zp_world.specs.Taking.{left_next, shown}
 use Rattle.std.proofs.lemmas.Result.{on_ok_weaker}
-use Rattle.zp_happen.specs.Worlds.{Connection, World}
+use Rattle.zp_script.specs.Worlds.{Connection, World}
 use Rattle.zp_world.proofs.Serving.{fit-flying, left-behind, on-ok-both, stepped-frame}
 use Rattle.zp_world.proofs.Standing.{leaves-frame}
 use Rattle.zp_world.proofs.world.World.step_by_frame.Goals as goal

@@ -5,8 +5,8 @@ use Rattle.zx_base.proofs.Options.{some_is}
 use Rattle.zk_transcript.specs.declared.transcript.Cause.TheVariants as cause
 use Rattle.zk_transcript.specs.declared.transcript.Ended.TheVariants as ended
 use Rattle.zk_transcript.specs.declared.transcript.TranscriptLine.TheVariants.{Close as CloseLine}
-use Rattle.zp_happen.specs.StepOutcomes.{left_by}
-use Rattle.zp_happen.specs.Worlds.{World}
+use Rattle.zp_script.specs.StepOutcomes.{left_by}
+use Rattle.zp_script.specs.Worlds.{World}
 use Rattle.zp_world.specs.Activities.{actor_of}
 use Rattle.zp_world.proofs.Stepping.{ends-apart, opened-apart}
 use Rattle.zp_world.proofs.world.World.stop.Goals as goal

@@ -3,7 +3,7 @@ use Rattle.std.proofs.lemmas.Int.{to_z-of_z}
 use Rattle.std.specs.Prelude.{Some}
 use Rattle.std.specs.FinMap.{get}
 use Rattle.std.proofs.lemmas.Result.{on_ok_weaker}
-use Rattle.zp_happen.specs.Worlds.{World, conn_at}
+use Rattle.zp_script.specs.Worlds.{World, conn_at}
 use Rattle.zp_world.specs.Activities.{actor_of}
 use Rattle.zp_world.specs.declared.activity.Actor.{Actor as Role}
 use Rattle.zp_world.proofs.Serving.{is-left, on-ok-both, takes-apart}

@@ -4,7 +4,7 @@ use Rattle.std.proofs.lemmas.Int.{to_z-of_z}
 use Rattle.std.proofs.lemmas.List.Elements.{All-head}
 use Rattle.std.specs.Vec.Iter.{into_iter_items}
 use Rattle.zk_model.specs.Limits.{max_frame}
-use Rattle.zp_happen.specs.Arriving.{FramesArrive}
+use Rattle.zp_script.specs.Arriving.{FramesArrive}
 use Rattle.zp_world.specs.Taking.{IsServing}
 use Rattle.zp_world.proofs.Serving.{AreComing, AreShort, coming-end, coming-first, coming-next, fewer}
 use Rattle.zp_world.proofs.Within.{nothing-left}

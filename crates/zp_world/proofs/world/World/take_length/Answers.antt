@@ -1,7 +1,7 @@
 use Rattle.std.proofs.Common.{◌≡◌, ap, inr, of_z, refl, rules, subst, sym, to_z, w32, ◌∙◌}
 use Rattle.std.specs.Prelude.{Option, Some, ℤ}
 use Rattle.std.proofs.lemmas.Result.{on_ok_weaker}
-use Rattle.zp_happen.specs.Arriving.{EndsBadly}
+use Rattle.zp_script.specs.Arriving.{EndsBadly}
 use Rattle.zp_world.proofs.Coming.{ends-open}
 use Rattle.zp_world.proofs.world.World.take_length.Goals as goal
 

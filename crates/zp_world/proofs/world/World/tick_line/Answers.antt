@@ -3,8 +3,8 @@ use Rattle.std.specs.Prelude.{nat_lt, None}
 use Rattle.std.proofs.lemmas.Bool.Decides.{nat_tests}
 use Rattle.zk_model.specs.Limits.{max_time}
 use Rattle.zt_text.specs.declared.script.Why.TheVariants as why
-use Rattle.zp_happen.specs.Faults.{if_fails}
-use Rattle.zp_happen.specs.Worlds.{World}
+use Rattle.zp_script.specs.Faults.{if_fails}
+use Rattle.zp_script.specs.Worlds.{World}
 use Rattle.zp_world.proofs.Happening.{ticks-to}
 use Rattle.zp_world.proofs.Refusing.{refuses, tick-line}
 use Rattle.zp_world.proofs.world.World.tick_line.Goals as goal

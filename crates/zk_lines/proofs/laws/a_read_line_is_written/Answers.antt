@@ -1,5 +1,0 @@
-use Rattle.zk_lines.proofs.ReadLines.{line_read-spaced}
-use Rattle.zk_lines.proofs.laws.a_read_line_is_written.Goals as goal
-
-pub returns : goal.returns
-returns c = line_read-spaced

@@ -1,5 +1,0 @@
-use Rattle.zk_lines.proofs.WrittenLines.{line_read-line_words}
-use Rattle.zk_lines.proofs.laws.a_written_line_is_read.Goals as goal
-
-pub returns : goal.returns
-returns c = line_read-line_words

@@ -1,0 +1,44 @@
+-- What the program answers, as the definitions' data.
+use Rattle.std.specs.Prelude.{◌≡◌, ℕ, ◌<◌, nat_le, if◌then◌else◌, ⊤, Bool, true, false, Option, Some, None}
+use Rattle.zx_base.specs.Maps.{Bytes}
+use Rattle.zk_model.specs.PathFaults.{is_valid, tested}
+use Rattle.zk_machine.specs.declared.outcome.Outcome.{Outcome as Answer}
+use Rattle.zk_machine.specs.declared.outcome.Outcome.TheVariants as answer
+use Rattle.zk_model.specs.Single.{Outcome, Refused, Done}
+use Rattle.zk_model.specs.Multi.{Parts, Stopped, Passed, Several, Denied, Codes, All as AllDone}
+use Rattle.zk_machine.specs.declared.multi.Parts.{Parts as Chain}
+use Rattle.zk_machine.specs.declared.multi.Parts.TheVariants as chain
+use Rattle.zk_machine.specs.declared.multi.Transaction.{Transaction}
+use Rattle.zk_machine.specs.declared.multi.Transaction.TheVariants as answers
+use Rattle.zk_model.specs.Limits.{max_load}
+use Rattle.zk_model.specs.Znodes.{Tree}
+use Rattle.zk_machine.specs.Edits.{edited_if}
+use Rattle.zk_machine.specs.Writes.{written_all}
+
+-- what came of a request that was planned on this tree
+abbrev pub outcome_of : Tree → Answer → Outcome
+outcome_of t (answer.Refused code) = Refused code
+outcome_of t (answer.Done result edit triggers) = Done result (edited_if t edit) triggers
+
+-- a path was read from a text exactly where the text is valid
+abbrev pub IsRead : Option Bytes → Bool → Bytes → Type 0
+IsRead None sequential text = is_valid sequential text ≡ false
+IsRead (Some path) sequential text = (path ≡ tested sequential text) × (is_valid sequential text ≡ true)
+
+-- what came of the parts of a transaction, whose writes are to be made in this tree
+abbrev pub parts_as : Tree → Chain → Parts
+parts_as t (chain.Stopped place code) = Stopped place code
+parts_as t (chain.Passed results writes triggers touched) = Passed results.items (written_all t writes.items) triggers.items touched.items
+
+abbrev pub IsPlacedBelow : Chain → ℕ → Type 0
+IsPlacedBelow (chain.Stopped place code) n = place < n
+IsPlacedBelow (chain.Passed results writes triggers touched) n = ⊤
+
+-- a load, or None where it is above the most
+abbrev pub within : ℕ → Option ℕ
+within n = if nat_le n max_load then Some n else None
+
+abbrev pub several_as : Tree → Transaction → Several
+several_as t (answers.Denied code) = Denied code
+several_as t (answers.Codes row) = Codes row
+several_as t (answers.All results writes triggers) = AllDone results (written_all t writes) triggers

@@ -1,6 +1,0 @@
-use Rattle.std.proofs.Common.{◌≡◌, drop, option_map}
-use Rattle.zk_plain.specs.Tallies.{found_after}
-use Rattle.zk_plain.proofs.draft.found_after.Given as goal
-
-abbrev pub invariant-loop-write : goal.invariant-loop-write
-invariant-loop-write l = found_after l.path (option_map (λ n. n.now) l.node) (drop l.write-index l.writes) ≡ found_after l.path (option_map (λ n. n.now) l.fn.found) l.writes

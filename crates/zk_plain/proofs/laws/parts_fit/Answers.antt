@@ -1,5 +1,0 @@
-use Rattle.zk_plain.proofs.WholeTrees.{parts-within}
-use Rattle.zk_plain.proofs.laws.parts_fit.Goals as goal
-
-pub returns : goal.returns
-returns c = λ t parts whole small limit session zxid time. parts-within limit session zxid time t parts whole small

@@ -1,5 +1,0 @@
-use Rattle.std.proofs.Common.{length}
-use Rattle.zk_plain.proofs.multi.+parts_of.Given as goal
-
-abbrev pub decreases-parts_of : goal.decreases-parts_of
-decreases-parts_of l = length l.parts.now

@@ -1,8 +1,0 @@
-use Rattle.std.proofs.Common.{ap, ◌∙◌}
-use Rattle.std.specs.Map.{values_of}
-use Rattle.zk_plain.specs.Entries.{map_of}
-use Rattle.zk_plain.proofs.EntryLaws.{empty-map}
-use Rattle.zk_plain.proofs.paths.PathMap.new.Goals as goal
-
-pub returns : goal.returns
-returns g c = ap (λ es. map_of (values_of es)) c.new.ensures.empty ∙ empty-map

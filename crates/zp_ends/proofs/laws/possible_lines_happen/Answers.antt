@@ -1,5 +1,0 @@
-use Rattle.zp_ends.proofs.Possible.{possible-lines-happen}
-use Rattle.zp_ends.proofs.laws.possible_lines_happen.Goals as goal
-
-pub returns : goal.returns
-returns c = possible-lines-happen

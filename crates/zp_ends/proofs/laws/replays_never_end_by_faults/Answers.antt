@@ -1,6 +1,0 @@
-use Rattle.zp_ends.proofs.Outside.{replays-never-end-by}
-use Rattle.zp_ends.proofs.Undamaged.{replays-show-no-damage}
-use Rattle.zp_ends.proofs.laws.replays_never_end_by_faults.Goals as goal
-
-pub returns : goal.returns
-returns c = record { outside = replays-never-end-by; damaged = replays-show-no-damage }

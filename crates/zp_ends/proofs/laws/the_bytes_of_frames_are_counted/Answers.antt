@@ -1,5 +1,0 @@
-use Rattle.zp_ends.proofs.Bytes.{first-counts, happens-counts}
-use Rattle.zp_ends.proofs.laws.the_bytes_of_frames_are_counted.Goals as goal
-
-pub returns : goal.returns
-returns c = record { first = first-counts; happens = happens-counts }

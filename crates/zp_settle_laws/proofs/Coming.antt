@@ -1,0 +1,127 @@
+-- How many asks of a connection are still to be carried out, while nobody else acts: in each stage, and after each answer.
+use Rattle.std.proofs.Common.{◌≡◌, ℕ, ◌+◌, ◌≤◌, List, length, Bool, true, false, ℤ}
+use Rattle.std.specs.Prelude.{◌||◌}
+use Rattle.std.specs.Ordering.{int_eq}
+use Rattle.ev_types.specs.Store.{Store, revision, succeeds}
+use Rattle.ev_types.specs.declared.answer.ActAns.{ActAns}
+use Rattle.ev_types.specs.declared.answer.Answer.{Answer}
+use Rattle.ev_types.specs.declared.answer.Answer.TheVariants as answer
+use Rattle.zk_model.specs.declared.request.Request.{Request}
+use Rattle.zn_view.specs.Adding.{is_new}
+use Rattle.zn_view.specs.Asks.{plan_txn}
+use Rattle.zn_view.specs.Seen.{View}
+use Rattle.zn_view.specs.declared.plan.Who.{Who}
+use Rattle.zn_view.specs.declared.want.Want.{Want}
+use Rattle.zs_reap.specs.Steps.{AreFew}
+use Rattle.zs_session.specs.Answering.{viewed}
+use Rattle.zs_session.specs.Connecting.{Steps as ConnectSteps}
+use Rattle.zs_session.specs.Sessions.{attach_txn}
+use Rattle.zs_session.specs.declared.connect.Connect.{Connect}
+use Rattle.zs_session.specs.declared.connect.ConnectStep.{ConnectStep}
+use Rattle.zs_session.specs.declared.connect.Phase.{Phase}
+use Rattle.zs_session.specs.declared.connect.Phase.TheVariants.{Attaching, Creating, Granting, Keeping, Looking, LookingAgain, Over, Unasked}
+use Rattle.zp_step.specs.Stages.{Core, Stage, Unconnected, Connecting, Ready, KeepingAlive, Checking, Reading, Committing, Waiting, Shut}
+use Rattle.zp_settle_laws.specs.Looks.{asks_of, asks_of_all, looks}
+use Rattle.zp_settle_laws.proofs.Places.{Ends, view_on}
+use Rattle.std.specs.Prelude.{Some}
+
+-- ---- a request
+
+-- the view is of the present
+abbrev pub is_present : Store → View → Bool
+is_present s v = int_eq v.revision (revision s)
+
+-- the view is of the present, or it will be, since it has no round yet
+abbrev pub is_asked_now : Store → View → Bool
+is_asked_now s v = is_new v || is_present s v
+
+-- a plan on the present is carried out, and one on an earlier view may fail: then the request is looked up anew, and planned again
+abbrev pub again_for : Bool → Request → ℕ
+again_for true r = 0
+again_for false r = looks r + 1
+
+abbrev pub EndsIf : Request → Who → ℕ → View → Type 0
+EndsIf r who n v = AreFew who.session v → Ends r who n v
+
+-- a round is out: after it come at most n more, and the plan
+pub record ReadsOut (s : Store) (who : Who) (r : Request) (v : View) (ws : List Want) (k : ℕ) : Type 0 where
+  pub rounds : ℕ
+  pub ends : (z : ℤ) (parts : List ActAns) → length ws ≤ length parts → EndsIf r who rounds (view_on v z ws parts)
+  pub most : rounds + 2 + again_for (is_asked_now s v) r ≤ k
+
+-- the view is looked at
+pub record LooksOn (s : Store) (who : Who) (r : Request) (v : View) (k : ℕ) : Type 0 where
+  pub rounds : ℕ
+  pub ends : EndsIf r who rounds v
+  pub most : rounds + 1 + again_for (is_present s v) r ≤ k
+
+-- ---- a connect
+
+-- an attachment on an earlier look may fail once
+abbrev pub attach_again : Bool → ℕ
+attach_again true = 0
+attach_again false = 1
+
+-- of the session of this number
+abbrev pub ConnectOut : Store → ℤ → Phase → ℕ → Type 0
+ConnectOut s id Unasked k = Unit {0}
+ConnectOut s id Looking k = 4 ≤ k
+ConnectOut s id Granting k = 2 ≤ k
+ConnectOut s id Creating k = 1 ≤ k
+ConnectOut s id (Keeping seen life) k = 3 ≤ k
+ConnectOut s id LookingAgain k = 2 ≤ k
+ConnectOut s id (Attaching seen life) k = 1 + attach_again (succeeds s (attach_txn id seen life)) ≤ k
+ConnectOut s id Over k = Unit {0}
+
+-- whatever the answer leads to
+abbrev pub ConnectBehind : Store → Connect → Answer → ℕ → Type 0
+ConnectBehind s x a k = (step : ConnectStep) (new : Connect) → ConnectSteps x (Some a) step new → ConnectOut s new.request.session new.phase k
+
+-- ---- each stage: what it has out, and what it asks before it is ready
+
+abbrev pub AsksOut : Store → Who → Stage → ℕ → Type 0
+AsksOut s who (Unconnected fresh) k = Unit {0}
+AsksOut s who (Connecting x) k = ConnectOut s x.request.session x.phase k
+AsksOut s who Ready k = Unit {0}
+AsksOut s who (KeepingAlive frame) k = asks_of frame ≤ k
+AsksOut s who (Checking frame) k = asks_of frame ≤ k + 1
+AsksOut s who (Reading xid r v ws) k = ReadsOut s who r v ws k
+AsksOut s who (Committing xid r v p time) k = 1 + again_for (succeeds s (plan_txn p)) r ≤ k
+AsksOut s who (Waiting p) k = Unit {0}
+AsksOut s who Shut k = Unit {0}
+
+-- what was out was answered so
+abbrev pub CommitBehind : Store → Who → Request → View → Bool → ℕ → Type 0
+CommitBehind s who r v true k = Unit {0}
+CommitBehind s who r v false k = LooksOn s who r v k
+
+abbrev pub AsksBehind : Store → Who → Stage → Answer → ℕ → Type 0
+AsksBehind s who (Connecting x) a k = ConnectBehind s x a k
+AsksBehind s who (KeepingAlive frame) a k = asks_of frame ≤ k + 1
+AsksBehind s who (Checking frame) a k = asks_of frame ≤ k + 2
+AsksBehind s who (Reading xid r v ws) (answer.Txn z b parts) k = LooksOn s who r (view_on v z ws parts) k
+AsksBehind s who (Committing xid r v p time) (answer.Txn z b parts) k = CommitBehind s who r (viewed z p.again parts) b k
+AsksBehind s who _ a k = Unit {0}
+
+-- ---- a connection between two steps
+
+-- at most so many asks, those of the frames that wait with it
+pub record Remains (s : Store) (c : Core) (n : ℕ) : Type 0 where
+  pub asks : ℕ
+  pub out : AsksOut s c.who c.stage asks
+  pub most : asks + asks_of_all c.waiting ≤ n
+
+-- after this answer at most so many asks, those of the frames that wait with it
+pub record RemainsBehind (s : Store) (c : Core) (a : Answer) (n : ℕ) : Type 0 where
+  pub asks : ℕ
+  pub behind : AsksBehind s c.who c.stage a asks
+  pub most : asks + asks_of_all c.waiting ≤ n
+
+-- what it holds is true of the store: a session has few nodes, and the guards of a plan on the present hold
+abbrev pub TruthIn : Store → Who → Stage → Type 0
+TruthIn s who (Reading xid r v ws) = AreFew who.session v
+TruthIn s who (Committing xid r v p time) = v.revision ≡ revision s → succeeds s (plan_txn p) ≡ true
+TruthIn s who _ = Unit {0}
+
+abbrev pub IsTruthful : Store → Core → Type 0
+IsTruthful s c = TruthIn s c.who c.stage

@@ -1,5 +1,0 @@
-use Rattle.zp_whole.proofs.Giving.{whole-gives}
-use Rattle.zp_whole.proofs.laws.a_whole_world_is_one_history.Goals as goal
-
-pub returns : goal.returns
-returns c = whole-gives

@@ -1,5 +1,0 @@
-use Rattle.zp_whole.proofs.Timing.{every-run-served}
-use Rattle.zp_whole.proofs.laws.every_run_is_one_history.Goals as goal
-
-pub returns : goal.returns
-returns c = every-run-served

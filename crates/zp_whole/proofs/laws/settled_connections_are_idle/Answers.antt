@@ -1,5 +1,0 @@
-use Rattle.zp_whole.proofs.Settled.{settled-idle}
-use Rattle.zp_whole.proofs.laws.settled_connections_are_idle.Goals as goal
-
-pub returns : goal.returns
-returns c = settled-idle

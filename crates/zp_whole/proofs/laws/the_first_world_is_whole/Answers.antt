@@ -1,5 +1,0 @@
-use Rattle.zp_whole.proofs.First.{first-whole}
-use Rattle.zp_whole.proofs.laws.the_first_world_is_whole.Goals as goal
-
-pub returns : goal.returns
-returns c = first-whole
